@@ -1,0 +1,6 @@
+pub mod Rfc3629
+pub mod Encoding
+pub mod Properties
+pub mod Examples
+pub mod Laws
+pub mod Front
