@@ -1,6 +1,7 @@
 #!/bin/sh
-# Builds the oracle: copies the published sources into build/, applies the mechanical edits listed
-# in README.md, and compiles. The binary is build/oracle.
+# Builds the oracle and its programs: copies the published sources into build/, applies the
+# mechanical edits listed in README.md, and compiles. The binaries are build/oracle and one for each
+# program in src/bin.
 set -eu
 cd "$(dirname "$0")"
 docs=${DOCS:-../docs/src}
@@ -44,5 +45,9 @@ edit $d 's/^    pub fn at_token(/    #[track_caller] pub fn at_token(/' 1
 [ "${1-}" = --sources-only ] && exit 0
 
 RUSTC_BOOTSTRAP=1 CARGO_TARGET_DIR=build/target cargo build --release --offline --quiet
-cp build/target/release/oracle build/oracle
-echo "built build/oracle"
+for program in src/main.rs src/bin/*; do
+    name=$(basename "$program" .rs)
+    [ "$name" = main ] && name=oracle
+    cp "build/target/release/$name" "build/$name"
+    echo "built build/$name"
+done

@@ -7,9 +7,9 @@ use oracle::{
 
 use crate::{
     draft::Draft,
+    image::{MOST_NODES, MOST_ROOTS, MOST_SLOTS, MOST_TYPES, MOST_WORDS},
     make::Maker,
     prng::Rng,
-    script::{MOST_NODES, MOST_ROOTS, MOST_SLOTS, MOST_TYPES, MOST_WORDS},
     tree::Node,
     ty::Ty,
 };
@@ -23,7 +23,7 @@ pub fn reach_one(rng: &mut Rng, draft: &mut Draft) {
     match rng.below(8) {
         0 => draft.fill.nodes = MOST_NODES,
         1 => draft.fill.types = MOST_TYPES,
-        2 => draft.fill.slots = MOST_SLOTS,
+        2 => draft.style.numbering.least_slots = MOST_SLOTS,
         3 => draft.fill.words = MOST_WORDS,
         4 => {
             let more = MOST_ROOTS.saturating_sub(draft.roots.len());

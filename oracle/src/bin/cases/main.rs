@@ -5,6 +5,7 @@ mod coverage;
 mod damage;
 mod draft;
 mod faults;
+mod image;
 mod library;
 mod limits;
 mod make;

@@ -3,7 +3,8 @@
 use oracle::check::{self, Outcome};
 
 use crate::{
-    draft::Draft, library::Library, limits, make::Maker, names::Names, prng::Rng, script::Style, ty,
+    draft::Draft, image::Numbering, library::Library, limits, make::Maker, names::Names, prng::Rng,
+    script::Style, ty,
 };
 
 #[derive(Clone, Copy, Debug, PartialEq, Eq)]
@@ -86,10 +87,14 @@ fn size(rng: &mut Rng) -> usize {
 
 fn style(rng: &mut Rng) -> Style {
     Style {
-        shuffled: rng.chance(35),
-        loose_slots: rng.chance(35),
+        numbering: Numbering {
+            shuffled: rng.chance(35),
+            loose_slots: rng.chance(35),
+            least_slots: 0,
+        },
         shared_names: *rng.pick(&[0, 0, 0, 40]),
         shared_types: *rng.pick(&[0, 0, 60, 100]),
+        margin: rng.chance(25),
         junk: rng.chance(25),
         ..Style::default()
     }

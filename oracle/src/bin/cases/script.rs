@@ -2,28 +2,22 @@
 //! the text where it stands.
 
 use crate::{
+    image::{Image, Numbering, Word},
     prng::Rng,
     tree::{BOOL, Node, OPERATORS, STR, Sig},
     ty::Ty,
 };
 
-pub const MOST_NODES: usize = 2048;
-pub const MOST_TYPES: usize = 512;
-pub const MOST_ROOTS: usize = 512;
-pub const MOST_SLOTS: usize = 4096;
-pub const MOST_WORDS: usize = 8192;
-
 /// How the same tree may be written.
 #[derive(Clone, Debug, Default)]
 pub struct Style {
-    /// nodes and types are numbered in any order that puts parts first, else as they are met
-    pub shuffled: bool,
-    /// slots are handed out in any order and with gaps
-    pub loose_slots: bool,
+    pub numbering: Numbering,
     /// percent of names that point at an earlier place of the same bytes
     pub shared_names: u32,
     /// percent of type expressions that take an earlier record of an equal type
     pub shared_types: u32,
+    /// half of the operators, keywords, brackets and type names stand in a line at the start
+    pub margin: bool,
     /// between statements stand bytes that belong to no token, well-formed UTF-8 or not
     pub junk: bool,
     /// percent of operators, keywords, brackets and type names that are other bytes in the text
@@ -32,27 +26,20 @@ pub struct Style {
     pub strings_at_zero: u32,
 }
 
-/// What to fill up with parts that nothing uses, and how far.
+/// How many nodes, types and words there are to be at least; what is short is filled up with parts
+/// that nothing uses.
 #[derive(Clone, Debug, Default)]
 pub struct Fill {
     pub nodes: usize,
     pub types: usize,
-    pub slots: usize,
     pub words: usize,
 }
 
-enum Word {
-    Is(u32),
-    Node(usize),
-    Type(usize),
-}
-
-struct Rec {
-    kind: u32,
-    words: Vec<Word>,
-    /// how many slots a node owns; 0 for a type
-    slots: usize,
-}
+/// What the margin holds besides the operators.
+const MARGIN: [&str; 13] = [
+    "true", "false", "as", "import", "extern", "{", "[", "Void", "Bool", "Int", "Double", "Str",
+    "Record",
+];
 
 pub struct Script<'r> {
     rng: &'r mut Rng,
@@ -60,33 +47,39 @@ pub struct Script<'r> {
     text: Vec<u8>,
     /// every token so far, in the order of the text
     tokens: Vec<u32>,
+    margin: Vec<(&'static str, u32)>,
     placed: Vec<(String, u32)>,
-    nodes: Vec<Rec>,
-    types: Vec<Rec>,
     shared: Vec<(Ty, usize)>,
-    roots: Vec<usize>,
+    image: Image,
     fits: bool,
 }
 
 impl<'r> Script<'r> {
     pub fn new(rng: &'r mut Rng, style: Style) -> Self {
-        Self {
+        let mut script = Self {
             rng,
             style,
             text: Vec::new(),
             tokens: Vec::new(),
+            margin: Vec::new(),
             placed: Vec::new(),
-            nodes: Vec::new(),
-            types: Vec::new(),
             shared: Vec::new(),
-            roots: Vec::new(),
+            image: Image::default(),
             fits: true,
+        };
+        if script.style.margin {
+            for bytes in MARGIN.into_iter().chain(OPERATORS) {
+                let word = script.token(bytes);
+                script.margin.push((bytes, word));
+            }
+            script.plain("\n");
         }
+        script
     }
 
     pub fn root(&mut self, node: &Node) {
         let number = self.statement(node);
-        self.roots.push(number);
+        self.image.roots.push(number);
     }
 
     /// A node that no root leads to.
@@ -126,8 +119,17 @@ impl<'r> Script<'r> {
 
     /// An operator, keyword, bracket or type name.
     fn fixed(&mut self, bytes: &str) -> u32 {
-        let wrong = self.rng.chance(self.style.wrong_tokens);
-        self.token(if wrong { "oops" } else { bytes })
+        if self.rng.chance(self.style.wrong_tokens) {
+            return self.token("oops");
+        }
+        let margin = self.margin.iter().find(|(have, _)| *have == bytes);
+        match margin {
+            Some(&(_, word)) if self.rng.chance(50) => {
+                self.tokens.push(word);
+                word
+            }
+            _ => self.token(bytes),
+        }
     }
 
     /// A token whose bytes may stand at an earlier place as well.
@@ -155,11 +157,6 @@ impl<'r> Script<'r> {
         Word::Is(word)
     }
 
-    fn add(&mut self, kind: u32, slots: usize, words: Vec<Word>) -> usize {
-        self.nodes.push(Rec { kind, words, slots });
-        self.nodes.len() - 1
-    }
-
     fn node(&mut self, node: &Node) -> usize {
         match node {
             Node::Atom(bytes, kind) => {
@@ -168,11 +165,11 @@ impl<'r> Script<'r> {
                     BOOL => Word::Is(self.fixed(bytes)),
                     _ => Word::Is(self.token(bytes)),
                 };
-                self.add(0, 1, vec![token, Word::Is(*kind)])
+                self.image.node(0, 1, vec![token, Word::Is(*kind)])
             }
             Node::Ident(name) => {
                 let name = self.name(name);
-                self.add(1, 1, vec![name])
+                self.image.node(1, 1, vec![name])
             }
             Node::Bin(op, left, right) => {
                 self.plain("(");
@@ -188,12 +185,12 @@ impl<'r> Script<'r> {
                     Word::Node(left),
                     Word::Node(right),
                 ];
-                self.add(2, 1, words)
+                self.image.node(2, 1, words)
             }
             Node::Unary(op, right) => {
                 let token = self.fixed(OPERATORS[*op as usize]);
                 let right = self.node(right);
-                self.add(
+                self.image.node(
                     3,
                     1,
                     vec![Word::Is(token), Word::Is(*op), Word::Node(right)],
@@ -204,12 +201,12 @@ impl<'r> Script<'r> {
                 let name = self.name(name);
                 self.plain(" = ");
                 let right = self.node(right);
-                self.add(4, 1, vec![name, Word::Node(right)])
+                self.image.node(4, 1, vec![name, Word::Node(right)])
             }
             Node::Fn(sig, body) => {
                 let mut words = self.signature(sig);
                 words.extend(self.body(body));
-                self.add(5, 1 + sig.args.len(), words)
+                self.image.node(5, 1 + sig.args.len(), words)
             }
             Node::Match(cases, default) => self.matching(cases, default),
             Node::Call(target, args) => {
@@ -217,13 +214,13 @@ impl<'r> Script<'r> {
                 self.plain("(");
                 words.extend(self.all(args));
                 self.plain(")");
-                self.add(7, 1, words)
+                self.image.node(7, 1, words)
             }
             Node::Field(target, name) => {
                 let target = self.node(target);
                 self.plain(".");
                 let name = self.name(name);
-                self.add(8, 1, vec![Word::Node(target), name])
+                self.image.node(8, 1, vec![Word::Node(target), name])
             }
             Node::Cast(left, ty) => {
                 let left = self.node(left);
@@ -231,7 +228,7 @@ impl<'r> Script<'r> {
                 let token = self.fixed("as");
                 self.plain(" ");
                 let ty = self.ty(ty);
-                self.add(
+                self.image.node(
                     9,
                     1,
                     vec![Word::Is(token), Word::Node(left), Word::Type(ty)],
@@ -243,7 +240,7 @@ impl<'r> Script<'r> {
                     self.plain(" ");
                     words.push(self.quoted(path));
                 }
-                self.add(10, 1, words)
+                self.image.node(10, 1, words)
             }
             Node::Extern(name, fns) => {
                 let mut words = vec![Word::Is(self.fixed("extern"))];
@@ -256,7 +253,7 @@ impl<'r> Script<'r> {
                     words.extend(self.signature(sig));
                 }
                 self.plain(" }");
-                self.add(11, 1, words)
+                self.image.node(11, 1, words)
             }
             Node::Record(fields) => {
                 let mut words = vec![Word::Is(self.fixed("{"))];
@@ -267,13 +264,13 @@ impl<'r> Script<'r> {
                     words.push(Word::Node(self.node(value)));
                 }
                 self.plain(" }");
-                self.add(12, 1, words)
+                self.image.node(12, 1, words)
             }
             Node::Array(members) => {
                 let mut words = vec![Word::Is(self.fixed("["))];
                 words.extend(self.all(members));
                 self.plain("]");
-                self.add(13, 1, words)
+                self.image.node(13, 1, words)
             }
         }
     }
@@ -340,7 +337,7 @@ impl<'r> Script<'r> {
         words.push(Word::Is(self.fixed("{")));
         words.extend(self.all(default));
         self.plain("} }");
-        self.add(6, 1, words)
+        self.image.node(6, 1, words)
     }
 
     fn ty(&mut self, ty: &Ty) -> usize {
@@ -387,142 +384,39 @@ impl<'r> Script<'r> {
             }
             Ty::Slot(_) => unreachable!("a script writes no slots"),
         };
-        let slots = 0;
-        self.types.push(Rec { kind, words, slots });
-        let number = self.types.len() - 1;
+        let number = self.image.ty(kind, words);
         self.shared.push((ty.clone(), number));
         number
     }
 
-    /// Adds unused types, nodes and words as far as `fill` says.
     fn fill(&mut self, fill: &Fill) {
-        if self.types.len() < fill.types {
+        if self.image.types.len() < fill.types {
             let token = self.fixed("Int");
-            while self.types.len() < fill.types {
-                let words = vec![Word::Is(token), Word::Is(3)];
-                let (kind, slots) = (0, 0);
-                self.types.push(Rec { kind, words, slots });
+            while self.image.types.len() < fill.types {
+                self.image.ty(0, vec![Word::Is(token), Word::Is(3)]);
             }
         }
-        if self.nodes.len() < fill.nodes {
+        if self.image.nodes.len() < fill.nodes {
             let token = self.token("unused");
-            while self.nodes.len() < fill.nodes {
-                self.add(1, 1, vec![Word::Is(token)]);
+            while self.image.nodes.len() < fill.nodes {
+                self.image.node(1, 1, vec![Word::Is(token)]);
             }
         }
-        let records = self.nodes.iter().map(|n| 2 + n.words.len()).sum::<usize>()
-            + self.types.iter().map(|t| 1 + t.words.len()).sum::<usize>();
-        let short = fill.words.saturating_sub(4 + self.roots.len() + records);
+        let short = fill.words.saturating_sub(self.image.len());
         if short >= 3 {
-            let keyword = Word::Is(self.fixed("import"));
-            self.plain("\"");
-            let path = self.token("unused");
-            let mut words = vec![keyword];
-            words.extend((3..short).map(|_| Word::Is(path)));
-            self.add(10, 1, words);
+            let keyword = self.fixed("import");
+            let path = self.quoted("unused");
+            let mut words = vec![Word::Is(keyword), path];
+            let Word::Is(path) = words[1] else { return };
+            words.resize_with(short - 2, || Word::Is(path));
+            self.image.node(10, 1, words);
         }
     }
 
     /// Text and image; `None` where they pass a limit.
     pub fn finish(mut self, fill: &Fill) -> Option<(Vec<u8>, Vec<u32>)> {
         self.fill(fill);
-        let nodes = order(self.rng, self.style.shuffled, &self.nodes, |w| match w {
-            Word::Node(part) => Some(*part),
-            _ => None,
-        });
-        let types = order(self.rng, self.style.shuffled, &self.types, |w| match w {
-            Word::Type(part) => Some(*part),
-            _ => None,
-        });
-        let (slots, slot_count) = self.slots(&nodes, fill.slots);
-        let mut words: Vec<u32> = [nodes.len(), types.len(), self.roots.len(), slot_count]
-            .map(|n| n as u32)
-            .to_vec();
-        let (node_numbers, type_numbers) = (places(&nodes), places(&types));
-        words.extend(self.roots.iter().map(|&root| node_numbers[root]));
-        let word = |w: &Word| match w {
-            Word::Is(w) => *w,
-            Word::Node(at) => node_numbers[*at],
-            Word::Type(at) => type_numbers[*at],
-        };
-        for &at in &nodes {
-            let rec = &self.nodes[at];
-            words.extend([rec.kind << 28 | 2 + rec.words.len() as u32, slots[at]]);
-            words.extend(rec.words.iter().map(word));
-        }
-        for &at in &types {
-            let rec = &self.types[at];
-            words.push(rec.kind << 28 | 1 + rec.words.len() as u32);
-            words.extend(rec.words.iter().map(word));
-        }
-        let fits = self.fits
-            && nodes.len() <= MOST_NODES
-            && types.len() <= MOST_TYPES
-            && self.roots.len() <= MOST_ROOTS
-            && slot_count <= MOST_SLOTS
-            && words.len() <= MOST_WORDS;
-        fits.then_some((self.text, words))
+        let words = self.image.words(self.rng, self.style.numbering)?;
+        self.fits.then_some((self.text, words))
     }
-
-    /// The first slot of each node, and how many slots there are.
-    fn slots(&mut self, nodes: &[usize], least: usize) -> (Vec<u32>, usize) {
-        let mut turn = nodes.to_vec();
-        if self.style.loose_slots {
-            self.rng.shuffle(&mut turn);
-        }
-        let (mut slots, mut next) = (vec![0; nodes.len()], 0);
-        for at in turn {
-            if self.style.loose_slots && self.rng.chance(10) {
-                next += self.rng.between(1, 3);
-            }
-            slots[at] = next as u32;
-            next += self.nodes[at].slots;
-        }
-        if self.style.loose_slots {
-            next += self.rng.below(4);
-        }
-        (slots, next.max(least))
-    }
-}
-
-/// The place in `records` that gets each number: parts come before what they are parts of.
-fn order(
-    rng: &mut Rng,
-    shuffled: bool,
-    records: &[Rec],
-    part: impl Fn(&Word) -> Option<usize>,
-) -> Vec<usize> {
-    if !shuffled {
-        return (0..records.len()).collect();
-    }
-    let mut owners = vec![Vec::new(); records.len()];
-    let mut missing = vec![0; records.len()];
-    for (at, rec) in records.iter().enumerate() {
-        for part in rec.words.iter().filter_map(&part) {
-            owners[part].push(at);
-            missing[at] += 1;
-        }
-    }
-    let mut ready: Vec<usize> = (0..records.len()).filter(|&at| missing[at] == 0).collect();
-    let mut order = Vec::new();
-    while !ready.is_empty() {
-        let next = ready.swap_remove(rng.below(ready.len()));
-        order.push(next);
-        for &owner in &owners[next] {
-            missing[owner] -= 1;
-            if missing[owner] == 0 {
-                ready.push(owner);
-            }
-        }
-    }
-    order
-}
-
-/// The number of each place.
-fn places(order: &[usize]) -> Vec<u32> {
-    let mut numbers = vec![0; order.len()];
-    for (number, &at) in order.iter().enumerate() {
-        numbers[at] = number as u32;
-    }
-    numbers
 }

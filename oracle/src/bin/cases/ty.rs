@@ -141,6 +141,24 @@ pub fn any(rng: &mut Rng, names: &Names, depth: usize) -> Ty {
     }
 }
 
+/// A type of a kind that is chosen evenly, to meet all pairs of kinds.
+pub fn any_kind(rng: &mut Rng, names: &Names) -> Ty {
+    match rng.below(9) {
+        0 => Ty::Void,
+        1 => Ty::Bool,
+        2 => Ty::Int,
+        3 => Ty::Double,
+        4 => Ty::Str,
+        5 => Ty::Foreign(names.any(rng)),
+        6 => Ty::option(any(rng, names, 2)),
+        7 => Ty::array(any(rng, names, 2)),
+        _ => {
+            let types = (0..rng.below(4)).map(|_| any(rng, names, 2)).collect();
+            record(rng, names, types)
+        }
+    }
+}
+
 /// A type that differs from `ty`: often only a little, to try equality.
 pub fn other(rng: &mut Rng, names: &Names, ty: &Ty) -> Ty {
     for _ in 0..20 {

@@ -202,25 +202,30 @@ impl Maker<'_> {
     }
 
     pub(super) fn wrong_argument(&mut self, want: &Ty, size: usize) -> Option<Node> {
-        let slotted = self.rng.chance(40);
-        let (before, place) = match slotted {
-            true => {
-                self.place_where(|_, f| f.slotted && f.args.iter().any(|(_, ty)| ty.depth() > 1))?
-            }
-            false => self.single_place(want, |f| !f.slotted && !f.args.is_empty()),
-        };
-        let mut types = self.argument_types(place, Vec::new());
-        for i in 0..self.rng.between(1, types.len()) {
-            let at = if i == 0 {
-                self.rng.below(types.len())
-            } else {
-                i
-            };
-            types[at] = match slotted {
-                true => ty::near(self.rng, self.names, &types[at]),
-                false => self.other_type(&types[at]),
-            };
+        if self.rng.chance(40) {
+            return self.misshapen_argument(size);
         }
+        let (before, place) = self.single_place(want, |f| !f.slotted && !f.args.is_empty());
+        let mut types = self.argument_types(place, Vec::new());
+        let first = self.rng.below(types.len());
+        for (at, ty) in types.iter_mut().enumerate() {
+            if at == first || self.rng.chance(30) {
+                *ty = self.other_type(ty);
+            }
+        }
+        Some(Self::after(before, self.call_with(place, &types, size)))
+    }
+
+    /// An argument of a shape that is not quite a slotted function's: it binds what it can.
+    fn misshapen_argument(&mut self, size: usize) -> Option<Node> {
+        let compound = |f: &Sig| -> Vec<usize> {
+            let holds = |at: &usize| f.args[*at].1.has_slot() && f.args[*at].1.depth() > 1;
+            (0..f.args.len()).filter(holds).collect()
+        };
+        let (before, place) = self.place_where(|_, f| f.slotted && !compound(f).is_empty())?;
+        let at = *self.rng.pick(&compound(self.scope.sig(place)));
+        let mut types = self.argument_types(place, Vec::new());
+        types[at] = ty::near(self.rng, self.names, &types[at]);
         Some(Self::after(before, self.call_with(place, &types, size)))
     }
 

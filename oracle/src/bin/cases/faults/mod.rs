@@ -22,7 +22,7 @@ impl Maker<'_> {
             8 => Some(self.defined_already(size)),
             9 => Some(self.bad_return(want, size)),
             10 => Some(Node::cast(self.expr(want, size), want.clone())),
-            11 => Some(self.bad_cast(size)),
+            11 => Some(self.bad_casts(size)),
             12 => Some(self.no_record(size)),
             13 => Some(self.no_field(size)),
             14 => Some(self.call_through_field(size)),

@@ -27,7 +27,7 @@ impl Maker<'_> {
     /// A type for which `test` holds.
     fn type_where(&mut self, test: impl Fn(&Ty) -> bool) -> Ty {
         loop {
-            let ty = self.any_type();
+            let ty = ty::any_kind(self.rng, self.names);
             if test(&ty) {
                 return ty;
             }
@@ -148,18 +148,26 @@ impl Maker<'_> {
         self.function_of(sig, &end, size)
     }
 
-    /// Casts of all pairs of kinds.
-    pub(super) fn bad_cast(&mut self, size: usize) -> Node {
-        loop {
-            let from = self.any_type();
-            let to = if self.rng.chance(50) {
-                ty::any(self.rng, self.names, 3)
+    /// Up to three casts, of all pairs of kinds.
+    pub(super) fn bad_casts(&mut self, size: usize) -> Node {
+        let mut casts = Vec::new();
+        for _ in 0..self.rng.between(1, 3) {
+            let from = ty::any_kind(self.rng, self.names);
+            let to = if self.rng.chance(20) {
+                let other = self.other_type(&from);
+                if converts(&from, &other) {
+                    Ty::Void
+                } else {
+                    other
+                }
             } else {
-                self.other_type(&from)
+                self.type_where(|to| *to != from && !converts(&from, to))
             };
-            if from != to && !converts(&from, &to) {
-                return Node::cast(self.expr(&from, size), to);
-            }
+            casts.push(Node::cast(self.expr(&from, size / 2), to));
+        }
+        match casts.len() {
+            1 => casts.remove(0),
+            _ => Node::block(casts),
         }
     }
 

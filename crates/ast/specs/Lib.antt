@@ -1,0 +1,13 @@
+pub mod Image
+pub mod TypeExpr
+pub mod TypeFrom
+pub mod Node
+pub mod Span
+pub mod Outline
+pub mod NodeRecords
+pub mod Nodes
+pub mod TypeRecords
+pub mod ImageFault
+pub mod Claims
+pub mod Depth
+pub mod Room

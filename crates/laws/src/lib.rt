@@ -1,0 +1,1 @@
+// Theorems over the rules; no code.

@@ -1,0 +1,5 @@
+pub mod Ty
+pub mod Words
+pub mod Show
+pub mod Add
+pub mod Slots

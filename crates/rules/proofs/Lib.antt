@@ -1,0 +1,4 @@
+mod Row
+mod Table
+mod Readings
+mod PromisesOnRows

@@ -1,0 +1,6 @@
+-- Laws of the definitions, for the proofs here and in other crates; and document 01's example.
+pub mod WordLaws
+pub mod TextLaws
+pub mod NameLaws
+pub mod SpanLaws
+mod Examples
