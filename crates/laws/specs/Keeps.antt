@@ -14,7 +14,7 @@ use Rattle.tok.specs.Word.{wordOf}
 use Rattle.ptype.specs.Ty.{depthOf, Ty, Fields, plain, wrap, rec, named, noField}
 use Rattle.ptype.specs.Ty as T
 use Rattle.ptype.specs.Slots.{Binding, Bound, allBound, conflict, voidSlot, boundOr, boundTo, applySlotBinding, applyFields}
-use Rattle.ast.specs.Node.{Node, Nodes, Cases, Values, ExternFn, Atom, Ident, Bin, Unary, Let, Fn, Match, Call, Field, Cast, Import, Extern, Record, Array, Absent, done, then, noCase, case, noValue, value}
+use Rattle.ast.specs.Node.{Node, Nodes, Cases, Values, ExternFn, Atom, Ident, Bin, Unary, Let, Fn, Match, Call, Field, Cast, Import, Extern, Record, Array, Absent, done, then, noCase, case, noValue, value, firstRoots}
 use Rattle.tok.specs.declared.Span.{Span}
 use Rattle.ast.specs.Span.{spanOf}
 use Rattle.ast.specs.TypeFrom.{typeFrom, fieldsFromExprs}
@@ -29,7 +29,8 @@ use Rattle.rules.specs.Operators.{fuse, unary, cast}
 use Rattle.rules.specs.Calls.{Callee, ownFunction, packageFunction, throughField, noCallee, calleeOf, Provided, providedOf, compared, afterBinding, slottedArgument, plainArgument, argument, arguments, returned, checkCallArgs, resolveCall, paramTrees, providedTrees, position, allReturn, commonReturn, select, inGroup, resolvePkgCall, call}
 use Rattle.rules.specs.Rules.{ident, letBinding, fnArguments, checkReturn, fn, unlessDefined, fieldType, field, valueType, Member, alike, silent, differs, memberTypes, member, goOn, arrayOf, condition, Branch, compareBranches, matched, importOne, importAll, externFn, node, block, last, visitAll, cases, values, array, members}
 use Rattle.refusals.specs.Inputs.{Inputs}
-use Rattle.rules.specs.Walk.{ctxOf, copyPool, measure, walkFirst, walk}
+use Rattle.rules.specs.Walk.{ctxOf, copyPool, measure, walkFirst}
+use Rattle.laws.specs.SlotsOf.{ArgSlots, SlotsOf, SlotsOfAll, SlotsOfCases, SlotsOfValues}
 use Rattle.library.specs.Package.{poolOf}
 use Rattle.ast.specs.Image.{nodeCount}
 
@@ -39,10 +40,10 @@ pub data Keeps (R : World → World → Type 0) (Q : ℕ → Type 0) (s : World)
   stopped : {r : Refusal} → Q (r .number) → Keeps R Q s (refused r)
 
 -- What is asked of R and Q: a preorder with the primitive steps in it, and the three refusals of the walk.
-pub record Kept (R : World → World → Type 0) (Q : ℕ → Type 0) : Type 0 where
+pub record Kept (R : World → World → Type 0) (Q P : ℕ → Type 0) : Type 0 where
   pub same : (s : World) → R s s
   pub trans : {s t u : World} → R s t → R t u → R s u
-  pub slot : (slot word : ℕ) (s : World) → R s (withSlots s (set (s .slots) slot word))
+  pub slot : (slot word : ℕ) (s : World) → P slot → R s (withSlots s (set (s .slots) slot word))
   pub type : (texts : Texts) (kind : ℕ) (new : List ℕ) (s : World) → leb (s .types .used + length new) (typeRoom (s .types)) ≡ true
       → leb (depthOf (tyOf texts (append (s .types) new .words) (wordOf kind (s .types .used)))) 32 ≡ true → R s (withTypes s (append (s .types) new))
   pub told : (d : Diagnostic) (s : World) → hasRoom s d ≡ true
@@ -57,7 +58,7 @@ pub record Kept (R : World → World → Type 0) (Q : ℕ → Type 0) : Type 0 w
   pub tooDeep : Q 8
   pub toldFull : Q 9
 
-module _ (R : World → World → Type 0) (Q : ℕ → Type 0) (law : Kept R Q) where
+module _ (R : World → World → Type 0) (Q P : ℕ → Type 0) (law : Kept R Q P) where
   abbrev pub In : {A : Type 0} → Walk A → Type 0
   In m = (s : World) → Keeps R Q s (m s)
 
@@ -123,9 +124,9 @@ module _ (R : World → World → Type 0) (Q : ℕ → Type 0) (law : Kept R Q) 
   unfolding tyTree
   in-tyTree c slot = in-next _ (in-ty slot) λ w. in-tree c w
 
-  pub in-set : (slot w : ℕ) → In (setKnown slot w)
+  pub in-set : (slot w : ℕ) → P slot → In (setKnown slot w)
   unfolding setKnown
-  in-set slot w s = kept (law .slot slot w s)
+  in-set slot w h s = kept (law .slot slot w s h)
 
   pub in-report : (n : ℕ) (d : Diagnostic) → In (report n d)
   unfolding report
@@ -245,21 +246,21 @@ module _ (R : World → World → Type 0) (Q : ℕ → Type 0) (law : Kept R Q) 
   in-typeFrom c n t = in-onTypes _ (t-typeFrom (c .texts) n t)
 
   -- operators
-  in-fuse : (c : Ctx) (n slot token op l r : ℕ) → In (fuse c n slot token op l r)
+  in-fuse : (c : Ctx) (n slot token op l r : ℕ) → P slot → In (fuse c n slot token op l r)
   unfolding fuse
-  in-fuse c n slot token op l r =
+  in-fuse c n slot token op l r h =
       in-next _ (in-ty l) λ _. in-next _ (in-ty r) λ _. in-next _ (in-tree c _) λ _. in-next _ (in-tree c _) λ _.
-      in-when _ _ _ (in-when _ _ _ (in-poison n _) (in-poison n _)) (in-set slot _)
+      in-when _ _ _ (in-when _ _ _ (in-poison n _) (in-poison n _)) (in-set slot _ h)
 
-  in-unary : (c : Ctx) (n slot token op r : ℕ) → In (unary c n slot token op r)
+  in-unary : (c : Ctx) (n slot token op r : ℕ) → P slot → In (unary c n slot token op r)
   unfolding unary
-  in-unary c n slot token op r = in-next _ (in-ty r) λ w. in-tree-next c w _ λ ws. in-when _ _ _ (in-set slot _) (in-poison n _)
+  in-unary c n slot token op r h = in-next _ (in-ty r) λ w. in-tree-next c w _ λ ws. in-when _ _ _ (in-set slot _ h) (in-poison n _)
 
-  in-cast : (c : Ctx) (n slot token left to : ℕ) → In (cast c n slot token left to)
+  in-cast : (c : Ctx) (n slot token left to : ℕ) → P slot → In (cast c n slot token left to)
   unfolding cast
-  in-cast c n slot token left to =
+  in-cast c n slot token left to h =
       in-next _ (in-ty left) λ _. in-next _ (in-tree c _) λ _. in-next _ (in-tree c _) λ _.
-      in-when _ _ _ (in-set slot to) (in-when _ _ _ (in-next _ (in-report n _) λ _. in-set slot to) (in-poison n _))
+      in-when _ _ _ (in-set slot to h) (in-when _ _ _ (in-next _ (in-report n _) λ _. in-set slot to h) (in-poison n _))
 
   -- calls
   in-compared : (c : Ctx) (n : ℕ) (name : List ℕ) (p : Param) (a : Provided) (e t : Ty) → In (compared c n name p a e t)
@@ -290,11 +291,11 @@ module _ (R : World → World → Type 0) (Q : ℕ → Type 0) (law : Kept R Q) 
   unfolding returned
   in-returned c n f bs = in-when _ _ _ (in-next _ (in-tree c _) λ t. in-onTypes _ (t-apply (c .texts) n bs t _)) (in-return _)
 
-  in-checkCall : (c : Ctx) (n slot token : ℕ) (name : List ℕ) (f : Signature) (xs : List Provided) → In (checkCallArgs c n slot token name f xs)
+  in-checkCall : (c : Ctx) (n slot token : ℕ) (name : List ℕ) (f : Signature) (xs : List Provided) → P slot → In (checkCallArgs c n slot token name f xs)
   unfolding checkCallArgs
-  in-checkCall c n slot token name f xs =
-      in-when _ _ _ (in-next _ (in-arguments c n name _ _ xs []) λ bs. in-next _ (in-returned c n f bs) λ w. in-set slot w)
-      (in-next _ (in-report n _) λ _. in-when _ _ _ (in-return Poison) (in-set slot _))
+  in-checkCall c n slot token name f xs h =
+      in-when _ _ _ (in-next _ (in-arguments c n name _ _ xs []) λ bs. in-next _ (in-returned c n f bs) λ w. in-set slot w h)
+      (in-next _ (in-report n _) λ _. in-when _ _ _ (in-return Poison) (in-set slot _ h))
 
   in-params : (c : Ctx) (ps : List Param) → In (paramTrees c ps)
   unfolding paramTrees
@@ -314,63 +315,63 @@ module _ (R : World → World → Type 0) (Q : ℕ → Type 0) (law : Kept R Q) 
   in-allReturn c t [] = in-return true
   in-allReturn c t (f ∷ fs) = in-next _ (in-tree c _) λ _. in-when _ _ _ (in-allReturn c t fs) (in-return false)
 
-  in-common : (c : Ctx) (slot : ℕ) (f : Signature) (fs : List Signature) → In (commonReturn c slot f fs)
+  in-common : (c : Ctx) (slot : ℕ) (f : Signature) (fs : List Signature) → P slot → In (commonReturn c slot f fs)
   unfolding commonReturn
-  in-common c slot f fs = in-next _ (in-tree c _) λ t. in-next _ (in-allReturn c t fs) λ _. in-when _ _ _ (in-set slot _) (in-return Poison)
+  in-common c slot f fs h = in-next _ (in-tree c _) λ t. in-next _ (in-allReturn c t fs) λ _. in-when _ _ _ (in-set slot _ h) (in-return Poison)
 
-  in-select : (c : Ctx) (n slot name : ℕ) (x : List ℕ) (f : Signature) (fs : List Signature) (xs : List Provided) (b : Bool) → In (select c n slot name x f fs xs b)
+  in-select : (c : Ctx) (n slot name : ℕ) (x : List ℕ) (f : Signature) (fs : List Signature) (xs : List Provided) (b : Bool) → P slot → In (select c n slot name x f fs xs b)
   unfolding select
-  in-select c n slot name x f fs xs b =
-      in-when _ _ _ (in-common c slot f fs) (in-next _ (in-provided c xs) λ ts. in-next _ (in-position c ts _) λ found. in-option found _ _
-      (in-next _ (in-each _ _ λ g. in-params c _) λ _. in-next _ (in-report n _) λ _. in-common c slot f fs)
-      λ g. in-set slot _)
+  in-select c n slot name x f fs xs b h =
+      in-when _ _ _ (in-common c slot f fs h) (in-next _ (in-provided c xs) λ ts. in-next _ (in-position c ts _) λ found. in-option found _ _
+      (in-next _ (in-each _ _ λ g. in-params c _) λ _. in-next _ (in-report n _) λ _. in-common c slot f fs h)
+      λ g. in-set slot _ h)
 
-  in-group : (c : Ctx) (n slot name : ℕ) (x : List ℕ) (fs : List Signature) (xs : List Provided) (b : Bool) → In (inGroup c n slot name x fs xs b)
+  in-group : (c : Ctx) (n slot name : ℕ) (x : List ℕ) (fs : List Signature) (xs : List Provided) (b : Bool) → P slot → In (inGroup c n slot name x fs xs b)
   unfolding inGroup
-  in-group c n slot name x [] xs b = in-poison n _
-  in-group c n slot name x (f ∷ []) xs b = in-checkCall c n slot name x f xs
-  in-group c n slot name x (f ∷ g ∷ fs) xs b = in-select c n slot name x f (g ∷ fs) xs b
+  in-group c n slot name x [] xs b h = in-poison n _
+  in-group c n slot name x (f ∷ []) xs b h = in-checkCall c n slot name x f xs h
+  in-group c n slot name x (f ∷ g ∷ fs) xs b h = in-select c n slot name x f (g ∷ fs) xs b h
 
-  in-call : (c : Ctx) (n slot : ℕ) (f : Callee) (xs : List Provided) (m : Walk Bool) → In m → In (call c n slot f xs m)
+  in-call : (c : Ctx) (n slot : ℕ) (f : Callee) (xs : List Provided) (m : Walk Bool) → In m → P slot → In (call c n slot f xs m)
   unfolding call resolveCall resolvePkgCall
-  in-call c n slot (ownFunction name) xs m h = in-next _ h λ _. in-look _ λ s. in-option _ _ _ (in-poison n _) λ f. in-checkCall c n slot name _ f xs
-  in-call c n slot (packageFunction pkg name) xs m h = in-next _ h λ b. in-look _ λ s. in-option _ _ _ (in-poison n _) λ p. in-group c n slot name _ _ xs b
-  in-call c n slot (throughField name) xs m h = in-poison n _
-  in-call c n slot noCallee xs m h = in-return Poison
+  in-call c n slot (ownFunction name) xs m h p = in-next _ h λ _. in-look _ λ s. in-option _ _ _ (in-poison n _) λ f. in-checkCall c n slot name _ f xs p
+  in-call c n slot (packageFunction pkg name) xs m h p = in-next _ h λ b. in-look _ λ s. in-option _ _ _ (in-poison n _) λ q. in-group c n slot name _ _ xs b p
+  in-call c n slot (throughField name) xs m h p = in-poison n _
+  in-call c n slot noCallee xs m h p = in-return Poison
 
   -- rules
-  in-ident : (c : Ctx) (n slot name : ℕ) → In (ident c n slot name)
+  in-ident : (c : Ctx) (n slot name : ℕ) → P slot → In (ident c n slot name)
   unfolding ident
-  in-ident c n slot name = in-look _ λ s. in-option _ _ _ (in-poison n _) λ b. in-option b _ _ (in-return Poison) λ w. in-set slot w
+  in-ident c n slot name h = in-look _ λ s. in-option _ _ _ (in-poison n _) λ b. in-option b _ _ (in-return Poison) λ w. in-set slot w h
 
   in-let : (n name : ℕ) (a : Answer) → In (letBinding n name a)
   unfolding letBinding
   in-let n name (Known r) = in-next _ (in-ty r) λ w. in-when _ _ _ (in-next _ (in-report n _) λ _. in-return none) (in-return (some w))
   in-let n name Poison = in-return none
 
-  in-fnArguments : (c : Ctx) (n slot : ℕ) (xs : List Arg) → In (fnArguments c n slot xs)
-  unfolding fnArguments
-  in-fnArguments c n slot [] = in-return []
-  in-fnArguments c n slot (a ∷ xs) =
-      in-next _ (in-typeFrom c n _) λ w. in-next _ (in-set slot w) λ _. in-next _ (in-insert _ _) λ _. in-next _ (in-fnArguments c n (slot + 1) xs) λ _. in-return _
+  in-fnArguments : (c : Ctx) (n slot : ℕ) (xs : List Arg) → ArgSlots P slot xs → In (fnArguments c n slot xs)
+  unfolding fnArguments ArgSlots
+  in-fnArguments c n slot [] h = in-return []
+  in-fnArguments c n slot (a ∷ xs) h =
+      in-next _ (in-typeFrom c n _) λ w. in-next _ (in-set slot w (h .0)) λ _. in-next _ (in-insert _ _) λ _. in-next _ (in-fnArguments c n (slot + 1) xs (h .1)) λ _. in-return _
 
   in-checkReturn : (c : Ctx) (n name : ℕ) (e : TypeExpr) (ret : ℕ) (a : Answer) → In (checkReturn c n name e ret a)
   unfolding checkReturn
   in-checkReturn c n name e ret a = in-ifKnown a _ λ slot. in-next _ (in-tree c ret) λ _. in-next _ (in-tyTree c slot) λ _. in-when _ _ _ (in-return tt) (in-report n _)
 
-  in-fn : (c : Ctx) (n slot name : ℕ) (e : TypeExpr) (xs : List Arg) (m : Walk Answer) → In m → In (unlessDefined c n name (fn c n slot name e xs m))
+  in-fn : (c : Ctx) (n slot name : ℕ) (e : TypeExpr) (xs : List Arg) (m : Walk Answer) → In m → P slot → ArgSlots P (slot + 1) xs → In (unlessDefined c n name (fn c n slot name e xs m))
   unfolding unlessDefined fn
-  in-fn c n slot name e xs m h =
+  in-fn c n slot name e xs m h p q =
       in-look _ λ s. in-option _ _ _
-      (in-next _ (in-apart _ (in-next _ (in-fnArguments c n (slot + 1) xs) λ ps. in-next _ (in-typeFrom c n e) λ ret. in-next _ (in-enter name ps ret) λ _.
-      in-next _ h λ a. in-next _ (in-checkReturn c n name e ret a) λ _. in-return ret)) λ ret. in-set slot ret)
+      (in-next _ (in-apart _ (in-next _ (in-fnArguments c n (slot + 1) xs q) λ ps. in-next _ (in-typeFrom c n e) λ ret. in-next _ (in-enter name ps ret) λ _.
+      in-next _ h λ a. in-next _ (in-checkReturn c n name e ret a) λ _. in-return ret)) λ ret. in-set slot ret p)
       λ _. in-poison n _
 
-  in-field : (c : Ctx) (n slot name t : ℕ) → In (field c n slot name t)
+  in-field : (c : Ctx) (n slot name t : ℕ) → P slot → In (field c n slot name t)
   unfolding field fieldType
-  in-field c n slot name t =
+  in-field c n slot name t h =
       in-next _ (in-ty t) λ w. in-next _ (in-tree c w) λ _. in-look _ λ s. in-when _ _ _
-      (in-option _ _ _ (in-poison n _) λ x. in-when _ _ _ (in-next _ (in-set slot _) λ _. in-return Poison) (in-set slot x)) (in-poison n _)
+      (in-option _ _ _ (in-poison n _) λ x. in-when _ _ _ (in-next _ (in-set slot _ h) λ _. in-return Poison) (in-set slot x h)) (in-poison n _)
 
   in-value : (a : Answer) → In (valueType a)
   unfolding valueType
@@ -390,10 +391,10 @@ module _ (R : World → World → Type 0) (Q : ℕ → Type 0) (law : Kept R Q) 
   in-goOn silent b f h = h true
   in-goOn differs b f h = in-return Poison
 
-  in-arrayOf : (c : Ctx) (n slot : ℕ) (a : Answer) (b : Bool) → In (arrayOf c n slot a b)
+  in-arrayOf : (c : Ctx) (n slot : ℕ) (a : Answer) (b : Bool) → P slot → In (arrayOf c n slot a b)
   unfolding arrayOf
-  in-arrayOf c n slot a b =
-      in-known a _ λ f. in-when _ _ _ (in-return Poison) (in-next _ (in-ty f) λ e. in-next _ (in-onTypes _ (t-wrap (c .texts) n 7 e)) λ w. in-set slot w)
+  in-arrayOf c n slot a b h =
+      in-known a _ λ f. in-when _ _ _ (in-return Poison) (in-next _ (in-ty f) λ e. in-next _ (in-onTypes _ (t-wrap (c .texts) n 7 e)) λ w. in-set slot w h)
 
   in-condition : (c : Ctx) (n token : ℕ) (a : Answer) → In (condition c n token a)
   unfolding condition
@@ -405,9 +406,9 @@ module _ (R : World → World → Type 0) (Q : ℕ → Type 0) (law : Kept R Q) 
   in-branches c n d (b ∷ bs) =
       in-next _ (in-ifKnown _ _ λ slot. in-next _ (in-tyTree c slot) λ _. in-next _ (in-tyTree c d) λ _. in-when _ _ _ (in-return tt) (in-report n _)) λ _. in-branches c n d bs
 
-  in-matched : (c : Ctx) (n slot : ℕ) (bs : List Branch) (a : Answer) → In (matched c n slot bs a)
+  in-matched : (c : Ctx) (n slot : ℕ) (bs : List Branch) (a : Answer) → P slot → In (matched c n slot bs a)
   unfolding matched
-  in-matched c n slot bs a = in-known a _ λ d. in-next _ (in-branches c n d bs) λ _. in-next _ (in-ty d) λ w. in-set slot w
+  in-matched c n slot bs a h = in-known a _ λ d. in-next _ (in-branches c n d bs) λ _. in-next _ (in-ty d) λ w. in-set slot w h
 
   in-import : (c : Ctx) (n path : ℕ) → In (importOne c n path)
   unfolding importOne
@@ -424,61 +425,67 @@ module _ (R : World → World → Type 0) (Q : ℕ → Type 0) (law : Kept R Q) 
 
   -- the theorem
   mutual
-    unfolding node
+    unfolding node SlotsOf
 
-    pub in-node : (c : Ctx) (t : Node) → In (node c t)
-    in-node c (Atom n slot token k) = in-set slot _
-    in-node c (Ident n slot name) = in-ident c n slot name
-    in-node c (Bin n slot token op l r) =
-        in-next _ (in-node c l) λ a. in-next _ (in-node c r) λ b. in-known a _ λ x. in-known b _ λ y. in-fuse c n slot token op x y
-    in-node c (Unary n slot token op r) = in-next _ (in-node c r) λ a. in-known a _ λ x. in-unary c n slot token op x
-    in-node c (Let n slot name r) = in-next _ (in-node c r) λ a. in-next _ (in-let n name a) λ b. in-next _ (in-insert name b) λ _. in-set slot _
-    in-node c (Fn n slot name ret args body) = in-fn c n slot name ret args _ (in-block c body)
-    in-node c (Match n slot cs token d) = in-next _ (in-cases c n cs) λ bs. in-next _ (in-block c d) λ a. in-matched c n slot bs a
-    in-node c (Call n slot target args) = in-call c n slot _ _ _ (in-all c args)
-    in-node c (Field n slot target name) = in-next _ (in-node c target) λ a. in-known a _ λ x. in-field c n slot name x
-    in-node c (Cast n slot token l t) = in-next _ (in-typeFrom c n t) λ to. in-next _ (in-node c l) λ a. in-known a _ λ x. in-cast c n slot token x to
-    in-node c (Import n slot token ps) = in-next _ (in-imports c n token ps) λ _. in-set slot _
-    in-node c (Extern n slot token name fs) = in-next _ (in-each _ fs λ f. in-extern c n f) λ _. in-next _ (in-hold _) λ _. in-set slot _
-    in-node c (Record n slot token fs) = in-next _ (in-values c fs) λ ws. in-next _ (in-onTypes _ (t-record (c .texts) n ws)) λ w. in-set slot w
-    in-node c (Array n slot token ms) = in-array c n slot token ms
-    in-node c (Absent n) = in-return Poison
+    pub in-node : (c : Ctx) (t : Node) → SlotsOf P t → In (node c t)
+    in-node c (Atom n slot token k) h = in-set slot _ h
+    in-node c (Ident n slot name) h = in-ident c n slot name h
+    in-node c (Bin n slot token op l r) h =
+        in-next _ (in-node c l (h .1)) λ a. in-next _ (in-node c r (h .2)) λ b. in-known a _ λ x. in-known b _ λ y. in-fuse c n slot token op x y (h .0)
+    in-node c (Unary n slot token op r) h = in-next _ (in-node c r (h .1)) λ a. in-known a _ λ x. in-unary c n slot token op x (h .0)
+    in-node c (Let n slot name r) h =
+        in-next _ (in-node c r (h .1)) λ a. in-next _ (in-let n name a) λ b. in-next _ (in-insert name b) λ _. in-set slot _ (h .0)
+    in-node c (Fn n slot name ret args body) h = in-fn c n slot name ret args _ (in-block c body (h .2)) (h .0) (h .1)
+    in-node c (Match n slot cs token d) h =
+        in-next _ (in-cases c n cs (h .1)) λ bs. in-next _ (in-block c d (h .2)) λ a. in-matched c n slot bs a (h .0)
+    in-node c (Call n slot target args) h = in-call c n slot _ _ _ (in-all c args (h .1)) (h .0)
+    in-node c (Field n slot target name) h = in-next _ (in-node c target (h .1)) λ a. in-known a _ λ x. in-field c n slot name x (h .0)
+    in-node c (Cast n slot token l t) h =
+        in-next _ (in-typeFrom c n t) λ to. in-next _ (in-node c l (h .1)) λ a. in-known a _ λ x. in-cast c n slot token x to (h .0)
+    in-node c (Import n slot token ps) h = in-next _ (in-imports c n token ps) λ _. in-set slot _ h
+    in-node c (Extern n slot token name fs) h = in-next _ (in-each _ fs λ f. in-extern c n f) λ _. in-next _ (in-hold _) λ _. in-set slot _ h
+    in-node c (Record n slot token fs) h =
+        in-next _ (in-values c fs (h .1)) λ ws. in-next _ (in-onTypes _ (t-record (c .texts) n ws)) λ w. in-set slot w (h .0)
+    in-node c (Array n slot token ms) h = in-array c n slot token ms (h .0) (h .1)
+    in-node c (Absent n) h = in-return Poison
 
-    pub in-block : (c : Ctx) (xs : Nodes) → In (block c xs)
-    in-block c done = in-return _
-    in-block c (then x xs) = in-framed _ (in-next _ (in-node c x) λ a. in-last c a xs)
+    pub in-block : (c : Ctx) (xs : Nodes) → SlotsOfAll P xs → In (block c xs)
+    in-block c done h = in-return _
+    in-block c (then x xs) h = in-framed _ (in-next _ (in-node c x (h .0)) λ a. in-last c a xs (h .1))
 
-    pub in-last : (c : Ctx) (a : Answer) (xs : Nodes) → In (last c a xs)
-    in-last c a done = in-return a
-    in-last c a (then x xs) = in-next _ (in-node c x) λ b. in-last c b xs
+    pub in-last : (c : Ctx) (a : Answer) (xs : Nodes) → SlotsOfAll P xs → In (last c a xs)
+    in-last c a done h = in-return a
+    in-last c a (then x xs) h = in-next _ (in-node c x (h .0)) λ b. in-last c b xs (h .1)
 
-    pub in-all : (c : Ctx) (xs : Nodes) → In (visitAll c xs)
-    in-all c done = in-return false
-    in-all c (then x xs) = in-next _ (in-node c x) λ a. in-next _ (in-all c xs) λ b. in-return _
+    pub in-all : (c : Ctx) (xs : Nodes) → SlotsOfAll P xs → In (visitAll c xs)
+    in-all c done h = in-return false
+    in-all c (then x xs) h = in-next _ (in-node c x (h .0)) λ a. in-next _ (in-all c xs (h .1)) λ b. in-return _
 
-    pub in-cases : (c : Ctx) (n : ℕ) (cs : Cases) → In (cases c n cs)
-    in-cases c n noCase = in-return []
-    in-cases c n (case token x body cs) =
-        in-next _ (in-node c x) λ a. in-next _ (in-condition c n token a) λ _. in-next _ (in-block c body) λ b. in-next _ (in-cases c n cs) λ _. in-return _
+    pub in-cases : (c : Ctx) (n : ℕ) (cs : Cases) → SlotsOfCases P cs → In (cases c n cs)
+    in-cases c n noCase h = in-return []
+    in-cases c n (case token x body cs) h =
+        in-next _ (in-node c x (h .0)) λ a. in-next _ (in-condition c n token a) λ _. in-next _ (in-block c body (h .1)) λ b. in-next _ (in-cases c n cs (h .2)) λ _. in-return _
 
-    pub in-values : (c : Ctx) (vs : Values) → In (values c vs)
-    in-values c noValue = in-return []
-    in-values c (value name x vs) = in-next _ (in-node c x) λ a. in-next _ (in-value a) λ w. in-next _ (in-values c vs) λ _. in-return _
+    pub in-values : (c : Ctx) (vs : Values) → SlotsOfValues P vs → In (values c vs)
+    in-values c noValue h = in-return []
+    in-values c (value name x vs) h = in-next _ (in-node c x (h .0)) λ a. in-next _ (in-value a) λ w. in-next _ (in-values c vs (h .1)) λ _. in-return _
 
-    pub in-array : (c : Ctx) (n slot token : ℕ) (xs : Nodes) → In (array c n slot token xs)
-    in-array c n slot token done = in-poison n _
-    in-array c n slot token (then x xs) = in-next _ (in-node c x) λ a. in-members c n slot a false xs
+    pub in-array : (c : Ctx) (n slot token : ℕ) (xs : Nodes) → P slot → SlotsOfAll P xs → In (array c n slot token xs)
+    in-array c n slot token done p h = in-poison n _
+    in-array c n slot token (then x xs) p h = in-next _ (in-node c x (h .0)) λ a. in-members c n slot a false xs p (h .1)
 
-    pub in-members : (c : Ctx) (n slot : ℕ) (a : Answer) (b : Bool) (xs : Nodes) → In (members c n slot a b xs)
-    in-members c n slot a b done = in-arrayOf c n slot a b
-    in-members c n slot a b (then x xs) = in-next _ (in-node c x) λ y. in-next _ (in-member c n (spanOf x) a y) λ m. in-goOn m b _ λ p. in-members c n slot a p xs
+    pub in-members : (c : Ctx) (n slot : ℕ) (a : Answer) (b : Bool) (xs : Nodes) → P slot → SlotsOfAll P xs → In (members c n slot a b xs)
+    in-members c n slot a b done p h = in-arrayOf c n slot a b p
+    in-members c n slot a b (then x xs) p h =
+        in-next _ (in-node c x (h .0)) λ y. in-next _ (in-member c n (spanOf x) a y) λ m. in-goOn m b _ λ q. in-members c n slot a q xs p (h .1)
 
   in-measure : (c : Ctx) (n : ℕ) (ws : List ℕ) → In (measure c n ws)
   unfolding measure
   in-measure c n [] = in-return tt
   in-measure c n (w ∷ ws) = in-next _ (in-tree c w) λ t. in-when _ _ _ (in-measure c n ws) (λ _. stopped (law .tooDeep))
 
-  -- the walk as a whole, where it is in R to copy the pool
-  pub at-walk : (i : Inputs) (s : World) → Keeps R Q s (copyPool (nodeCount (i .image)) (poolOf (i .library)) s) → Keeps R Q s (walk i s)
-  unfolding walk walkFirst
-  at-walk i s h = step _ h λ _. in-next _ (in-measure (ctxOf i) _ _) λ _. in-next _ (in-last (ctxOf i) _ _) λ _. in-return tt
+  -- the walk of the first k roots, where it is in R to copy the pool
+  pub at-walk : (i : Inputs) (k : ℕ) (s : World) → SlotsOfAll P (firstRoots (i .image) k)
+      → Keeps R Q s (copyPool (nodeCount (i .image)) (poolOf (i .library)) s) → Keeps R Q s (walkFirst i k s)
+  unfolding walkFirst
+  at-walk i k s h p = step _ p λ _. in-next _ (in-measure (ctxOf i) _ _) λ _. in-next _ (in-last (ctxOf i) _ _ h) λ _. in-return tt

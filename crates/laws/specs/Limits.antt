@@ -1,4 +1,4 @@
--- The limits hold at every point of the walk: an instance for a predicate of worlds.
+-- The limits hold at every point of the walk: an instance of `Keeps` for a predicate of worlds. Assumes nothing.
 use Prim.Native.Nat.{ℕ, suc, _+_, _*_, _/_, _≤_, min}
 use native.Mathlib.Omega.{arith}
 use mathlib.Core.Bool.{Bool, true, false, _&&_}
@@ -13,8 +13,9 @@ use Rattle.err.specs.Message.{Diagnostic}
 use Rattle.rules.specs.World.{Ctx, World, withTold}
 use Rattle.rules.specs.Steps.{hasRoom, oneMore, sixWords, bytesOf}
 use Rattle.rules.specs.Rules.{node}
+use Rattle.laws.specs.SlotsOf.{all-slots}
 use Rattle.laws.specs.Keeps.{Keeps, Kept, in-node}
-use Rattle.laws.specs.Grow.{length-write}
+use Rattle.laws.specs.Writes.{length-write}
 
 -- "At most 8,192 words of the types buffer, 256 diagnostics and 65,536 message bytes are used", and no more than are lent
 pub record Within (s : World) : Type 0 where
@@ -51,11 +52,11 @@ told-room d s e h = record {
   messages = append-room (s .messages) (bytesOf d) 65536 (leb-true (s .messages .used + length (bytesOf d)) (min (length (s .messages .words)) 65536) (and-right (ltb (s .diagnostics .used) (min (length (s .diagnostics .words) / 6) 256)) _ e));
 }
 
-pub limits-kept : Kept Stays Any
+pub limits-kept : Kept Stays Any Any
 limits-kept = record {
   same = λ s h. h;
   trans = λ {s} {t} {u} x y h. y (x h);
-  slot = λ i w s h. record { types = h .types; diagnostics = h .diagnostics; messages = h .messages };
+  slot = λ i w s p h. record { types = h .types; diagnostics = h .diagnostics; messages = h .messages };
   type = λ texts k new s e deep h. record { types = append-room (s .types) new 8192 (leb-true (s .types .used + length new) (typeRoom (s .types)) e); diagnostics = h .diagnostics; messages = h .messages };
   told = told-room;
   binds = λ l s h. record { types = h .types; diagnostics = h .diagnostics; messages = h .messages };
@@ -71,4 +72,4 @@ limits-kept = record {
 }
 
 pub node-limits : (c : Ctx) (t : Node) (s : World) → Keeps Stays Any s (node c t s)
-node-limits c t s = in-node Stays Any limits-kept c t s
+node-limits c t s = in-node Stays Any Any limits-kept c t (all-slots (λ _. tt) t) s

@@ -1,4 +1,4 @@
--- What a rule leaves of the environment, the packages and the own functions: more in front, the rest as it was. Another instance.
+-- What a rule leaves of the environment, the packages and the own functions: more in front, the rest as it was. An instance of `Keeps`. Assumes nothing.
 use Prim.Native.Nat.{ℕ}
 use mathlib.Core.Path.{_≡_, refl, sym, ap, _∙_}
 use mathlib.Core.List.{List, [], _∷_, _++_, append-assoc}
@@ -6,6 +6,7 @@ use Rattle.ast.specs.Node.{Node, Nodes}
 use Rattle.library.specs.Package.{Function, Package}
 use Rattle.rules.specs.World.{Ctx, Local, World}
 use Rattle.rules.specs.Rules.{node}
+use Rattle.laws.specs.SlotsOf.{all-slots}
 use Rattle.laws.specs.Keeps.{Keeps, Kept, in-node}
 
 pub record Front {A : Type 0} (old new : List A) : Type 0 where
@@ -35,11 +36,11 @@ Any k = Unit {0}
 still : (s : World) → Scope s s
 still s = record { env = front-same (s .env); packages = front-same (s .packages); own = front-same (s .own) }
 
-pub scope-kept : Kept Scope Any
+pub scope-kept : Kept Scope Any Any
 scope-kept = record {
   same = still;
   trans = λ {s} {t} {u} x y. record { env = front-trans (x .env) (y .env); packages = front-trans (x .packages) (y .packages); own = front-trans (x .own) (y .own) };
-  slot = λ i w s. record { env = still s .env; packages = still s .packages; own = still s .own };
+  slot = λ i w s p. record { env = still s .env; packages = still s .packages; own = still s .own };
   type = λ texts k new s e deep. record { env = still s .env; packages = still s .packages; own = still s .own };
   told = λ d s e. record { env = still s .env; packages = still s .packages; own = still s .own };
   binds = λ l s. record { env = front-one l (s .env); packages = still s .packages; own = still s .own };
@@ -53,4 +54,4 @@ scope-kept = record {
 }
 
 pub node-scope : (c : Ctx) (t : Node) (s : World) → Keeps Scope Any s (node c t s)
-node-scope c t s = in-node Scope Any scope-kept c t s
+node-scope c t s = in-node Scope Any Any scope-kept c t (all-slots (λ _. tt) t) s
