@@ -6,7 +6,10 @@ use std::{
 };
 
 use purple_garden_allocators::bump::Bump;
-use purple_garden_frontend::ast::Node;
+use purple_garden_frontend::{
+    ast::{Node, NodeId},
+    diagnostic::Diagnostic,
+};
 use purple_garden_ir::ptype::Type;
 use purple_garden_shared::site;
 use purple_garden_typecheck::{TypecheckOutput, Typechecker};
@@ -55,7 +58,7 @@ pub enum Outcome {
         outside: &'static str,
         why: String,
     },
-    Answered(Answer),
+    Answered(Box<Answer>),
 }
 
 impl Outcome {
@@ -164,7 +167,10 @@ pub fn check(input: &[u8]) -> Outcome {
             .check()
     }));
     match run {
-        Ok(output) => Outcome::Answered(answer(&image, &lib, &output, arena.type_words())),
+        Ok(output) => {
+            let answer = answer(&image, &lib, &output, arena.type_words());
+            Outcome::Answered(Box::new(answer))
+        }
         Err(_) => Outcome::Panic {
             outside: image.outside.unwrap_or("slot"),
             why: WHY.take(),
@@ -214,11 +220,7 @@ fn answer(image: &Image, lib: &Library, output: &Output, built: usize) -> Answer
 
 /// Name and signature of each accepted function, and the words that document 01 counts for them.
 /// The Rust's own map has no order; the walk gives one.
-fn functions(
-    image: &Image,
-    output: &Output,
-    visited: &[purple_garden_frontend::ast::NodeId],
-) -> (Vec<String>, usize) {
+fn functions(image: &Image, output: &Output, visited: &[NodeId]) -> (Vec<String>, usize) {
     let (mut fns, mut words) = (Vec::new(), 0);
     for &number in visited {
         if let Node::Fn { id, name, .. } = image.ast.node(number)
@@ -244,7 +246,7 @@ fn diags(output: &Output) -> Vec<Diag> {
     if made.len() != output.diagnostics.len() {
         fail("diagnostics made and diagnostics reported differ in number");
     }
-    let one = |(diag, at): (&purple_garden_frontend::diagnostic::Diagnostic, _)| {
+    let one = |(diag, at): (&Diagnostic, _)| {
         let site = &sites::SITES[sites::of(diag, at).unwrap_or_else(|why| fail(&why))];
         Diag {
             code: site.code,

@@ -13,7 +13,6 @@ use crate::{
     check::Counts,
     decode::Library,
     packages::{Event, Found},
-    visits::{depth, has_slot},
 };
 
 const MOST_TYPE_WORDS: usize = 8192;
@@ -146,4 +145,23 @@ fn filled_depth(f: &'static Fn<'static>, args: &[Option<&Type<'static>>]) -> usi
         }
     }
     deepest
+}
+
+/// Whether a type contains a Slot at any depth.
+fn has_slot(ty: &Type<'_>) -> bool {
+    match ty {
+        Type::Slot(_) => true,
+        Type::Option(inner) | Type::Array(inner) => has_slot(inner),
+        Type::Record(fields) => fields.iter().any(|f| has_slot(&f.ty)),
+        _ => false,
+    }
+}
+
+/// The depth of a type: 1 with nothing inside.
+fn depth(ty: &Type<'_>) -> usize {
+    match ty {
+        Type::Option(inner) | Type::Array(inner) => 1 + depth(inner),
+        Type::Record(fields) => 1 + fields.iter().map(|f| depth(&f.ty)).max().unwrap_or(0),
+        _ => 1,
+    }
 }

@@ -6,7 +6,6 @@ use purple_garden_frontend::{
     ast::{Ast, Node, NodeId},
     typemap::TypeMap,
 };
-use purple_garden_ir::ptype::Type;
 
 /// The visited nodes, each where its rule acts: an Fn before its body, all others after their
 /// parts. A call's target is never visited.
@@ -94,24 +93,5 @@ impl<A: Allocator> Walk<'_, A> {
             None => members.len(),
         };
         self.all(&members[..visits]);
-    }
-}
-
-/// Whether a type contains a Slot at any depth.
-pub fn has_slot(ty: &Type<'_>) -> bool {
-    match ty {
-        Type::Slot(_) => true,
-        Type::Option(inner) | Type::Array(inner) => has_slot(inner),
-        Type::Record(fields) => fields.iter().any(|f| has_slot(&f.ty)),
-        _ => false,
-    }
-}
-
-/// The depth of a type: 1 with nothing inside.
-pub fn depth(ty: &Type<'_>) -> usize {
-    match ty {
-        Type::Option(inner) | Type::Array(inner) => 1 + depth(inner),
-        Type::Record(fields) => 1 + fields.iter().map(|f| depth(&f.ty)).max().unwrap_or(0),
-        _ => 1,
     }
 }

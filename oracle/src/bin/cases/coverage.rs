@@ -86,8 +86,11 @@ impl Coverage {
     /// What keeps the quotas from being held.
     pub fn shortfalls(&self) -> Vec<String> {
         let mut short = Vec::new();
+        if self.cases == 0 {
+            short.push("there are no cases".to_owned());
+        }
         let others = self.cases - self.in_domain;
-        if others > 0 || self.cases == 0 {
+        if others > 0 {
             short.push(format!(
                 "{others} of {} cases are not in the domain",
                 self.cases

@@ -11,7 +11,6 @@ use crate::{
     make::Maker,
     prng::Rng,
     tree::Node,
-    ty::Ty,
 };
 
 const MOST_TYPE_WORDS: usize = 8192;
@@ -70,11 +69,11 @@ pub fn long_messages(draft: &mut Draft, over: usize) {
     draft.style.shared_names = 100;
 }
 
-/// A type `levels` deep, in the script or the library.
-pub fn deep_type(maker: &mut Maker, roots: &mut Vec<Node>, levels: usize) -> Option<Ty> {
+/// Adds a type `levels` deep, to the script or to the library's pool.
+pub fn deep_type(maker: &mut Maker, draft: &mut Draft, levels: usize) {
     if maker.rng.chance(20) {
-        return Some(maker.deep_type(levels));
+        draft.lib.unused.push(maker.deep_type(levels));
+    } else {
+        draft.roots.push(maker.deep_type_statement(levels));
     }
-    roots.push(maker.deep_type_statement(levels));
-    None
 }

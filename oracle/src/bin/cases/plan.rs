@@ -4,7 +4,7 @@ use oracle::check::{self, Outcome};
 
 use crate::{
     draft::Draft, image::Numbering, library::Library, limits, make::Maker, names::Names, prng::Rng,
-    script::Style, ty,
+    script::Style,
 };
 
 #[derive(Clone, Copy, Debug, PartialEq, Eq)]
@@ -102,7 +102,7 @@ fn style(rng: &mut Rng) -> Style {
 
 fn draft(rng: &mut Rng, want: Want) -> Option<Draft> {
     let names = Names::new(rng);
-    let rich = !matches!(want, Want::Clean) || rng.chance(60);
+    let rich = want != Want::Clean || rng.chance(60);
     let lib = Library::random(rng, &names, rich);
     let mut draft = Draft {
         style: style(rng),
@@ -111,12 +111,25 @@ fn draft(rng: &mut Rng, want: Want) -> Option<Draft> {
     };
     let size = size(rng);
     let mut maker = Maker::new(rng, &names, &lib);
-    let mut unused_type = None;
     if maker.rng.chance(60) {
         draft.roots.push(maker.import());
     }
+    aim(&mut maker, want, size, &mut draft)?;
+    draft.roots.extend(maker.roots(size));
+    add_deep(&mut maker, want, &mut draft);
+    if maker.rng.chance(25) {
+        add_unused(&mut maker, &mut draft);
+    }
+    let unused = std::mem::take(&mut draft.lib.unused);
+    draft.lib = lib;
+    draft.lib.unused.extend(unused);
+    at_limits(rng, want, &mut draft);
+    Some(draft)
+}
+
+/// What the case is to show.
+fn aim(maker: &mut Maker, want: Want, size: usize, draft: &mut Draft) -> Option<()> {
     match want {
-        Want::Clean => {}
         Want::Code(code) => {
             maker.faults = vec![code];
             for _ in 0..maker.rng.weighted(&[50, 20, 10, 10, 5, 5]) {
@@ -133,32 +146,32 @@ fn draft(rng: &mut Rng, want: Want) -> Option<Draft> {
         }
         Want::Outside("token") => draft.style.wrong_tokens = 40,
         Want::Outside("string-start") => draft.style.strings_at_zero = 60,
-        Want::Outside("depth") => {
-            unused_type = limits::deep_type(&mut maker, &mut draft.roots, 33);
-        }
-        Want::Outside(_) => {}
+        Want::Outside("depth") => limits::deep_type(maker, draft, 33),
+        _ => {}
     }
-    draft.roots.extend(maker.roots(size));
+    Some(())
+}
+
+/// Now and then a deep nest of nodes or types.
+fn add_deep(maker: &mut Maker, want: Want, draft: &mut Draft) {
     if maker.rng.chance(3) {
         let levels = maker.rng.between(60, 64);
         draft.roots.push(maker.deep(levels));
     }
     if maker.rng.chance(3) && !matches!(want, Want::Outside(_)) {
         let levels = maker.rng.between(28, 32);
-        unused_type = limits::deep_type(&mut maker, &mut draft.roots, levels);
+        limits::deep_type(maker, draft, levels);
     }
-    if maker.rng.chance(25) {
-        maker.noise = 30;
-        for _ in 0..maker.rng.between(1, 3) {
-            let ty = ty::any(maker.rng, &names, 3);
-            let node = maker.unvisited(|m| m.expr(&ty, 5));
-            draft.unused.push(node);
-        }
+}
+
+/// Nodes that no root leads to, right or wrong.
+fn add_unused(maker: &mut Maker, draft: &mut Draft) {
+    maker.noise = 30;
+    for _ in 0..maker.rng.between(1, 3) {
+        let ty = maker.any_type();
+        let node = maker.unvisited(|m| m.expr(&ty, 5));
+        draft.unused.push(node);
     }
-    draft.lib = lib;
-    draft.lib.unused.extend(unused_type);
-    at_limits(rng, want, &mut draft);
-    Some(draft)
 }
 
 /// Now and then a limit is reached; for some reasons one must be passed.

@@ -310,7 +310,7 @@ impl<'r> Script<'r> {
         words
     }
 
-    /// A case's token is the first of its condition or the bracket of its body.
+    /// A case's token is the first of its condition, the bracket of its body, or any before.
     fn matching(&mut self, cases: &[(Node, Vec<Node>)], default: &[Node]) -> usize {
         let mut words = vec![Word::Is(cases.len() as u32)];
         self.plain("match {");
@@ -320,10 +320,10 @@ impl<'r> Script<'r> {
             let condition = self.node(condition);
             self.plain(" ");
             let bracket = self.fixed("{");
-            let token = if self.rng.chance(60) {
-                self.tokens[first]
-            } else {
-                bracket
+            let token = match self.rng.below(10) {
+                0..5 => self.tokens[first],
+                5..8 => bracket,
+                _ => *self.rng.pick(&self.tokens),
             };
             words.extend([
                 Word::Is(token),

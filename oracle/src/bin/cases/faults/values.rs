@@ -62,15 +62,26 @@ impl Maker<'_> {
         Node::Ident(name)
     }
 
+    /// An operator, each class of them equally often.
+    fn any_operator(&mut self) -> u32 {
+        let class: &[u32] = match self.rng.below(4) {
+            0 => &[0, 1, 2, 3],
+            1 => &[4],
+            2 => &[5, 6],
+            _ => &[7, 8],
+        };
+        *self.rng.pick(class)
+    }
+
     pub(super) fn unsupported_operands(&mut self, size: usize) -> Node {
-        let op = self.rng.below(9) as u32;
+        let op = self.any_operator();
         let ty = self.type_where(|ty| !takes(op, ty));
         let left = self.expr(&ty, size / 2);
         Node::bin(op, left, self.expr(&ty, size / 2))
     }
 
     pub(super) fn incompatible_operands(&mut self, size: usize) -> Node {
-        let op = self.rng.below(9) as u32;
+        let op = self.any_operator();
         let ty = self.any_type();
         let other = self.other_type(&ty);
         let left = self.expr(&ty, size / 2);
@@ -203,18 +214,19 @@ impl Maker<'_> {
     }
 
     pub(super) fn cases_differ(&mut self, want: &Ty, size: usize) -> Node {
+        let count = self.rng.between(1, 3);
+        let sizes = self.rng.split(size, count);
         let mut cases = Vec::new();
-        let sizes = self.rng.split(size, 4);
-        for i in 0..self.rng.between(1, 3) {
-            let other = if i == 0 || self.rng.chance(50) {
+        for (i, size) in sizes.into_iter().enumerate() {
+            let end = if i == 0 || self.rng.chance(50) {
                 self.other_type(want)
             } else {
                 want.clone()
             };
-            let condition = self.expr(&Ty::Bool, sizes[i]);
-            cases.push((condition, self.block(&other, sizes[i])));
+            let condition = self.expr(&Ty::Bool, size);
+            cases.push((condition, self.block(&end, size)));
         }
         self.rng.shuffle(&mut cases);
-        Node::Match(cases, self.block(want, sizes[3]))
+        Node::Match(cases, self.block(want, 2))
     }
 }

@@ -143,16 +143,9 @@ impl Maker<'_> {
     /// An extern, now and then of a name that is held or in the library. A package that is just
     /// being called is not replaced.
     pub fn external(&mut self) -> Node {
-        let held: Vec<&Package> = if self.calling > 0 {
-            vec![]
-        } else {
-            self.scope.held.iter().collect()
-        };
-        let known = held
-            .into_iter()
-            .chain(&self.lib.packages)
-            .map(|p| p.name.clone());
+        let known = self.scope.held.iter().chain(&self.lib.packages);
         let known: Vec<String> = known
+            .map(|p| p.name.clone())
             .filter(|n| self.calling == 0 || self.scope.package(n).is_none())
             .collect();
         let name = if !known.is_empty() && self.rng.chance(40) {
