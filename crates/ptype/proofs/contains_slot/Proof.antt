@@ -1,0 +1,18 @@
+-- `contains_slot` meets its contract: kind 10, 33 levels. Assumes nothing.
+use mathlib.Core.Path.{_∙_}
+use denote.Ref.{now}
+use Rattle.ptype.specs.Words.{tyOf}
+use Rattle.ptype.proofs.StandsReturns.{stands-slot}
+use borrow.Author.Needs.{needs}
+use Rattle.ptype.proofs.contains_slot.Statement.{statement}
+use Rattle.ptype.proofs.contains_slot.Tie as tie
+
+stands-in-requires : tie.Need-stands-in-requires
+stands-in-requires c κs = search needs
+
+returns : tie.Need-returns
+unfolding tyOf
+returns c = λ x. c .stands-in .ensures x ∙ stands-slot x (now (c .before .before .args .types)) 33 (c .before .before .args .w)
+
+pub contains-slot-spec : {M : Type 1} → statement M
+contains-slot-spec = tie.close (tie.spec stands-in-requires returns)

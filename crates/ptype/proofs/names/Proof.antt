@@ -1,0 +1,14 @@
+-- `names` meets its contract: one test where the first holds, and the other where it does not. Assumes nothing.
+use mathlib.Core.Path.{sym}
+use borrow.Author.Tests.{ne-eqb}
+use Rattle.ptype.proofs.names.Statement.{statement}
+use Rattle.ptype.proofs.names.Tie as tie
+
+returns : tie.Need-returns
+returns c = sym (rw (c .if1 .taken))
+
+returns-2 : tie.Need-returns-2
+returns-2 c = sym (rw (ne-eqb _ _ (c .if1 .left)))
+
+pub names-spec : {M : Type 1} → statement M
+names-spec = tie.close (tie.spec returns returns-2)
