@@ -1,0 +1,1 @@
+// Theorems over two runs of the rules; no code.
