@@ -246,93 +246,93 @@ module _ (R : World → World → Type 0) (Q P : ℕ → Type 0) (law : Kept R Q
   in-typeFrom c n t = in-onTypes _ (t-typeFrom (c .texts) n t)
 
   -- operators
-  in-fuse : (c : Ctx) (n slot token op l r : ℕ) → P slot → In (fuse c n slot token op l r)
+  pub in-fuse : (c : Ctx) (n slot token op l r : ℕ) → P slot → In (fuse c n slot token op l r)
   unfolding fuse
   in-fuse c n slot token op l r h =
       in-next _ (in-ty l) λ _. in-next _ (in-ty r) λ _. in-next _ (in-tree c _) λ _. in-next _ (in-tree c _) λ _.
       in-when _ _ _ (in-when _ _ _ (in-poison n _) (in-poison n _)) (in-set slot _ h)
 
-  in-unary : (c : Ctx) (n slot token op r : ℕ) → P slot → In (unary c n slot token op r)
+  pub in-unary : (c : Ctx) (n slot token op r : ℕ) → P slot → In (unary c n slot token op r)
   unfolding unary
   in-unary c n slot token op r h = in-next _ (in-ty r) λ w. in-tree-next c w _ λ ws. in-when _ _ _ (in-set slot _ h) (in-poison n _)
 
-  in-cast : (c : Ctx) (n slot token left to : ℕ) → P slot → In (cast c n slot token left to)
+  pub in-cast : (c : Ctx) (n slot token left to : ℕ) → P slot → In (cast c n slot token left to)
   unfolding cast
   in-cast c n slot token left to h =
       in-next _ (in-ty left) λ _. in-next _ (in-tree c _) λ _. in-next _ (in-tree c _) λ _.
       in-when _ _ _ (in-set slot to h) (in-when _ _ _ (in-next _ (in-report n _) λ _. in-set slot to h) (in-poison n _))
 
   -- calls
-  in-compared : (c : Ctx) (n : ℕ) (name : List ℕ) (p : Param) (a : Provided) (e t : Ty) → In (compared c n name p a e t)
+  pub in-compared : (c : Ctx) (n : ℕ) (name : List ℕ) (p : Param) (a : Provided) (e t : Ty) → In (compared c n name p a e t)
   unfolding compared
   in-compared c n name p a e t = in-when _ _ _ (in-return tt) (in-report n _)
 
-  in-bound : (c : Ctx) (n : ℕ) (name : List ℕ) (p : Param) (a : Provided) (e t : Ty) (b : Bound) → In (afterBinding c n name p a e t b)
+  pub in-bound : (c : Ctx) (n : ℕ) (name : List ℕ) (p : Param) (a : Provided) (e t : Ty) (b : Bound) → In (afterBinding c n name p a e t b)
   unfolding afterBinding
   in-bound c n name p a e t (allBound bs) =
       in-next _ (in-onTypes _ (t-apply (c .texts) n bs e _)) λ w. in-next _ (in-tree c w) λ x. in-next _ (in-compared c n name p a x t) λ _. in-return bs
   in-bound c n name p a e t (conflict bs slot old new) = in-next _ (in-tree c old) λ _. in-next _ (in-tree c new) λ _. in-next _ (in-report n _) λ _. in-return bs
   in-bound c n name p a e t (voidSlot bs slot) = in-next _ (in-report n _) λ _. in-return bs
 
-  in-argument : (c : Ctx) (n : ℕ) (name : List ℕ) (slots : Bool) (p : Param) (a : Provided) (bs : List Binding) → In (argument c n name slots p a bs)
+  pub in-argument : (c : Ctx) (n : ℕ) (name : List ℕ) (slots : Bool) (p : Param) (a : Provided) (bs : List Binding) → In (argument c n name slots p a bs)
   unfolding argument slottedArgument plainArgument
   in-argument c n name slots p a bs =
       in-next _ (in-ty _) λ w. in-next _ (in-tree c w) λ t. in-when _ _ _ (in-return bs) (in-when _ _ _
       (in-when _ _ _ (in-return bs) (in-look _ λ s. in-next _ (in-tree c _) λ e. in-bound c n name p a e t _))
       (in-next _ (in-tree c _) λ e. in-next _ (in-compared c n name p a e t) λ _. in-return bs))
 
-  in-arguments : (c : Ctx) (n : ℕ) (name : List ℕ) (slots : Bool) (ps : List Param) (xs : List Provided) (bs : List Binding) → In (arguments c n name slots ps xs bs)
+  pub in-arguments : (c : Ctx) (n : ℕ) (name : List ℕ) (slots : Bool) (ps : List Param) (xs : List Provided) (bs : List Binding) → In (arguments c n name slots ps xs bs)
   unfolding arguments
   in-arguments c n name slots [] xs bs = in-return bs
   in-arguments c n name slots (p ∷ ps) [] bs = in-return bs
   in-arguments c n name slots (p ∷ ps) (x ∷ xs) bs = in-next _ (in-argument c n name slots p x bs) λ more. in-arguments c n name slots ps xs more
 
-  in-returned : (c : Ctx) (n : ℕ) (f : Signature) (bs : List Binding) → In (returned c n f bs)
+  pub in-returned : (c : Ctx) (n : ℕ) (f : Signature) (bs : List Binding) → In (returned c n f bs)
   unfolding returned
   in-returned c n f bs = in-when _ _ _ (in-next _ (in-tree c _) λ t. in-onTypes _ (t-apply (c .texts) n bs t _)) (in-return _)
 
-  in-checkCall : (c : Ctx) (n slot token : ℕ) (name : List ℕ) (f : Signature) (xs : List Provided) → P slot → In (checkCallArgs c n slot token name f xs)
+  pub in-checkCall : (c : Ctx) (n slot token : ℕ) (name : List ℕ) (f : Signature) (xs : List Provided) → P slot → In (checkCallArgs c n slot token name f xs)
   unfolding checkCallArgs
   in-checkCall c n slot token name f xs h =
       in-when _ _ _ (in-next _ (in-arguments c n name _ _ xs []) λ bs. in-next _ (in-returned c n f bs) λ w. in-set slot w h)
       (in-next _ (in-report n _) λ _. in-when _ _ _ (in-return Poison) (in-set slot _ h))
 
-  in-params : (c : Ctx) (ps : List Param) → In (paramTrees c ps)
+  pub in-params : (c : Ctx) (ps : List Param) → In (paramTrees c ps)
   unfolding paramTrees
   in-params c ps = in-each _ ps λ p. in-tree c _
 
-  in-provided : (c : Ctx) (xs : List Provided) → In (providedTrees c xs)
+  pub in-provided : (c : Ctx) (xs : List Provided) → In (providedTrees c xs)
   unfolding providedTrees
   in-provided c xs = in-each _ xs λ x. in-tyTree c _
 
-  in-position : (c : Ctx) (ts : List Ty) (fs : List Signature) → In (position c ts fs)
+  pub in-position : (c : Ctx) (ts : List Ty) (fs : List Signature) → In (position c ts fs)
   unfolding position
   in-position c ts [] = in-return none
   in-position c ts (f ∷ fs) = in-next _ (in-params c _) λ _. in-when _ _ _ (in-return _) (in-position c ts fs)
 
-  in-allReturn : (c : Ctx) (t : Ty) (fs : List Signature) → In (allReturn c t fs)
+  pub in-allReturn : (c : Ctx) (t : Ty) (fs : List Signature) → In (allReturn c t fs)
   unfolding allReturn
   in-allReturn c t [] = in-return true
   in-allReturn c t (f ∷ fs) = in-next _ (in-tree c _) λ _. in-when _ _ _ (in-allReturn c t fs) (in-return false)
 
-  in-common : (c : Ctx) (slot : ℕ) (f : Signature) (fs : List Signature) → P slot → In (commonReturn c slot f fs)
+  pub in-common : (c : Ctx) (slot : ℕ) (f : Signature) (fs : List Signature) → P slot → In (commonReturn c slot f fs)
   unfolding commonReturn
   in-common c slot f fs h = in-next _ (in-tree c _) λ t. in-next _ (in-allReturn c t fs) λ _. in-when _ _ _ (in-set slot _ h) (in-return Poison)
 
-  in-select : (c : Ctx) (n slot name : ℕ) (x : List ℕ) (f : Signature) (fs : List Signature) (xs : List Provided) (b : Bool) → P slot → In (select c n slot name x f fs xs b)
+  pub in-select : (c : Ctx) (n slot name : ℕ) (x : List ℕ) (f : Signature) (fs : List Signature) (xs : List Provided) (b : Bool) → P slot → In (select c n slot name x f fs xs b)
   unfolding select
   in-select c n slot name x f fs xs b h =
       in-when _ _ _ (in-common c slot f fs h) (in-next _ (in-provided c xs) λ ts. in-next _ (in-position c ts _) λ found. in-option found _ _
       (in-next _ (in-each _ _ λ g. in-params c _) λ _. in-next _ (in-report n _) λ _. in-common c slot f fs h)
       λ g. in-set slot _ h)
 
-  in-group : (c : Ctx) (n slot name : ℕ) (x : List ℕ) (fs : List Signature) (xs : List Provided) (b : Bool) → P slot → In (inGroup c n slot name x fs xs b)
+  pub in-group : (c : Ctx) (n slot name : ℕ) (x : List ℕ) (fs : List Signature) (xs : List Provided) (b : Bool) → P slot → In (inGroup c n slot name x fs xs b)
   unfolding inGroup
   in-group c n slot name x [] xs b h = in-poison n _
   in-group c n slot name x (f ∷ []) xs b h = in-checkCall c n slot name x f xs h
   in-group c n slot name x (f ∷ g ∷ fs) xs b h = in-select c n slot name x f (g ∷ fs) xs b h
 
-  in-call : (c : Ctx) (n slot : ℕ) (f : Callee) (xs : List Provided) (m : Walk Bool) → In m → P slot → In (call c n slot f xs m)
+  pub in-call : (c : Ctx) (n slot : ℕ) (f : Callee) (xs : List Provided) (m : Walk Bool) → In m → P slot → In (call c n slot f xs m)
   unfolding call resolveCall resolvePkgCall
   in-call c n slot (ownFunction name) xs m h p = in-next _ h λ _. in-look _ λ s. in-option _ _ _ (in-poison n _) λ f. in-checkCall c n slot name _ f xs p
   in-call c n slot (packageFunction pkg name) xs m h p = in-next _ h λ b. in-look _ λ s. in-option _ _ _ (in-poison n _) λ q. in-group c n slot name _ _ xs b p
@@ -340,26 +340,26 @@ module _ (R : World → World → Type 0) (Q P : ℕ → Type 0) (law : Kept R Q
   in-call c n slot noCallee xs m h p = in-return Poison
 
   -- rules
-  in-ident : (c : Ctx) (n slot name : ℕ) → P slot → In (ident c n slot name)
+  pub in-ident : (c : Ctx) (n slot name : ℕ) → P slot → In (ident c n slot name)
   unfolding ident
   in-ident c n slot name h = in-look _ λ s. in-option _ _ _ (in-poison n _) λ b. in-option b _ _ (in-return Poison) λ w. in-set slot w h
 
-  in-let : (n name : ℕ) (a : Answer) → In (letBinding n name a)
+  pub in-let : (n name : ℕ) (a : Answer) → In (letBinding n name a)
   unfolding letBinding
   in-let n name (Known r) = in-next _ (in-ty r) λ w. in-when _ _ _ (in-next _ (in-report n _) λ _. in-return none) (in-return (some w))
   in-let n name Poison = in-return none
 
-  in-fnArguments : (c : Ctx) (n slot : ℕ) (xs : List Arg) → ArgSlots P slot xs → In (fnArguments c n slot xs)
+  pub in-fnArguments : (c : Ctx) (n slot : ℕ) (xs : List Arg) → ArgSlots P slot xs → In (fnArguments c n slot xs)
   unfolding fnArguments ArgSlots
   in-fnArguments c n slot [] h = in-return []
   in-fnArguments c n slot (a ∷ xs) h =
       in-next _ (in-typeFrom c n _) λ w. in-next _ (in-set slot w (h .0)) λ _. in-next _ (in-insert _ _) λ _. in-next _ (in-fnArguments c n (slot + 1) xs (h .1)) λ _. in-return _
 
-  in-checkReturn : (c : Ctx) (n name : ℕ) (e : TypeExpr) (ret : ℕ) (a : Answer) → In (checkReturn c n name e ret a)
+  pub in-checkReturn : (c : Ctx) (n name : ℕ) (e : TypeExpr) (ret : ℕ) (a : Answer) → In (checkReturn c n name e ret a)
   unfolding checkReturn
   in-checkReturn c n name e ret a = in-ifKnown a _ λ slot. in-next _ (in-tree c ret) λ _. in-next _ (in-tyTree c slot) λ _. in-when _ _ _ (in-return tt) (in-report n _)
 
-  in-fn : (c : Ctx) (n slot name : ℕ) (e : TypeExpr) (xs : List Arg) (m : Walk Answer) → In m → P slot → ArgSlots P (slot + 1) xs → In (unlessDefined c n name (fn c n slot name e xs m))
+  pub in-fn : (c : Ctx) (n slot name : ℕ) (e : TypeExpr) (xs : List Arg) (m : Walk Answer) → In m → P slot → ArgSlots P (slot + 1) xs → In (unlessDefined c n name (fn c n slot name e xs m))
   unfolding unlessDefined fn
   in-fn c n slot name e xs m h p q =
       in-look _ λ s. in-option _ _ _
@@ -367,59 +367,59 @@ module _ (R : World → World → Type 0) (Q P : ℕ → Type 0) (law : Kept R Q
       in-next _ h λ a. in-next _ (in-checkReturn c n name e ret a) λ _. in-return ret)) λ ret. in-set slot ret p)
       λ _. in-poison n _
 
-  in-field : (c : Ctx) (n slot name t : ℕ) → P slot → In (field c n slot name t)
+  pub in-field : (c : Ctx) (n slot name t : ℕ) → P slot → In (field c n slot name t)
   unfolding field fieldType
   in-field c n slot name t h =
       in-next _ (in-ty t) λ w. in-next _ (in-tree c w) λ _. in-look _ λ s. in-when _ _ _
       (in-option _ _ _ (in-poison n _) λ x. in-when _ _ _ (in-next _ (in-set slot _ h) λ _. in-return Poison) (in-set slot x h)) (in-poison n _)
 
-  in-value : (a : Answer) → In (valueType a)
+  pub in-value : (a : Answer) → In (valueType a)
   unfolding valueType
   in-value (Known slot) = in-ty slot
   in-value Poison = in-return _
 
-  in-member : (c : Ctx) (n : ℕ) (x : Span) (a b : Answer) → In (member c n x a b)
+  pub in-member : (c : Ctx) (n : ℕ) (x : Span) (a b : Answer) → In (member c n x a b)
   unfolding member memberTypes
   in-member c n x (Known f) (Known m) =
       in-next _ (in-tyTree c f) λ _. in-next _ (in-tyTree c m) λ _. in-when _ _ _ (in-return silent) (in-when _ _ _ (in-return alike) (in-next _ (in-report n _) λ _. in-return differs))
   in-member c n x (Known f) Poison = in-return silent
   in-member c n x Poison b = in-return silent
 
-  in-goOn : (m : Member) (b : Bool) (f : Bool → Walk Answer) → ((b : Bool) → In (f b)) → In (goOn m b f)
+  pub in-goOn : (m : Member) (b : Bool) (f : Bool → Walk Answer) → ((b : Bool) → In (f b)) → In (goOn m b f)
   unfolding goOn
   in-goOn alike b f h = h b
   in-goOn silent b f h = h true
   in-goOn differs b f h = in-return Poison
 
-  in-arrayOf : (c : Ctx) (n slot : ℕ) (a : Answer) (b : Bool) → P slot → In (arrayOf c n slot a b)
+  pub in-arrayOf : (c : Ctx) (n slot : ℕ) (a : Answer) (b : Bool) → P slot → In (arrayOf c n slot a b)
   unfolding arrayOf
   in-arrayOf c n slot a b h =
       in-known a _ λ f. in-when _ _ _ (in-return Poison) (in-next _ (in-ty f) λ e. in-next _ (in-onTypes _ (t-wrap (c .texts) n 7 e)) λ w. in-set slot w h)
 
-  in-condition : (c : Ctx) (n token : ℕ) (a : Answer) → In (condition c n token a)
+  pub in-condition : (c : Ctx) (n token : ℕ) (a : Answer) → In (condition c n token a)
   unfolding condition
   in-condition c n token a = in-ifKnown a _ λ slot. in-next _ (in-tyTree c slot) λ _. in-when _ _ _ (in-return tt) (in-report n _)
 
-  in-branches : (c : Ctx) (n d : ℕ) (bs : List Branch) → In (compareBranches c n d bs)
+  pub in-branches : (c : Ctx) (n d : ℕ) (bs : List Branch) → In (compareBranches c n d bs)
   unfolding compareBranches
   in-branches c n d [] = in-return tt
   in-branches c n d (b ∷ bs) =
       in-next _ (in-ifKnown _ _ λ slot. in-next _ (in-tyTree c slot) λ _. in-next _ (in-tyTree c d) λ _. in-when _ _ _ (in-return tt) (in-report n _)) λ _. in-branches c n d bs
 
-  in-matched : (c : Ctx) (n slot : ℕ) (bs : List Branch) (a : Answer) → P slot → In (matched c n slot bs a)
+  pub in-matched : (c : Ctx) (n slot : ℕ) (bs : List Branch) (a : Answer) → P slot → In (matched c n slot bs a)
   unfolding matched
   in-matched c n slot bs a h = in-known a _ λ d. in-next _ (in-branches c n d bs) λ _. in-next _ (in-ty d) λ w. in-set slot w h
 
-  in-import : (c : Ctx) (n path : ℕ) → In (importOne c n path)
+  pub in-import : (c : Ctx) (n path : ℕ) → In (importOne c n path)
   unfolding importOne
   in-import c n path = in-look _ λ s. in-option _ _ _ (in-option _ _ _ (in-report n _) λ p. in-hold p) λ _. in-return tt
 
-  in-imports : (c : Ctx) (n token : ℕ) (ps : List ℕ) → In (importAll c n token ps)
+  pub in-imports : (c : Ctx) (n token : ℕ) (ps : List ℕ) → In (importAll c n token ps)
   unfolding importAll
   in-imports c n token [] = in-report n _
   in-imports c n token (p ∷ ps) = in-next _ (in-each _ (p ∷ ps) λ x. in-import c n x) λ _. in-return tt
 
-  in-extern : (c : Ctx) (n : ℕ) (f : ExternFn) → In (externFn c n f)
+  pub in-extern : (c : Ctx) (n : ℕ) (f : ExternFn) → In (externFn c n f)
   unfolding externFn
   in-extern c n f = in-next _ (in-each _ _ λ a. in-next _ (in-typeFrom c n _) λ _. in-return _) λ _. in-next _ (in-typeFrom c n _) λ _. in-return _
 
@@ -479,7 +479,7 @@ module _ (R : World → World → Type 0) (Q P : ℕ → Type 0) (law : Kept R Q
     in-members c n slot a b (then x xs) p h =
         in-next _ (in-node c x (h .0)) λ y. in-next _ (in-member c n (spanOf x) a y) λ m. in-goOn m b _ λ q. in-members c n slot a q xs p (h .1)
 
-  in-measure : (c : Ctx) (n : ℕ) (ws : List ℕ) → In (measure c n ws)
+  pub in-measure : (c : Ctx) (n : ℕ) (ws : List ℕ) → In (measure c n ws)
   unfolding measure
   in-measure c n [] = in-return tt
   in-measure c n (w ∷ ws) = in-next _ (in-tree c w) λ t. in-when _ _ _ (in-measure c n ws) (λ _. stopped (law .tooDeep))

@@ -1,5 +1,5 @@
 -- What the theorems of two runs take from refusals 1 to 6: what inputs that pass them have. Definitions; and the world before the walk.
-use Prim.Native.Nat.{ℕ, zero, suc, _+_, _≤_, _<_}
+use Prim.Native.Nat.{ℕ, _+_, _≤_, _<_}
 use native.Mathlib.Nat.{zero-add}
 use native.Mathlib.Omega.{arith}
 use mathlib.Core.Path.{_≡_, refl, sym, ap, _∙_}
@@ -12,7 +12,7 @@ use Rattle.tok.specs.Step.{ok}
 use Rattle.ptype.specs.Words.{voidWord}
 use Rattle.ptype.specs.Add.{write}
 use Rattle.ptype.specs.Inside.{Throughout, Lies}
-use Rattle.ast.specs.Image.{nodeCount, rootCount, slotCount}
+use Rattle.ast.specs.Image.{nodeCount, slotCount}
 use Rattle.ast.specs.Node.{firstRoots, rootsOf}
 use Rattle.library.specs.Package.{poolOf, packagesOf}
 use Rattle.refusals.specs.Inputs.{Inputs, Buffers, textsIn}

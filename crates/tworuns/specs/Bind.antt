@@ -1,27 +1,23 @@
 -- Binding slots and putting types for them, in two runs: the same bindings, errors and types. By induction on the expected type.
 -- Assumes nothing.
-use Prim.Native.Nat.{ℕ, zero, suc, _+_, _-_, _≤_, _<_}
-use native.Mathlib.Omega.{arith}
-use mathlib.Core.Path.{_≡_, refl, sym, ap, _∙_}
-use mathlib.Core.Bool.{Bool, true, false, _||_}
-use mathlib.Core.Option.{Option, none, some}
-use mathlib.Core.List.{List, [], _∷_}
+use Prim.Native.Nat.{ℕ}
+use mathlib.Core.Path.{_≡_, refl, ap}
+use mathlib.Core.Bool.{Bool, true, false}
+use mathlib.Core.Option.{Option, some}
+use mathlib.Core.List.{List}
 use lib.Dec.{eqb}
-use lib.ListN.{getD}
 use borrow.Author.Tests.{eqb-true}
-use Rattle.tok.specs.Word.{kindOf, payloadOf}
-use Rattle.tok.specs.Text.{Texts, nameBytes, sameBytes}
-use Rattle.tok.specs.Step.{Result, ok, Step, Refusal, next, _>>=_, return, look, when}
-use Rattle.ptype.specs.Ty.{Ty, Fields, plain, wrap, rec, named, noField, field, sameTy}
-use Rattle.ptype.specs.Words.{tyOf, innerWord, fieldCount}
+use Rattle.tok.specs.Word.{kindOf}
+use Rattle.tok.specs.Text.{Texts, sameBytes}
+use Rattle.tok.specs.Step.{Step, Refusal}
+use Rattle.ptype.specs.Ty.{Ty, Fields, plain, wrap, rec, named, noField, field}
 use Rattle.ptype.specs.Add.{Buffer}
-use Rattle.ptype.specs.Kinds.{wraps}
 use Rattle.ptype.specs.Slots.{Binding, boundTo, Bound, allBound, conflict, voidSlot, andThen, bindFound, bindOne, bindSlots, bindFields, isSome, hasBoundSlot, anyBoundSlot, boundOr, applySlotBinding, applyFields}
-use Rattle.tworuns.specs.Means.{Means, flat, wrapped, recorded, called, FieldsMean, noMore, oneMore, Grown, grown-same, grown-trans}
-use Rattle.tworuns.specs.Runs.{Runs, Relation, Each, end, and, each-map, Both?, neither, present, SameType, SameName, Used, SameBinding, type-grow, binding-grow, same-kind, same-test}
+use Rattle.tworuns.specs.Means.{Means, flat, wrapped, recorded, called, FieldsMean, noMore, oneMore, Grown, grown-same}
+use Rattle.tworuns.specs.Runs.{Runs, Relation, Each, end, and, each-map, Both?, neither, present, SameType, Used, SameBinding, type-grow, binding-grow, same-kind, same-test}
 use Rattle.tworuns.specs.Logic.{Typed, typed, t-next, t-when, Words}
-use Rattle.tworuns.specs.Types.{SamePairs, t-wrap, t-record}
-use Rattle.tworuns.specs.Inner.{TypeIs, FieldsAre, FirstField, SameFields, type-is, is-type, open-wrap, open-record, open-field, inner-same, fields-same, fields-are-grow}
+use Rattle.tworuns.specs.Types.{t-wrap, t-record}
+use Rattle.tworuns.specs.Inner.{TypeIs, FieldsAre, FirstField, is-type, open-wrap, open-record, open-field, inner-same, fields-same, fields-are-grow}
 use Rattle.tworuns.specs.Exprs.{Pairs, no-pairs, more-pairs}
 
 -- one of two, by a test of what is the same in both runs

@@ -1,31 +1,24 @@
 -- Calls in two runs: the same diagnostics, and results of one type. One lemma for each function of the rules. Assumes nothing.
-use Prim.Native.Nat.{ℕ, _+_, _<_}
-use mathlib.Core.Path.{_≡_, refl, sym, ap, _∙_}
-use mathlib.Core.Bool.{Bool, true, false, _&&_, _||_}
-use mathlib.Core.Option.{Option, none, some}
-use mathlib.Core.List.{List, [], _∷_}
-use lib.Dec.{eqb}
-use lib.ListN.{getD, length}
-use Rattle.tok.specs.Text.{nameBytes}
-use Rattle.tok.specs.Step.{Result, ok, Refusal, next, _>>=_, _>>_, return, look, when, forEach}
-use Rattle.ptype.specs.Ty.{Ty, sameTy, containsUnknown, containsSlot}
-use Rattle.ptype.specs.Words.{tyOf}
+use Prim.Native.Nat.{ℕ, _<_}
+use mathlib.Core.Path.{_≡_, refl, ap}
+use mathlib.Core.Bool.{Bool}
+use mathlib.Core.Option.{Option}
+use mathlib.Core.List.{List}
+use Rattle.tok.specs.Step.{forEach}
+use Rattle.ptype.specs.Ty.{Ty, containsSlot}
 use Rattle.ptype.specs.Add.{Buffer}
-use Rattle.ptype.specs.Slots.{Binding, Bound, allBound, conflict, voidSlot, bindSlots, applySlotBinding}
-use Rattle.err.specs.Message.{pkgName, callThroughField, missingPackage, undefinedInPackage, undefinedOwn, noSpecialisation, argumentCount, argMismatch, slotConflict, slotVoid}
-use Rattle.rules.specs.declared.Answer.{Answer}
-use Rattle.rules.specs.declared.Answer.the-variants.{Known, Poison}
-use Rattle.library.specs.Package.{Param, Signature, Package, findPackage, findFunction, groupOf}
-use Rattle.rules.specs.World.{Ctx, World, Walk, nameIn}
-use Rattle.rules.specs.Steps.{Done, skip, onOption, ty, tree, tyTree, setKnown, onTypes, report, poison}
-use Rattle.rules.specs.Calls.{Callee, ownFunction, packageFunction, throughField, noCallee, Provided, compared, afterBinding, slottedArgument, plainArgument, argument, arguments, returned, checkCallArgs, resolveCall, paramTrees, providedTrees, overloadMatches, position, allReturn, commonReturn, select, inGroup, resolvePkgCall, call}
-use Rattle.tworuns.specs.Means.{Grown, grown-same}
-use Rattle.tworuns.specs.Runs.{Runs, Relation, Each, end, and, each-map, each-length, Both?, neither, present, Slot, SameType, SameName, SameParam, SameSignature, SameFunction, SamePackage, Worlds, type-grow, param-grow, signature-grow, same-kind, same-zero, same-tree, tree-first, tree-second, same-test}
+use Rattle.ptype.specs.Slots.{Binding, Bound}
+use Rattle.library.specs.Package.{Param, Signature}
+use Rattle.rules.specs.World.{World, Walk}
+use Rattle.rules.specs.Steps.{ty, tree, tyTree, poison}
+use Rattle.rules.specs.Calls.{Callee, ownFunction, packageFunction, throughField, noCallee, Provided, compared, afterBinding, slottedArgument, plainArgument, argument, arguments, returned, checkCallArgs, resolveCall, paramTrees, providedTrees, position, allReturn, commonReturn, select, inGroup, resolvePkgCall, call}
+use Rattle.tworuns.specs.Runs.{Runs, Relation, Each, end, and, each-map, each-length, Both?, neither, present, Slot, SameType, SameName, SameParam, SameSignature, Worlds, type-grow, param-grow, signature-grow, same-zero, same-tree, tree-first, tree-second}
 use Rattle.tworuns.specs.Runs as R
 use Rattle.tworuns.specs.Sound.{SoundCallee}
-use Rattle.tworuns.specs.Logic.{Gives, p-next, p-return, p-when, p-option, p-set, p-onTypes, Answers, Words, Nothing, Equal}
+use Rattle.laws.specs.Keeps.{in-look, in-option, in-poison, in-checkCall, in-group}
+use Rattle.tworuns.specs.Logic.{Told, Any, told-kept, Parts, fine, q-next, Gives, p-next, p-return, p-when, p-option, p-set, p-onTypes, Answers, Words, Nothing, Equal}
 use Rattle.tworuns.specs.Primitive.{p-report, p-poison, Reads, p-reads, reads-each}
-use Rattle.tworuns.specs.Inner.{TypeIs, type-is}
+use Rattle.tworuns.specs.Inner.{type-is}
 use Rattle.tworuns.specs.Exprs.{In}
 use Rattle.tworuns.specs.Bind.{Bindings, bindings-grow, SameBound, all, clash, ofVoid, bind-same, t-apply}
 use Rattle.tworuns.specs.Find.{function-same, package-same, group-same}
@@ -170,12 +163,14 @@ module _ (r : Runs) (n slot : ℕ) (own : slot < r .first .void) {given given′
       (λ p p′ h. p-group ws name (cc (k .bytes, m .bytes)) (group-same r (m .bytes) (h .functions)) e)
 
   -- The Call arm; `visits` visits the arguments.
-  pub p-call : {s s′ : World} → Worlds r s s′ → (f : Callee) → SoundCallee (λ i. i < r .first .void) (In r) f → (visits visits′ : Walk Bool)
-      → Gives r (Equal r) s s′ (visits s) (visits′ s′) → Gives r (Answers r) s s′ (call (r .first) n slot f given visits s) (call (r .second) n slot f given′ visits′ s′)
-  unfolding call SoundCallee
-  p-call ws (ownFunction name) h v v′ m =
-      p-next r _ _ m (λ _ _ u u′ g g′ x _. p-resolveCall x name (record { bytes = ws .names name h; word = λ z. refl }))
-  p-call ws (packageFunction pkg name) h v v′ m =
-      p-next r _ _ m (λ b b′ u u′ g g′ x e. p-resolvePkg x pkg name (record { bytes = ws .names pkg (h .0); word = λ z. refl }) (record { bytes = ws .names name (h .1); word = λ z. refl }) e)
-  p-call ws (throughField name) h v v′ m = p-poison r ws n refl
-  p-call ws noCallee h v v′ m = p-return r ws R.poison
+  pub q-call : {s s′ : World} → Worlds r s s′ → (f : Callee) → SoundCallee (λ i. i < r .first .void) (In r) f → (visits visits′ : Walk Bool)
+      → Parts r (Equal r) s s′ (visits s) (visits′ s′) → Parts r (Answers r) s s′ (call (r .first) n slot f given visits s) (call (r .second) n slot f given′ visits′ s′)
+  unfolding call SoundCallee resolveCall resolvePkgCall
+  q-call ws (ownFunction name) h v v′ m =
+      q-next r _ _ m (λ _. in-look Told Any Any told-kept _ λ s. in-option Told Any Any told-kept _ _ _ (in-poison Told Any Any told-kept n _) λ f. in-checkCall Told Any Any told-kept (r .first) n slot name _ f given tt)
+      (λ _ _ u u′ g g′ x _. fine (p-resolveCall x name (record { bytes = ws .names name h; word = λ z. refl })))
+  q-call ws (packageFunction pkg name) h v v′ m =
+      q-next r _ _ m (λ b. in-look Told Any Any told-kept _ λ s. in-option Told Any Any told-kept _ _ _ (in-poison Told Any Any told-kept n _) λ p. in-group Told Any Any told-kept (r .first) n slot name _ _ given b tt)
+      (λ b b′ u u′ g g′ x e. fine (p-resolvePkg x pkg name (record { bytes = ws .names pkg (h .0); word = λ z. refl }) (record { bytes = ws .names name (h .1); word = λ z. refl }) e))
+  q-call ws (throughField name) h v v′ m = fine (p-poison r ws n refl)
+  q-call ws noCallee h v v′ m = fine (p-return r ws R.poison)

@@ -1,14 +1,12 @@
 -- The functions buffer holds the entries of the own functions, in the order in which they were met; and no refusal of the walk has
 -- the number 0. An instance of `Keeps`. Assumes nothing.
-use Prim.Native.Nat.{ℕ, zero, suc, _+_}
+use Prim.Native.Nat.{ℕ}
 use native.Mathlib.Omega.{arith}
 use mathlib.Core.Bool.{false}
-use mathlib.Core.Path.{_≡_, refl, sym, ap, _∙_}
+use mathlib.Core.Path.{_≡_, refl, ap}
 use mathlib.Core.List.{List, [], _∷_, _++_}
-use lib.ListN.{length, take, drop, length-append}
-use Rattle.tok.specs.Step.{Result, ok, Refusal}
-use Rattle.ptype.specs.Add.{Buffer, buffer, overwrite, write, append}
-use Rattle.ast.specs.Node.{firstRoots}
+use lib.ListN.{length, length-append}
+use Rattle.ptype.specs.Add.{buffer, overwrite, write, append}
 use Rattle.library.specs.Package.{Param, Function, function, signature}
 use Rattle.refusals.specs.Inputs.{Inputs, Buffers}
 use Rattle.rules.specs.World.{World}

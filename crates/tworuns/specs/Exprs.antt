@@ -1,26 +1,24 @@
 -- A type expression gives words of one type in two runs. By induction on it. Assumes nothing.
-use Prim.Native.Nat.{ℕ, zero, suc, _+_, _^_, _≤_, _<_}
+use Prim.Native.Nat.{ℕ}
 use native.Mathlib.Nat.{max-le}
 use native.Mathlib.Omega.{arith}
-use mathlib.Core.Path.{_≡_, refl, sym, ap, _∙_}
-use mathlib.Core.Bool.{true}
+use mathlib.Core.Path.{_≡_, refl, sym, _∙_}
 use mathlib.Core.List.{List, [], _∷_}
-use Rattle.tok.specs.Word.{kindOf, payloadOf, wordOf}
-use Rattle.tok.specs.Text.{Texts, nameBytes}
-use Rattle.tok.specs.Step.{Result, ok, Step, Refusal, next, _>>=_, return}
+use Rattle.tok.specs.Word.{payloadOf, wordOf}
+use Rattle.tok.specs.Text.{nameBytes}
 use Rattle.tok.proofs.WordLaws.{kindOf-wordOf, payloadOf-lt}
 use Rattle.tok.proofs.NameLaws.{nameBytes-payload}
-use Rattle.ptype.specs.Ty.{Ty, Fields, plain, named, noField, field, depthOf, deepest}
+use Rattle.ptype.specs.Ty.{plain, named, noField, field, depthOf}
 use Rattle.ptype.specs.Add.{Buffer}
 use Rattle.ptype.specs.Kinds.{Plain}
 use Rattle.ptype.specs.Inside.{Lies}
 use Rattle.ast.specs.TypeExpr.{TypeExpr, TypeFields, AtomType, ForeignType, OptionType, ArrayType, RecordType, noType, typeField}
 use Rattle.ast.specs.TypeFrom.{typeFrom, fieldsFromExprs}
-use Rattle.tworuns.specs.Means.{Means, flat, called, grown-same, Grown, means-grow}
+use Rattle.tworuns.specs.Means.{flat, called, grown-same}
 use Rattle.tworuns.specs.Runs.{Runs, SameType, SameName, Used, type-grow}
 use Rattle.tworuns.specs.Sound.{SoundType, SoundTypes}
 use Rattle.tworuns.specs.Logic.{Typed, typed, t-next, Words}
-use Rattle.tworuns.specs.Types.{SamePairs, PairsMean, noPair, pair, pairs-grow, t-wrap, t-record}
+use Rattle.tworuns.specs.Types.{SamePairs, noPair, pair, t-wrap, t-record}
 
 -- a word of nothing but a kind
 pub plain-same : (r : Runs) (b b′ : Buffer) (k : ℕ) → Plain k → SameType r b b′ (wordOf k 0) (wordOf k 0)

@@ -1,23 +1,20 @@
 -- Finding by name in two runs: locals, functions, packages, groups and fields. By induction on the lists. Assumes nothing.
-use Prim.Native.Nat.{ℕ, zero, suc, _+_, _-_}
-use native.Mathlib.Omega.{arith}
-use mathlib.Core.Path.{_≡_, refl, sym, ap, _∙_}
-use mathlib.Core.Bool.{Bool, true, false}
+use Prim.Native.Nat.{ℕ}
+use mathlib.Core.Path.{_≡_}
 use mathlib.Core.Option.{Option, none, some}
-use mathlib.Core.List.{List, [], _∷_}
-use lib.ListN.{getD}
+use mathlib.Core.List.{List}
 use borrow.Author.Tests.{eqb-false}
 use Rattle.tok.specs.Text.{Texts, nameBytes, sameBytes}
 use Rattle.ptype.specs.Ty.{Fields, noField, field}
 use Rattle.ptype.specs.Add.{Buffer}
 use Rattle.ptype.specs.UnfoldLaws.{one-less}
-use Rattle.library.specs.Package.{Signature, Function, Package, findPackage, findFunction, groupOf}
+use Rattle.library.specs.Package.{Function, Package, findPackage, findFunction, groupOf}
 use Rattle.rules.specs.World.{Local}
 use Rattle.rules.specs.Steps.{envGet}
 use Rattle.rules.specs.Rules.{findField}
-use Rattle.tworuns.specs.Means.{FieldsMean, noMore, oneMore}
-use Rattle.tworuns.specs.Runs.{Runs, Each, end, and, Both?, neither, present, SameType, SameName, SameLocal, SameSignature, SameFunction, SamePackage, Used}
-use Rattle.tworuns.specs.Inner.{FieldsAre, FirstField, open-field, is-type}
+use Rattle.tworuns.specs.Means.{FieldsMean, noMore}
+use Rattle.tworuns.specs.Runs.{Runs, Each, end, and, Front, ends, longer, before, Both?, neither, present, SameType, SameName, SameLocal, SameSignature, SameFunction, SamePackage, Used}
+use Rattle.tworuns.specs.Inner.{FieldsAre, open-field, is-type}
 use Rattle.tworuns.specs.Bind.{pick}
 
 matches : (r : Runs) {name name′ : List ℕ} → name ≡ name′ → {w w′ : ℕ} → SameName r w w′ → sameBytes name (nameBytes (r .first .texts) w) ≡ sameBytes name′ (nameBytes (r .second .texts) w′)
@@ -57,3 +54,15 @@ module _ (r : Runs) {b b′ : Buffer} {name name′ : List ℕ} (e : name ≡ na
       let f = open-field u h in
       rw (one-less (eqb-false k 0 (f .some)), one-less (eqb-false k′ 0 (f .some′)))
       (pick (Both? (SameType r b b′)) _ _ _ _ (matches r e (f .name)) (λ _. present (is-type (f .type))) (λ _. field-same u fs (f .rest)))
+
+-- A package of two libraries, of which the second may be longer: neither has it, both have it, or only the second may.
+pub data InLibraries (r : Runs) (b b′ : Buffer) : Option Package → Option Package → Type 0 where
+  inBoth : {o o′ : Option Package} → Both? (SamePackage r b b′) o o′ → InLibraries r b b′ o o′
+  inLonger : {o : Option Package} → (r .strict → ⊥) → InLibraries r b b′ none o
+
+pub library-same : (r : Runs) {b b′ : Buffer} {name name′ : List ℕ} → name ≡ name′ → {ps ps′ : List Package} → Front (r .strict) (SamePackage r b b′) ps ps′
+    → InLibraries r b b′ (findPackage (r .first .texts) name ps) (findPackage (r .second .texts) name′ ps′)
+unfolding findPackage
+library-same r e ends = inBoth neither
+library-same r e (longer n) = inLonger n
+library-same r {b} {b′} e (before h rest) = pick (InLibraries r b b′) _ _ _ _ (matches r e (h .name)) (λ _. inBoth (present h)) (λ _. library-same r e rest)

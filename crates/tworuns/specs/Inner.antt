@@ -1,21 +1,20 @@
 -- Two words of one type, taken apart: the words inside are of one type too, and the fields of one name and type. Assumes nothing.
-use Prim.Native.Nat.{ℕ, zero, suc, _+_, _-_, _*_, _≤_, _<_}
-use native.Mathlib.Nat.{max-le}
+use Prim.Native.Nat.{ℕ, suc, _+_, _-_, _≤_, _<_}
 use native.Mathlib.Omega.{arith}
-use mathlib.Core.Path.{_≡_, refl, sym, ap, _∙_}
+use mathlib.Core.Path.{_≡_, sym, ap, _∙_}
 use mathlib.Core.Logic.{inl, inr}
-use mathlib.Core.Bool.{Bool, true, false, true≢false}
+use mathlib.Core.Bool.{true, false, true≢false}
 use mathlib.Core.List.{List}
 use lib.Dec.{eqb, eqb·suc-zero}
 use lib.ListN.{getD}
 use Rattle.tok.specs.Word.{kindOf, payloadOf}
-use Rattle.tok.specs.Text.{Texts, nameBytes}
-use Rattle.ptype.specs.Ty.{Ty, Fields, plain, wrap, rec, named, noField, field, depthOf, deepest}
+use Rattle.tok.specs.Text.{nameBytes}
+use Rattle.ptype.specs.Ty.{Ty, Fields, wrap, rec, field, depthOf, deepest}
 use Rattle.ptype.specs.Words.{innerWord, fieldCount}
 use Rattle.ptype.specs.Add.{Buffer}
-use Rattle.ptype.specs.Kinds.{wraps, names, Plain, one-of}
-use Rattle.tworuns.specs.Means.{Means, flat, wrapped, recorded, called, FieldsMean, noMore, oneMore, means-grow, fields-grow, Grown}
-use Rattle.tworuns.specs.Runs.{Runs, SameType, SameName, SameUsed, Used}
+use Rattle.ptype.specs.Kinds.{wraps, names, one-of}
+use Rattle.tworuns.specs.Means.{Means, flat, wrapped, recorded, called, FieldsMean, oneMore, fields-grow, Grown}
+use Rattle.tworuns.specs.Runs.{Runs, SameType, SameName, Used}
 use Rattle.tworuns.specs.Types.{used-read}
 
 module _ (r : Runs) (b b′ : Buffer) where

@@ -1,3 +1,6 @@
+-- Two runs of the rules, one over longer buffers, longer texts and a longer library. In reading order: what a type word means; what the
+-- two runs have in common; what they rely on of a tree; the logic and the primitive steps; types, calls and rules; the theorem of
+-- nodes; the pool and the walk as a whole; then the theorems `answered-longer`, `larger` and `larger-without-statements`.
 pub mod Means
 pub mod Runs
 pub mod Sound
@@ -19,3 +22,7 @@ pub mod Entries
 pub mod Refused
 pub mod Accepted
 pub mod Longer
+pub mod Split
+pub mod Kept
+pub mod Signatures
+pub mod Larger

@@ -1,23 +1,22 @@
 -- Program logic of two runs: where the first gives an answer, the second gives the same one, or it is refused and the runs are
 -- not alike word for word. The steps that the rules are made of. Assumes nothing.
-use Prim.Native.Nat.{ℕ, _+_, _*_, _/_, _≤_, _<_, min}
+use Prim.Native.Nat.{ℕ, _≤_, _<_}
 use native.Mathlib.Omega.{arith}
 use native.Mathlib.Decide.{ℕ-discrete}
-use mathlib.Core.Path.{_≡_, refl, sym, ap, _∙_}
-use mathlib.Core.Bool.{Bool, true, false, _&&_}
-use mathlib.Core.Option.{Option, none, some}
-use mathlib.Core.List.{List, [], _∷_}
-use lib.Dec.{leb, ltb}
-use lib.ListN.{getD, length, take, set, length-set}
+use mathlib.Core.Path.{_≡_, refl}
+use mathlib.Core.Bool.{Bool, true, false}
+use mathlib.Core.Option.{Option}
+use lib.ListN.{getD, set, length-set}
 use lib.Seq.{getD-set-same, getD-set-other}
-use Rattle.tok.specs.Step.{Result, ok, refused, Step, Refusal, next, _>>=_, return, when, forEach}
+use Rattle.tok.specs.Step.{Result, ok, refused, Step, Refusal, next, when}
 use Rattle.ptype.specs.Add.{Buffer}
 use Rattle.rules.specs.declared.Answer.{Answer}
-use Rattle.rules.specs.declared.Answer.the-variants.{Known, Poison}
-use Rattle.rules.specs.World.{Ctx, World, Walk, withSlots, withTypes, withEnv}
-use Rattle.rules.specs.Steps.{Done, known, ifKnown, onOption, setKnown, raised, onTypes, framed, apart}
+use Rattle.rules.specs.World.{World, Walk, withSlots}
+use Rattle.rules.specs.Steps.{Done, known, ifKnown, onOption, setKnown, raised, onTypes}
+use Rattle.laws.specs.Keeps.{Keeps, kept, Kept}
+use Rattle.laws.specs.Keeps as K
 use Rattle.tworuns.specs.Means.{Grown, grown-same, grown-trans}
-use Rattle.tworuns.specs.Runs.{Runs, Relation, Each, end, and, Both?, neither, present, Used, Slot, own, void, SameAnswer, Worlds, worlds-grow, SameType}
+use Rattle.tworuns.specs.Runs.{Runs, Relation, Both?, neither, present, Used, Slot, own, void, SameAnswer, Worlds, worlds-grow, SameType}
 use Rattle.tworuns.specs.Runs as R
 
 module _ (r : Runs) where
@@ -152,3 +151,50 @@ module _ (r : Runs) where
             getD-set-other (s .slots) slot (r .first .void) w 0 (λ e. omega arith),
             getD-set-other (s′ .slots) slot (r .second .void) w′ 0 (λ e. omega (arith, ws .up)),
           ) (ws .slots (r .first .void) (r .second .void) void)
+
+-- Where the second library is longer, the runs may part: only after the first has a diagnostic, which it keeps.
+abbrev pub Told : World → World → Type 0
+Told s u = s .diagnostics .used ≤ u .diagnostics .used
+
+abbrev pub Any : ℕ → Type 0
+Any k = Unit {0}
+
+pub told-kept : Kept Told Any Any
+told-kept = record {
+  same = λ s. omega arith;
+  trans = λ {s} {t} {u} x y. omega arith;
+  slot = λ i w s p. omega arith;
+  type = λ texts k new s e d. omega arith;
+  told = λ d s e. omega arith;
+  binds = λ l s. omega arith;
+  frame = λ {s} {u} h. h;
+  alone = λ {s} {u} h. h;
+  holds = λ p s. omega arith;
+  enters = λ name ps ret s. omega arith;
+  typesFull = tt;
+  tooDeep = tt;
+  toldFull = tt;
+}
+
+module _ (r : Runs) where
+  pub data Parts {A : Type 0} (Q : Relation A) (s s′ : World) : Result World Refusal A → Result World Refusal A → Type 0 where
+    fine : {x x′ : Result World Refusal A} → Gives r Q s s′ x x′ → Parts Q s s′ x x′
+    parted : {a : A} {u : World} {x : Result World Refusal A} → (r .strict → ⊥) → 1 ≤ u .diagnostics .used → Parts Q s s′ (ok a u) x
+
+  module _ {B : Type 0} {Q : Relation B} where
+    q-more : {s s′ u u′ : World} {x x′ : Result World Refusal B} → Grown (s .types) (u .types) → Grown (s′ .types) (u′ .types) → Parts Q u u′ x x′ → Parts Q s s′ x x′
+    q-more g g′ (fine h) = fine (more r g g′ h)
+    q-more g g′ (parted n l) = parted n l
+
+    still : {s s′ u : World} {x x′ : Result World Refusal B} → (r .strict → ⊥) → 1 ≤ u .diagnostics .used → Keeps Told Any u x → Parts Q s s′ x x′
+    still n l (kept {u = v} h) = parted {u = v} n (omega arith)
+    still n l (K.stopped q) = fine stopped
+
+  module _ {A B : Type 0} {P : Relation A} {Q : Relation B} where
+    pub q-next : {s s′ : World} {x x′ : Result World Refusal A} (f f′ : A → Walk B) → Parts P s s′ x x′ → ((a : A) (u : World) → Keeps Told Any u (f a u))
+        → ((a a′ : A) (u u′ : World) → Grown (s .types) (u .types) → Grown (s′ .types) (u′ .types) → Worlds r u u′ → P (u .types) (u′ .types) a a′ → Parts Q u u′ (f a u) (f′ a′ u′))
+        → Parts Q s s′ (next x f) (next x′ f′)
+    q-next f f′ (fine (gives {a = a} {a′ = a′} {u = u} {u′ = u′} g g′ ws p)) t k = q-more g g′ (k a a′ u u′ g g′ ws p)
+    q-next f f′ (fine stopped) t k = fine stopped
+    q-next f f′ (fine (cut n)) t k = fine (cut n)
+    q-next f f′ (parted {a = a} {u = u} n l) t k = still n l (t a u)

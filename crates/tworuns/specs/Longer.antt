@@ -1,31 +1,31 @@
 -- "with longer buffers alone it is answered, alike in every number returned and in every word and byte used": two runs over the same
 -- inputs, alike word for word. Assumes what refusals 1 to 6 leave (`Accepts`).
-use Prim.Native.Nat.{ℕ, zero, suc, _+_, _*_, _≤_, _<_}
+use Prim.Native.Nat.{ℕ, _+_, _*_, _≤_, _<_}
 use native.Mathlib.Nat.{zero-add}
 use native.Mathlib.Omega.{arith}
 use native.Mathlib.Decide.{ℕ-discrete}
 use mathlib.Core.Path.{_≡_, refl, sym, ap, _∙_}
 use mathlib.Core.Bool.{Bool}
 use mathlib.Core.Option.{Option, none, some}
-use mathlib.Core.List.{List, [], _∷_, _++_}
+use mathlib.Core.List.{List, [], append-nil}
 use lib.ListN.{getD, length, take}
 use lib.Seq.{getD-take, ext-getD, length-take-le, take-length}
-use Rattle.tok.specs.Step.{Result, ok, refused, Refusal}
-use Rattle.ptype.specs.Add.{Buffer, buffer, write}
+use Rattle.tok.specs.Step.{Result, ok, Refusal}
+use Rattle.ptype.specs.Add.{Buffer, write}
 use Rattle.ast.specs.Image.{nodeCount, rootCount, slotCount}
 use Rattle.ast.specs.Node.{firstRoots, rootsOf}
-use Rattle.library.specs.Package.{Param, param, Signature, signature, Function, function, poolOf, packagesOf}
-use Rattle.refusals.specs.Inputs.{Inputs, Buffers, textsIn}
+use Rattle.library.specs.Package.{Param, param, signature, Function, function, poolOf, packagesOf}
+use Rattle.refusals.specs.Inputs.{Inputs, Buffers}
 use Rattle.refusals.specs.Refusals.{refusalOf}
-use Rattle.rules.specs.World.{Ctx, World}
+use Rattle.rules.specs.World.{World}
 use Rattle.rules.specs.Steps.{Done}
-use Rattle.rules.specs.Walk.{ctxOf, startOf, poolTypes, packageTypes, walkFirst, walk, walkOf}
-use Rattle.rules.specs.Check.{Ended, endOf, unlessRefused, checkOf}
+use Rattle.rules.specs.Walk.{ctxOf, startOf, poolTypes, walk, walkOf}
+use Rattle.rules.specs.Check.{endOf, unlessRefused, checkOf}
 use Rattle.rules.specs.Promises.{Answered, Longer, Alike}
 use Rattle.laws.specs.Keeps.{Keeps, kept, stopped}
-use Rattle.tworuns.specs.Runs.{Runs, Each, end, and, Slot, own, void, SameParam, SameSignature, SameFunction, Worlds}
+use Rattle.tworuns.specs.Runs.{Runs, Each, end, and, own, void, SameParam, SameFunction, Worlds}
 use Rattle.tworuns.specs.Written.{take-written}
-use Rattle.tworuns.specs.Walk.{Walks, walks, stops, cuts, Beginning, over-walks, over}
+use Rattle.tworuns.specs.Walk.{Walks, walks, stops, cuts, parts, Beginning, over-walks}
 use Rattle.tworuns.specs.Entries.{wordsOf, Holds, NotZero, Stays, walk-holds, start-holds}
 use Rattle.tworuns.specs.Refused.{refusal-longer, Numbered, numbered}
 use Rattle.tworuns.specs.Accepted.{TypeOf, Accepted, Accepts, libraryTypes, walk-over, fresh-start}
@@ -108,6 +108,7 @@ module _ (i : Inputs) {b b′ : Buffers} (long : Longer b b′) where
   results-alike (walks {u = u} ws) (kept k) (kept k′) room e = ends-alike ws (k (start-holds i b)) (k′ (start-holds i b′)) (room u refl)
   results-alike stops (stopped q) k′ room e = absurd (q e)
   results-alike (cuts n) k k′ room e = absurd (n tt)
+  results-alike (parts n l) k k′ room e = absurd (n tt)
 
   beginning : Accepted i b → Beginning (alike i) (startOf i b) (startOf i b′) (poolOf (i .library)) (poolOf (i .library)) (libraryTypes (i .library)) (libraryTypes (i .library))
   unfolding ctxOf startOf TypeOf
@@ -118,7 +119,8 @@ module _ (i : Inputs) {b b′ : Buffers} (long : Longer b b′) where
     up = omega arith;
     longPool = omega arith;
     samePool = take-length (poolOf (i .library));
-    library = refl;
+    more = [];
+    library = sym (append-nil (packagesOf (i .library)));
     libraryNames = a .names;
     others = poolTypes (poolOf (i .library));
     types = refl;
@@ -128,6 +130,7 @@ module _ (i : Inputs) {b b′ : Buffers} (long : Longer b b′) where
     longTypes = λ z. long .types;
     pools = λ z. refl;
     measures = λ z. refl;
+    noMore = λ z. refl;
   }
 
   walks-alike : Accepted i b → Walks (alike i) (walkOf i b) (walkOf i b′)

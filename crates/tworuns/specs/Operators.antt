@@ -1,21 +1,18 @@
 -- Operators and casts in two runs. Assumes nothing.
-use Prim.Native.Nat.{ℕ, zero, suc, _+_, _≤_, _<_}
+use Prim.Native.Nat.{ℕ, zero, suc, _≤_, _<_}
 use native.Mathlib.Omega.{arith}
-use mathlib.Core.Path.{_≡_, refl, sym, ap, _∙_}
+use mathlib.Core.Path.{_≡_, refl}
 use mathlib.Core.Logic.{inl, inr}
-use mathlib.Core.Bool.{Bool, true, false, _&&_, _||_, and-eq-true-iff}
+use mathlib.Core.Bool.{Bool, true, _&&_, _||_, and-eq-true-iff}
 use mathlib.Core.List.{List, [], _∷_}
 use lib.Dec.{eqb, leb}
 use lib.ListN.{getD}
 use borrow.Author.Tests.{leb-true, ne-eqb}
-use Rattle.tok.specs.Word.{kindOf, wordOf}
-use Rattle.tok.specs.Step.{next, _>>=_, _>>_, when}
-use Rattle.ptype.specs.Ty.{sameTy}
 use Rattle.ptype.specs.Kinds.{Plain, one-of}
-use Rattle.err.specs.Message.{classOf, unsupported, incompatible, badUnary, redundantCast, badCast}
-use Rattle.rules.specs.World.{Ctx, World, Walk}
-use Rattle.rules.specs.Steps.{ty, tree, setKnown, report, poison}
-use Rattle.rules.specs.Operators.{arithmetic, remainder, equality, order, operatorTables, resultKind, fuse, unary, castable, cast}
+use Rattle.err.specs.Message.{classOf}
+use Rattle.rules.specs.World.{World}
+use Rattle.rules.specs.Steps.{ty, tree}
+use Rattle.rules.specs.Operators.{arithmetic, remainder, equality, order, operatorTables, resultKind, fuse, unary, cast}
 use Rattle.tworuns.specs.Runs.{Runs, Slot, SameType, Worlds, same-kind, same-tree, same-test, type-grow}
 use Rattle.tworuns.specs.Logic.{Gives, p-next, p-when, p-set, Answers}
 use Rattle.tworuns.specs.Primitive.{p-report, p-poison}

@@ -3,28 +3,28 @@
 use Prim.Native.Nat.{ℕ, zero, suc, _+_, _*_, _≤_, _<_}
 use native.Mathlib.Omega.{arith}
 use mathlib.Core.Path.{_≡_, refl, sym, ap, _∙_}
-use mathlib.Core.Bool.{true, false}
+use mathlib.Core.Bool.{true}
 use mathlib.Core.List.{List, [], _∷_, _++_}
 use lib.ListN.{getD, length, take}
 use lib.Seq.{getD-take, take-length}
 use Rattle.tok.specs.Word.{kindOf, payloadOf}
 use Rattle.tok.specs.Text.{Texts, nameBytes}
-use Rattle.ptype.specs.Ty.{Ty, Fields, plain, wrap, rec, named, noField, field, depthOf, deepest}
+use Rattle.ptype.specs.Ty.{depthOf, deepest}
 use Rattle.ptype.specs.Words.{innerWord, fieldCount, fieldsFrom, unfolded, tyOf}
 use Rattle.ptype.specs.Add.{Buffer, buffer}
-use Rattle.ptype.specs.Kinds.{wraps, names, shape, isPlain, isWrap, isRecord, isNamed}
+use Rattle.ptype.specs.Kinds.{names, shape, isPlain, isWrap, isRecord, isNamed}
 use Rattle.ptype.specs.UnfoldLaws.{unfolded-plain, unfolded-wrap, unfolded-record, unfolded-named}
 use Rattle.ptype.specs.DepthLaws.{depth-positive}
-use Rattle.ptype.specs.Inside.{fieldName, fieldType, Inside, wrapped, inField, Throughout, below, level, Refers, Agree, Lies, NamesLie}
+use Rattle.ptype.specs.Inside.{fieldName, fieldType, wrapped, inField, Throughout, level, Refers, NamesLie}
 use Rattle.ptype.specs.InsideLaws.{throughout-map}
 use Rattle.ptype.specs.GrowLaws.{tyOf-grow}
 use Rattle.library.specs.Package.{Param, Function, Package}
 use Rattle.rules.specs.Names.{packageNames, functionNames, paramNames, wordNames}
-use Rattle.rules.specs.Walk.{poolTypes, paramTypes, functionTypes, packageTypes}
+use Rattle.rules.specs.Walk.{paramTypes, functionTypes, packageTypes}
 use Rattle.rules.specs.Promises.{Every}
 use Rattle.tworuns.specs.Means.{Means, FieldsMean, noMore, oneMore, Grown, means-grow}
 use Rattle.tworuns.specs.Means as M
-use Rattle.tworuns.specs.Runs.{Runs, Each, end, and, SameType, SameName, SameParam, SameSignature, SameFunction, SamePackage}
+use Rattle.tworuns.specs.Runs.{Runs, Each, end, and, SameType, SameParam, SameFunction, SamePackage}
 use Rattle.tworuns.specs.Exprs.{Names, In, same-name}
 
 -- A type word: it refers into the pool, has a type's kind, and its names lie in their text.

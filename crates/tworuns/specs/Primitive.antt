@@ -1,26 +1,24 @@
 -- The primitive steps of two runs: a diagnostic, a name in scope, frames, packages held and own functions. Assumes nothing.
-use Prim.Native.Nat.{ℕ, suc, _+_, _*_, _/_, _≤_, _<_, min}
+use Prim.Native.Nat.{ℕ, _+_, _*_, _/_, _≤_, _<_, min}
 use native.Mathlib.Omega.{arith}
-use mathlib.Core.Path.{_≡_, refl, sym, ap, _∙_}
-use mathlib.Core.Bool.{Bool, true, false, _&&_, and-eq-true-iff}
-use mathlib.Core.Option.{Option, none, some}
+use mathlib.Core.Path.{_≡_, refl, sym, ap}
+use mathlib.Core.Bool.{Bool, true, false, and-eq-true-iff}
+use mathlib.Core.Option.{Option}
 use mathlib.Core.List.{List, [], _∷_}
 use lib.Dec.{leb, ltb}
-use lib.ListN.{getD, length, take}
+use lib.ListN.{length}
 use borrow.Author.Tests.{leb-true, ltb-true, le-leb, lt-ltb}
-use Rattle.tok.specs.Step.{Result, ok, refused, Step, Refusal, refusal, next, _>>=_, _>>_, return, look, give, refuse, when, forEach}
+use Rattle.tok.specs.Step.{Result, ok, Refusal, refusal, next, give, refuse, when, forEach}
 use Rattle.ptype.specs.Add.{Buffer, buffer, write, append}
 use Rattle.err.specs.Message.{Diagnostic}
 use Rattle.laws.specs.Writes.{length-write}
-use Rattle.rules.specs.declared.Answer.{Answer}
-use Rattle.rules.specs.declared.Answer.the-variants.{Known, Poison}
-use Rattle.library.specs.Package.{Param, Function, signature, function, Package}
-use Rattle.rules.specs.World.{Local, World, Walk, withFunctions, withTold, withEnv, withPackages}
-use Rattle.rules.specs.Steps.{Done, sixWords, bytesOf, hasRoom, oneMore, report, poison, envInsert, framed, apart, hold, entryOf, enter}
-use Rattle.tworuns.specs.Means.{Grown, grown-same}
-use Rattle.tworuns.specs.Runs.{Runs, Relation, Each, end, and, Both?, each-map, SameAnswer, SameTold, Worlds, SameName, SameType, SameLocal, SamePackage, SameFunction, local-grow}
+use Rattle.library.specs.Package.{Param, signature, function, Package}
+use Rattle.rules.specs.World.{Local, World, Walk, withTold, withEnv}
+use Rattle.rules.specs.Steps.{Done, sixWords, bytesOf, hasRoom, oneMore, report, poison, envInsert, framed, apart, hold, enter}
+use Rattle.tworuns.specs.Means.{grown-same}
+use Rattle.tworuns.specs.Runs.{Runs, Relation, Each, end, and, Both?, each-map, SameTold, Worlds, SameName, SameType, SameLocal, SamePackage, SameFunction, local-grow}
 use Rattle.tworuns.specs.Runs as R
-use Rattle.tworuns.specs.Logic.{Gives, gives, stopped, cut, p-next, p-return, Answers, Nothing}
+use Rattle.tworuns.specs.Logic.{Gives, gives, stopped, cut, p-next, p-return, Answers, Nothing, Parts, fine, parted}
 use Rattle.tworuns.specs.Written.{take-written}
 
 module _ (r : Runs) where
@@ -169,27 +167,6 @@ module _ (r : Runs) where
       messages = ws .messages;
     }
 
-  -- frames
-  module _ {A : Type 0} {Q : Relation A} {s s′ : World} (ws : Worlds r s s′) (m m′ : Walk A) where
-    pub p-framed : Gives r Q s s′ (m s) (m′ s′) → Gives r Q s s′ (framed m s) (framed m′ s′)
-    unfolding framed
-    p-framed h = back h
-      where
-        back : {x x′ : Result World Refusal A} → Gives r Q s s′ x x′ → Gives r Q s s′ (next x (λ a after. ok a (withEnv after (s .env)))) (next x′ (λ a after. ok a (withEnv after (s′ .env))))
-        back (gives g g′ v q) = gives g g′ (worlds-env v (each-map (local-grow r g g′) (ws .env))) q
-        back stopped = stopped
-        back (cut n) = cut n
-
-    pub p-apart : (Worlds r (withEnv s []) (withEnv s′ []) → Gives r Q (withEnv s []) (withEnv s′ []) (m (withEnv s [])) (m′ (withEnv s′ []))) → Gives r Q s s′ (apart m s) (apart m′ s′)
-    unfolding apart framed
-    p-apart h = back (h (worlds-env ws end))
-      where
-        back : {x x′ : Result World Refusal A} → Gives r Q (withEnv s []) (withEnv s′ []) x x′
-            → Gives r Q s s′ (next x (λ a after. ok a (withEnv after (s .env)))) (next x′ (λ a after. ok a (withEnv after (s′ .env))))
-        back (gives g g′ v q) = gives g g′ (worlds-env v (each-map (local-grow r g g′) (ws .env))) q
-        back stopped = stopped
-        back (cut n) = cut n
-
 -- Steps that only read: the same value in both, and the worlds as they are.
 pub record Reads {A : Type 0} (s s′ : World) (x x′ : Result World Refusal A) : Type 0 where
   pub value : A
@@ -208,3 +185,35 @@ reads-each f f′ (and {a = a} {b = a′} p rest) k =
     let x = k a a′ p in
     let y = reads-each f f′ rest k in
     record { value = x .value ∷ y .value; first = rw (x .first, y .first); second = rw (x .second, y .second) }
+
+-- frames, where the runs may part
+module _ (r : Runs) {A : Type 0} {Q : Relation A} {s s′ : World} (ws : Worlds r s s′) (m m′ : Walk A) where
+  pub q-framed : Parts r Q s s′ (m s) (m′ s′) → Parts r Q s s′ (framed m s) (framed m′ s′)
+  unfolding framed
+  q-framed h = back h
+    where
+      back : {x x′ : Result World Refusal A} → Parts r Q s s′ x x′ → Parts r Q s s′ (next x (λ a after. ok a (withEnv after (s .env)))) (next x′ (λ a after. ok a (withEnv after (s′ .env))))
+      back (fine (gives g g′ v q)) = fine (gives g g′ (worlds-env r v (each-map (local-grow r g g′) (ws .env))) q)
+      back (fine stopped) = fine stopped
+      back (fine (cut n)) = fine (cut n)
+      back (parted n l) = parted n l
+
+  pub q-apart : (Worlds r (withEnv s []) (withEnv s′ []) → Parts r Q (withEnv s []) (withEnv s′ []) (m (withEnv s [])) (m′ (withEnv s′ []))) → Parts r Q s s′ (apart m s) (apart m′ s′)
+  unfolding apart framed
+  q-apart h = back (h (worlds-env r ws end))
+    where
+      back : {x x′ : Result World Refusal A} → Parts r Q (withEnv s []) (withEnv s′ []) x x′
+          → Parts r Q s s′ (next x (λ a after. ok a (withEnv after (s .env)))) (next x′ (λ a after. ok a (withEnv after (s′ .env))))
+      back (fine (gives g g′ v q)) = fine (gives g g′ (worlds-env r v (each-map (local-grow r g g′) (ws .env))) q)
+      back (fine stopped) = fine stopped
+      back (fine (cut n)) = fine (cut n)
+      back (parted n l) = parted n l
+
+-- A diagnostic of the first run alone, where the runs part.
+pub q-told : {r : Runs} {s s′ : World} (n : ℕ) (d : Diagnostic) → (r .strict → ⊥) → (x : Result World Refusal Done) → Parts r (Nothing r) s s′ (report n d s) x
+unfolding report when
+q-told {r} {s} {s′} n d k x = by (hasRoom s d)
+  where
+    by : (b : Bool) → Parts r (Nothing r) s s′ (when b (give (tt {0}) (withTold s (oneMore (s .diagnostics) (sixWords d (s .messages .used))) (append (s .messages) (bytesOf d)))) (refuse (refusal 9 n)) s) x
+    by true = parted {u = withTold s (oneMore (s .diagnostics) (sixWords d (s .messages .used))) (append (s .messages) (bytesOf d))} k (omega arith)
+    by false = fine stopped

@@ -1,7 +1,7 @@
 -- Refusals 1 to 6 ask only for lengths of the buffers: longer ones pass where shorter ones do. None of them has the number 0. Assumes nothing.
-use Prim.Native.Nat.{ℕ, _+_, _≤_, _<_}
+use Prim.Native.Nat.{ℕ, _+_}
 use native.Mathlib.Omega.{arith}
-use mathlib.Core.Path.{_≡_, refl, sym, ap, _∙_}
+use mathlib.Core.Path.{_≡_, refl}
 use mathlib.Core.Bool.{Bool, true, false, _||_, cond, true≢false}
 use mathlib.Core.Option.{Option, none, some}
 use lib.ListN.{length}

@@ -1,42 +1,39 @@
 -- The rules of each node kind in two runs, but for the visits of parts. One lemma for each. Assumes nothing.
-use Prim.Native.Nat.{ℕ, zero, suc, _+_, _<_}
+use Prim.Native.Nat.{ℕ, _+_, _<_}
 use native.Mathlib.Omega.{arith}
-use mathlib.Core.Path.{_≡_, refl, sym, ap, _∙_}
-use mathlib.Core.Bool.{Bool, true, false, _||_}
-use mathlib.Core.Option.{Option, none, some}
+use mathlib.Core.Path.{_≡_, refl, ap}
+use mathlib.Core.Bool.{Bool, true}
+use mathlib.Core.Option.{Option, some}
 use mathlib.Core.List.{List, [], _∷_}
-use lib.Dec.{eqb}
 use lib.ListN.{getD}
 use borrow.Author.Tests.{eqb-true}
-use Rattle.tok.specs.Word.{kindOf, payloadOf, wordOf}
+use Rattle.tok.specs.Word.{kindOf}
 use Rattle.tok.specs.Text.{nameBytes}
-use Rattle.tok.specs.Step.{Result, ok, Refusal, next, _>>=_, _>>_, return, look, when, forEach}
+use Rattle.tok.specs.Step.{_>>=_, return, when, forEach}
 use Rattle.tok.specs.declared.Span.{Span}
-use Rattle.ptype.specs.Ty.{Ty, sameTy, boolTy, containsUnknown}
-use Rattle.ptype.specs.Words.{tyOf, voidWord, unknownWord, fieldCount}
-use Rattle.ptype.specs.Add.{Buffer, addWrap, addRecord}
-use Rattle.ptype.specs.Kinds.{Plain}
-use Rattle.ast.specs.TypeExpr.{TypeExpr, Arg, typeToken}
+use Rattle.ptype.specs.Ty.{sameTy}
+use Rattle.ptype.specs.Words.{tyOf, voidWord, unknownWord}
+use Rattle.ptype.specs.Add.{Buffer}
+use Rattle.ast.specs.TypeExpr.{TypeExpr, Arg}
 use Rattle.ast.specs.Node.{ExternFn}
-use Rattle.err.specs.Message.{emptyArray, membersDiffer, noBinding, letVoid, definedAlready, badReturn, noRecord, noFieldOf, badCondition, matchCases, emptyImport, noImport}
+use Rattle.err.specs.Message.{definedAlready, noRecord, matchCases, noImport}
 use Rattle.rules.specs.declared.Answer.{Answer}
-use Rattle.rules.specs.declared.Answer.the-variants.{Known, Poison}
-use Rattle.library.specs.Package.{Param, param, signature, Function, function, Package, pkg, findPackage, findFunction}
-use Rattle.rules.specs.World.{Ctx, World, Walk, nameIn}
-use Rattle.rules.specs.Steps.{Done, skip, known, ifKnown, isPoison, onOption, ty, tree, tyTree, setKnown, onTypes, report, poison, envInsert, envGet, framed, apart, hold, enter, typeFromExpr}
-use Rattle.rules.specs.Rules.{ident, letBinding, fnArguments, checkReturn, fn, unlessDefined, findField, fieldType, field, valueType, Member, alike, silent, differs, memberTypes, member, goOn, arrayOf, condition, Branch, compareBranches, matched, importOne, importAll, externFn}
+use Rattle.library.specs.Package.{Param, param, Signature, Function, Package}
+use Rattle.rules.specs.World.{World, Walk, nameIn}
+use Rattle.rules.specs.Steps.{skip, known, ifKnown, onOption, ty, tree, tyTree, report, poison, hold, typeFromExpr}
+use Rattle.rules.specs.Rules.{ident, letBinding, fnArguments, checkReturn, fn, unlessDefined, fieldType, field, valueType, Member, alike, silent, differs, memberTypes, member, goOn, arrayOf, condition, Branch, compareBranches, matched, importOne, importAll, externFn}
 use Rattle.laws.specs.SlotsOf.{ArgSlots}
-use Rattle.tworuns.specs.Means.{Grown, grown-same}
-use Rattle.tworuns.specs.Runs.{Runs, Relation, Each, end, and, each-map, Both?, neither, present, Slot, SameType, SameName, SameAnswer, SameParam, SameSignature, SameFunction, SamePackage, Worlds, type-grow, param-grow, function-grow, same-kind, same-zero, same-tree, tree-first, tree-second, same-test}
+use Rattle.tworuns.specs.Runs.{Runs, Relation, Each, end, and, each-map, Both?, neither, present, Slot, SameType, SameName, SameAnswer, SameParam, SameSignature, SameFunction, SamePackage, Worlds, type-grow, param-grow, function-grow, same-kind, same-tree, same-test}
 use Rattle.tworuns.specs.Runs as R
 use Rattle.tworuns.specs.Sound.{SoundType, SoundArgs, SoundExterns, SoundNames}
-use Rattle.tworuns.specs.Logic.{Gives, p-next, p-return, p-when, p-option, p-known, p-ifKnown, p-set, p-onTypes, Answers, Words, Nothing, Equal}
-use Rattle.tworuns.specs.Primitive.{p-report, p-poison, p-insert, p-hold, p-enter, p-apart, Reads, p-reads, reads-each}
+use Rattle.laws.specs.Keeps.{Keeps, in-next, in-return, in-each, in-set, in-enter, in-typeFrom, in-checkReturn, in-import}
+use Rattle.tworuns.specs.Logic.{Told, Any, told-kept, Parts, fine, q-next, Gives, p-next, p-return, p-when, p-option, p-known, p-ifKnown, p-set, p-onTypes, Answers, Words, Nothing, Equal}
+use Rattle.tworuns.specs.Primitive.{p-report, p-poison, p-insert, p-hold, p-enter, q-apart, q-told}
 use Rattle.tworuns.specs.Types.{t-wrap}
 use Rattle.tworuns.specs.Inner.{fields-same}
 use Rattle.tworuns.specs.Exprs.{In, plain-same, t-typeFrom}
 use Rattle.tworuns.specs.Operators.{plain-low}
-use Rattle.tworuns.specs.Find.{local-same, function-same, package-same, field-same}
+use Rattle.tworuns.specs.Find.{local-same, function-same, package-same, field-same, InLibraries, inBoth, inLonger, library-same}
 
 module _ (r : Runs) where
   abbrev pub Own : ℕ → Type 0
@@ -120,13 +117,20 @@ module _ (r : Runs) where
     unfolding condition tyTree ty tree
     p-condition n token x = p-ifKnown r _ _ ws x (λ a a′ y. p-when r _ _ _ _ (cc (slot-tree y)) (λ _. p-return r ws tt) (λ _. p-report r ws n (cc (slot-tree y))))
 
-    pub p-import : (n path : ℕ) → In r path → Gives r (Nothing r) s s′ (importOne (r .first) n path s) (importOne (r .second) n path s′)
-    unfolding importOne
-    p-import n path l =
-        let e = ws .names path l in
-        p-option r _ _ _ _ (package-same r e (ws .packages))
-        (p-option r _ _ _ _ (package-same r e (ws .library)) (p-report r ws n (cc (e))) (λ p p′ h. p-hold r ws h))
-        (λ _ _ _. p-return r ws tt)
+    -- "an Import of one already held does nothing; the first library package of a name is found": 26 where only the longer library has it
+    pub q-import : (n path : ℕ) → In r path → Parts r (Nothing r) s s′ (importOne (r .first) n path s) (importOne (r .second) n path s′)
+    unfolding importOne onOption
+    q-import n path l = held (package-same r e (ws .packages)) (library-same r e (ws .library))
+      where
+        e : nameBytes (r .first .texts) path ≡ nameBytes (r .second .texts) path
+        e = ws .names path l
+
+        held : {o o′ p p′ : Option Package} → Both? (SamePackage r (s .types) (s′ .types)) o o′ → InLibraries r (s .types) (s′ .types) p p′
+            → Parts r (Nothing r) s s′ (onOption o (onOption p (report n (noImport path (nameIn (r .first) path))) hold) (λ _. skip) s)
+            (onOption o′ (onOption p′ (report n (noImport path (nameIn (r .second) path))) hold) (λ _. skip) s′)
+        held (present x) k = fine (p-return r ws tt)
+        held neither (inBoth k) = fine (p-option r _ _ _ _ k (p-report r ws n (ap (noImport path) e)) (λ p p′ h. p-hold r ws h))
+        held neither (inLonger k) = q-told n (noImport path (nameIn (r .first) path)) k _
 
   -- a case's token and what its body answered
   pub record SameBranch (b b′ : Branch) : Type 0 where
@@ -153,12 +157,12 @@ module _ (r : Runs) where
   p-matched n slot own bs x ws =
       p-known r _ _ ws x (λ d d′ y. p-next r _ _ (p-branches n y bs ws) (λ _ _ u u′ g g′ v _. p-set r slot v own (v .slots d d′ y)))
 
-  pub p-goOn : (m : Member) (b : Bool) (f f′ : Bool → Walk Answer) {s s′ : World} → Worlds r s s′ → ((b : Bool) → Gives r (Answers r) s s′ (f b s) (f′ b s′))
-      → Gives r (Answers r) s s′ (goOn m b f s) (goOn m b f′ s′)
+  pub q-goOn : (m : Member) (b : Bool) (f f′ : Bool → Walk Answer) {s s′ : World} → Worlds r s s′ → ((b : Bool) → Parts r (Answers r) s s′ (f b s) (f′ b s′))
+      → Parts r (Answers r) s s′ (goOn m b f s) (goOn m b f′ s′)
   unfolding goOn
-  p-goOn alike b f f′ ws h = h b
-  p-goOn silent b f f′ ws h = h true
-  p-goOn differs b f f′ ws h = p-return r ws R.poison
+  q-goOn alike b f f′ ws h = h b
+  q-goOn silent b f f′ ws h = h true
+  q-goOn differs b f f′ ws h = fine (p-return r ws R.poison)
 
   -- functions
   abbrev pub Params : Relation (List Param)
@@ -177,38 +181,57 @@ module _ (r : Runs) where
       p-next r _ _ (p-fnArguments n (slot + 1) rest (h .2) (o .1) v₂) (λ ps ps′ u₃ u₃′ g₃ g₃′ v₃ hs.
       p-return r v₃ (and (record { name = name-of v₃ (h .0); type = type-grow r g₃ g₃′ w w′ x₂ }) hs)))))
 
-  pub p-fn : (n slot name : ℕ) (e : TypeExpr) (args : List Arg) (body body′ : Walk Answer) → Own slot → In r name → SoundType Own (In r) e → SoundArgs Own (In r) args → ArgSlots Own (slot + 1) args
-      → ((s s′ : World) → Worlds r s s′ → Gives r (Answers r) s s′ (body s) (body′ s′)) → {s s′ : World} → Worlds r s s′
-      → Gives r (Answers r) s s′ (unlessDefined (r .first) n name (fn (r .first) n slot name e args body) s) (unlessDefined (r .second) n name (fn (r .second) n slot name e args body′) s′)
-  unfolding unlessDefined fn
-  p-fn n slot name e args body body′ own l t h o k ws =
-      let q = ws .names name l in
-      p-option r _ _ _ _ (function-same r q (ws .own))
-      (p-next r _ _
-      (p-apart r {Q = Words r} ws _ _ (λ ws₀.
-      p-next r _ _ (p-fnArguments n (slot + 1) args h o ws₀) (λ ps ps′ u₁ u₁′ g₁ g₁′ v₁ hs.
-      p-next r _ _ (p-typeFrom v₁ n e t) (λ ret ret′ u₂ u₂′ g₂ g₂′ v₂ x.
-      p-next r _ _
-      (p-enter r v₂ name ps ps′ ret ret′ (record { name = name-of v₂ l; sig = record { params = each-map (param-grow r g₂ g₂′) hs; ret = x; withSlots = refl } })) (λ _ _ u₃ u₃′ g₃ g₃′ v₃ _.
-      p-next r _ _ (k u₃ u₃′ v₃) (λ a a′ u₄ u₄′ g₄ g₄′ v₄ y.
-      let x₄ = type-grow r g₄ g₄′ ret ret′ (type-grow r g₃ g₃′ ret ret′ x) in
-      p-next r _ _ (p-checkReturn v₄ n name l e x₄ y) (λ _ _ u₅ u₅′ g₅ g₅′ v₅ _. p-return r v₅ (type-grow r g₅ g₅′ ret ret′ x₄))))))))
-      (λ ret ret′ u u′ g g′ v x. p-set r slot v own x))
-      (λ _ _ _. p-poison r ws n (cc (q)))
+  pub q-fn : (n slot name : ℕ) (e : TypeExpr) (args : List Arg) (body body′ : Walk Answer) → Own slot → In r name → SoundType Own (In r) e → SoundArgs Own (In r) args → ArgSlots Own (slot + 1) args
+      → ((s : World) → Keeps Told Any s (body s)) → ((s s′ : World) → Worlds r s s′ → Parts r (Answers r) s s′ (body s) (body′ s′)) → {s s′ : World} → Worlds r s s′
+      → Parts r (Answers r) s s′ (unlessDefined (r .first) n name (fn (r .first) n slot name e args body) s) (unlessDefined (r .second) n name (fn (r .second) n slot name e args body′) s′)
+  unfolding unlessDefined fn onOption
+  q-fn n slot name e args body body′ own l t h o bk k {s} {s′} ws = found (function-same r q (ws .own))
+    where
+      q : nameBytes (r .first .texts) name ≡ nameBytes (r .second .texts) name
+      q = ws .names name l
+
+      inner : Parts r (Answers r) s s′ (fn (r .first) n slot name e args body s) (fn (r .second) n slot name e args body′ s′)
+      inner =
+          q-next r _ _
+          (q-apart r {Q = Words r} ws _ _ (λ ws₀.
+          q-next r _ _ (fine (p-fnArguments n (slot + 1) args h o ws₀))
+          (λ ps. in-next Told Any Any told-kept _ (in-typeFrom Told Any Any told-kept (r .first) n e) λ ret. in-next Told Any Any told-kept _ (in-enter Told Any Any told-kept name ps ret) λ _. in-next Told Any Any told-kept _ bk λ a. in-next Told Any Any told-kept _ (in-checkReturn Told Any Any told-kept (r .first) n name e ret a) λ _. in-return Told Any Any told-kept ret)
+          (λ ps ps′ u₁ u₁′ g₁ g₁′ v₁ hs.
+          q-next r _ _ (fine (p-typeFrom v₁ n e t))
+          (λ ret. in-next Told Any Any told-kept _ (in-enter Told Any Any told-kept name ps ret) λ _. in-next Told Any Any told-kept _ bk λ a. in-next Told Any Any told-kept _ (in-checkReturn Told Any Any told-kept (r .first) n name e ret a) λ _. in-return Told Any Any told-kept ret)
+          (λ ret ret′ u₂ u₂′ g₂ g₂′ v₂ x.
+          q-next r _ _
+          (fine (p-enter r v₂ name ps ps′ ret ret′ (record { name = name-of v₂ l; sig = record { params = each-map (param-grow r g₂ g₂′) hs; ret = x; withSlots = refl } })))
+          (λ _. in-next Told Any Any told-kept _ bk λ a. in-next Told Any Any told-kept _ (in-checkReturn Told Any Any told-kept (r .first) n name e ret a) λ _. in-return Told Any Any told-kept ret)
+          (λ _ _ u₃ u₃′ g₃ g₃′ v₃ _.
+          q-next r _ _ (k u₃ u₃′ v₃)
+          (λ a. in-next Told Any Any told-kept _ (in-checkReturn Told Any Any told-kept (r .first) n name e ret a) λ _. in-return Told Any Any told-kept ret)
+          (λ a a′ u₄ u₄′ g₄ g₄′ v₄ y.
+          let x₄ = type-grow r g₄ g₄′ ret ret′ (type-grow r g₃ g₃′ ret ret′ x) in
+          fine (p-next r _ _ (p-checkReturn v₄ n name l e x₄ y) (λ _ _ u₅ u₅′ g₅ g₅′ v₅ _. p-return r v₅ (type-grow r g₅ g₅′ ret ret′ x₄)))))))))
+          (λ ret. in-set Told Any Any told-kept slot ret tt)
+          (λ ret ret′ u u′ g g′ v x. fine (p-set r slot v own x))
+
+      found : {p p′ : Option Signature} → Both? (SameSignature r (s .types) (s′ .types)) p p′
+          → Parts r (Answers r) s s′ (onOption p (fn (r .first) n slot name e args body) (λ _. poison n (definedAlready name (nameIn (r .first) name))) s)
+          (onOption p′ (fn (r .second) n slot name e args body′) (λ _. poison n (definedAlready name (nameIn (r .second) name))) s′)
+      found neither = inner
+      found (present x) = fine (p-poison r ws n (ap (definedAlready name) q))
 
   -- imports and externs
-  p-imports : (n : ℕ) (paths : List ℕ) → SoundNames Own (In r) paths → {s s′ : World} → Worlds r s s′
-      → Gives r (λ _ _ _ _. Unit {0}) s s′ (forEach (λ path. importOne (r .first) n path) paths s) (forEach (λ path. importOne (r .second) n path) paths s′)
+  q-imports : (n : ℕ) (paths : List ℕ) → SoundNames Own (In r) paths → {s s′ : World} → Worlds r s s′
+      → Parts r (λ _ _ _ _. Unit {0}) s s′ (forEach (λ path. importOne (r .first) n path) paths s) (forEach (λ path. importOne (r .second) n path) paths s′)
   unfolding forEach SoundNames
-  p-imports n [] h ws = p-return r ws tt
-  p-imports n (p ∷ ps) h ws =
-      p-next r _ _ (p-import ws n p (h .0)) (λ _ _ u u′ g g′ v _. p-next r _ _ (p-imports n ps (h .1) v) (λ _ _ k k′ i i′ z _. p-return r z tt))
+  q-imports n [] h ws = fine (p-return r ws tt)
+  q-imports n (p ∷ ps) h ws =
+      q-next r _ _ (q-import ws n p (h .0)) (λ b. in-next Told Any Any told-kept _ (in-each Told Any Any told-kept _ ps λ x. in-import Told Any Any told-kept (r .first) n x) λ bs. in-return Told Any Any told-kept (b ∷ bs))
+      (λ _ _ u u′ g g′ v _. q-next r _ _ (q-imports n ps (h .1) v) (λ bs. in-return Told Any Any told-kept _) (λ _ _ k k′ i i′ z _. fine (p-return r z tt)))
 
-  pub p-importAll : (n token : ℕ) (paths : List ℕ) → SoundNames Own (In r) paths → {s s′ : World} → Worlds r s s′
-      → Gives r (Nothing r) s s′ (importAll (r .first) n token paths s) (importAll (r .second) n token paths s′)
+  pub q-importAll : (n token : ℕ) (paths : List ℕ) → SoundNames Own (In r) paths → {s s′ : World} → Worlds r s s′
+      → Parts r (Nothing r) s s′ (importAll (r .first) n token paths s) (importAll (r .second) n token paths s′)
   unfolding importAll
-  p-importAll n token [] h ws = p-report r ws n refl
-  p-importAll n token (p ∷ ps) h ws = p-next r _ _ (p-imports n (p ∷ ps) h ws) (λ _ _ u u′ g g′ v _. p-return r v tt)
+  q-importAll n token [] h ws = fine (p-report r ws n refl)
+  q-importAll n token (p ∷ ps) h ws = q-next r _ _ (q-imports n (p ∷ ps) h ws) (λ _. in-return Told Any Any told-kept tt) (λ _ _ u u′ g g′ v _. fine (p-return r v tt))
 
   p-externArgs : (n : ℕ) (args : List Arg) → SoundArgs Own (In r) args → {s s′ : World} → Worlds r s s′
       → Gives r Params s s′

@@ -1,16 +1,15 @@
 -- What two runs have in common: one over longer buffers, longer texts and a longer pool than the other. Definitions, and that
 -- they stay as the types buffers grow. Assumes nothing.
-use Prim.Native.Nat.{ℕ, _+_, _*_, _≤_, _<_}
+use Prim.Native.Nat.{ℕ, _*_, _≤_, _<_}
 use native.Mathlib.Omega.{arith}
-use mathlib.Core.Path.{_≡_, refl, sym, ap, _∙_}
-use mathlib.Core.Bool.{Bool}
+use mathlib.Core.Path.{_≡_, refl, sym, _∙_}
 use mathlib.Core.Option.{Option, none, some}
 use mathlib.Core.List.{List, [], _∷_}
 use lib.Dec.{eqb}
 use lib.ListN.{getD, length, take}
 use Rattle.tok.specs.Word.{kindOf}
-use Rattle.tok.specs.Text.{Texts, nameBytes}
-use Rattle.ptype.specs.Ty.{Ty, sameTy, depthOf, kindOfTy}
+use Rattle.tok.specs.Text.{nameBytes}
+use Rattle.ptype.specs.Ty.{Ty, sameTy, depthOf}
 use Rattle.ptype.specs.Words.{tyOf}
 use Rattle.ptype.specs.Add.{Buffer}
 use Rattle.ptype.specs.Inside.{Lies}
@@ -19,7 +18,7 @@ use Rattle.rules.specs.declared.Answer.{Answer}
 use Rattle.rules.specs.declared.Answer.the-variants.{Known, Poison}
 use Rattle.library.specs.Package.{Param, Signature, Function, Package}
 use Rattle.rules.specs.World.{Ctx, Local, World, withTypes}
-use Rattle.tworuns.specs.Means.{Means, means-kind, means-zero, means-tyOf, isNothing, Grown, means-grow}
+use Rattle.tworuns.specs.Means.{Means, means-kind, means-zero, means-tyOf, Grown, means-grow}
 
 -- The two contexts; and whether the runs are alike word for word, as with longer buffers alone, or only tree for tree.
 pub record Runs : Type 1 where
@@ -43,6 +42,17 @@ each-map f (and {a = a} {b = b} x rest) = and (f a b x) (each-map f rest)
 pub each-length : {A : Type 0} {R : A → A → Type 0} {xs ys : List A} → Each R xs ys → length xs ≡ length ys
 each-length end = refl
 each-length (and x rest) = rw (each-length rest)
+
+-- two lists as far as the first goes; the second may be longer unless `exact` holds
+pub data Front {A : Type 0} (exact : Type 0) (R : A → A → Type 0) : List A → List A → Type 0 where
+  ends : Front exact R [] []
+  longer : {ys : List A} → (exact → ⊥) → Front exact R [] ys
+  before : {a b : A} {xs ys : List A} → R a b → Front exact R xs ys → Front exact R (a ∷ xs) (b ∷ ys)
+
+pub front-map : {A : Type 0} {E : Type 0} {R Q : A → A → Type 0} {xs ys : List A} → ((a b : A) → R a b → Q a b) → Front E R xs ys → Front E Q xs ys
+front-map f ends = ends
+front-map f (longer n) = longer n
+front-map f (before {a = a} {b = b} x rest) = before (f a b x) (front-map f rest)
 
 -- both none, or both some
 pub data Both? {A : Type 0} (R : A → A → Type 0) : Option A → Option A → Type 0 where
@@ -124,7 +134,7 @@ module _ (r : Runs) where
     pub env : Each (SameLocal (s .types) (s′ .types)) (s .env) (s′ .env)
     pub packages : Each (SamePackage (s .types) (s′ .types)) (s .packages) (s′ .packages)
     pub own : Each (SameFunction (s .types) (s′ .types)) (s .own) (s′ .own)
-    pub library : Each (SamePackage (s .types) (s′ .types)) (r .first .library) (r .second .library)
+    pub library : Front (r .strict) (SamePackage (s .types) (s′ .types)) (r .first .library) (r .second .library)
     pub diagnostics : SameTold 6 (s .diagnostics) (s′ .diagnostics)
     pub messages : SameTold 1 (s .messages) (s′ .messages)
 
@@ -166,7 +176,7 @@ module _ (r : Runs) where
     env = each-map (local-grow g g′) (ws .env);
     packages = each-map (package-grow g g′) (ws .packages);
     own = each-map (function-grow g g′) (ws .own);
-    library = each-map (package-grow g g′) (ws .library);
+    library = front-map (package-grow g g′) (ws .library);
     diagnostics = ws .diagnostics;
     messages = ws .messages;
   }

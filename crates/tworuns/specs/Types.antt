@@ -1,28 +1,27 @@
 -- Adding types in two runs: Option, Array and Record of words of one type give words of one type. Assumes nothing.
-use Prim.Native.Nat.{ℕ, zero, suc, _+_, _*_, _/_, _^_, _≤_, _<_, min}
-use native.Mathlib.Nat.{add-zero, max-le}
+use Prim.Native.Nat.{ℕ, suc, _+_, _/_, _^_, _≤_, _<_, min}
+use native.Mathlib.Nat.{add-zero}
 use native.Mathlib.Omega.{arith}
 use mathlib.Core.Path.{_≡_, refl, sym, ap, _∙_}
 use mathlib.Core.Bool.{Bool, true, false, true≢false}
-use mathlib.Core.List.{List, [], _∷_, _++_}
+use mathlib.Core.List.{List, [], _∷_}
 use lib.Dec.{leb}
-use lib.ListN.{getD, length, take}
+use lib.ListN.{getD, length}
 use lib.Seq.{getD-take}
 use borrow.Author.Tests.{leb-true, le-leb}
-use Rattle.tok.specs.Word.{kindOf, payloadOf, wordOf}
+use Rattle.tok.specs.Word.{payloadOf, wordOf}
 use Rattle.tok.specs.Text.{Texts, nameBytes}
-use Rattle.tok.specs.Step.{Result, ok, refused, Step, Refusal, refusal, next, _>>=_, _>>_, return, look, give, refuse, when}
+use Rattle.tok.specs.Step.{ok, refusal, give, refuse, when}
 use Rattle.tok.proofs.WordLaws.{kindOf-wordOf, payloadOf-wordOf}
-use Rattle.tok.proofs.NameLaws.{nameBytes-payload}
-use Rattle.ptype.specs.Ty.{Ty, Fields, plain, wrap, rec, named, noField, field, depthOf, deepest}
-use Rattle.ptype.specs.Words.{tyOf, innerWord, fieldCount}
-use Rattle.ptype.specs.Add.{Buffer, write, append, typeRoom, addType, addWrap, addRecord}
-use Rattle.ptype.specs.Kinds.{wraps, Plain}
+use Rattle.ptype.specs.Ty.{Ty, Fields, wrap, rec, noField, field, depthOf, deepest}
+use Rattle.ptype.specs.Words.{tyOf, fieldCount}
+use Rattle.ptype.specs.Add.{Buffer, append, typeRoom, addType, addWrap, addRecord}
+use Rattle.ptype.specs.Kinds.{wraps}
 use Rattle.laws.specs.Writes.{length-write}
-use Rattle.tworuns.specs.Means.{Means, flat, wrapped, recorded, called, FieldsMean, noMore, oneMore, means-tyOf, means-grow, Grown, grown-same}
-use Rattle.tworuns.specs.Runs.{Runs, Relation, SameType, SameName, SameUsed, Used}
-use Rattle.tworuns.specs.Logic.{Typed, typed, stopped, cut, t-next, t-when, Words}
-use Rattle.tworuns.specs.Written.{getD-before, getD-written, take-written, grown-append}
+use Rattle.tworuns.specs.Means.{Means, wrapped, recorded, FieldsMean, noMore, oneMore, means-tyOf, means-grow, Grown}
+use Rattle.tworuns.specs.Runs.{Runs, SameType, SameUsed, Used}
+use Rattle.tworuns.specs.Logic.{Typed, typed, stopped, cut, Words}
+use Rattle.tworuns.specs.Written.{getD-written, take-written, grown-append}
 
 -- Names and type words in a list, as the fields that they are.
 pub data PairsMean (t : Texts) (types : List ℕ) (used : ℕ) : List ℕ → Fields → Type 0 where

@@ -1,16 +1,15 @@
 -- The walk as a whole in two runs: the pool copied, the library's types measured, the roots visited. Assumes nothing.
-use Prim.Native.Nat.{ℕ, zero, suc, _+_, _*_, _≤_, _<_, min}
+use Prim.Native.Nat.{ℕ, _≤_, _<_}
 use native.Mathlib.Nat.{zero-add}
 use native.Mathlib.Omega.{arith}
 use mathlib.Core.Path.{_≡_, refl, sym, ap, _∙_, subst}
 use mathlib.Core.Bool.{Bool, true, false, true≢false}
 use mathlib.Core.List.{List, [], _∷_, _++_}
 use lib.Dec.{leb}
-use lib.ListN.{getD, length, take, replicate, length-append, length-replicate, getD-replicate, List·getD-append}
-use lib.Seq.{take-length, take-append-le, take-take, getD-append-seam, getD-at}
+use lib.ListN.{getD, length, take}
+use lib.Seq.{take-length, take-take}
 use borrow.Author.Tests.{leb-true, le-leb}
-use Rattle.tok.specs.Text.{Texts}
-use Rattle.tok.specs.Step.{Result, ok, refused, Refusal, refusal, next, _>>=_, _>>_, return, look, give, refuse, when}
+use Rattle.tok.specs.Step.{Result, ok, refused, Refusal, refusal, next, _>>=_, _>>_, give, refuse, when}
 use Rattle.ptype.specs.Ty.{depthOf}
 use Rattle.ptype.specs.Words.{tyOf, voidWord}
 use Rattle.ptype.specs.Add.{Buffer, buffer, write, typeRoom}
@@ -25,16 +24,16 @@ use Rattle.rules.specs.Names.{packageNames}
 use Rattle.rules.specs.Walk.{copyPool, measure, packageTypes}
 use Rattle.rules.specs.Promises.{Every}
 use Rattle.laws.specs.Writes.{length-write}
-use Rattle.tworuns.specs.Means.{Grown}
-use Rattle.tworuns.specs.Runs.{Runs, Each, end, Slot, own, void, SameType, SameUsed, SameTold, Used, Worlds, tree-second}
+use Rattle.tworuns.specs.Runs.{Runs, Each, end, and, Front, ends, longer, before, Slot, own, void, SameType, Used, Worlds, tree-second}
 use Rattle.tworuns.specs.Runs as R
 use Rattle.tworuns.specs.Sound.{SoundAll}
-use Rattle.tworuns.specs.Logic.{Gives, gives, stopped, cut, p-next, p-return, Nothing}
-use Rattle.tworuns.specs.Written.{take-written, getD-written}
+use Rattle.laws.specs.Keeps.{in-return}
+use Rattle.tworuns.specs.Logic.{gives, stopped, cut, p-return, Nothing, Told, Any, told-kept, Parts, fine, parted, q-next}
+use Rattle.tworuns.specs.Written.{take-written}
 use Rattle.tworuns.specs.Exprs.{Names, In, plain-same}
 use Rattle.tworuns.specs.Operators.{plain-low}
 use Rattle.tworuns.specs.Rules.{Own, void-same}
-use Rattle.tworuns.specs.Nodes.{p-last}
+use Rattle.tworuns.specs.Nodes.{q-last}
 use Rattle.tworuns.specs.Pool.{TypeFine, Begins, pool-same, packages-same, every-back}
 
 -- the walk, of a context, a pool, the types that are measured and the roots
@@ -45,7 +44,7 @@ over c n pool words roots = do
   _ ← last c (Known (c .void)) roots
   skip
 
-every-both : {A : Type 0} (P Q R : A → Type 0) → ((a : A) → P a → Q a → R a) → (xs : List A) → Every P xs → Every Q xs → Every R xs
+pub every-both : {A : Type 0} (P Q R : A → Type 0) → ((a : A) → P a → Q a → R a) → (xs : List A) → Every P xs → Every Q xs → Every R xs
 unfolding Every
 every-both P Q R f [] h k = tt
 every-both P Q R f (x ∷ xs) h k = (f x (h .0) (k .0), every-both P Q R f xs (h .1) (k .1))
@@ -94,7 +93,7 @@ begins-pool words pool part fits less e = record {
   more = less;
 }
 
--- What the walks of two runs begin with. The packages are the same words in both.
+-- What the walks of two runs begin with. The packages of the first are the same words in both.
 pub record Beginning (r : Runs) (s s′ : World) (pool pool′ measured measured′ : List ℕ) : Type 0 where
   pub fresh : Fresh (r .first .void) s
   pub fresh′ : Fresh (r .second .void) s′
@@ -102,7 +101,8 @@ pub record Beginning (r : Runs) (s s′ : World) (pool pool′ measured measured
   pub up : r .first .void ≤ r .second .void
   pub longPool : length pool ≤ length pool′
   pub samePool : take (length pool) pool′ ≡ pool
-  pub library : r .second .library ≡ r .first .library
+  pub more : List Package
+  pub library : r .second .library ≡ r .first .library ++ more
   pub libraryNames : Every (In r) (packageNames (r .first .library))
   pub others : List ℕ
   pub types : measured ≡ others ++ packageTypes (r .first .library)
@@ -113,17 +113,30 @@ pub record Beginning (r : Runs) (s s′ : World) (pool pool′ measured measured
   pub longTypes : r .strict → length (s .types .words) ≤ length (s′ .types .words)
   pub pools : r .strict → pool ≡ pool′
   pub measures : r .strict → measured ≡ measured′
+  pub noMore : r .strict → more ≡ []
+
+-- the same packages, and more after them in the second unless the runs are alike word for word
+each-front : {A : Type 0} {E : Type 0} {R : A → A → Type 0} {xs ys : List A} (more : List A) → (E → more ≡ []) → Each R xs ys → Front E R xs (ys ++ more)
+each-front [] n end = ends
+each-front (x ∷ more) n end = longer (λ z. no-cons (n z))
+  where
+    no-cons : x ∷ more ≡ [] → ⊥
+    no-cons e = let z : _≡_ {A = ℕ} 0 1 = cc in omega arith
+each-front more n (and h rest) = before h (each-front more n rest)
 
 -- what two walks end in
 pub data Walks (r : Runs) : Result World Refusal Done → Result World Refusal Done → Type 0 where
   walks : {u u′ : World} → Worlds r u u′ → Walks r (ok tt u) (ok tt u′)
   stops : {e : Refusal} {x : Result World Refusal Done} → Walks r (refused e) x
   cuts : {e : Refusal} {x : Result World Refusal Done} → (r .strict → ⊥) → Walks r x (refused e)
+  -- only after a diagnostic of the first
+  parts : {u : World} {x : Result World Refusal Done} → (r .strict → ⊥) → 1 ≤ u .diagnostics .used → Walks r (ok tt u) x
 
-to-walks : {r : Runs} {u u′ : World} {x x′ : Result World Refusal Done} → Gives r (Nothing r) u u′ x x′ → Walks r x x′
-to-walks (gives g g′ ws q) = walks ws
-to-walks stopped = stops
-to-walks (cut k) = cuts k
+to-walks : {r : Runs} {u u′ : World} {x x′ : Result World Refusal Done} → Parts r (Nothing r) u u′ x x′ → Walks r x x′
+to-walks (fine (gives g g′ ws q)) = walks ws
+to-walks (fine stopped) = stops
+to-walks (fine (cut k)) = cuts k
+to-walks (parted k l) = parts k l
 
 module _ (r : Runs) {s s′ : World} {pool pool′ words words′ : List ℕ} (h : Beginning r s s′ pool pool′ words words′) where
   abbrev d : Buffer
@@ -169,8 +182,8 @@ module _ (r : Runs) {s s′ : World} {pool pool′ words words′ : List ℕ} (h
         env = rw (h .fresh .env, h .fresh′ .env) end;
         packages = rw (h .fresh .packages, h .fresh′ .packages) end;
         own = rw (h .fresh .own, h .fresh′ .own) end;
-        library = subst (λ (l : List Package). Each (R.SamePackage r d d′) (r .first .library) l) (sym (h .library)) (packages-same r d d′ (h .names) (r .first .library) (h .libraryNames)
-            (every-back (λ w. SameType r d d′ w w) (h .others) (packageTypes (r .first .library)) (rw (h .types) at all-same)));
+        library = subst (λ (l : List Package). Front (r .strict) (R.SamePackage r d d′) (r .first .library) l) (sym (h .library)) (each-front (h .more) (h .noMore) (packages-same r d d′ (h .names) (r .first .library) (h .libraryNames)
+            (every-back (λ w. SameType r d d′ w w) (h .others) (packageTypes (r .first .library)) (rw (h .types) at all-same))));
         diagnostics = record { used = h .fresh .diagnostics ∙ sym (h .fresh′ .diagnostics); front = rw (h .fresh .diagnostics) refl; long = h .longDiagnostics };
         messages = record { used = h .fresh .messages ∙ sym (h .fresh′ .messages); front = rw (h .fresh .messages) refl; long = h .longMessages };
       }
@@ -184,12 +197,13 @@ module _ (r : Runs) {s s′ : World} {pool pool′ words words′ : List ℕ} (h
   module _ (n n′ : ℕ) (roots : Nodes) (sound : SoundAll (Own r) (In r) roots) where
     visited : (fits : length pool ≤ typeRoom (s .types)) (fits′ : length pool′ ≤ typeRoom (s′ .types)) {x x′ : Result World Refusal Done}
         → Measured (r .first) (withTypes s d) words x → Measured (r .second) (withTypes s′ d′) words′ x′
-        → Gives r (Nothing r) (withTypes s d) (withTypes s′ d′)
+        → Parts r (Nothing r) (withTypes s d) (withTypes s′ d′)
         (next x (λ _. _>>=_ (last (r .first) (Known (r .first .void)) roots) (λ _. skip)))
         (next x′ (λ _. _>>=_ (last (r .second) (Known (r .second .void)) roots) (λ _. skip)))
-    visited f f′ (deep k) m = stopped
-    visited f f′ (low l) (deep k) = cut (λ z. k (measured-too f f′ l z))
-    visited f f′ (low l) (low l′) = p-next r _ _ (p-last r roots sound (R.known void) (begun f f′ l)) (λ _ _ u u′ g g′ v _. p-return r v tt)
+    visited f f′ (deep k) m = fine stopped
+    visited f f′ (low l) (deep k) = fine (cut (λ z. k (measured-too f f′ l z)))
+    visited f f′ (low l) (low l′) =
+        q-next r _ _ (q-last r roots sound (R.known void) (begun f f′ l)) (λ _. in-return Told Any Any told-kept tt) (λ _ _ u u′ g g′ v _. fine (p-return r v tt))
 
     pub over-walks : Walks r (over (r .first) n pool words roots s) (over (r .second) n′ pool′ words′ roots s′)
     unfolding over copyPool when
