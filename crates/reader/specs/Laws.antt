@@ -5,6 +5,7 @@ use mathlib.Core.Bool.{Bool, true, false, _&&_, cond}
 use mathlib.Core.Path.{_≡_, refl, ap, _∙_}
 use mathlib.Core.List.{List, [], _∷_}
 use native.Mathlib.Nat.{add-zero}
+use native.Mathlib.Omega.{arith}
 use native.Mathlib.Numerals.{add-one}
 use lib.ListN.{length, getD, drop, drop-of-length-le}
 use lib.Seq.{drop-cons, getD-drop}
@@ -13,7 +14,7 @@ use Rattle.tok.specs.Step.{ok, next, _>>=_}
 use Rattle.tok.specs.Reader.{Read, mostWords, takeWord, owing, ends, endsAt, start, unlessLong, faultOf, mostBytes}
 use Rattle.reader.specs.declared.Reading.{Reading}
 use Rattle.reader.specs.declared.Reading.the-variants.{At, Fault}
-use Rattle.reader.specs.Reading.{beginning, nextWord, onward, gave, faultIn}
+use Rattle.reader.specs.Reading.{beginning, placeOf, nextWord, onward, gave, faultIn}
 
 -- ── One word ──
 
@@ -54,13 +55,18 @@ unfolding takeWord
 by-first rule owes at least [] good n p q = refl
 by-first rule owes at least (w ∷ l) good n p q = rw (p, q) refl
 
+pub by-rule-at : (rule : ℕ → Bool) (owes : ℕ → ℕ) (words : List ℕ) (from : Reading) (good : Bool) (n : ℕ)
+    → ((at least : ℕ) → from ≡ At at least → (rule (nextWord words from) ≡ good) × (owes (nextWord words from) ≡ n))
+    → onward words from (owing rule owes) ≡ onward words from (owing (λ _. good) (λ _. n))
+unfolding onward
+by-rule-at rule owes words (At at least) good n h =
+    by-first rule owes at least (drop at words) good n (rw (getD-drop, add-zero) (h at least refl .0)) (rw (getD-drop, add-zero) (h at least refl .1))
+by-rule-at rule owes words (Fault place) good n h = refl
+
 pub by-rule : (rule : ℕ → Bool) (owes : ℕ → ℕ) (words : List ℕ) (from : Reading) (good : Bool) (n : ℕ)
     → rule (nextWord words from) ≡ good → owes (nextWord words from) ≡ n
     → onward words from (owing rule owes) ≡ onward words from (owing (λ _. good) (λ _. n))
-unfolding onward
-by-rule rule owes words (At at least) good n p q =
-    by-first rule owes at least (drop at words) good n (rw (getD-drop, add-zero) p) (rw (getD-drop, add-zero) q)
-by-rule rule owes words (Fault place) good n p q = refl
+by-rule rule owes words from good n p q = by-rule-at rule owes words from good n (λ at least e. (p, q))
 
 -- ── One rule after another ──
 
@@ -85,6 +91,13 @@ pub onward-then : {A B : Type 0} (words : List ℕ) (from mid : Reading) (m : Re
 unfolding onward
 onward-then words (At at least) mid m f a e = rw e (next-gave words a mid f)
 onward-then words (Fault place) mid m f a e = ap (λ r. next r f) e ∙ next-gave words a mid f
+
+-- reading that goes on has come without a fault
+pub came-from : {A : Type 0} (words : List ℕ) (from : Reading) (m : Read A) (a : A) (at least : ℕ) → onward words from m ≡ gave words a (At at least)
+    → (l : ℕ) × (from ≡ At (placeOf from) l)
+unfolding onward gave
+came-from words (At place l) m a at least e = (l, refl)
+came-from words (Fault place) m a at least e = let z : _≡_ {A = ℕ} 0 1 = cc in absurd (omega arith)
 
 -- ── The beginning and the end ──
 

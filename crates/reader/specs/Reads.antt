@@ -33,6 +33,15 @@ pub reads-then : {A B : Type 0} {words : List ℕ} {a : A} {b : B} {mid to : ℕ
 reads-then f (reads least w p) k = k least w p
 reads-then f (faults place) k = faults place
 
+pub reads-map : {A : Type 0} {words : List ℕ} {a : A} {to : ℕ} {P Q : Type 0} {r : Result Cursor ℕ A} → (P → Q) → Reads words a to P r → Reads words a to Q r
+reads-map f (reads least w p) = reads least w (f p)
+reads-map f (faults place) = faults place
+
+-- nothing more is read
+pub reads-done : {A : Type 0} {words : List ℕ} {a : A} {P : Type 0} (at to least : ℕ) → at ≡ to → Within words at → P
+    → Reads words a to P (ok a (standing words at least))
+reads-done {words = words} {a = a} {P = P} at to least e w p = subst (λ t. Reads words a t P (ok a (standing words at least))) e (reads least w p)
+
 within-next : {words : List ℕ} {at : ℕ} → at < length words → ltb at mostWords ≡ true → Within words (at + 1)
 within-next {at = at} h e = let l : at < 8192 = ltb-true at 8192 e in record { inList = omega arith; inMost = omega arith }
 
@@ -89,6 +98,21 @@ pub reads-onward : {A : Type 0} (words : List ℕ) (from : Reading) (m : Read A)
 unfolding onward
 reads-onward words (At at least) m h = h least
 reads-onward words (Fault place) m h = faults place
+
+-- and what is known where it goes on from there
+module _ {A : Type 0} (words : List ℕ) (from : Reading) (m : Read A) (b : A) (at least : ℕ) {a : A} {to : ℕ} {P : Type 0}
+    (h : Reads words a to P (onward words from m)) (e : onward words from m ≡ gave words b (At at least)) where
+  pub onward-place : at ≡ to
+  unfolding gave
+  onward-place = reads-place h e
+
+  pub onward-shown : P
+  unfolding gave
+  onward-shown = reads-shown h e
+
+  pub onward-within : Within words to
+  unfolding gave
+  onward-within = reads-within h e
 
 -- so that an answer found on the way may be said by place
 pub gave-there : {A : Type 0} (words : List ℕ) (from to : Reading) (m : Read A) (a b : A) (at : ℕ) {P : Type 0}

@@ -1,0 +1,61 @@
+-- `add::pool_is_shallow` meets its contract. The loop's invariant: whether all is shallow is whether the words from i on are. Assumes nothing.
+use Rattle.add.proofs.Returns.{measure-end, measure-next, measure-stop}
+use Rattle.add.specs.Pool.{poolTypes, allShallow}
+use Rattle.tok.specs.Text.{Texts}
+use borrow.Author.Tests.{not-true, not-false}
+use lib.ListN.{length, drop}
+use native.Mathlib.Omega.{arith}
+use Prim.Native.Nat.{_-_, _≤_}
+use mathlib.Core.Path.{_≡_, refl, sym, _∙_}
+use borrow.Author.Needs.{needs}
+use Rattle.add.proofs.pool_is_shallow.Statement.{statement}
+use Rattle.add.proofs.pool_is_shallow.Tie as tie
+
+abbrev Inv-loop : tie.InvT-loop
+Inv-loop types pool i₀ i = ((t : Texts) → allShallow t types (poolTypes pool) ≡ allShallow t types (poolTypes (drop i pool))) × (i ≤ length pool)
+
+abbrev μ-loop : tie.MeasureT-loop
+μ-loop types pool i₀ i = length pool - i
+
+loop-holds : tie.Need-loop-holds Inv-loop μ-loop
+loop-holds c = (λ t. refl, omega arith)
+
+mul-word-is-shallow : tie.Need-mul-word-is-shallow Inv-loop μ-loop
+mul-word-is-shallow c = search needs
+
+shared-slice-read-word-is-shallow : tie.Need-shared-slice-read-word-is-shallow Inv-loop μ-loop
+shared-slice-read-word-is-shallow c = search needs
+
+word-is-shallow-requires : tie.Need-word-is-shallow-requires Inv-loop μ-loop
+word-is-shallow-requires c κs = search needs
+
+returns : tie.Need-returns Inv-loop μ-loop
+returns c = λ t. sym (c .before .before .before .before .loop .inv .0 t ∙ measure-stop _ _ t _ (c .before .before .before .loop-test .taken) (c .before .word-is-shallow .ensures t) (not-true _ (c .if1 .taken)))
+
+add-i : tie.Need-add-i Inv-loop μ-loop
+add-i c = search needs
+
+loop-less : tie.Need-loop-less Inv-loop μ-loop
+loop-less c = omega arith
+
+loop-again : tie.Need-loop-again Inv-loop μ-loop
+loop-again c = (λ t. c .before .before .before .before .loop .inv .0 t ∙ measure-next _ _ t _ (c .before .before .before .loop-test .taken) (c .before .word-is-shallow .ensures t) (not-false _ (c .if1 .left)), omega arith)
+
+returns-2 : tie.Need-returns-2 Inv-loop μ-loop
+returns-2 c = λ t. sym (c .before .loop .inv .0 t ∙ measure-end _ _ t _ (c .loop-test .left))
+
+pub pool-is-shallow-spec : {M : Type 1} → statement M
+pool-is-shallow-spec =
+    tie.close
+    (tie.spec
+    Inv-loop
+    μ-loop
+    loop-holds
+    mul-word-is-shallow
+    shared-slice-read-word-is-shallow
+    word-is-shallow-requires
+    returns
+    add-i
+    loop-less
+    loop-again
+    returns-2)

@@ -1,0 +1,44 @@
+-- Laws of measuring: a list of words is measured part by part. By induction on the list. Assumes nothing.
+use mathlib.Core.Path.{_≡_, refl, sym}
+use mathlib.Core.Bool.{Bool, true, false, _&&_, cond, and-assoc, and-true}
+use mathlib.Core.List.{List, [], _∷_, _++_}
+use Prim.Native.Nat.{ℕ}
+use Rattle.tok.specs.Text.{Texts}
+use Rattle.tok.specs.Step.{ok, refused, refusal, next, when}
+use Rattle.ptype.specs.Add.{Buffer}
+use Rattle.add.specs.Parts.{shallow}
+use Rattle.add.specs.Pool.{measure, isType, poolTypes, allShallow}
+
+pub shallow-append : (t : Texts) (types xs ys : List ℕ) → allShallow t types (xs ++ ys) ≡ (allShallow t types xs && allShallow t types ys)
+unfolding allShallow
+shallow-append t types [] ys = refl
+shallow-append t types (x ∷ xs) ys = rw (shallow-append t types xs ys) (sym (and-assoc (shallow t types x) (allShallow t types xs) (allShallow t types ys)))
+
+-- the pool, word by word
+pub shallow-word : (t : Texts) (types : List ℕ) (w : ℕ) (ws : List ℕ)
+    → allShallow t types (poolTypes (w ∷ ws)) ≡ (allShallow t types (poolTypes (w ∷ [])) && allShallow t types (poolTypes ws))
+unfolding allShallow poolTypes
+shallow-word t types w ws = go (isType w)
+  where
+    go : (q : Bool) → allShallow t types (cond q (w ∷ poolTypes ws) (poolTypes ws)) ≡ (allShallow t types (cond q (w ∷ []) []) && allShallow t types (poolTypes ws))
+    go true = rw and-true
+    go false = refl
+
+-- Words measured in two parts: the second is measured where the first is not refused.
+pub measure-append : (t : Texts) (n : ℕ) (xs ys : List ℕ) (b : Buffer) → measure t n (xs ++ ys) b ≡ next (measure t n xs b) (λ _. measure t n ys)
+unfolding measure when
+measure-append t n xs ys b = rw (shallow-append t (b .words) xs ys) (go (allShallow t (b .words) xs))
+  where
+    go : (q : Bool) → when (q && allShallow t (b .words) ys) (λ s. ok (tt {0}) s) (λ _. refused (refusal 8 n)) b
+        ≡ next (when q (λ s. ok (tt {0}) s) (λ _. refused (refusal 8 n)) b) (λ _. measure t n ys)
+    go true = refl
+    go false = refl
+
+-- Words measured by a test of them all.
+pub measure-all : (t : Texts) (n : ℕ) (words : List ℕ) (b : Buffer) {q : Bool} → q ≡ allShallow t (b .words) words → measure t n words b ≡ cond q (ok (tt {0}) b) (refused (refusal 8 n))
+unfolding measure when
+measure-all t n words b {q} h = rw (← h) (go q)
+  where
+    go : (q : Bool) → when q (λ s. ok (tt {0}) s) (λ _. refused (refusal 8 n)) b ≡ cond q (ok (tt {0}) b) (refused (refusal 8 n))
+    go true = refl
+    go false = refl
