@@ -2,6 +2,7 @@
 use mathlib.Core.Path.{_≡_, refl, sym, _∙_}
 use mathlib.Core.List.{List, [], _∷_}
 use mathlib.Core.Bool.{Bool, true, false, _&&_, and-true}
+use mathlib.Core.Logic.{⊎-elim}
 use Prim.Native.Nat.{ℕ, suc, _+_, _-_, _*_, _/_, _<_, _≤_, min}
 use native.Mathlib.Nat.{zero-add}
 use native.Mathlib.Numerals.{add-one}
@@ -9,11 +10,9 @@ use native.Mathlib.Omega.{arith}
 use lib.Dec.{leb}
 use lib.ListN.{getD, set, length, take, drop, drop-of-length-le}
 use lib.Seq.{set-set, set-getD, take-suc, take-all, length-take-le, drop-cons}
-use borrow.Author.Tests.{le-leb, lt-leb, leb-true, leb-false, eqb-false}
 use types.Run.{OneOf}
 use denote.Enum.Declared.{tagOf}
-use mathlib.Core.Logic.{⊎-elim}
-use Rattle.add.proofs.Added.{the-type}
+use borrow.Author.Tests.{le-leb, lt-leb, leb-true, leb-false, eqb-false}
 use Rattle.tok.specs.Word.{wordOf, kindOf}
 use Rattle.tok.specs.Text.{Texts}
 use Rattle.tok.specs.Step.{Step, Refusal, ok, refused, refusal, when, next}
@@ -25,6 +24,7 @@ use Rattle.add.specs.Parts.{opened, shallow, measured}
 use Rattle.add.specs.Pool.{isType, poolTypes, allShallow, copyPool, Copies}
 use Rattle.add.specs.PoolLaws.{shallow-word}
 use Rattle.add.specs.WriteLaws.{write-nil, write-one, write-append}
+use Rattle.add.proofs.Added.{the-type}
 
 -- an answer with a word; one that refuses, and leaves the words as they were
 adds-put : {step : Texts → ℕ → Step Buffer Refusal ℕ} {old : List ℕ} {used w u : ℕ} {new : List ℕ}

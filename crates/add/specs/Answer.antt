@@ -1,7 +1,7 @@
 -- What an answer of adding a type means. Definitions.
 use mathlib.Core.Path.{_≡_}
-use Prim.Native.Nat.{ℕ}
 use mathlib.Core.List.{List}
+use Prim.Native.Nat.{ℕ}
 use Rattle.tok.specs.Text.{Texts}
 use Rattle.tok.specs.Step.{Result, ok, refused, Step, Refusal, refusal}
 use Rattle.ptype.specs.Add.{Buffer, buffer}

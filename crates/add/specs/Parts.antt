@@ -1,8 +1,8 @@
 -- A Record added in parts, for code in which its pairs arise one after the other: `addRecord` of ptype's Add is these parts in
 -- order (PartsLaws). Definitions.
-use Prim.Native.Nat.{ℕ, _+_, _*_}
 use mathlib.Core.Bool.{Bool}
 use mathlib.Core.List.{List, [], _∷_}
+use Prim.Native.Nat.{ℕ, _+_, _*_}
 use lib.Dec.{leb}
 use Rattle.tok.specs.Word.{payloadOf, wordOf}
 use Rattle.tok.specs.Text.{Texts}

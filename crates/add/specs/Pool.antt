@@ -1,9 +1,9 @@
 -- The library's pool at the front of the types buffer, and every library type measured (document 01, "Answers that end the
 -- check"). Definitions.
 use mathlib.Core.Path.{_≡_}
-use Prim.Native.Nat.{ℕ}
 use mathlib.Core.Bool.{Bool, true, _&&_, cond}
 use mathlib.Core.List.{List, [], _∷_}
+use Prim.Native.Nat.{ℕ}
 use lib.ListN.{length}
 use lib.Dec.{leb}
 use Rattle.tok.specs.Word.{kindOf}

@@ -141,10 +141,10 @@ pub fn copy_pool(types: &mut [u32], pool: &[u32]) -> bool
     if pool.len() > type_room(&types[..]) {
         return false;
     }
-    let mut i = 0;
-    while i < pool.len() {
-        types[i] = pool[i];
-        i += 1;
+    let mut at = 0;
+    while at < pool.len() {
+        types[at] = pool[at];
+        at += 1;
     }
     true
 }

@@ -8,9 +8,9 @@ use mathlib.Core.List.{List, [], _∷_}
 use Prim.Native.Nat.{ℕ, zero, suc, _+_, _-_, _*_}
 use native.Mathlib.Nat.{zero-add, add-zero}
 use native.Mathlib.Omega.{arith}
+use lib.ListN.{getD, length}
 use types.Run.{OneOf}
 use denote.Enum.Declared.{tagOf}
-use lib.ListN.{getD, length}
 use borrow.Author.Tests.{ne-eqb, eqb-true, eqb-false}
 use Rattle.tok.specs.Word.{kindOf, payloadOf}
 use Rattle.tok.specs.Text.{Texts, nameBytes}
@@ -22,11 +22,11 @@ use Rattle.ptype.specs.Add.{Buffer, buffer, write, addWrap}
 use Rattle.ptype.specs.Slots.{Binding, boundTo, boundOr, hasBoundSlot}
 use Rattle.add.specs.declared.Added.{Added}
 use Rattle.add.specs.declared.Added.the-variants.{Put, Full, TooDeep}
-use Rattle.add.proofs.Added.{the-type}
 use Rattle.add.specs.Answer.{resultOf}
 use Rattle.add.specs.Parts.{opened, paired, measured, recordFrom}
 use Rattle.add.specs.StepLaws.{next-ok}
 use Rattle.add.specs.PartsLaws.{record-steps, record-end, record-field}
+use Rattle.add.proofs.Added.{the-type}
 use Rattle.slots.specs.declared.Found.{Found}
 use Rattle.slots.specs.declared.Found.the-variants.{At, Nothing}
 use Rattle.slots.specs.Bindings.{foundOf}

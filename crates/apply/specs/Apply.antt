@@ -1,9 +1,9 @@
 -- Type::apply_slot_binding (ptype.rs), of a type word, with everything read from the types buffer as it is at the time. Definitions.
--- `applySlotBinding` of ptype goes by the tree that the word meant at the start instead. The two are equal where the word means a
--- type (TreeLaws); for a buffer whose words refer past its used part, only this one can be held by code that has but the buffer.
+-- `applySlotBinding` of ptype goes by the tree that the word meant at the start. The two are equal where the word means a type
+-- (TreeLaws: apply-tree). Where a word refers past the used part they may differ, and code, which has only the buffer, follows this one.
 -- "Option and Array add one word, Record of n fields 1 + 2n, inner first, where the Rust allocates type nodes."
-use Prim.Native.Nat.{ℕ, zero, suc, _+_}
 use mathlib.Core.List.{List, [], _∷_}
+use Prim.Native.Nat.{ℕ, zero, suc, _+_}
 use lib.ListN.{getD}
 use lib.Dec.{eqb}
 use Rattle.tok.specs.Word.{kindOf, payloadOf}

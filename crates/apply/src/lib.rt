@@ -24,7 +24,7 @@ ghost use Rattle.slots.specs.Bindings.{bindingsIn};
 ghost use Rattle.apply.specs.Apply.{applyPairs, applyWithin, applyWord};
 
 // Puts types for the slots of the type w, as the pairs bind them. Only compound types that contain a bound slot are added anew.
-// Where it is refused, the rules leave open what the buffer holds: the check then sets all of it to zero.
+// Where it is refused, the rules leave open what the buffer holds ("Reading the promises", 1): the check sets all of it to zero.
 pub fn apply_slot_binding<'a>(
     types: &mut [u32],
     used: usize,

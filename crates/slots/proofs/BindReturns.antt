@@ -8,10 +8,10 @@ use mathlib.Core.Option.{none, some}
 use mathlib.Core.List.{List, [], _∷_}
 use Prim.Native.Nat.{ℕ, _+_, _-_, _<_, _≤_}
 use native.Mathlib.Omega.{arith}
-use types.Run.{OneOf}
-use denote.Enum.Declared.{tagOf}
 use lib.Dec.{leb}
 use lib.ListN.{getD, length}
+use types.Run.{OneOf}
+use denote.Enum.Declared.{tagOf}
 use borrow.Author.Tests.{leb-false, eqb-false}
 use Rattle.tok.specs.Word.{kindOf, payloadOf}
 use Rattle.tok.specs.Text.{Texts, nameBytes}
@@ -22,10 +22,10 @@ use Rattle.ptype.specs.UnfoldLaws.{one-less, unfolded-none, unfolded-plain, unf
 use Rattle.ptype.specs.Slots.{Binding, Bound, allBound, conflict, voidSlot, andThen, bindOne, bindSlots, bindFields}
 use Rattle.slots.specs.declared.Bind.{Bind}
 use Rattle.slots.specs.declared.Bind.the-variants.{Done, Conflict, Void, NoRoom}
-use Rattle.slots.proofs.Bind.{the-type}
 use Rattle.slots.specs.Bindings.{pairRoom, bindingsIn, bindingsAfter, fitted, boundOf, Binds}
 use Rattle.slots.specs.BindLaws.{Extends, extends-length, bindFields-extends}
 use Rattle.slots.specs.LevelLaws.{bind-plain, bind-inner, bind-no-inner, bind-listed, bind-not-listed, bind-slot, bind-foreign, bind-first, bind-short}
+use Rattle.slots.proofs.Bind.{the-type}
 use Rattle.slots.proofs.PairReturns.{fitted-none, same-binds, nothing-more}
 
 -- p is the expected word and a the provided one, l the pairs before

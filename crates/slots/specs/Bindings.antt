@@ -1,9 +1,9 @@
 -- Bindings in a lent part of scratch, and what binding answers ("`HashMap` becomes lists in scratch"). Definitions.
 use mathlib.Core.Path.{_≡_}
-use Prim.Native.Nat.{ℕ, zero, suc, _+_, _*_, _/_, min}
 use mathlib.Core.Bool.{cond}
 use mathlib.Core.Option.{Option, none, some}
 use mathlib.Core.List.{List, [], _∷_}
+use Prim.Native.Nat.{ℕ, zero, suc, _+_, _*_, _/_, min}
 use lib.ListN.{length, getD}
 use lib.Dec.{leb}
 use Rattle.tok.specs.Text.{Texts, nameBytes}

@@ -1,8 +1,8 @@
 -- Types put for slots, on trees (ptype.rs: `apply_slot_binding`), and when two types have one shape. Definitions.
-use Prim.Native.Nat.{ℕ}
 use mathlib.Core.Bool.{Bool, true, false, _&&_}
 use mathlib.Core.Option.{Option, none, some, Option·map, Option·getD}
 use mathlib.Core.List.{List}
+use Prim.Native.Nat.{ℕ}
 use lib.Dec.{eqb}
 use Rattle.tok.specs.Text.{Texts, sameBytes}
 use Rattle.ptype.specs.Ty.{Ty, Fields, plain, wrap, rec, named, noField, field, sameTy}
@@ -17,7 +17,7 @@ Filling = List ℕ → Option Ty
 abbrev pub fillingOf : Texts → (types : List ℕ) → List Binding → Filling
 fillingOf texts types bs n = Option·map (tyOf texts types) (boundTo n bs)
 
--- "Recursively replaces every slot with its binding ..  Slots without a binding are left in place":
+-- "Recursively replaces every slot with its binding .. Slots without a binding are left in place":
 -- Self::Slot(slot) => bindings.get(slot).copied().unwrap_or(*self)
 unfoldable mutual
   pub substitute : Filling → Ty → Ty

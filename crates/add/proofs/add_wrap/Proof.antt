@@ -1,8 +1,8 @@
 -- `add::add_wrap` meets its contract: one law for each return. Assumes nothing.
-use Rattle.add.proofs.Returns.{wrap-full, wrap-put, wrap-deep}
-use lib.ListN.{length-set}
 use native.Mathlib.Omega.{arith}
+use lib.ListN.{length-set}
 use borrow.Author.Needs.{needs}
+use Rattle.add.proofs.Returns.{wrap-full, wrap-put, wrap-deep}
 use Rattle.add.proofs.add_wrap.Statement.{statement}
 use Rattle.add.proofs.add_wrap.Tie as tie
 

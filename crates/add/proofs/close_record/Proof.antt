@@ -1,8 +1,8 @@
 -- `add::close_record` meets its contract: one law for each return. Assumes nothing.
-use borrow.Author.Tests.{not-true, not-false}
-use Rattle.add.proofs.Returns.{close-put, close-deep, close-refused}
 use denote.Ref.{now}
+use borrow.Author.Tests.{not-true, not-false}
 use borrow.Author.Needs.{needs}
+use Rattle.add.proofs.Returns.{close-put, close-deep, close-refused}
 use Rattle.add.proofs.close_record.Statement.{statement}
 use Rattle.add.proofs.close_record.Tie as tie
 

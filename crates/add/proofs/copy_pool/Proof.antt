@@ -1,22 +1,21 @@
--- `add::copy_pool` meets its contract. The loop's invariant: the first i words of the pool are written over the front, and no others. Assumes nothing.
-use lib.ListN.{length, take, set, getD}
--- `add::copy_pool` meets its contract. The loop's invariant: the first i words of the pool are written over the front, and no others. Assumes nothing.
-use Rattle.add.proofs.Returns.{copy-none, copy-more, copy-full, copy-all}
-use Rattle.add.specs.WriteLaws.{length-write}
-use Rattle.ptype.specs.Add.{write}
-use native.Mathlib.Omega.{arith}
-use Prim.Native.Nat.{_-_, _≤_}
+-- `add::copy_pool` meets its contract. The loop's invariant: the first `at` words of the pool are written over the front, and no others. Assumes nothing.
 use mathlib.Core.Path.{_≡_, ap, _∙_}
+use Prim.Native.Nat.{_-_, _≤_}
+use native.Mathlib.Omega.{arith}
+use lib.ListN.{length, take, set, getD}
 use denote.Ref.{now}
 use borrow.Author.Needs.{needs}
+use Rattle.ptype.specs.Add.{write}
+use Rattle.add.specs.WriteLaws.{length-write}
+use Rattle.add.proofs.Returns.{copy-none, copy-more, copy-full, copy-all}
 use Rattle.add.proofs.copy_pool.Statement.{statement}
 use Rattle.add.proofs.copy_pool.Tie as tie
 
 abbrev Inv-loop : tie.InvT-loop
-Inv-loop types₀ pool i₀ types i = (types ≡ write types₀ 0 (take i pool)) × (i ≤ length pool)
+Inv-loop types₀ pool at₀ types at = (types ≡ write types₀ 0 (take at pool)) × (at ≤ length pool)
 
 abbrev μ-loop : tie.MeasureT-loop
-μ-loop types₀ pool i₀ types i = length pool - i
+μ-loop types₀ pool at₀ types at = length pool - at
 
 type-room-requires : tie.Need-type-room-requires Inv-loop μ-loop
 type-room-requires c κs = search needs
@@ -42,14 +41,14 @@ mul-types-2 c = search needs
 slice-write-types : tie.Need-slice-write-types Inv-loop μ-loop
 slice-write-types c = omega (arith, ap length (c .before .before .loop .inv .0) ∙ length-write (now (c .before .before .before .before .before .before .before .before .args .types)) 0 _)
 
-add-i : tie.Need-add-i Inv-loop μ-loop
-add-i c = search needs
+add-at : tie.Need-add-at Inv-loop μ-loop
+add-at c = search needs
 
 loop-less : tie.Need-loop-less Inv-loop μ-loop
 loop-less c = omega arith
 
 loop-again : tie.Need-loop-again Inv-loop μ-loop
-loop-again c = (ap (λ l. set l (c .before .before .loop .i) (getD (now (c .before .before .before .before .before .before .before .before .args .pool)) (c .before .before .loop .i) 0)) (c .before .before .loop .inv .0) ∙ copy-more (now (c .before .before .before .before .before .before .before .before .args .pool)) (now (c .before .before .before .before .before .before .before .before .args .types)) (c .before .before .loop .i) (c .before .loop-test .taken), omega arith)
+loop-again c = (ap (λ l. set l (c .before .before .loop .at) (getD (now (c .before .before .before .before .before .before .before .before .args .pool)) (c .before .before .loop .at) 0)) (c .before .before .loop .inv .0) ∙ copy-more (now (c .before .before .before .before .before .before .before .before .args .pool)) (now (c .before .before .before .before .before .before .before .before .args .types)) (c .before .before .loop .at) (c .before .loop-test .taken), omega arith)
 
 same-length-2 : tie.Need-same-length-2 Inv-loop μ-loop
 same-length-2 c = ap length (c .before .loop .inv .0) ∙ length-write (now (c .before .before .before .before .before .before .before .args .types)) 0 _
@@ -71,7 +70,7 @@ copy-pool-spec =
     shared-slice-read-types
     mul-types-2
     slice-write-types
-    add-i
+    add-at
     loop-less
     loop-again
     same-length-2

@@ -1,8 +1,7 @@
 -- `add::is_shallow` meets its contract by that of `ptype::depth`. Assumes nothing.
-use borrow.Author.Needs.{needs}
--- `add::is_shallow` meets its contract by that of `ptype::depth`. Assumes nothing.
-use lib.Dec.{leb}
 use mathlib.Core.Path.{ap}
+use lib.Dec.{leb}
+use borrow.Author.Needs.{needs}
 use Rattle.add.proofs.is_shallow.Statement.{statement}
 use Rattle.add.proofs.is_shallow.Tie as tie
 

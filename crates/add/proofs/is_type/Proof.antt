@@ -1,6 +1,6 @@
 -- `add::is_type` meets its contract, by the two tests. Assumes nothing.
-use Rattle.add.proofs.Returns.{type-low, type-by}
 use borrow.Author.Needs.{needs}
+use Rattle.add.proofs.Returns.{type-low, type-by}
 use Rattle.add.proofs.is_type.Statement.{statement}
 use Rattle.add.proofs.is_type.Tie as tie
 

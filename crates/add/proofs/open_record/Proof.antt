@@ -1,7 +1,7 @@
 -- `add::open_record` meets its contract: one law for each return. Where the Record fits, so does each of its parts. Assumes nothing.
-use Rattle.add.proofs.Returns.{open-full, open-put, fits-here}
 use native.Mathlib.Omega.{arith}
 use borrow.Author.Needs.{needs}
+use Rattle.add.proofs.Returns.{open-full, open-put, fits-here}
 use Rattle.add.proofs.open_record.Statement.{statement}
 use Rattle.add.proofs.open_record.Tie as tie
 

@@ -1,13 +1,13 @@
 -- `add::pool_is_shallow` meets its contract. The loop's invariant: whether all is shallow is whether the words from i on are. Assumes nothing.
-use Rattle.add.proofs.Returns.{measure-end, measure-next, measure-stop}
-use Rattle.add.specs.Pool.{poolTypes, allShallow}
-use Rattle.tok.specs.Text.{Texts}
-use borrow.Author.Tests.{not-true, not-false}
-use lib.ListN.{length, drop}
-use native.Mathlib.Omega.{arith}
-use Prim.Native.Nat.{_-_, _≤_}
 use mathlib.Core.Path.{_≡_, refl, sym, _∙_}
+use Prim.Native.Nat.{_-_, _≤_}
+use native.Mathlib.Omega.{arith}
+use lib.ListN.{length, drop}
+use borrow.Author.Tests.{not-true, not-false}
 use borrow.Author.Needs.{needs}
+use Rattle.tok.specs.Text.{Texts}
+use Rattle.add.specs.Pool.{poolTypes, allShallow}
+use Rattle.add.proofs.Returns.{measure-end, measure-next, measure-stop}
 use Rattle.add.proofs.pool_is_shallow.Statement.{statement}
 use Rattle.add.proofs.pool_is_shallow.Tie as tie
 

@@ -1,6 +1,6 @@
 -- `add::record_fits` meets its contract, by the two tests. Assumes nothing.
-use Rattle.add.proofs.Returns.{fits-none, fits-by}
 use borrow.Author.Needs.{needs}
+use Rattle.add.proofs.Returns.{fits-none, fits-by}
 use Rattle.add.proofs.record_fits.Statement.{statement}
 use Rattle.add.proofs.record_fits.Tie as tie
 

@@ -1,9 +1,9 @@
 -- `add::set_pair` meets its contract: the name is stored and then the type, or both lie past the end. Assumes nothing.
-use Rattle.add.specs.WriteLaws.{write-two, write-past}
-use lib.ListN.{length, length-set}
-use native.Mathlib.Numerals.{add-one}
 use mathlib.Core.Path.{sym, ap, _∙_}
+use native.Mathlib.Numerals.{add-one}
+use lib.ListN.{length, length-set}
 use borrow.Author.Needs.{needs}
+use Rattle.add.specs.WriteLaws.{write-two, write-past}
 use Rattle.add.proofs.set_pair.Statement.{statement}
 use Rattle.add.proofs.set_pair.Tie as tie
 

@@ -1,7 +1,7 @@
 -- `add::word_is_shallow` meets its contract, by the test. Assumes nothing.
-use Rattle.add.proofs.Returns.{word-none, word-measured}
 use borrow.Author.Tests.{not-true, not-false}
 use borrow.Author.Needs.{needs}
+use Rattle.add.proofs.Returns.{word-none, word-measured}
 use Rattle.add.proofs.word_is_shallow.Statement.{statement}
 use Rattle.add.proofs.word_is_shallow.Tie as tie
 

@@ -1,35 +1,34 @@
 -- `apply::apply_within` and `apply::apply_fields` meet their contracts: one law for each return. The depth falls, and in step the number
 -- of fields that are left. Assumes nothing.
-use Rattle.apply.proofs.Returns.{fields-end, fields-stop, rest-stop, rest-put, apply-none, apply-free, apply-slot, wrap-stop, wrap-put, apply-record, apply-rest}
-use Rattle.tok.specs.Text.{textsOf}
-use borrow.Author.Tests.{not-true, not-false}
-use Prim.Native.Nat.{_+_, _*_, _^_}
 use mathlib.Core.Path.{sym, _∙_}
-use denote.Ref.{now}
+use Prim.Native.Nat.{_+_, _*_, _^_, ℕ, _<_}
 use native.Mathlib.Omega.{arith}
+use denote.Ref.{now}
+use borrow.Author.Tests.{not-true, not-false}
 use borrow.Author.Needs.{needs}
-use Prim.Native.Nat.{ℕ, _<_}
 use borrow.Fn.Kinds.{In}
 use borrow.Fn.PlainCycle.{Measures, is, falls, and}
+use Rattle.tok.specs.Text.{textsOf}
+use Rattle.tok.proofs.kind.Reads as kind-reads
+use Rattle.tok.proofs.payload.Reads as payload-reads
+use Rattle.tok.proofs.word_at.Reads as word-at-reads
+use Rattle.ptype.proofs.field_count.Reads as field-count-reads
+use Rattle.ptype.proofs.field_type.Reads as field-type-reads
+use Rattle.ptype.proofs.inner.Reads as inner-reads
+use Rattle.add.proofs.close_record.Reads as close-record-reads
+use Rattle.add.proofs.open_record.Reads as open-record-reads
+use Rattle.add.proofs.set_pair.Reads as set-pair-reads
+use Rattle.slots.proofs.has_bound_slot_within.Reads as has-bound-slot-within-reads
+use Rattle.slots.proofs.wraps.Reads as wraps-reads
+use Rattle.apply.proofs.Returns.{fields-end, fields-stop, rest-stop, rest-put, apply-none, apply-free, apply-slot, wrap-stop, wrap-put, apply-record, apply-rest}
 use Rattle.apply.proofs.apply_fields.Reads as apply-fields
 use Rattle.apply.proofs.apply_fields.Kinds as apply-fields-kinds
 use Rattle.apply.proofs.+apply_fields+apply_within.Lts-apply_fields as apply-fields-lts
 use Rattle.apply.proofs.apply_within.Reads as apply-within
 use Rattle.apply.proofs.apply_within.Kinds as apply-within-kinds
 use Rattle.apply.proofs.+apply_fields+apply_within.Lts-apply_within as apply-within-lts
-use Rattle.add.proofs.close_record.Reads as close-record-reads
-use Rattle.add.proofs.open_record.Reads as open-record-reads
-use Rattle.add.proofs.set_pair.Reads as set-pair-reads
 use Rattle.apply.proofs.add_wrap.Reads as add-wrap-reads
 use Rattle.apply.proofs.slot_type.Reads as slot-type-reads
-use Rattle.ptype.proofs.field_count.Reads as field-count-reads
-use Rattle.ptype.proofs.field_type.Reads as field-type-reads
-use Rattle.ptype.proofs.inner.Reads as inner-reads
-use Rattle.slots.proofs.has_bound_slot_within.Reads as has-bound-slot-within-reads
-use Rattle.slots.proofs.wraps.Reads as wraps-reads
-use Rattle.tok.proofs.kind.Reads as kind-reads
-use Rattle.tok.proofs.payload.Reads as payload-reads
-use Rattle.tok.proofs.word_at.Reads as word-at-reads
 use Rattle.apply.proofs.+apply_fields+apply_within.{statement}
 use Rattle.apply.proofs.+apply_fields+apply_within.Tie.{close}
 

@@ -1,7 +1,6 @@
 -- `apply::add_wrap` meets its contract: a kind that holds a type is Option's or Array's. Assumes nothing.
-use Rattle.apply.proofs.Returns.{array-kind}
--- `apply::add_wrap` meets its contract: a kind that holds a type is Option's or Array's. Assumes nothing.
 use borrow.Author.Needs.{needs}
+use Rattle.apply.proofs.Returns.{array-kind}
 use Rattle.apply.proofs.add_wrap.Statement.{statement}
 use Rattle.apply.proofs.add_wrap.Tie as tie
 

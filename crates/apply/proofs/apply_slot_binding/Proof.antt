@@ -1,6 +1,6 @@
 -- `apply::apply_slot_binding` meets its contract: 33 levels of `apply_within`. Assumes nothing.
-use Rattle.apply.specs.Apply.{applyWord}
 use borrow.Author.Needs.{needs}
+use Rattle.apply.specs.Apply.{applyWord}
 use Rattle.apply.proofs.apply_slot_binding.Statement.{statement}
 use Rattle.apply.proofs.apply_slot_binding.Tie as tie
 

@@ -1,6 +1,6 @@
 -- `apply::slot_type` meets its contract by that of `bound_to`. Assumes nothing.
-use Rattle.apply.proofs.Returns.{slot-bound, slot-free}
 use borrow.Author.Needs.{needs}
+use Rattle.apply.proofs.Returns.{slot-bound, slot-free}
 use Rattle.apply.proofs.slot_type.Statement.{statement}
 use Rattle.apply.proofs.slot_type.Tie as tie
 

@@ -1,30 +1,29 @@
 -- `slots::has_bound_slot_within` and `slots::any_bound_slot` meet their contracts: one law for each return. The depth falls. The loop's
 -- invariant: whether a bound slot stands in the fields is whether it stands in those that are left. Assumes nothing.
-use Rattle.slots.proofs.HasReturns.{has-none, has-wrap, has-record, has-slot, has-rest, any-none, any-first, any-rest}
-use Rattle.slots.specs.Bindings.{bindingsIn}
-use Rattle.ptype.specs.Slots.{anyBoundSlot}
-use Rattle.ptype.specs.Words.{unfolded, fieldsFrom}
-use Rattle.tok.specs.Text.{textsOf}
-use Prim.Native.Nat.{_+_, _*_, _^_}
 use mathlib.Core.Path.{_≡_, refl, sym, _∙_}
+use Prim.Native.Nat.{_+_, _*_, _^_, ℕ, _<_}
 use native.Mathlib.Omega.{arith}
 use borrow.Author.Needs.{needs}
-use Prim.Native.Nat.{ℕ, _<_}
 use borrow.Fn.Kinds.{In}
 use borrow.Fn.PlainCycle.{Measures, is, falls, and}
+use Rattle.tok.specs.Text.{textsOf}
+use Rattle.tok.proofs.kind.Reads as kind-reads
+use Rattle.tok.proofs.payload.Reads as payload-reads
+use Rattle.ptype.specs.Slots.{anyBoundSlot}
+use Rattle.ptype.specs.Words.{unfolded, fieldsFrom}
+use Rattle.ptype.proofs.field_count.Reads as field-count-reads
+use Rattle.ptype.proofs.field_type.Reads as field-type-reads
+use Rattle.ptype.proofs.inner.Reads as inner-reads
+use Rattle.slots.specs.Bindings.{bindingsIn}
+use Rattle.slots.proofs.HasReturns.{has-none, has-wrap, has-record, has-slot, has-rest, any-none, any-first, any-rest}
 use Rattle.slots.proofs.any_bound_slot.Reads as any-bound-slot
 use Rattle.slots.proofs.any_bound_slot.Kinds as any-bound-slot-kinds
 use Rattle.slots.proofs.+any_bound_slot+has_bound_slot_within.Lts-any_bound_slot as any-bound-slot-lts
 use Rattle.slots.proofs.has_bound_slot_within.Reads as has-bound-slot-within
 use Rattle.slots.proofs.has_bound_slot_within.Kinds as has-bound-slot-within-kinds
 use Rattle.slots.proofs.+any_bound_slot+has_bound_slot_within.Lts-has_bound_slot_within as has-bound-slot-within-lts
-use Rattle.ptype.proofs.field_count.Reads as field-count-reads
-use Rattle.ptype.proofs.field_type.Reads as field-type-reads
-use Rattle.ptype.proofs.inner.Reads as inner-reads
 use Rattle.slots.proofs.wraps.Reads as wraps-reads
 use Rattle.slots.proofs.is_bound.Reads as is-bound-reads
-use Rattle.tok.proofs.kind.Reads as kind-reads
-use Rattle.tok.proofs.payload.Reads as payload-reads
 use Rattle.slots.proofs.+any_bound_slot+has_bound_slot_within.{statement}
 use Rattle.slots.proofs.+any_bound_slot+has_bound_slot_within.Tie.{close}
 

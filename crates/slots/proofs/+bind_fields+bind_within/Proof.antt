@@ -1,26 +1,25 @@
 -- `slots::bind_within` and `slots::bind_fields` meet their contracts: one law for each return. The depth falls, and in step the number
 -- of fields that are left. Assumes nothing.
-use Rattle.slots.proofs.BindReturns.{within-none, within-slot, within-differ, within-rest, within-wrap, within-record, fields-end, fields-short, fields-stop, fields-next}
-use Prim.Native.Nat.{_+_, _*_, _^_}
-use native.Mathlib.Omega.{arith}
 use mathlib.Core.Path.{sym, _∙_}
+use Prim.Native.Nat.{_+_, _*_, _^_, ℕ, _<_}
+use native.Mathlib.Omega.{arith}
 use borrow.Author.Needs.{needs}
-use Prim.Native.Nat.{ℕ, _<_}
 use borrow.Fn.Kinds.{In}
 use borrow.Fn.PlainCycle.{Measures, is, falls, and}
+use Rattle.tok.proofs.kind.Reads as kind-reads
+use Rattle.tok.proofs.payload.Reads as payload-reads
+use Rattle.ptype.proofs.field_count.Reads as field-count-reads
+use Rattle.ptype.proofs.field_type.Reads as field-type-reads
+use Rattle.ptype.proofs.inner.Reads as inner-reads
+use Rattle.slots.proofs.BindReturns.{within-none, within-slot, within-differ, within-rest, within-wrap, within-record, fields-end, fields-short, fields-stop, fields-next}
 use Rattle.slots.proofs.bind_fields.Reads as bind-fields
 use Rattle.slots.proofs.bind_fields.Kinds as bind-fields-kinds
 use Rattle.slots.proofs.+bind_fields+bind_within.Lts-bind_fields as bind-fields-lts
 use Rattle.slots.proofs.bind_within.Reads as bind-within
 use Rattle.slots.proofs.bind_within.Kinds as bind-within-kinds
 use Rattle.slots.proofs.+bind_fields+bind_within.Lts-bind_within as bind-within-lts
-use Rattle.ptype.proofs.field_count.Reads as field-count-reads
-use Rattle.ptype.proofs.field_type.Reads as field-type-reads
-use Rattle.ptype.proofs.inner.Reads as inner-reads
 use Rattle.slots.proofs.wraps.Reads as wraps-reads
 use Rattle.slots.proofs.bind_one.Reads as bind-one-reads
-use Rattle.tok.proofs.kind.Reads as kind-reads
-use Rattle.tok.proofs.payload.Reads as payload-reads
 use Rattle.slots.proofs.+bind_fields+bind_within.{statement}
 use Rattle.slots.proofs.+bind_fields+bind_within.Tie.{close}
 

@@ -1,8 +1,8 @@
 -- `slots::bind_one` meets its contract: one law for each return. Assumes nothing.
-use Rattle.slots.proofs.PairReturns.{one-void, one-new, one-same, one-conflict}
-use Rattle.tok.specs.Text.{textsOf}
 use denote.Ref.{now}
 use borrow.Author.Needs.{needs}
+use Rattle.tok.specs.Text.{textsOf}
+use Rattle.slots.proofs.PairReturns.{one-void, one-new, one-same, one-conflict}
 use Rattle.slots.proofs.bind_one.Statement.{statement}
 use Rattle.slots.proofs.bind_one.Tie as tie
 

@@ -1,6 +1,6 @@
 -- `slots::bind_slots` meets its contract: 33 levels of `bind_within`. Assumes nothing.
-use Rattle.ptype.specs.Words.{tyOf}
 use borrow.Author.Needs.{needs}
+use Rattle.ptype.specs.Words.{tyOf}
 use Rattle.slots.proofs.bind_slots.Statement.{statement}
 use Rattle.slots.proofs.bind_slots.Tie as tie
 

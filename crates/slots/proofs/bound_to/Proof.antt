@@ -1,15 +1,15 @@
 -- `slots::bound_to` meets its contract. The loop's invariant: what the slot is bound to is what it is bound to among the first k pairs.
 -- Assumes nothing.
-use Rattle.slots.proofs.PairReturns.{look-end, look-hit, look-next}
-use Rattle.slots.specs.Bindings.{firstPairs, bindingsIn}
-use Rattle.ptype.specs.Slots.{boundTo}
-use Rattle.tok.specs.Text.{textsOf, nameBytes}
-use lib.ListN.{length}
-use native.Mathlib.Omega.{arith}
-use Prim.Native.Nat.{_≤_, _/_}
 use mathlib.Core.Path.{_≡_, sym, _∙_}
+use Prim.Native.Nat.{_≤_, _/_}
+use native.Mathlib.Omega.{arith}
+use lib.ListN.{length}
 use denote.Ref.{now}
 use borrow.Author.Needs.{needs}
+use Rattle.tok.specs.Text.{textsOf, nameBytes}
+use Rattle.ptype.specs.Slots.{boundTo}
+use Rattle.slots.specs.Bindings.{firstPairs, bindingsIn}
+use Rattle.slots.proofs.PairReturns.{look-end, look-hit, look-next}
 use Rattle.slots.proofs.bound_to.Statement.{statement}
 use Rattle.slots.proofs.bound_to.Tie as tie
 

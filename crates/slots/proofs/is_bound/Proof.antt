@@ -1,6 +1,6 @@
 -- `slots::is_bound` meets its contract by that of `bound_to`. Assumes nothing.
-use Rattle.slots.proofs.HasReturns.{found-bound, found-none}
 use borrow.Author.Needs.{needs}
+use Rattle.slots.proofs.HasReturns.{found-bound, found-none}
 use Rattle.slots.proofs.is_bound.Statement.{statement}
 use Rattle.slots.proofs.is_bound.Tie as tie
 

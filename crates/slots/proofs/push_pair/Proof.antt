@@ -1,9 +1,9 @@
 -- `slots::push_pair` meets its contract: one law for each return. Assumes nothing.
-use Rattle.slots.proofs.PairReturns.{push-put, push-full}
-use lib.ListN.{length-set}
 use native.Mathlib.Omega.{arith}
+use lib.ListN.{length-set}
 use denote.Ref.{now}
 use borrow.Author.Needs.{needs}
+use Rattle.slots.proofs.PairReturns.{push-put, push-full}
 use Rattle.slots.proofs.push_pair.Statement.{statement}
 use Rattle.slots.proofs.push_pair.Tie as tie
 
