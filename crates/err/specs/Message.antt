@@ -1,13 +1,16 @@
 -- The 26 diagnostics (document 01, "Codes"; err.rs, and the `format!`s of typecheck/lib.rs). Definitions.
 -- "The fixed wording of each message is the Rust's, byte for byte, primary message included."
 use Prim.Native.Nat.{ℕ}
-use mathlib.Core.List.{List, [], _∷_, _++_}
+use mathlib.Core.List.{List, [], _∷_, _++_, map}
 use lib.ListN.{getD}
-use Rattle.tok.specs.Text.{text}
+use Rattle.tok.specs.Text.{Texts, nameBytes, text}
 use Rattle.ptype.specs.Ty.{Ty}
 use Rattle.ptype.specs.Show.{show, decimal}
+use Rattle.display.specs.Joined.{joined, sig}
 use Rattle.tok.specs.declared.Span.{Span}
 use Rattle.tok.specs.Span.{tokenSpan}
+use Rattle.err.specs.declared.CallName.{CallName}
+use Rattle.err.specs.declared.CallName.the-variants.{Own, OfPackage}
 
 pub record Diagnostic : Type 0 where
   pub code : ℕ
@@ -51,9 +54,14 @@ wantedBoth class = getD ([] ∷ text ", want both sides Int" ∷ text ", want bo
 abbrev pub ticked : List ℕ → List ℕ
 ticked name = text "`" ++ name ++ text "`"
 
--- impl Display for CallName: `pkg.name` or `name`
+-- impl Display for CallName, of a package's function: write!(f, "{pkg}.")?; f.write_str(self.name)
 unfoldable pub pkgName : (pkg name : List ℕ) → List ℕ
 pkgName pkg name = pkg ++ text "." ++ name
+
+-- and of either: each name by its word
+unfoldable pub callName : Texts → CallName → List ℕ
+callName texts (Own name) = nameBytes texts name
+callName texts (OfPackage pkg name) = pkgName (nameBytes texts pkg) (nameBytes texts name)
 
 -- 1 empty array
 unfoldable pub emptyArray : (token : ℕ) → Diagnostic
@@ -126,31 +134,10 @@ undefinedInPackage token callName = atToken 16 token (text "Call to undefined fu
 unfoldable pub undefinedOwn : (token : ℕ) → (name : List ℕ) → Diagnostic
 undefinedOwn token name = atToken 17 token (text "Call to undefined function " ++ ticked name)
 
--- `join`: the pieces with a separator between them
-unfoldable pub eachAfter : (separator : List ℕ) → List (List ℕ) → List ℕ
-eachAfter sep [] = []
-eachAfter sep (p ∷ ps) = sep ++ p ++ eachAfter sep ps
-
-unfoldable pub joined : (separator : List ℕ) → List (List ℕ) → List ℕ
-joined sep [] = []
-joined sep (p ∷ ps) = p ++ eachAfter sep ps
-
--- err.rs, `sig`: the types' Displays, joined by ", "
-unfoldable pub shown : List Ty → List (List ℕ)
-shown [] = []
-shown (t ∷ ts) = show t ∷ shown ts
-
-unfoldable pub sig : List Ty → List ℕ
-sig ts = joined (text ", ") (shown ts)
-
-unfoldable pub sigs : List (List Ty) → List (List ℕ)
-sigs [] = []
-sigs (c ∷ cs) = sig c ∷ sigs cs
-
 -- 18 no specialisation: "no specialisation of `{pkg_name}.{inner_name}` accepts ({}); available: {avail}"
 unfoldable pub noSpecialisation : (token : ℕ) → (callName : List ℕ) → (provided : List Ty) → (candidates : List (List Ty)) → Diagnostic
 noSpecialisation token callName provided candidates =
-    atToken 18 token (text "no specialisation of " ++ ticked callName ++ text " accepts (" ++ sig provided ++ text "); available: " ++ joined (text " | ") (sigs candidates))
+    atToken 18 token (text "no specialisation of " ++ ticked callName ++ text " accepts (" ++ sig provided ++ text "); available: " ++ joined (text " | ") (map sig candidates))
 
 -- 19 argument count: "`{}` requires {} arguments, got {}"
 unfoldable pub argumentCount : (token : ℕ) → (callName : List ℕ) → (wanted got : ℕ) → Diagnostic

@@ -12,7 +12,8 @@ use Rattle.ast.specs.Node.{firstRoots}
 use Rattle.err.specs.Message.{Diagnostic}
 use Rattle.refusals.specs.Inputs.{Inputs, Buffers}
 use Rattle.rules.specs.World.{World, withTold}
-use Rattle.rules.specs.Steps.{Done, sixWords, bytesOf, oneMore}
+use Rattle.err.specs.Report.{sixWords, bytesOf, oneMore}
+use Rattle.rules.specs.Steps.{Done}
 use Rattle.rules.specs.Walk.{startOf, copyPool, walkFirst}
 use Rattle.laws.specs.SlotsOf.{SlotsOfAll}
 use Rattle.laws.specs.Keeps.{Keeps, kept, stopped, Kept, at-when, at-walk}

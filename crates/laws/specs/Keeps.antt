@@ -20,11 +20,12 @@ use Rattle.ast.specs.Span.{spanOf}
 use Rattle.ast.specs.TypeFrom.{typeFrom, fieldsFromExprs}
 use Rattle.ast.specs.TypeExpr.{Arg, TypeExpr, TypeFields, AtomType, ForeignType, OptionType, ArrayType, RecordType, noType, typeField}
 use Rattle.err.specs.Message.{Diagnostic}
+use Rattle.err.specs.Report.{sixWords, bytesOf, hasRoom, oneMore, added, tell}
 use Rattle.rules.specs.declared.Answer.{Answer}
 use Rattle.rules.specs.declared.Answer.the-variants.{Known, Poison}
 use Rattle.library.specs.Package.{Param, Signature, Function, signature, function, Package}
 use Rattle.rules.specs.World.{Ctx, Local, World, Walk, withSlots, withFunctions, withTypes, withTold, withEnv, withPackages}
-use Rattle.rules.specs.Steps.{Done, skip, known, ifKnown, onOption, ty, tree, tyTree, setKnown, raised, onTypes, sixWords, bytesOf, hasRoom, oneMore, report, poison, envInsert, framed, apart, hold, entryOf, enter, typeFromExpr}
+use Rattle.rules.specs.Steps.{Done, skip, known, ifKnown, onOption, ty, tree, tyTree, setKnown, raised, onTypes, raisedTold, outputOf, report, poison, envInsert, framed, apart, hold, entryOf, enter, typeFromExpr}
 use Rattle.rules.specs.Operators.{fuse, unary, cast}
 use Rattle.rules.specs.Calls.{Callee, ownFunction, packageFunction, throughField, noCallee, calleeOf, Provided, providedOf, compared, afterBinding, slottedArgument, plainArgument, argument, arguments, returned, checkCallArgs, resolveCall, paramTrees, providedTrees, position, allReturn, commonReturn, select, inGroup, resolvePkgCall, call}
 use Rattle.rules.specs.Rules.{ident, letBinding, fnArguments, checkReturn, fn, unlessDefined, fieldType, field, valueType, Member, alike, silent, differs, memberTypes, member, goOn, arrayOf, condition, Branch, compareBranches, matched, importOne, importAll, externFn, node, block, last, visitAll, cases, values, array, members}
@@ -46,7 +47,7 @@ pub record Kept (R : World → World → Type 0) (Q P : ℕ → Type 0) : Type 0
   pub slot : (slot word : ℕ) (s : World) → P slot → R s (withSlots s (set (s .slots) slot word))
   pub type : (texts : Texts) (kind : ℕ) (new : List ℕ) (s : World) → leb (s .types .used + length new) (typeRoom (s .types)) ≡ true
       → leb (depthOf (tyOf texts (append (s .types) new .words) (wordOf kind (s .types .used)))) 32 ≡ true → R s (withTypes s (append (s .types) new))
-  pub told : (d : Diagnostic) (s : World) → hasRoom s d ≡ true
+  pub told : (d : Diagnostic) (s : World) → hasRoom (outputOf s) d ≡ true
       → R s (withTold s (oneMore (s .diagnostics) (sixWords d (s .messages .used))) (append (s .messages) (bytesOf d)))
   pub binds : (l : Local) (s : World) → R s (withEnv s (l ∷ s .env))
   pub frame : {s u : World} → R s u → R s (withEnv u (s .env))
@@ -128,9 +129,15 @@ module _ (R : World → World → Type 0) (Q P : ℕ → Type 0) (law : Kept R Q
   unfolding setKnown
   in-set slot w h s = kept (law .slot slot w s h)
 
+  at-told : (n : ℕ) (d : Diagnostic) (s : World) (b : Bool) → hasRoom (outputOf s) d ≡ b
+      → Keeps R Q s {A = Done} (raisedTold s (when b (give tt (added (outputOf s) d)) (refuse (refusal 9 n)) (outputOf s)))
+  unfolding when raisedTold
+  at-told n d s true e = kept (law .told d s e)
+  at-told n d s false e = stopped (law .toldFull)
+
   pub in-report : (n : ℕ) (d : Diagnostic) → In (report n d)
-  unfolding report
-  in-report n d s = at-when (hasRoom s d) _ _ s (λ e. kept (law .told d s e)) (λ _. stopped (law .toldFull))
+  unfolding report tell
+  in-report n d s = at-told n d s (hasRoom (outputOf s) d) refl
 
   pub in-poison : (n : ℕ) (d : Diagnostic) → In (poison n d)
   unfolding poison

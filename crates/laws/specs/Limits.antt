@@ -11,7 +11,8 @@ use Rattle.ptype.specs.Add.{Buffer, buffer, write, append, typeRoom}
 use Rattle.ast.specs.Node.{Node}
 use Rattle.err.specs.Message.{Diagnostic}
 use Rattle.rules.specs.World.{Ctx, World, withTold}
-use Rattle.rules.specs.Steps.{hasRoom, oneMore, sixWords, bytesOf}
+use Rattle.err.specs.Report.{hasRoom, oneMore, sixWords, bytesOf}
+use Rattle.rules.specs.Steps.{outputOf}
 use Rattle.rules.specs.Rules.{node}
 use Rattle.laws.specs.SlotsOf.{all-slots}
 use Rattle.laws.specs.Keeps.{Keeps, Kept, in-node}
@@ -45,7 +46,7 @@ append-room b new k h = rw (length-write (b .words) (b .used) new) h
 one-room : (b : Buffer) (six : List ℕ) → suc (b .used) ≤ min (length (b .words) / 6) 256 → oneMore b six .used ≤ min (length (oneMore b six .words) / 6) 256
 one-room b six h = rw (length-write (b .words) (6 * b .used) six) (omega (arith, h))
 
-told-room : (d : Diagnostic) (s : World) → hasRoom s d ≡ true → Stays s (withTold s (oneMore (s .diagnostics) (sixWords d (s .messages .used))) (append (s .messages) (bytesOf d)))
+told-room : (d : Diagnostic) (s : World) → hasRoom (outputOf s) d ≡ true → Stays s (withTold s (oneMore (s .diagnostics) (sixWords d (s .messages .used))) (append (s .messages) (bytesOf d)))
 told-room d s e h = record {
   types = h .types;
   diagnostics = one-room (s .diagnostics) _ (ltb-true (s .diagnostics .used) (min (length (s .diagnostics .words) / 6) 256) (and-left _ _ e));

@@ -8,7 +8,7 @@ use Rattle.tok.specs.Word.{payloadOf}
 use Rattle.tok.specs.Text.{Texts, text, nameBytes}
 use Rattle.ptype.specs.Words.{tyOf}
 use Rattle.ptype.specs.Show.{show, decimal}
-use Rattle.err.specs.Message.{joined}
+use Rattle.display.specs.Joined.{joined}
 use Rattle.ast.specs.Image.{slotCount}
 use Rattle.refusals.specs.Inputs.{Inputs, textsIn}
 use Rattle.rules.specs.Check.{Ended}

@@ -1,19 +1,18 @@
 -- The steps that the rules are made of. Definitions.
-use Prim.Native.Nat.{ℕ, _+_, _*_, _/_, min}
-use mathlib.Core.Bool.{Bool, true, false, _&&_}
+use Prim.Native.Nat.{ℕ}
+use mathlib.Core.Bool.{Bool, true, false}
 use mathlib.Core.Option.{Option, none, some}
 use mathlib.Core.List.{List, [], _∷_, _++_}
 use lib.ListN.{getD, set, length}
-use lib.Dec.{leb, ltb}
-use Rattle.tok.specs.Word.{payloadOf, wordOf}
 use Rattle.tok.specs.Text.{Texts, nameBytes, sameBytes}
 use Rattle.tok.specs.Step.{Result, ok, refused, Step, Refusal, refusal, _>>=_, _>>_, return, look, give, refuse, when}
 use Rattle.ptype.specs.Ty.{Ty}
 use Rattle.ptype.specs.Words.{tyOf}
-use Rattle.ptype.specs.Add.{Buffer, buffer, write, append, addWrap, addRecord}
+use Rattle.ptype.specs.Add.{Buffer, append}
 use Rattle.ast.specs.TypeExpr.{TypeExpr}
 use Rattle.ast.specs.TypeFrom.{typeFrom}
 use Rattle.err.specs.Message.{Diagnostic}
+use Rattle.err.specs.Report.{Output, tell}
 use Rattle.rules.specs.declared.Answer.{Answer}
 use Rattle.rules.specs.declared.Answer.the-variants.{Known, Poison}
 use Rattle.library.specs.Package.{Param, signature, function, Package}
@@ -77,31 +76,17 @@ raised s (refused r) = refused r
 unfoldable pub onTypes : {A : Type 0} → Step Buffer Refusal A → Walk A
 onTypes m = λ s. raised s (m (s .types))
 
--- "diagnostics of six words: kind 13 with the code, span start, span length, message start, message length, length of the primary message"
-unfoldable pub sixWords : Diagnostic → (messageStart : ℕ) → List ℕ
-sixWords d at = wordOf 13 (d .code) ∷ d .span .start ∷ d .span .len ∷ at ∷ length (d .message) ∷ length (d .primary) ∷ []
+-- Steps of the diagnostics and their messages, with refusal 9.
+unfoldable pub raisedTold : {A : Type 0} → World → Result Output Refusal A → Result World Refusal A
+raisedTold s (ok a o) = ok a (withTold s (o .diagnostics) (o .messages))
+raisedTold s (refused r) = refused r
 
--- a message and its primary message, "which follows it"
-abbrev pub bytesOf : Diagnostic → List ℕ
-bytesOf d = d .message ++ d .primary
+abbrev pub outputOf : World → Output
+outputOf s = record { diagnostics = s .diagnostics; messages = s .messages }
 
--- "At most .. 256 diagnostics and 65,536 message bytes are used", and no more than are lent
-abbrev pub hasRoom : World → Diagnostic → Bool
-hasRoom s d =
-    ltb (s .diagnostics .used) (min (length (s .diagnostics .words) / 6) 256)
-    && leb (s .messages .used + length (bytesOf d)) (min (length (s .messages .words)) 65536)
-
--- one more diagnostic, six words after those used
-abbrev pub oneMore : Buffer → List ℕ → Buffer
-oneMore b six = buffer (write (b .words) (6 * b .used) six) (b .used + 1)
-
--- Typechecker::report, of node n: "A message is written from the first free byte onwards"; "diagnostics or messages full | 9 | the node"
+-- Typechecker::report, of node n
 unfoldable pub report : (n : ℕ) → Diagnostic → Walk Done
-report n d = do
-  s ← look
-  when (hasRoom s d)
-      (give tt (withTold s (oneMore (s .diagnostics) (sixWords d (s .messages .used))) (append (s .messages) (bytesOf d))))
-      (refuse (refusal 9 n))
+report n d = λ s. raisedTold s (tell n d (outputOf s))
 
 -- report, and return TcType::Poison
 unfoldable pub poison : (n : ℕ) → Diagnostic → Walk Answer

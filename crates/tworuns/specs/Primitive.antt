@@ -14,7 +14,8 @@ use Rattle.err.specs.Message.{Diagnostic}
 use Rattle.laws.specs.Writes.{length-write}
 use Rattle.library.specs.Package.{Param, signature, function, Package}
 use Rattle.rules.specs.World.{Local, World, Walk, withTold, withEnv}
-use Rattle.rules.specs.Steps.{Done, sixWords, bytesOf, hasRoom, oneMore, report, poison, envInsert, framed, apart, hold, enter}
+use Rattle.err.specs.Report.{Output, added, tell, sixWords, bytesOf, hasRoom, oneMore}
+use Rattle.rules.specs.Steps.{Done, raisedTold, report, poison, envInsert, framed, apart, hold, enter, outputOf}
 use Rattle.tworuns.specs.Means.{grown-same}
 use Rattle.tworuns.specs.Runs.{Runs, Relation, Each, end, and, Both?, each-map, SameTold, Worlds, SameName, SameType, SameLocal, SamePackage, SameFunction, local-grow}
 use Rattle.tworuns.specs.Runs as R
@@ -38,12 +39,20 @@ module _ (r : Runs) where
   p-test {b = true} x x′ y′ e h k = rw (h refl) (k refl)
   p-test {b = false} x x′ y′ e h k = stopped
 
+  -- and where the steps are those of the diagnostics and messages
+  p-told : {Q : Relation Done} {b b′ : Bool} (o o′ : Output) (e : Refusal) {s s′ : World} → (b ≡ true → b′ ≡ true)
+      → (b ≡ true → Gives r Q s s′ (ok tt (withTold s (o .diagnostics) (o .messages))) (ok tt (withTold s′ (o′ .diagnostics) (o′ .messages))))
+      → Gives r Q s s′ (raisedTold s (when b (give tt o) (refuse e) (outputOf s))) (raisedTold s′ (when b′ (give tt o′) (refuse e) (outputOf s′)))
+  unfolding when raisedTold
+  p-told {b = true} o o′ e h k = rw (h refl) (k refl)
+  p-told {b = false} o o′ e h k = stopped
+
   -- the room for a diagnostic, as lengths
   record Room (s : World) (d : Diagnostic) : Type 0 where
     told : s .diagnostics .used < min (length (s .diagnostics .words) / 6) 256
     bytes : s .messages .used + length (bytesOf d) ≤ min (length (s .messages .words)) 65536
 
-  room-true : (s : World) (d : Diagnostic) → hasRoom s d ≡ true → Room s d
+  room-true : (s : World) (d : Diagnostic) → hasRoom (outputOf s) d ≡ true → Room s d
   room-true s d e =
       let h = and-eq-true-iff (ltb (s .diagnostics .used) (min (length (s .diagnostics .words) / 6) 256)) (leb (s .messages .used + length (bytesOf d)) (min (length (s .messages .words)) 65536)) .0 e in
       record {
@@ -51,7 +60,7 @@ module _ (r : Runs) where
         bytes = leb-true (s .messages .used + length (bytesOf d)) (min (length (s .messages .words)) 65536) (h .1);
       }
 
-  true-room : (s : World) (d : Diagnostic) → Room s d → hasRoom s d ≡ true
+  true-room : (s : World) (d : Diagnostic) → Room s d → hasRoom (outputOf s) d ≡ true
   true-room s d h =
       and-eq-true-iff (ltb (s .diagnostics .used) (min (length (s .diagnostics .words) / 6) 256)) (leb (s .messages .used + length (bytesOf d)) (min (length (s .messages .words)) 65536)) .1
       (lt-ltb (s .diagnostics .used) (min (length (s .diagnostics .words) / 6) 256) (h .told), le-leb (s .messages .used + length (bytesOf d)) (min (length (s .messages .words)) 65536) (h .bytes))
@@ -83,9 +92,9 @@ module _ (r : Runs) where
     }
 
     reported : (n : ℕ) (d : Diagnostic) → Gives r (Nothing r) s s′ (report n d s) (report n d s′)
-    unfolding report
+    unfolding report tell
     reported n d =
-        p-test _ _ _ _ (λ e. true-room s′ d (room-more d (room-true s d e)))
+        p-told (added (outputOf s) d) (added (outputOf s′) d) _ (λ e. true-room s′ d (room-more d (room-true s d e)))
         (λ e. gives (grown-same (s .types)) (grown-same (s′ .types)) (after-report d (room-true s d e)) tt)
 
     pub p-report : (n : ℕ) {d d′ : Diagnostic} → d ≡ d′ → Gives r (Nothing r) s s′ (report n d s) (report n d′ s′)
@@ -211,9 +220,9 @@ module _ (r : Runs) {A : Type 0} {Q : Relation A} {s s′ : World} (ws : Worlds 
 
 -- A diagnostic of the first run alone, where the runs part.
 pub q-told : {r : Runs} {s s′ : World} (n : ℕ) (d : Diagnostic) → (r .strict → ⊥) → (x : Result World Refusal Done) → Parts r (Nothing r) s s′ (report n d s) x
-unfolding report when
-q-told {r} {s} {s′} n d k x = by (hasRoom s d)
+unfolding report tell raisedTold when
+q-told {r} {s} {s′} n d k x = by (hasRoom (outputOf s) d)
   where
-    by : (b : Bool) → Parts r (Nothing r) s s′ (when b (give (tt {0}) (withTold s (oneMore (s .diagnostics) (sixWords d (s .messages .used))) (append (s .messages) (bytesOf d)))) (refuse (refusal 9 n)) s) x
+    by : (b : Bool) → Parts r (Nothing r) s s′ (raisedTold s (when b (give (tt {0}) (added (outputOf s) d)) (refuse (refusal 9 n)) (outputOf s))) x
     by true = parted {u = withTold s (oneMore (s .diagnostics) (sixWords d (s .messages .used))) (append (s .messages) (bytesOf d))} k (omega arith)
     by false = fine stopped

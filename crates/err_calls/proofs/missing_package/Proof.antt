@@ -1,0 +1,54 @@
+-- `err_calls::missing_package` meets its contract: both its texts, its span and its record, one after the other. Assumes nothing.
+use Rattle.tok.specs.Text.{text}
+use Rattle.display.specs.WritingLaws.{_and-then_}
+use Rattle.err.specs.Message.{missingPackage}
+use Rattle.err.specs.ReportLaws.{tells}
+use borrow.Author.Needs.{needs}
+use Rattle.err_calls.proofs.missing_package.Statement.{statement}
+use Rattle.err_calls.proofs.missing_package.Tie as tie
+
+slice-aggregate-put-at : tie.Need-slice-aggregate-put-at
+slice-aggregate-put-at c = search needs
+
+put-at-requires : tie.Need-put-at-requires
+put-at-requires c κs = search needs
+
+put-ticked-requires : tie.Need-put-ticked-requires
+put-ticked-requires c κs = search needs
+
+slice-aggregate-put-at-2 : tie.Need-slice-aggregate-put-at-2
+slice-aggregate-put-at-2 c = search needs
+
+put-at-requires-2 : tie.Need-put-at-requires-2
+put-at-requires-2 c κs = search needs
+
+token-span-requires : tie.Need-token-span-requires
+token-span-requires c κs = search needs
+
+report-requires : tie.Need-report-requires
+report-requires c κs = search needs
+
+same-length : tie.Need-same-length
+same-length c = search needs
+
+same-length-2 : tie.Need-same-length-2
+same-length-2 c = search needs
+
+returns : tie.Need-returns
+unfolding missingPackage text
+returns c = tells ((c .before .before .before .before .before .before .before .before .before .before .before .before .before .before .before .before .put-at .ensures) and-then (c .before .before .before .before .before .before .before .before .before .before .before .before .put-ticked .ensures)) ((c .before .before .before .before .before .before .before .put-at2 .ensures)) (c .before .before .before .token-span .ensures) (c .before .before .report .ensures)
+
+pub missing-package-spec : {M : Type 1} → statement M
+missing-package-spec =
+    tie.close
+    (tie.spec
+    slice-aggregate-put-at
+    put-at-requires
+    put-ticked-requires
+    slice-aggregate-put-at-2
+    put-at-requires-2
+    token-span-requires
+    report-requires
+    same-length
+    same-length-2
+    returns)

@@ -1,0 +1,46 @@
+-- `err_values::no_record` meets its contract: its text, its span and its record, one after the other. Assumes nothing.
+use Rattle.tok.specs.Text.{text}
+use Rattle.display.specs.WritingLaws.{_and-then_}
+use Rattle.err.specs.Message.{noRecord}
+use Rattle.err.specs.ReportLaws.{tells-alone}
+use borrow.Author.Needs.{needs}
+use Rattle.err_values.proofs.no_record.Statement.{statement}
+use Rattle.err_values.proofs.no_record.Tie as tie
+
+show-type-requires : tie.Need-show-type-requires
+show-type-requires c κs = search needs
+
+slice-aggregate-put-at : tie.Need-slice-aggregate-put-at
+slice-aggregate-put-at c = search needs
+
+put-at-requires : tie.Need-put-at-requires
+put-at-requires c κs = search needs
+
+token-span-requires : tie.Need-token-span-requires
+token-span-requires c κs = search needs
+
+report-requires : tie.Need-report-requires
+report-requires c κs = search needs
+
+same-length : tie.Need-same-length
+same-length c = search needs
+
+same-length-2 : tie.Need-same-length-2
+same-length-2 c = search needs
+
+returns : tie.Need-returns
+unfolding noRecord text
+returns c = tells-alone ((c .before .before .before .before .before .before .before .before .before .before .before .before .show-type .ensures) and-then (c .before .before .before .before .before .before .before .put-at .ensures)) (c .before .before .before .token-span .ensures) (c .before .before .report .ensures)
+
+pub no-record-spec : {M : Type 1} → statement M
+no-record-spec =
+    tie.close
+    (tie.spec
+    show-type-requires
+    slice-aggregate-put-at
+    put-at-requires
+    token-span-requires
+    report-requires
+    same-length
+    same-length-2
+    returns)

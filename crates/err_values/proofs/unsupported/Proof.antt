@@ -1,0 +1,67 @@
+-- `err_values::unsupported` meets its contract: its text, its span and its record, one after the other. Assumes nothing.
+use mathlib.Core.Path.{sym, ap}
+use Rattle.tok.specs.Text.{text}
+use Rattle.display.specs.WritingLaws.{writes-as, _and-then_}
+use Rattle.err.specs.Message.{unsupported, wanted}
+use Rattle.err.specs.ReportLaws.{tells-alone}
+use borrow.Author.Needs.{needs}
+use Rattle.err_values.proofs.unsupported.Statement.{statement}
+use Rattle.err_values.proofs.unsupported.Tie as tie
+
+slice-aggregate-put-at : tie.Need-slice-aggregate-put-at
+slice-aggregate-put-at c = search needs
+
+put-at-requires : tie.Need-put-at-requires
+put-at-requires c κs = search needs
+
+show-type-requires : tie.Need-show-type-requires
+show-type-requires c κs = search needs
+
+slice-aggregate-put-at-2 : tie.Need-slice-aggregate-put-at-2
+slice-aggregate-put-at-2 c = search needs
+
+put-at-requires-2 : tie.Need-put-at-requires-2
+put-at-requires-2 c κs = search needs
+
+put-operator-requires : tie.Need-put-operator-requires
+put-operator-requires c κs = search needs
+
+class-of-requires : tie.Need-class-of-requires
+class-of-requires c κs = search needs
+
+put-wanted-requires : tie.Need-put-wanted-requires
+put-wanted-requires c κs = search needs
+
+token-span-requires : tie.Need-token-span-requires
+token-span-requires c κs = search needs
+
+report-requires : tie.Need-report-requires
+report-requires c κs = search needs
+
+same-length : tie.Need-same-length
+same-length c = search needs
+
+same-length-2 : tie.Need-same-length-2
+same-length-2 c = search needs
+
+returns : tie.Need-returns
+unfolding unsupported text
+returns c = tells-alone ((c .before .before .before .before .before .before .before .before .before .before .before .before .before .before .before .before .before .before .before .before .before .before .before .before .before .put-at .ensures) and-then (c .before .before .before .before .before .before .before .before .before .before .before .before .before .before .before .before .before .before .before .before .before .show-type .ensures) and-then (c .before .before .before .before .before .before .before .before .before .before .before .before .before .before .before .before .put-at2 .ensures) and-then (c .before .before .before .before .before .before .before .before .before .before .before .before .put-operator .ensures) and-then (writes-as (ap wanted (sym (c .before .before .before .before .before .before .before .before .class-of .ensures))) (c .before .before .before .before .before .before .before .put-wanted .ensures))) (c .before .before .before .token-span .ensures) (c .before .before .report .ensures)
+
+pub unsupported-spec : {M : Type 1} → statement M
+unsupported-spec =
+    tie.close
+    (tie.spec
+    slice-aggregate-put-at
+    put-at-requires
+    show-type-requires
+    slice-aggregate-put-at-2
+    put-at-requires-2
+    put-operator-requires
+    class-of-requires
+    put-wanted-requires
+    token-span-requires
+    report-requires
+    same-length
+    same-length-2
+    returns)
