@@ -1,4 +1,5 @@
 mod Row
 mod Table
+mod Installer
 mod Readings
 mod PromisesOnRows
