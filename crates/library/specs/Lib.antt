@@ -3,3 +3,17 @@ pub mod Pool
 pub mod Slots
 pub mod PackageRecords
 pub mod LibraryFault
+pub mod TypeWords
+pub mod PoolRead
+pub mod PoolTrees
+pub mod SlotSums
+pub mod SlotMarks
+pub mod SlotReach
+pub mod Each
+pub mod ReturnSlots
+pub mod PackagesRead
+pub mod Accepted
+pub mod Past
+pub mod Access
+pub mod Longer
+pub mod PoolTypes

@@ -1,5 +1,5 @@
 -- The library's rules and limits: refusal 2 and its place (document 01, "Answers that end the check"). Definitions.
-use Prim.Native.Nat.{ℕ, zero, suc, _*_}
+use Prim.Native.Nat.{ℕ, _*_}
 use mathlib.Core.Bool.{true}
 use mathlib.Core.Option.{Option}
 use mathlib.Core.List.{List}

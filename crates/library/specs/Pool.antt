@@ -1,8 +1,8 @@
 -- The library's pool and its type words (document 01, "Words"). Definitions.
 use Prim.Native.Nat.{ℕ, zero, suc, _+_, _*_}
-use mathlib.Core.Bool.{Bool, true, false, _&&_, _||_, cond}
-use mathlib.Core.List.{List, [], _∷_}
-use lib.ListN.{getD}
+use mathlib.Core.Bool.{Bool, _&&_, _||_, cond}
+use mathlib.Core.List.{List}
+use lib.ListN.{length, getD}
 use lib.Dec.{leb, ltb, eqb}
 use Rattle.utf8.specs.Rfc3629.{range}
 use Rattle.tok.specs.Word.{kindOf, payloadOf}
@@ -16,6 +16,13 @@ pub record Pool : Type 0 where
   pub texts : Texts
   pub size : ℕ
   pub words : List ℕ
+
+-- the pool of some words, of which there should be `size`; and where there are as many
+abbrev pub poolAt : Texts → (size : ℕ) → List ℕ → Pool
+poolAt t size words = record { texts = t; size = size; words = words }
+
+abbrev pub poolIn : Texts → List ℕ → Pool
+poolIn t words = poolAt t (length words) words
 
 abbrev pub poolWord : Pool → ℕ → ℕ
 poolWord p i = getD (p .words) i 0

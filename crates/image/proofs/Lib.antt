@@ -1,0 +1,3 @@
+pub mod NodeRows
+pub mod TypeRows
+pub mod Whole

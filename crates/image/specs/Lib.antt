@@ -1,0 +1,2 @@
+-- What the contracts of the reader of an image cite.
+pub mod Counted

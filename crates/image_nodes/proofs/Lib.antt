@@ -1,0 +1,4 @@
+pub mod Heads
+pub mod Loops
+pub mod Rows
+pub mod Tests

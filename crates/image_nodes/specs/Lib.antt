@@ -1,0 +1,2 @@
+-- What the contracts of the readers of node records cite.
+pub mod Site

@@ -1,0 +1,72 @@
+-- `library::find_package` meets its contract. The loop's invariant: the name is looked for among the packages that are left. The measure is
+-- how many are left. Assumes nothing.
+use mathlib.Core.Path.{_≡_}
+use native.Mathlib.Omega.{arith}
+use Rattle.tok.specs.Text.{textsOf}
+use Rattle.library.specs.Package.{packagesFrom, packagesOf, findPackage}
+use Rattle.library.proofs.AccessWays.{packages-begin, package-found, package-past, package-none}
+use borrow.Author.Needs.{needs}
+use Rattle.library.proofs.find_package.Statement.{statement}
+use Rattle.library.proofs.find_package.Tie as tie
+
+abbrev Inv-loop : tie.InvT-loop
+Inv-loop script library words name at₀ left₀ at left =
+    findPackage (textsOf script library) name (packagesOf words) ≡ findPackage (textsOf script library) name (packagesFrom words at left)
+
+abbrev μ-loop : tie.MeasureT-loop
+μ-loop script library words name at₀ left₀ at left = left
+
+packages-place-requires : tie.Need-packages-place-requires Inv-loop μ-loop
+packages-place-requires c κs = search needs
+
+package-count-requires : tie.Need-package-count-requires Inv-loop μ-loop
+package-count-requires c κs = search needs
+
+loop-holds : tie.Need-loop-holds Inv-loop μ-loop
+loop-holds c = packages-begin _ _ _ (c .before .packages-place .ensures) (c .package-count .ensures)
+
+word-at-requires : tie.Need-word-at-requires Inv-loop μ-loop
+word-at-requires c κs = search needs
+
+name-bytes-requires : tie.Need-name-bytes-requires Inv-loop μ-loop
+name-bytes-requires c κs = search needs
+
+same-bytes-requires : tie.Need-same-bytes-requires Inv-loop μ-loop
+same-bytes-requires c κs = search needs
+
+returns : tie.Need-returns Inv-loop μ-loop
+returns c = package-found _ _ _ _ _ (c .before .before .before .before .before .loop .inv) (c .before .before .before .before .loop-test .taken) (c .before .before .before .word-at .ensures) (c .before .before .name-bytes .ensures) (c .before .same-bytes .ensures) (c .if1 .taken)
+
+package-end-requires : tie.Need-package-end-requires Inv-loop μ-loop
+package-end-requires c κs = search needs
+
+sub-left : tie.Need-sub-left Inv-loop μ-loop
+sub-left c = search needs
+
+loop-less : tie.Need-loop-less Inv-loop μ-loop
+loop-less c = omega arith
+
+loop-again : tie.Need-loop-again Inv-loop μ-loop
+loop-again c = package-past _ _ _ _ _ (c .before .before .before .before .before .before .loop .inv) (c .before .before .before .before .before .loop-test .taken) (c .before .before .before .before .word-at .ensures) (c .before .before .before .name-bytes .ensures) (c .before .before .same-bytes .ensures) (c .before .if1 .left) (c .package-end .ensures)
+
+returns-2 : tie.Need-returns-2 Inv-loop μ-loop
+returns-2 c = package-none _ _ _ _ _ (c .before .loop .inv) (c .loop-test .left)
+
+pub find-package-spec : {M : Type 1} → statement M
+find-package-spec =
+    tie.close
+    (tie.spec
+    Inv-loop
+    μ-loop
+    packages-place-requires
+    package-count-requires
+    loop-holds
+    word-at-requires
+    name-bytes-requires
+    same-bytes-requires
+    returns
+    package-end-requires
+    sub-left
+    loop-less
+    loop-again
+    returns-2)

@@ -1,0 +1,2 @@
+pub mod TypeWays
+pub mod PoolWays

@@ -1,0 +1,4 @@
+pub mod GroupWays
+pub mod SignatureWays
+pub mod RecordWays
+pub mod LibraryWays

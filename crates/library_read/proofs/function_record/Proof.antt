@@ -1,0 +1,81 @@
+-- `library_read::function_record` meets its contract: five rules, one after another. Assumes nothing.
+use Rattle.library_read.proofs.RecordWays.{function-by}
+use borrow.Author.Needs.{needs}
+use Rattle.library_read.proofs.function_record.Statement.{statement}
+use Rattle.library_read.proofs.function_record.Tie as tie
+
+next-word-requires : tie.Need-next-word-requires
+next-word-requires c κs = search needs
+
+good-group-requires : tie.Need-good-group-requires
+good-group-requires c κs = search needs
+
+word-requires : tie.Need-word-requires
+word-requires c κs = search needs
+
+next-word-requires-2 : tie.Need-next-word-requires-2
+next-word-requires-2 c κs = search needs
+
+good-flag-requires : tie.Need-good-flag-requires
+good-flag-requires c κs = search needs
+
+word-requires-2 : tie.Need-word-requires-2
+word-requires-2 c κs = search needs
+
+next-word-requires-3 : tie.Need-next-word-requires-3
+next-word-requires-3 c κs = search needs
+
+wide-requires : tie.Need-wide-requires
+wide-requires c κs = search needs
+
+mul-owing : tie.Need-mul-owing
+mul-owing c = search needs
+
+owing-requires : tie.Need-owing-requires
+owing-requires c κs = search needs
+
+arguments-requires : tie.Need-arguments-requires
+arguments-requires c κs = search needs
+
+next-word-requires-4 : tie.Need-next-word-requires-4
+next-word-requires-4 c κs = search needs
+
+place-requires : tie.Need-place-requires
+place-requires c κs = search needs
+
+pairs-at-requires : tie.Need-pairs-at-requires
+pairs-at-requires c κs = search needs
+
+good-return-requires : tie.Need-good-return-requires
+good-return-requires c κs = search needs
+
+word-requires-3 : tie.Need-word-requires-3
+word-requires-3 c κs = search needs
+
+returns : tie.Need-returns
+returns c = λ r.
+    function-by _ _ _ _ _ _ _ _ _ _ _ _ _ _ _ _ _ _ _ (c .before .before .before .before .before .before .before .before .before .before .before .before .before .before .next-word .ensures) (c .before .before .before .before .before .before .before .before .before .before .before .before .before .good-group .ensures _ _) (c .before .before .before .before .before .before .before .before .before .before .before .before .word .ensures) (c .before .before .before .before .before .before .before .before .before .before .before .next-word2 .ensures) (c .before .before .before .before .before .before .before .before .before .before .good-flag .ensures _ _) (c .before .before .before .before .before .before .before .before .before .word2 .ensures)
+    (c .before .before .before .before .before .before .before .before .next-word3 .ensures) (c .before .before .before .before .before .before .before .wide .ensures) (c .before .before .before .before .before .before .owing .ensures) (c .before .before .before .before .before .arguments .ensures _ r) (c .before .before .before .before .next-word4 .ensures) (c .before .before .before .place .ensures) (c .before .before .pairs-at .ensures)
+    (c .before .good-return .ensures r) (c .word3 .ensures)
+
+pub function-record-spec : {M : Type 1} → statement M
+function-record-spec =
+    tie.close
+    (tie.spec
+    next-word-requires
+    good-group-requires
+    word-requires
+    next-word-requires-2
+    good-flag-requires
+    word-requires-2
+    next-word-requires-3
+    wide-requires
+    mul-owing
+    owing-requires
+    arguments-requires
+    next-word-requires-4
+    place-requires
+    pairs-at-requires
+    good-return-requires
+    word-requires-3
+    returns)

@@ -1,0 +1,94 @@
+-- `library_read::library_fault` meets its contract: a fault of the pool ends all; else the pool is ready, and the packages are read. Assumes nothing.
+use mathlib.Core.Path.{sym, _∙_}
+use Rattle.library_read.proofs.LibraryWays.{sums-long, pool-faults, pool-ready, library-is}
+use borrow.Author.Needs.{needs}
+use Rattle.library_read.proofs.library_fault.Statement.{statement}
+use Rattle.library_read.proofs.library_fault.Tie as tie
+
+begin-requires : tie.Need-begin-requires
+begin-requires c κs = search needs
+
+next-word-requires : tie.Need-next-word-requires
+next-word-requires c κs = search needs
+
+wide-requires : tie.Need-wide-requires
+wide-requires c κs = search needs
+
+owing-requires : tie.Need-owing-requires
+owing-requires c κs = search needs
+
+next-word-requires-2 : tie.Need-next-word-requires-2
+next-word-requires-2 c κs = search needs
+
+wide-requires-2 : tie.Need-wide-requires-2
+wide-requires-2 c κs = search needs
+
+mul-owing : tie.Need-mul-owing
+mul-owing c = search needs
+
+owing-requires-2 : tie.Need-owing-requires-2
+owing-requires-2 c κs = search needs
+
+pool-requires : tie.Need-pool-requires
+pool-requires c κs = search needs
+
+pool-words-requires : tie.Need-pool-words-requires
+pool-words-requires c κs = search needs
+
+enum-told : tie.Need-enum-told
+enum-told c = search needs
+
+enum-told-2 : tie.Need-enum-told-2
+enum-told-2 c = search needs
+
+conclude-requires : tie.Need-conclude-requires
+conclude-requires c κs = search needs
+
+returns : tie.Need-returns
+returns c = pool-faults _ _ _ _ _ _ _ _ _ _ _ (c .before .before .before .before .before .before .before .before .before .before .before .begin .ensures) (c .before .before .before .before .before .before .before .before .before .before .next-word .ensures) (c .before .before .before .before .before .before .before .before .before .wide .ensures) (c .before .before .before .before .before .before .before .before .owing .ensures) (c .before .before .before .before .before .before .before .next-word2 .ensures) (c .before .before .before .before .before .before .wide2 .ensures) (c .before .before .before .before .before .owing2 .ensures) (c .before .before .before .before .pool .ensures) (c .before .before .before .pool-words .ensures _) _ (c .before .enum-told2 .given .1) ∙ sym (c .conclude .ensures)
+
+slot-sums-requires : tie.Need-slot-sums-requires
+slot-sums-requires c κs = search needs
+
+slice-aggregate-packages : tie.Need-slice-aggregate-packages
+slice-aggregate-packages c = sums-long _ _ (c .before .slot-sums .ensures)
+
+packages-requires : tie.Need-packages-requires
+packages-requires c κs = search needs
+
+ends-requires : tie.Need-ends-requires
+ends-requires c κs = search needs
+
+conclude-requires-2 : tie.Need-conclude-requires-2
+conclude-requires-2 c κs = search needs
+
+returns-2 : tie.Need-returns-2
+returns-2 c =
+    library-is _ _ _ _ _ _ _ _ _ _ _ (c .before .before .before .before .before .before .before .before .before .before .before .before .before .before .before .begin .ensures) (c .before .before .before .before .before .before .before .before .before .before .before .before .before .before .next-word .ensures) (c .before .before .before .before .before .before .before .before .before .before .before .before .before .wide .ensures) (c .before .before .before .before .before .before .before .before .before .before .before .before .owing .ensures) (c .before .before .before .before .before .before .before .before .before .before .before .next-word2 .ensures) (c .before .before .before .before .before .before .before .before .before .before .wide2 .ensures) (c .before .before .before .before .before .before .before .before .before .owing2 .ensures) (c .before .before .before .before .before .before .before .before .pool .ensures) (c .before .before .before .before .before .before .before .pool-words .ensures _) _ _ (c .before .before .before .before .before .enum-told .given .1) _ _ _
+    (c .before .before .packages .ensures (pool-ready _ _ _ _ _ _ _ _ _ _ _ (c .before .before .before .before .before .before .before .before .before .before .before .before .before .before .before .begin .ensures) (c .before .before .before .before .before .before .before .before .before .before .before .before .before .before .next-word .ensures) (c .before .before .before .before .before .before .before .before .before .before .before .before .before .wide .ensures) (c .before .before .before .before .before .before .before .before .before .before .before .before .owing .ensures) (c .before .before .before .before .before .before .before .before .before .before .before .next-word2 .ensures) (c .before .before .before .before .before .before .before .before .before .before .wide2 .ensures) (c .before .before .before .before .before .before .before .before .before .owing2 .ensures) (c .before .before .before .before .before .before .before .before .pool .ensures) (c .before .before .before .before .before .before .before .pool-words .ensures _) _ _ (c .before .before .before .before .before .enum-told .given .1) _ (c .before .before .before .before .slot-sums .ensures))) (c .before .ends .ensures)
+    ∙ sym (c .conclude2 .ensures)
+
+pub library-fault-spec : {M : Type 1} → statement M
+library-fault-spec =
+    tie.close
+    (tie.spec
+    begin-requires
+    next-word-requires
+    wide-requires
+    owing-requires
+    next-word-requires-2
+    wide-requires-2
+    mul-owing
+    owing-requires-2
+    pool-requires
+    pool-words-requires
+    enum-told
+    enum-told-2
+    conclude-requires
+    returns
+    slot-sums-requires
+    slice-aggregate-packages
+    packages-requires
+    ends-requires
+    conclude-requires-2
+    returns-2)

@@ -1,0 +1,3 @@
+pub mod SumWays
+pub mod MarkWays
+pub mod NameWays
