@@ -80,20 +80,16 @@ among-false m (x ∷ xs) e = elim (ℕ-discrete m x) [
   | no n ↦ rw (ne-eqb m x n) (among-false m xs (omega arith))
 ]
 
-or-left : (a b : Bool) → (a || b) ≡ false → a ≡ false
-or-left true b e = absurd (true≢false e)
-or-left false b e = refl
-
-or-right : (a b : Bool) → (a || b) ≡ false → b ≡ false
-or-right true b e = absurd (true≢false e)
-or-right false b e = e
+pub neither : (a b : Bool) → (a || b) ≡ false → (a ≡ false) × (b ≡ false)
+neither true b e = absurd (true≢false e)
+neither false b e = (refl, e)
 
 not-among : (m : ℕ) (xs : List ℕ) → among m xs ≡ false → count m xs ≡ 0
 unfolding total among
 not-among m [] e = refl
 not-among m (x ∷ xs) e = elim (ℕ-discrete m x) [
-  | yes q ↦ absurd (true≢false (sym (eq-eqb m x q) ∙ or-left (eqb m x) (among m xs) e))
-  | no n ↦ omega (arith, one-other m x n, not-among m xs (or-right (eqb m x) (among m xs) e))
+  | yes q ↦ absurd (true≢false (sym (eq-eqb m x q) ∙ neither (eqb m x) (among m xs) e .0))
+  | no n ↦ omega (arith, one-other m x n, not-among m xs (neither (eqb m x) (among m xs) e .1))
 ]
 
 -- none of the numbers is taken or stands among them twice: no number stands in both together more than once
@@ -101,12 +97,12 @@ pub twice-count : (m : ℕ) (taken xs : List ℕ) → twice taken xs ≡ false �
 unfolding total twice
 twice-count m taken [] e h = omega arith
 twice-count m taken (x ∷ xs) e h =
-    let k = twice-count m (x ∷ taken) xs (or-right (among x taken) (twice (x ∷ taken) xs) e) (by (ℕ-discrete m x)) in
+    let k = twice-count m (x ∷ taken) xs (neither (among x taken) (twice (x ∷ taken) xs) e .1) (by (ℕ-discrete m x)) in
     omega arith
   where
     by : Dec (m ≡ x) → one m x + count m taken ≤ 1
     by (yes q) =
-        let z : count m taken ≡ 0 = rw q (not-among x taken (or-left (among x taken) (twice (x ∷ taken) xs) e)) in
+        let z : count m taken ≡ 0 = rw q (not-among x taken (neither (among x taken) (twice (x ∷ taken) xs) e .0)) in
         let o : one m x ≡ 1 = rw q (one-same x) in
         omega arith
     by (no n) = omega (arith, one-other m x n)

@@ -10,3 +10,9 @@ pub mod SoundTrees
 pub mod LongerImage
 pub mod OtherSlots
 pub mod Extended
+pub mod FunctionRoom
+pub mod AcceptedInputs
+pub mod LowSlots
+pub mod Table
+pub mod NamesWell
+pub mod Demands

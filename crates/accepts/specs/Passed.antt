@@ -2,7 +2,7 @@
 use Prim.Native.Nat.{ℕ, _+_, _≤_, _<_}
 use native.Mathlib.Omega.{arith}
 use mathlib.Core.Path.{_≡_, refl}
-use mathlib.Core.Bool.{Bool, true, false, _||_, cond, true≢false}
+use mathlib.Core.Bool.{Bool, true, false, _||_, cond}
 use mathlib.Core.Option.{Option, none, some}
 use mathlib.Core.List.{List}
 use lib.ListN.{length}
@@ -22,6 +22,7 @@ use Rattle.image_laws.specs.OutlineAt.{outlinesIn}
 use Rattle.image_laws.specs.Accepted.{Accepted, read-gives}
 use Rattle.refusals.specs.Inputs.{Inputs, Buffers, textsIn}
 use Rattle.refusals.specs.Refusals.{orElse, refusalOfOutlines, refusalOfImage, refusalOf}
+use Rattle.accepts.specs.Count.{neither}
 
 pub record Passed (i : Inputs) (b : Buffers) : Type 0 where
   -- 2
@@ -48,10 +49,6 @@ tried n none later e = (refl, e)
 untold : (t : Bool) → _≡_ {A = Option ℕ} (cond t (some 0) none) none → t ≡ false
 untold true e = absurd (no-some e)
 untold false e = refl
-
-neither : (a b : Bool) → (a || b) ≡ false → (a ≡ false) × (b ≡ false)
-neither true b e = absurd (true≢false e)
-neither false b e = (refl, e)
 
 room : (slots functions v : ℕ) (os : List Outline) → roomFault slots functions v os ≡ none → (v < slots) × (functionWords os ≤ functions)
 unfolding roomFault

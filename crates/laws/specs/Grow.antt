@@ -16,7 +16,7 @@ use Rattle.err.specs.Report.{sixWords, bytesOf, oneMore}
 use Rattle.rules.specs.Steps.{Done}
 use Rattle.rules.specs.Walk.{startOf, copyPool, walkFirst}
 use Rattle.laws.specs.SlotsOf.{SlotsOfAll}
-use Rattle.laws.specs.Keeps.{Keeps, kept, stopped, Kept, at-when, at-walk}
+use Rattle.laws.specs.Keeps.{Keeps, kept, stopped, Kept, at-when, at-walk, Enters}
 use Rattle.laws.specs.Writes.{length-write, front-write, past-write}
 
 -- b became d: more is used, of as many words; what was used stays, and what lies past the used part. m words to each.
@@ -128,6 +128,13 @@ module _ (v : ℕ) where
     frame = λ {s} {u} h. record { slotsLong = h .slotsLong; slotsPast = h .slotsPast; functions = h .functions; types = h .types; diagnostics = h .diagnostics; messages = h .messages };
     alone = λ {s} {u} h. record { slotsLong = h .slotsLong; slotsPast = h .slotsPast; functions = h .functions; types = h .types; diagnostics = h .diagnostics; messages = h .messages };
     holds = λ p s. rest s _ refl refl refl refl refl;
+    typesFull = full;
+    tooDeep = deep;
+    toldFull = told;
+  }
+
+  pub grow-enters : Enters (Grow v)
+  grow-enters = record {
     enters = λ name ps ret s. record {
       slotsLong = refl;
       slotsPast = refl;
@@ -136,9 +143,6 @@ module _ (v : ℕ) where
       diagnostics = same s .diagnostics;
       messages = same s .messages;
     };
-    typesFull = full;
-    tooDeep = deep;
-    toldFull = told;
   }
 
   pool-grows : (n : ℕ) (pool : List ℕ) (i : Inputs) (b : Buffers) → Keeps (Grow v) Walked (startOf i b) (copyPool n pool (startOf i b))
@@ -157,7 +161,7 @@ module _ (v : ℕ) where
 
   -- the walk of the first k roots: where their slots are below V + 1, every buffer grew, or it is refused with 7, 8 or 9
   pub walk-grows : (i : Inputs) (b : Buffers) (k : ℕ) → SlotsOfAll Below (firstRoots (i .image) k) → Keeps (Grow v) Walked (startOf i b) (walkFirst i k (startOf i b))
-  walk-grows i b k h = at-walk (Grow v) Walked Below grow-kept i k (startOf i b) h (pool-grows _ _ i b)
+  walk-grows i b k h = at-walk (Grow v) Walked Below grow-kept grow-enters i k (startOf i b) h (pool-grows _ _ i b)
 
 pub kept-ok : {R : World → World → Type 0} {Q : ℕ → Type 0} {A : Type 0} {s u : World} {a : A} {r : Result World Refusal A} → Keeps R Q s r → r ≡ ok a u → R s u
 kept-ok {R} {Q} {A} {s} {u} {a} h e = go (rw e at h)

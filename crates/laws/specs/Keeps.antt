@@ -23,7 +23,7 @@ use Rattle.err.specs.Message.{Diagnostic}
 use Rattle.err.specs.Report.{sixWords, bytesOf, hasRoom, oneMore, added, tell}
 use Rattle.rules.specs.declared.Answer.{Answer}
 use Rattle.rules.specs.declared.Answer.the-variants.{Known, Poison}
-use Rattle.library.specs.Package.{Param, Signature, Function, signature, function, Package}
+use Rattle.library.specs.Package.{Param, Signature, Function, signature, function, Package, poolOf}
 use Rattle.rules.specs.World.{Ctx, Local, World, Walk, withSlots, withFunctions, withTypes, withTold, withEnv, withPackages}
 use Rattle.rules.specs.Steps.{Done, skip, known, ifKnown, onOption, ty, tree, tyTree, setKnown, raised, onTypes, raisedTold, outputOf, report, poison, envInsert, framed, apart, hold, entryOf, enter, typeFromExpr}
 use Rattle.rules.specs.Operators.{fuse, unary, cast}
@@ -32,7 +32,6 @@ use Rattle.rules.specs.Rules.{ident, letBinding, fnArguments, checkReturn, fn, 
 use Rattle.refusals.specs.Inputs.{Inputs}
 use Rattle.rules.specs.Walk.{ctxOf, copyPool, measure, walkFirst}
 use Rattle.laws.specs.SlotsOf.{ArgSlots, SlotsOf, SlotsOfAll, SlotsOfCases, SlotsOfValues}
-use Rattle.library.specs.Package.{poolOf}
 use Rattle.ast.specs.Image.{nodeCount}
 
 -- from s, a result whose world has R, or a refusal whose number has Q
@@ -40,7 +39,7 @@ pub data Keeps (R : World → World → Type 0) (Q : ℕ → Type 0) (s : World)
   kept : {a : A} {u : World} → R s u → Keeps R Q s (ok a u)
   stopped : {r : Refusal} → Q (r .number) → Keeps R Q s (refused r)
 
--- What is asked of R and Q: a preorder with the primitive steps in it, and the three refusals of the walk.
+-- What is asked of R and Q: a preorder with the primitive steps in it, but for `enter`, and the three refusals of the walk.
 pub record Kept (R : World → World → Type 0) (Q P : ℕ → Type 0) : Type 0 where
   pub same : (s : World) → R s s
   pub trans : {s t u : World} → R s t → R t u → R s u
@@ -53,11 +52,13 @@ pub record Kept (R : World → World → Type 0) (Q P : ℕ → Type 0) : Type 0
   pub frame : {s u : World} → R s u → R s (withEnv u (s .env))
   pub alone : {s u : World} → R (withEnv s []) u → R s (withEnv u (s .env))
   pub holds : (p : Package) (s : World) → R s (withPackages s (p ∷ s .packages))
-  pub enters : (name : ℕ) (ps : List Param) (ret : ℕ) (s : World)
-      → R s (withFunctions s (append (s .functions) (entryOf name ps ret)) (function name (signature ps ret false) ∷ s .own))
   pub typesFull : Q 7
   pub tooDeep : Q 8
   pub toldFull : Q 9
+
+-- and `enter`, which Fn's rule alone takes
+pub record Enters (R : World → World → Type 0) : Type 0 where
+  pub enters : (name : ℕ) (ps : List Param) (ret : ℕ) (s : World) → R s (withFunctions s (append (s .functions) (entryOf name ps ret)) (function name (signature ps ret false) ∷ s .own))
 
 module _ (R : World → World → Type 0) (Q P : ℕ → Type 0) (law : Kept R Q P) where
   abbrev pub In : {A : Type 0} → Walk A → Type 0
@@ -150,10 +151,6 @@ module _ (R : World → World → Type 0) (Q P : ℕ → Type 0) (law : Kept R Q
   pub in-hold : (p : Package) → In (hold p)
   unfolding hold
   in-hold p s = kept (law .holds p s)
-
-  pub in-enter : (name : ℕ) (ps : List Param) (ret : ℕ) → In (enter name ps ret)
-  unfolding enter
-  in-enter name ps ret s = kept (law .enters name ps ret s)
 
   frame-back : {A : Type 0} {s : World} {r : Result World Refusal A} → Keeps R Q s r → Keeps R Q s (next r (λ a after. ok a (withEnv after (s .env))))
   frame-back (kept p) = kept (law .frame p)
@@ -366,14 +363,6 @@ module _ (R : World → World → Type 0) (Q P : ℕ → Type 0) (law : Kept R Q
   unfolding checkReturn
   in-checkReturn c n name e ret a = in-ifKnown a _ λ slot. in-next _ (in-tree c ret) λ _. in-next _ (in-tyTree c slot) λ _. in-when _ _ _ (in-return tt) (in-report n _)
 
-  pub in-fn : (c : Ctx) (n slot name : ℕ) (e : TypeExpr) (xs : List Arg) (m : Walk Answer) → In m → P slot → ArgSlots P (slot + 1) xs → In (unlessDefined c n name (fn c n slot name e xs m))
-  unfolding unlessDefined fn
-  in-fn c n slot name e xs m h p q =
-      in-look _ λ s. in-option _ _ _
-      (in-next _ (in-apart _ (in-next _ (in-fnArguments c n (slot + 1) xs q) λ ps. in-next _ (in-typeFrom c n e) λ ret. in-next _ (in-enter name ps ret) λ _.
-      in-next _ h λ a. in-next _ (in-checkReturn c n name e ret a) λ _. in-return ret)) λ ret. in-set slot ret p)
-      λ _. in-poison n _
-
   pub in-field : (c : Ctx) (n slot name t : ℕ) → P slot → In (field c n slot name t)
   unfolding field fieldType
   in-field c n slot name t h =
@@ -430,69 +419,82 @@ module _ (R : World → World → Type 0) (Q P : ℕ → Type 0) (law : Kept R Q
   unfolding externFn
   in-extern c n f = in-next _ (in-each _ _ λ a. in-next _ (in-typeFrom c n _) λ _. in-return _) λ _. in-next _ (in-typeFrom c n _) λ _. in-return _
 
-  -- the theorem
-  mutual
-    unfolding node SlotsOf
-
-    pub in-node : (c : Ctx) (t : Node) → SlotsOf P t → In (node c t)
-    in-node c (Atom n slot token k) h = in-set slot _ h
-    in-node c (Ident n slot name) h = in-ident c n slot name h
-    in-node c (Bin n slot token op l r) h =
-        in-next _ (in-node c l (h .1)) λ a. in-next _ (in-node c r (h .2)) λ b. in-known a _ λ x. in-known b _ λ y. in-fuse c n slot token op x y (h .0)
-    in-node c (Unary n slot token op r) h = in-next _ (in-node c r (h .1)) λ a. in-known a _ λ x. in-unary c n slot token op x (h .0)
-    in-node c (Let n slot name r) h =
-        in-next _ (in-node c r (h .1)) λ a. in-next _ (in-let n name a) λ b. in-next _ (in-insert name b) λ _. in-set slot _ (h .0)
-    in-node c (Fn n slot name ret args body) h = in-fn c n slot name ret args _ (in-block c body (h .2)) (h .0) (h .1)
-    in-node c (Match n slot cs token d) h =
-        in-next _ (in-cases c n cs (h .1)) λ bs. in-next _ (in-block c d (h .2)) λ a. in-matched c n slot bs a (h .0)
-    in-node c (Call n slot target args) h = in-call c n slot _ _ _ (in-all c args (h .1)) (h .0)
-    in-node c (Field n slot target name) h = in-next _ (in-node c target (h .1)) λ a. in-known a _ λ x. in-field c n slot name x (h .0)
-    in-node c (Cast n slot token l t) h =
-        in-next _ (in-typeFrom c n t) λ to. in-next _ (in-node c l (h .1)) λ a. in-known a _ λ x. in-cast c n slot token x to (h .0)
-    in-node c (Import n slot token ps) h = in-next _ (in-imports c n token ps) λ _. in-set slot _ h
-    in-node c (Extern n slot token name fs) h = in-next _ (in-each _ fs λ f. in-extern c n f) λ _. in-next _ (in-hold _) λ _. in-set slot _ h
-    in-node c (Record n slot token fs) h =
-        in-next _ (in-values c fs (h .1)) λ ws. in-next _ (in-onTypes _ (t-record (c .texts) n ws)) λ w. in-set slot w (h .0)
-    in-node c (Array n slot token ms) h = in-array c n slot token ms (h .0) (h .1)
-    in-node c (Absent n) h = in-return Poison
-
-    pub in-block : (c : Ctx) (xs : Nodes) → SlotsOfAll P xs → In (block c xs)
-    in-block c done h = in-return _
-    in-block c (then x xs) h = in-framed _ (in-next _ (in-node c x (h .0)) λ a. in-last c a xs (h .1))
-
-    pub in-last : (c : Ctx) (a : Answer) (xs : Nodes) → SlotsOfAll P xs → In (last c a xs)
-    in-last c a done h = in-return a
-    in-last c a (then x xs) h = in-next _ (in-node c x (h .0)) λ b. in-last c b xs (h .1)
-
-    pub in-all : (c : Ctx) (xs : Nodes) → SlotsOfAll P xs → In (visitAll c xs)
-    in-all c done h = in-return false
-    in-all c (then x xs) h = in-next _ (in-node c x (h .0)) λ a. in-next _ (in-all c xs (h .1)) λ b. in-return _
-
-    pub in-cases : (c : Ctx) (n : ℕ) (cs : Cases) → SlotsOfCases P cs → In (cases c n cs)
-    in-cases c n noCase h = in-return []
-    in-cases c n (case token x body cs) h =
-        in-next _ (in-node c x (h .0)) λ a. in-next _ (in-condition c n token a) λ _. in-next _ (in-block c body (h .1)) λ b. in-next _ (in-cases c n cs (h .2)) λ _. in-return _
-
-    pub in-values : (c : Ctx) (vs : Values) → SlotsOfValues P vs → In (values c vs)
-    in-values c noValue h = in-return []
-    in-values c (value name x vs) h = in-next _ (in-node c x (h .0)) λ a. in-next _ (in-value a) λ w. in-next _ (in-values c vs (h .1)) λ _. in-return _
-
-    pub in-array : (c : Ctx) (n slot token : ℕ) (xs : Nodes) → P slot → SlotsOfAll P xs → In (array c n slot token xs)
-    in-array c n slot token done p h = in-poison n _
-    in-array c n slot token (then x xs) p h = in-next _ (in-node c x (h .0)) λ a. in-members c n slot a false xs p (h .1)
-
-    pub in-members : (c : Ctx) (n slot : ℕ) (a : Answer) (b : Bool) (xs : Nodes) → P slot → SlotsOfAll P xs → In (members c n slot a b xs)
-    in-members c n slot a b done p h = in-arrayOf c n slot a b p
-    in-members c n slot a b (then x xs) p h =
-        in-next _ (in-node c x (h .0)) λ y. in-next _ (in-member c n (spanOf x) a y) λ m. in-goOn m b _ λ q. in-members c n slot a q xs p (h .1)
-
   pub in-measure : (c : Ctx) (n : ℕ) (ws : List ℕ) → In (measure c n ws)
   unfolding measure
   in-measure c n [] = in-return tt
   in-measure c n (w ∷ ws) = in-next _ (in-tree c w) λ t. in-when _ _ _ (in-measure c n ws) (λ _. stopped (law .tooDeep))
 
-  -- the walk of the first k roots, where it is in R to copy the pool
-  pub at-walk : (i : Inputs) (k : ℕ) (s : World) → SlotsOfAll P (firstRoots (i .image) k)
-      → Keeps R Q s (copyPool (nodeCount (i .image)) (poolOf (i .library)) s) → Keeps R Q s (walkFirst i k s)
-  unfolding walkFirst
-  at-walk i k s h p = step _ p λ _. in-next _ (in-measure (ctxOf i) _ _) λ _. in-next _ (in-last (ctxOf i) _ _ h) λ _. in-return tt
+  -- the theorem, with `enter`
+  module _ (entering : Enters R) where
+    pub in-enter : (name : ℕ) (ps : List Param) (ret : ℕ) → In (enter name ps ret)
+    unfolding enter
+    in-enter name ps ret s = kept (entering .enters name ps ret s)
+
+    pub in-fn : (c : Ctx) (n slot name : ℕ) (e : TypeExpr) (xs : List Arg) (m : Walk Answer) → In m → P slot → ArgSlots P (slot + 1) xs → In (unlessDefined c n name (fn c n slot name e xs m))
+    unfolding unlessDefined fn
+    in-fn c n slot name e xs m h p q =
+        in-look _ λ s. in-option _ _ _
+        (in-next _ (in-apart _ (in-next _ (in-fnArguments c n (slot + 1) xs q) λ ps. in-next _ (in-typeFrom c n e) λ ret. in-next _ (in-enter name ps ret) λ _.
+        in-next _ h λ a. in-next _ (in-checkReturn c n name e ret a) λ _. in-return ret)) λ ret. in-set slot ret p)
+        λ _. in-poison n _
+
+    mutual
+      unfolding node SlotsOf
+
+      pub in-node : (c : Ctx) (t : Node) → SlotsOf P t → In (node c t)
+      in-node c (Atom n slot token k) h = in-set slot _ h
+      in-node c (Ident n slot name) h = in-ident c n slot name h
+      in-node c (Bin n slot token op l r) h =
+          in-next _ (in-node c l (h .1)) λ a. in-next _ (in-node c r (h .2)) λ b. in-known a _ λ x. in-known b _ λ y. in-fuse c n slot token op x y (h .0)
+      in-node c (Unary n slot token op r) h = in-next _ (in-node c r (h .1)) λ a. in-known a _ λ x. in-unary c n slot token op x (h .0)
+      in-node c (Let n slot name r) h =
+          in-next _ (in-node c r (h .1)) λ a. in-next _ (in-let n name a) λ b. in-next _ (in-insert name b) λ _. in-set slot _ (h .0)
+      in-node c (Fn n slot name ret args body) h = in-fn c n slot name ret args _ (in-block c body (h .2)) (h .0) (h .1)
+      in-node c (Match n slot cs token d) h =
+          in-next _ (in-cases c n cs (h .1)) λ bs. in-next _ (in-block c d (h .2)) λ a. in-matched c n slot bs a (h .0)
+      in-node c (Call n slot target args) h = in-call c n slot _ _ _ (in-all c args (h .1)) (h .0)
+      in-node c (Field n slot target name) h = in-next _ (in-node c target (h .1)) λ a. in-known a _ λ x. in-field c n slot name x (h .0)
+      in-node c (Cast n slot token l t) h =
+          in-next _ (in-typeFrom c n t) λ to. in-next _ (in-node c l (h .1)) λ a. in-known a _ λ x. in-cast c n slot token x to (h .0)
+      in-node c (Import n slot token ps) h = in-next _ (in-imports c n token ps) λ _. in-set slot _ h
+      in-node c (Extern n slot token name fs) h = in-next _ (in-each _ fs λ f. in-extern c n f) λ _. in-next _ (in-hold _) λ _. in-set slot _ h
+      in-node c (Record n slot token fs) h =
+          in-next _ (in-values c fs (h .1)) λ ws. in-next _ (in-onTypes _ (t-record (c .texts) n ws)) λ w. in-set slot w (h .0)
+      in-node c (Array n slot token ms) h = in-array c n slot token ms (h .0) (h .1)
+      in-node c (Absent n) h = in-return Poison
+
+      pub in-block : (c : Ctx) (xs : Nodes) → SlotsOfAll P xs → In (block c xs)
+      in-block c done h = in-return _
+      in-block c (then x xs) h = in-framed _ (in-next _ (in-node c x (h .0)) λ a. in-last c a xs (h .1))
+
+      pub in-last : (c : Ctx) (a : Answer) (xs : Nodes) → SlotsOfAll P xs → In (last c a xs)
+      in-last c a done h = in-return a
+      in-last c a (then x xs) h = in-next _ (in-node c x (h .0)) λ b. in-last c b xs (h .1)
+
+      pub in-all : (c : Ctx) (xs : Nodes) → SlotsOfAll P xs → In (visitAll c xs)
+      in-all c done h = in-return false
+      in-all c (then x xs) h = in-next _ (in-node c x (h .0)) λ a. in-next _ (in-all c xs (h .1)) λ b. in-return _
+
+      pub in-cases : (c : Ctx) (n : ℕ) (cs : Cases) → SlotsOfCases P cs → In (cases c n cs)
+      in-cases c n noCase h = in-return []
+      in-cases c n (case token x body cs) h =
+          in-next _ (in-node c x (h .0)) λ a. in-next _ (in-condition c n token a) λ _. in-next _ (in-block c body (h .1)) λ b. in-next _ (in-cases c n cs (h .2)) λ _. in-return _
+
+      pub in-values : (c : Ctx) (vs : Values) → SlotsOfValues P vs → In (values c vs)
+      in-values c noValue h = in-return []
+      in-values c (value name x vs) h = in-next _ (in-node c x (h .0)) λ a. in-next _ (in-value a) λ w. in-next _ (in-values c vs (h .1)) λ _. in-return _
+
+      pub in-array : (c : Ctx) (n slot token : ℕ) (xs : Nodes) → P slot → SlotsOfAll P xs → In (array c n slot token xs)
+      in-array c n slot token done p h = in-poison n _
+      in-array c n slot token (then x xs) p h = in-next _ (in-node c x (h .0)) λ a. in-members c n slot a false xs p (h .1)
+
+      pub in-members : (c : Ctx) (n slot : ℕ) (a : Answer) (b : Bool) (xs : Nodes) → P slot → SlotsOfAll P xs → In (members c n slot a b xs)
+      in-members c n slot a b done p h = in-arrayOf c n slot a b p
+      in-members c n slot a b (then x xs) p h =
+          in-next _ (in-node c x (h .0)) λ y. in-next _ (in-member c n (spanOf x) a y) λ m. in-goOn m b _ λ q. in-members c n slot a q xs p (h .1)
+
+    -- the walk of the first k roots, where it is in R to copy the pool
+    pub at-walk : (i : Inputs) (k : ℕ) (s : World) → SlotsOfAll P (firstRoots (i .image) k)
+        → Keeps R Q s (copyPool (nodeCount (i .image)) (poolOf (i .library)) s) → Keeps R Q s (walkFirst i k s)
+    unfolding walkFirst
+    at-walk i k s h p = step _ p λ _. in-next _ (in-measure (ctxOf i) _ _) λ _. in-next _ (in-last (ctxOf i) _ _ h) λ _. in-return tt

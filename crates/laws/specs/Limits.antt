@@ -15,7 +15,7 @@ use Rattle.err.specs.Report.{hasRoom, oneMore, sixWords, bytesOf}
 use Rattle.rules.specs.Steps.{outputOf}
 use Rattle.rules.specs.Rules.{node}
 use Rattle.laws.specs.SlotsOf.{all-slots}
-use Rattle.laws.specs.Keeps.{Keeps, Kept, in-node}
+use Rattle.laws.specs.Keeps.{Keeps, Kept, in-node, Enters}
 use Rattle.laws.specs.Writes.{length-write}
 
 -- "At most 8,192 words of the types buffer, 256 diagnostics and 65,536 message bytes are used", and no more than are lent
@@ -66,11 +66,13 @@ limits-kept = record {
       let i : Within u = x (record { types = h .types; diagnostics = h .diagnostics; messages = h .messages }) in
       record { types = i .types; diagnostics = i .diagnostics; messages = i .messages };
   holds = λ p s h. record { types = h .types; diagnostics = h .diagnostics; messages = h .messages };
-  enters = λ name ps ret s h. record { types = h .types; diagnostics = h .diagnostics; messages = h .messages };
   typesFull = tt;
   tooDeep = tt;
   toldFull = tt;
 }
 
+pub limits-enters : Enters Stays
+limits-enters = record { enters = λ name ps ret s h. record { types = h .types; diagnostics = h .diagnostics; messages = h .messages } }
+
 pub node-limits : (c : Ctx) (t : Node) (s : World) → Keeps Stays Any s (node c t s)
-node-limits c t s = in-node Stays Any Any limits-kept c t (all-slots (λ _. tt) t) s
+node-limits c t s = in-node Stays Any Any limits-kept limits-enters c t (all-slots (λ _. tt) t) s

@@ -7,7 +7,7 @@ use Rattle.library.specs.Package.{Function, Package}
 use Rattle.rules.specs.World.{Ctx, Local, World}
 use Rattle.rules.specs.Rules.{node}
 use Rattle.laws.specs.SlotsOf.{all-slots}
-use Rattle.laws.specs.Keeps.{Keeps, Kept, in-node}
+use Rattle.laws.specs.Keeps.{Keeps, Kept, in-node, Enters}
 
 pub record Front {A : Type 0} (old new : List A) : Type 0 where
   pub part : List A
@@ -47,11 +47,13 @@ scope-kept = record {
   frame = λ {s} {u} h. record { env = still s .env; packages = h .packages; own = h .own };
   alone = λ {s} {u} h. record { env = still s .env; packages = h .packages; own = h .own };
   holds = λ p s. record { env = still s .env; packages = front-one p (s .packages); own = still s .own };
-  enters = λ name ps ret s. record { env = still s .env; packages = still s .packages; own = front-one _ (s .own) };
   typesFull = tt;
   tooDeep = tt;
   toldFull = tt;
 }
 
+pub scope-enters : Enters Scope
+scope-enters = record { enters = λ name ps ret s. record { env = still s .env; packages = still s .packages; own = front-one _ (s .own) } }
+
 pub node-scope : (c : Ctx) (t : Node) (s : World) → Keeps Scope Any s (node c t s)
-node-scope c t s = in-node Scope Any Any scope-kept c t (all-slots (λ _. tt) t) s
+node-scope c t s = in-node Scope Any Any scope-kept scope-enters c t (all-slots (λ _. tt) t) s

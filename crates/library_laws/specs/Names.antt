@@ -30,7 +30,7 @@ use Rattle.tworuns.specs.Walk.{every-map}
 use Rattle.library_laws.specs.Every.{every-join, every-at, every-name, carriesName}
 
 -- a name that is accepted in the library text
-pub record Accepts (t : Texts) (w : ℕ) : Type 0 where
+record AcceptedName (t : Texts) (w : ℕ) : Type 0 where
   pub payload : goodPayload inLibrary (t .library) w ≡ true
 
 -- the kinds of a word that carries a name
@@ -47,13 +47,13 @@ no-name : (k : ℕ) → k ≡ 0 → names k ≡ true → ⊥
 no-name k e n = true≢false (sym n ∙ rw e refl)
 
 module _ (p : Pool) where
-  type-name : {own w : ℕ} → TypeWord p own w → carriesName w ≡ true → Accepts (p .texts) w
+  type-name : {own w : ℕ} → TypeWord p own w → carriesName w ≡ true → AcceptedName (p .texts) w
   type-name {w = w} t e = elim (carries (kindOf w) e) [
     | inl k ↦ record { payload = t .name k }
     | inr k ↦ absurd (omega (arith, t .kind .high))
   ]
 
-  word-name : (i : ℕ) → WordFine p i → carriesName (poolWord p i) ≡ true → Accepts (p .texts) (poolWord p i)
+  word-name : (i : ℕ) → WordFine p i → carriesName (poolWord p i) ≡ true → AcceptedName (p .texts) (poolWord p i)
   word-name i f e = elim (f .kinds) [
     | inl k ↦ elim (carries (kindOf (poolWord p i)) e) [ inl n ↦ absurd (no-name (kindOf (poolWord p i)) k n) | inr n ↦ absurd (omega arith) ]
     | inr r ↦ elim r [
@@ -62,58 +62,58 @@ module _ (p : Pool) where
     ]
   ]
 
-  type-names : {own w : ℕ} → TypeWord p own w → Every (Accepts (p .texts)) (wordNames (w ∷ []))
+  type-names : {own w : ℕ} → TypeWord p own w → Every (AcceptedName (p .texts)) (wordNames (w ∷ []))
   unfolding Every
-  type-names {w = w} t = every-name (Accepts (p .texts)) (w ∷ []) (type-name t, tt)
+  type-names {w = w} t = every-name (AcceptedName (p .texts)) (w ∷ []) (type-name t, tt)
 
-  param-names : (withSlots : Bool) (ps : List Param) → Each (ParamFine p withSlots) ps → Every (Accepts (p .texts)) (paramNames ps)
+  param-names : (withSlots : Bool) (ps : List Param) → Each (ParamFine p withSlots) ps → Every (AcceptedName (p .texts)) (paramNames ps)
   unfolding Each Every paramNames
   param-names s [] h = tt
   param-names s (a ∷ ps) h = (
     record { payload = goodName-payload inLibrary (p .texts .library) (a .name) (h .0 .name) },
-    every-join (Accepts (p .texts)) (wordNames (a .type ∷ [])) (paramNames ps) (type-names (goodType-true p (p .size) (a .type) (h .0 .type .good))) (param-names s ps (h .1)),
+    every-join (AcceptedName (p .texts)) (wordNames (a .type ∷ [])) (paramNames ps) (type-names (goodType-true p (p .size) (a .type) (h .0 .type .good))) (param-names s ps (h .1)),
   )
 
-  function-names : (fs : List Function) → Each (FunctionFine p) fs → Every (Accepts (p .texts)) (functionNames fs)
+  function-names : (fs : List Function) → Each (FunctionFine p) fs → Every (AcceptedName (p .texts)) (functionNames fs)
   unfolding Each Every functionNames
   function-names [] h = tt
   function-names (f ∷ fs) h = (
     record { payload = goodName-payload inLibrary (p .texts .library) (f .name) (h .0 .name) },
-    every-join (Accepts (p .texts)) (paramNames (f .sig .params) ++ wordNames (f .sig .ret ∷ [])) (functionNames fs)
-        (every-join (Accepts (p .texts)) (paramNames (f .sig .params)) (wordNames (f .sig .ret ∷ []))
+    every-join (AcceptedName (p .texts)) (paramNames (f .sig .params) ++ wordNames (f .sig .ret ∷ [])) (functionNames fs)
+        (every-join (AcceptedName (p .texts)) (paramNames (f .sig .params)) (wordNames (f .sig .ret ∷ []))
         (param-names (f .sig .withSlots) (f .sig .params) (h .0 .sig .params)) (type-names (goodType-true p (p .size) (f .sig .ret) (h .0 .sig .ret .good))))
         (function-names fs (h .1)),
   )
 
-  package-names : (ks : List Package) → Each (PackageFine p) ks → Every (Accepts (p .texts)) (packageNames ks)
+  package-names : (ks : List Package) → Each (PackageFine p) ks → Every (AcceptedName (p .texts)) (packageNames ks)
   unfolding Each Every packageNames
   package-names [] h = tt
   package-names (k ∷ ks) h = (
     record { payload = goodName-payload inLibrary (p .texts .library) (k .name) (h .0 .name) },
-    every-join (Accepts (p .texts)) (functionNames (k .functions)) (packageNames ks) (function-names (k .functions) (h .0 .functions)) (package-names ks (h .1)),
+    every-join (AcceptedName (p .texts)) (functionNames (k .functions)) (packageNames ks) (function-names (k .functions) (h .0 .functions)) (package-names ks (h .1)),
   )
 
-well : (t : Texts) (w : ℕ) → Accepts t w → ReadsWell t w
+well : (t : Texts) (w : ℕ) → AcceptedName t w → ReadsWell t w
 well t w a = nameBytes-wellFormed t inLibrary w (a .payload)
 
 -- ── Accepted ──
 
 module _ (t : Texts) (words : List ℕ) (accepted : libraryFault t words ≡ none) where
-  pool-accepts : Every (Accepts t) (wordNames (poolOf words))
+  pool-accepts : Every (AcceptedName t) (wordNames (poolOf words))
   pool-accepts =
-      every-name (Accepts t) (poolOf words)
+      every-name (AcceptedName t) (poolOf words)
       (every-at _ (poolOf words) (λ i l. word-name (libraryPool t words) i (library-fine t words accepted .pool .each i (omega (arith, pool-length t words accepted)))))
 
-  packages-accept : Every (Accepts t) (packageNames (packagesOf words))
+  packages-accept : Every (AcceptedName t) (packageNames (packagesOf words))
   packages-accept = package-names (libraryPool t words) (packagesOf words) (library-fine t words accepted .packages)
 
   -- THE LAWS: the names of the packages lie in their text,
   pub names-lie : Every (Lies t) (packageNames (packagesOf words))
-  names-lie = every-map (Accepts t) (Lies t) (λ w a. accepted-lies t inLibrary w (a .payload)) _ packages-accept
+  names-lie = every-map (AcceptedName t) (Lies t) (λ w a. accepted-lies t inLibrary w (a .payload)) _ packages-accept
 
   -- and are well formed, those of the pool too.
   pub pool-well : Every (ReadsWell t) (wordNames (poolOf words))
-  pool-well = every-map (Accepts t) (ReadsWell t) (well t) _ pool-accepts
+  pool-well = every-map (AcceptedName t) (ReadsWell t) (well t) _ pool-accepts
 
   pub packages-well : Every (ReadsWell t) (packageNames (packagesOf words))
-  packages-well = every-map (Accepts t) (ReadsWell t) (well t) _ packages-accept
+  packages-well = every-map (AcceptedName t) (ReadsWell t) (well t) _ packages-accept

@@ -44,8 +44,8 @@ unfoldable pub slotsIn : Texts → (pool : List ℕ) → List ℕ → List (List
 slotsIn t pool [] = []
 slotsIn t pool (w ∷ ws) = slotNames (tyOf t pool w) ++ slotsIn t pool ws
 
--- What a signature of the library promises a call.
-pub record Promises (t : Texts) (pool : List ℕ) (s : Signature) : Type 0 where
+-- What the types of a library signature are.
+pub record SignatureTypes (t : Texts) (pool : List ℕ) (s : Signature) : Type 0 where
   -- "Unknown is not allowed."
   pub known : Every (λ w. containsUnknown (tyOf t pool w) ≡ false) (s .ret ∷ paramTypes (s .params))
   -- "Slots stand only under flag 1"
@@ -131,10 +131,10 @@ among-all n (x ∷ xs) ys h e =
     ]
 
 module _ (p : Pool) (fine : PoolFine p) where
-  signature-promises : (s : Signature) → SignatureFine p s → Every (Measured (p .texts) (p .words)) (paramTypes (s .params)) → Measured (p .texts) (p .words) (s .ret)
-      → Promises (p .texts) (p .words) s
+  signature-typed : (s : Signature) → SignatureFine p s → Every (Measured (p .texts) (p .words)) (paramTypes (s .params)) → Measured (p .texts) (p .words) (s .ret)
+      → SignatureTypes (p .texts) (p .words) s
   unfolding Every returnStands
-  signature-promises s f ms m =
+  signature-typed s f ms m =
       let g = goodType-true p (p .size) (s .ret) (f .ret .good) in
       record {
         known = (known p fine (s .ret) g m, params-known p fine (s .withSlots) (s .params) (f .params) ms);
@@ -142,28 +142,28 @@ module _ (p : Pool) (fine : PoolFine p) where
         stand = λ n e. rw (params-slots p fine (s .withSlots) (s .params) (f .params) ms) at (among-all n _ _ (f .stands) (rw (measured-tree p fine (s .ret) g m) e));
       }
 
-  functions-promise : (fs : List Function) → Each (FunctionFine p) fs → Every (Measured (p .texts) (p .words)) (functionTypes fs)
-      → Every (λ f. Promises (p .texts) (p .words) (f .sig)) fs
+  functions-typed : (fs : List Function) → Each (FunctionFine p) fs → Every (Measured (p .texts) (p .words)) (functionTypes fs)
+      → Every (λ f. SignatureTypes (p .texts) (p .words) (f .sig)) fs
   unfolding Each Every functionTypes
-  functions-promise [] h m = tt
-  functions-promise (f ∷ fs) h m =
+  functions-typed [] h m = tt
+  functions-typed (f ∷ fs) h m =
       let r = every-back (Measured (p .texts) (p .words)) (paramTypes (f .sig .params)) (f .sig .ret ∷ functionTypes fs) m in (
-        signature-promises (f .sig) (h .0 .sig) (every-front (Measured (p .texts) (p .words)) (paramTypes (f .sig .params)) (f .sig .ret ∷ functionTypes fs) m) (r .0),
-        functions-promise fs (h .1) (r .1),
+        signature-typed (f .sig) (h .0 .sig) (every-front (Measured (p .texts) (p .words)) (paramTypes (f .sig .params)) (f .sig .ret ∷ functionTypes fs) m) (r .0),
+        functions-typed fs (h .1) (r .1),
       )
 
-  packages-promise : (ks : List Package) → Each (PackageFine p) ks → Every (Measured (p .texts) (p .words)) (packageTypes ks)
-      → Every (λ k. Every (λ f. Promises (p .texts) (p .words) (f .sig)) (k .functions)) ks
+  packages-typed : (ks : List Package) → Each (PackageFine p) ks → Every (Measured (p .texts) (p .words)) (packageTypes ks)
+      → Every (λ k. Every (λ f. SignatureTypes (p .texts) (p .words) (f .sig)) (k .functions)) ks
   unfolding Each Every packageTypes
-  packages-promise [] h m = tt
-  packages-promise (k ∷ ks) h m = (
-    functions-promise (k .functions) (h .0 .functions) (every-front (Measured (p .texts) (p .words)) (functionTypes (k .functions)) (packageTypes ks) m),
-    packages-promise ks (h .1) (every-back (Measured (p .texts) (p .words)) (functionTypes (k .functions)) (packageTypes ks) m),
+  packages-typed [] h m = tt
+  packages-typed (k ∷ ks) h m = (
+    functions-typed (k .functions) (h .0 .functions) (every-front (Measured (p .texts) (p .words)) (functionTypes (k .functions)) (packageTypes ks) m),
+    packages-typed ks (h .1) (every-back (Measured (p .texts) (p .words)) (functionTypes (k .functions)) (packageTypes ks) m),
   )
 
 -- THE LAW: of an accepted library whose types were measured.
-pub signatures-promise : (t : Texts) (words : List ℕ) → libraryFault t words ≡ none → Every (Measured t (poolOf words)) (packageTypes (packagesOf words))
-    → Every (λ k. Every (λ f. Promises t (poolOf words) (f .sig)) (k .functions)) (packagesOf words)
-signatures-promise t words accepted m =
+pub signature-types : (t : Texts) (words : List ℕ) → libraryFault t words ≡ none → Every (Measured t (poolOf words)) (packageTypes (packagesOf words))
+    → Every (λ k. Every (λ f. SignatureTypes t (poolOf words) (f .sig)) (k .functions)) (packagesOf words)
+signature-types t words accepted m =
     let f = library-fine t words accepted in
-    packages-promise (libraryPool t words) (f .pool) (packagesOf words) (f .packages) m
+    packages-typed (libraryPool t words) (f .pool) (packagesOf words) (f .packages) m

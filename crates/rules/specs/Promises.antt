@@ -73,7 +73,7 @@ pub record TableHolds (i : Inputs) (b : Buffers) (e : Ended) : Type 0 where
   pub late : 7 ≤ e .number → e .after ≡ zeroed b
   pub counts : 1 ≤ e .number → NoCounts e
 
-pub Demand1 : Type 0
+unfoldable pub Demand1 : Type 0
 Demand1 = (i : Inputs) (b : Buffers) → TableHolds i b (checkOf i b)
 
 -- ── Demand 2, its first half ──
@@ -90,7 +90,7 @@ pub record NamesReadWell (i : Inputs) : Type 0 where
   pub packages : Every (ReadsWell (textsIn i)) (packageNames (packagesOf (i .library)))
 
 -- inputs that pass refusals 1 to 6, and so all that the walk reads
-pub NamesWellFormed : Type 0
+unfoldable pub NamesWellFormed : Type 0
 NamesWellFormed = (i : Inputs) (b : Buffers) → refusalOf i b ≡ none → NamesReadWell i
 
 -- the k-th diagnostic's message and primary message: "message start, message length, length of the primary message, which follows it"
@@ -102,7 +102,7 @@ primaryOf e k =
     take (getD (e .after .diagnostics) (6 * k + 5) 0)
     (drop (getD (e .after .diagnostics) (6 * k + 3) 0 + getD (e .after .diagnostics) (6 * k + 4) 0) (e .after .messages))
 
-pub MessagesWellFormed : Type 0
+unfoldable pub MessagesWellFormed : Type 0
 MessagesWellFormed =
     (i : Inputs) (b : Buffers) → Answered (checkOf i b) → (k : ℕ) → k < checkOf i b .diagnostics
     → (wellFormed (messageOf (checkOf i b) k) ≡ true) × (wellFormed (primaryOf (checkOf i b) k) ≡ true)
@@ -124,7 +124,7 @@ pub record HasConcreteType (i : Inputs) (e : Ended) (x : Node) : Type 0 where
   pub noSlot : containsSlot (typeIn i e (slotOf x)) ≡ false
 
 -- "Then every visited node has a recorded type free of Unknown and of slots."
-pub Clean : Type 0
+unfoldable pub Clean : Type 0
 Clean = (i : Inputs) (b : Buffers) → AnsweredClean (checkOf i b) → Every (HasConcreteType i (checkOf i b)) (visitedIn (i .image))
 
 -- "output buffers or scratch are lengthened, whatever they held": only the lengths are compared
@@ -151,7 +151,7 @@ pub record Alike (v : ℕ) (e e′ : Ended) : Type 0 where
   pub usedMessages : take (e .messageBytes) (e′ .after .messages) ≡ take (e .messageBytes) (e .after .messages)
 
 -- "with longer buffers alone it is answered, alike in every number returned and in every word and byte used": of any answer, clean or not
-pub AnsweredLonger : Type 0
+unfoldable pub AnsweredLonger : Type 0
 AnsweredLonger = (i : Inputs) (b b′ : Buffers) → Longer b b′ → Answered (checkOf i b) → Alike (slotCount (i .image)) (checkOf i b) (checkOf i b′)
 
 -- The parts of an image after its four counts: roots, node records, type records.
@@ -253,13 +253,13 @@ pub record Kept (i i′ : Inputs) (b′ : Buffers) (e e′ : Ended) : Type 0 whe
   pub diagnostics : OldRootsSilent i i′ b′
 
 -- "Suppose further that any or all of this is done at once: .. If the larger case is answered, .." One claim about both answers.
-pub Larger : Type 0
+unfoldable pub Larger : Type 0
 Larger =
     (i i′ : Inputs) (b b′ : Buffers) → MorePackages i i′ → MoreStatements i i′ → Longer b b′
     → AnsweredClean (checkOf i b) → Answered (checkOf i′ b′) → Kept i i′ b′ (checkOf i b) (checkOf i′ b′)
 
 -- "so that without new ones there is none"
-pub LargerWithoutStatements : Type 0
+unfoldable pub LargerWithoutStatements : Type 0
 LargerWithoutStatements =
     (i i′ : Inputs) (b b′ : Buffers) → MorePackages i i′ → (more : MoreStatements i i′) → more .roots ≡ [] → Longer b b′
     → AnsweredClean (checkOf i b) → Answered (checkOf i′ b′) → checkOf i′ b′ .diagnostics ≡ 0
@@ -270,5 +270,5 @@ pub record VisitedOnce (image : List ℕ) : Type 0 where
   pub numbers : twice [] (map numberOf (visitedIn image)) ≡ false
   pub slots : twice [] (map slotOf (visitedIn image)) ≡ false
 
-pub EachVisitedOnce : Type 0
+unfoldable pub EachVisitedOnce : Type 0
 EachVisitedOnce = (i : Inputs) (b : Buffers) → refusalOf i b ≡ none → VisitedOnce (i .image)

@@ -13,7 +13,7 @@ use Rattle.rules.specs.World.{World}
 use Rattle.rules.specs.Steps.{entryOf}
 use Rattle.rules.specs.Walk.{startOf, copyPool, walkFirst}
 use Rattle.laws.specs.SlotsOf.{all-among}
-use Rattle.laws.specs.Keeps.{Keeps, kept, stopped, Kept, at-when, at-walk}
+use Rattle.laws.specs.Keeps.{Keeps, kept, stopped, Kept, at-when, at-walk, Enters}
 
 -- the words of functions, newest first in the list, in the order in which they were met
 unfoldable pub wordsOf : List Function → List ℕ
@@ -71,16 +71,18 @@ module _ (before : List ℕ) where
     frame = λ {s} {u} x h. record { functions = x h .functions };
     alone = λ {s} {u} x h. record { functions = x (record { functions = h .functions }) .functions };
     holds = λ p s h. record { functions = h .functions };
-    enters = λ name ps ret s h. record { functions = entered name ps ret s h };
     typesFull = λ e. omega arith;
     tooDeep = λ e. omega arith;
     toldFull = λ e. omega arith;
   }
 
+  holds-enters : Enters Stays
+  holds-enters = record { enters = λ name ps ret s h. record { functions = entered name ps ret s h } }
+
   pub walk-holds : (i : Inputs) (k : ℕ) (s : World) → Keeps Stays NotZero s (walkFirst i k s)
   unfolding copyPool NotZero
   walk-holds i k s =
-      at-walk Stays NotZero Any holds-kept i k s (all-among (λ _. tt) _)
+      at-walk Stays NotZero Any holds-kept holds-enters i k s (all-among (λ _. tt) _)
       (at-when Stays NotZero Any holds-kept _ _ _ s (λ _. kept (λ h. record { functions = h .functions })) (λ _. stopped (λ e. omega arith)))
 
 pub start-holds : (i : Inputs) (b : Buffers) → Holds (b .functions) (startOf i b)

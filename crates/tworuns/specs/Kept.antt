@@ -11,7 +11,7 @@ use Rattle.rules.specs.Rules.{last}
 use Rattle.rules.specs.Visited.{visitedBelow, visitedAmong, visitedInCases, visitedInValues}
 use Rattle.rules.specs.Promises.{Every}
 use Rattle.laws.specs.SlotsOf.{SlotsOfAll}
-use Rattle.laws.specs.Keeps.{Keeps, Kept, in-last}
+use Rattle.laws.specs.Keeps.{Keeps, Kept, in-last, Enters}
 use Rattle.tworuns.specs.Means.{Grown, grown-same, grown-trans}
 use Rattle.tworuns.specs.Written.{grown-append}
 use Rattle.tworuns.specs.Runs.{Runs}
@@ -49,14 +49,16 @@ module _ (Old : ℕ → Type 0) where
     frame = λ {s} {u} h. record { types = h .types; slots = h .slots };
     alone = λ {s} {u} h. record { types = h .types; slots = h .slots };
     holds = λ p s. record { types = grown-same (s .types); slots = λ a o. refl };
-    enters = λ name ps ret s. record { types = grown-same (s .types); slots = λ a o. refl };
     typesFull = tt;
     tooDeep = tt;
     toldFull = tt;
   }
 
+  goes-enters : Enters (Goes Old)
+  goes-enters = record { enters = λ name ps ret s. record { types = grown-same (s .types); slots = λ a o. refl } }
+
   pub last-goes : (c : Ctx) (a : Answer) (xs : Nodes) → SlotsOfAll New xs → (s : World) → Keeps (Goes Old) Any s (last c a xs s)
-  last-goes c a xs h s = in-last (Goes Old) Any New goes-kept c a xs h s
+  last-goes c a xs h s = in-last (Goes Old) Any New goes-kept goes-enters c a xs h s
 
 -- Every visited node owns a slot below V.
 every-join : {A : Type 0} (P : A → Type 0) (xs ys : List A) → Every P xs → Every P ys → Every P (xs ++ ys)

@@ -28,7 +28,7 @@ use Rattle.rules.specs.Promises.{Every, Answered, AnsweredClean, Longer, MorePa
 use Rattle.laws.specs.SlotsOf.{SlotsOfAll, all-among}
 use Rattle.laws.specs.Keeps.{Keeps, kept, stopped, in-last}
 use Rattle.laws.specs.Grow.{kept-ok}
-use Rattle.laws.specs.Scope.{Scope, scope-kept}
+use Rattle.laws.specs.Scope.{Scope, scope-kept, scope-enters}
 use Rattle.ptype.specs.Add.{Buffer}
 use Rattle.tworuns.specs.Means.{means-grow, means-tyOf, grown-same}
 use Rattle.tworuns.specs.Runs.{Runs, Each, each-map, each-length, SameFunction, function-grow, own, Worlds, tree-first}
@@ -234,7 +234,7 @@ module _ {i i′ : Inputs} {b b′ : Buffers} (mp : MorePackages i i′) (ms : M
   -- "every old function the same signature and place"
   more-own : Scope (run .middle) (f′ .world)
   more-own =
-      after (in-last Scope Any Any scope-kept (ctxOf i′) (run .answer) (rootsAfter (i′ .image) (rootCount (i .image)) (length (ms .roots))) (all-among (λ _. tt) _) (run .middle)) (run .rest)
+      after (in-last Scope Any Any scope-kept scope-enters (ctxOf i′) (run .answer) (rootsAfter (i′ .image) (rootCount (i .image)) (length (ms .roots))) (all-among (λ _. tt) _) (run .middle)) (run .rest)
 
   pub functions-kept : take (length (entriesOf i (checkOf i b))) (entriesOf i′ (checkOf i′ b′)) ≡ entriesOf i (checkOf i b)
   unfolding ctxOf

@@ -13,7 +13,7 @@ use Rattle.ptype.specs.Add.{Buffer}
 use Rattle.rules.specs.declared.Answer.{Answer}
 use Rattle.rules.specs.World.{World, Walk, withSlots}
 use Rattle.rules.specs.Steps.{Done, known, ifKnown, onOption, setKnown, raised, onTypes}
-use Rattle.laws.specs.Keeps.{Keeps, kept, Kept}
+use Rattle.laws.specs.Keeps.{Keeps, kept, Kept, Enters}
 use Rattle.laws.specs.Keeps as K
 use Rattle.tworuns.specs.Means.{Grown, grown-same, grown-trans}
 use Rattle.tworuns.specs.Runs.{Runs, Relation, Both?, neither, present, Used, Slot, own, void, SameAnswer, Worlds, worlds-grow, SameType}
@@ -170,11 +170,13 @@ told-kept = record {
   frame = λ {s} {u} h. h;
   alone = λ {s} {u} h. h;
   holds = λ p s. omega arith;
-  enters = λ name ps ret s. omega arith;
   typesFull = tt;
   tooDeep = tt;
   toldFull = tt;
 }
+
+pub told-enters : Enters Told
+told-enters = record { enters = λ name ps ret s. omega arith }
 
 module _ (r : Runs) where
   pub data Parts {A : Type 0} (Q : Relation A) (s s′ : World) : Result World Refusal A → Result World Refusal A → Type 0 where

@@ -17,7 +17,7 @@ use Rattle.tworuns.specs.Sound.{Sound, SoundAll, SoundCases, SoundValues
 use Rattle.laws.specs.SlotsOf.{all-slots, all-among, all-cases, all-values}
 use Rattle.laws.specs.Keeps.{Keeps, in-next, in-return, in-known, in-set, in-insert, in-onTypes, in-fuse, in-unary, in-cast, in-let, in-field, in-value, in-member, in-goOn, in-condition, in-matched, in-node, in-block, in-last, in-all, in-cases, in-values, in-members}
 use Rattle.laws.specs.Keeps as K
-use Rattle.tworuns.specs.Logic.{Told, Any, told-kept, Parts, fine, q-next, p-next, p-return, p-known, p-set, p-onTypes, Answers, Equal}
+use Rattle.tworuns.specs.Logic.{Told, Any, told-kept, Parts, fine, q-next, p-next, p-return, p-known, p-set, p-onTypes, Answers, Equal, told-enters}
 use Rattle.tworuns.specs.Primitive.{p-poison, p-insert, p-hold, q-framed}
 use Rattle.tworuns.specs.Types.{t-record}
 use Rattle.tworuns.specs.Exprs.{In, Pairs, no-pairs, more-pairs, plain-same}
@@ -62,13 +62,13 @@ module _ (r : Runs) where
   one = r .first
 
   tells-node : (t : Node) (s : World) → Keeps Told Any s (node one t s)
-  tells-node t = in-node Told Any Any told-kept one t (all-slots (λ _. tt) t)
+  tells-node t = in-node Told Any Any told-kept told-enters one t (all-slots (λ _. tt) t)
 
   tells-block : (xs : Nodes) (s : World) → Keeps Told Any s (block one xs s)
-  tells-block xs = in-block Told Any Any told-kept one xs (all-among (λ _. tt) xs)
+  tells-block xs = in-block Told Any Any told-kept told-enters one xs (all-among (λ _. tt) xs)
 
   tells-last : (a : Answer) (xs : Nodes) (s : World) → Keeps Told Any s (last one a xs s)
-  tells-last a xs = in-last Told Any Any told-kept one a xs (all-among (λ _. tt) xs)
+  tells-last a xs = in-last Told Any Any told-kept told-enters one a xs (all-among (λ _. tt) xs)
 
   mutual
     unfolding node Sound
@@ -125,25 +125,25 @@ module _ (r : Runs) where
     pub q-all : (xs : Nodes) → SoundAll (Own r) (In r) xs → {s s′ : World} → Worlds r s s′ → Parts r (Equal r) s s′ (visitAll (r .first) xs s) (visitAll (r .second) xs s′)
     q-all done h ws = fine (p-return r ws refl)
     q-all (then x xs) h ws =
-        q-next r _ _ (q-node x (h .0) ws) (λ a. in-next Told Any Any told-kept _ (in-all Told Any Any told-kept one xs (all-among (λ _. tt) xs)) λ b. in-return Told Any Any told-kept _)
+        q-next r _ _ (q-node x (h .0) ws) (λ a. in-next Told Any Any told-kept _ (in-all Told Any Any told-kept told-enters one xs (all-among (λ _. tt) xs)) λ b. in-return Told Any Any told-kept _)
         (λ a a′ u u′ g g′ v y. q-next r _ _ (q-all xs (h .1) v) (λ b. in-return Told Any Any told-kept _) (λ b b′ u₂ u₂′ g₂ g₂′ v₂ e. fine (p-return r v₂ (cc (poison-same y, e)))))
 
     pub q-cases : (n : ℕ) (cs : Cases) → SoundCases (Own r) (In r) cs → {s s′ : World} → Worlds r s s′ → Parts r Branches s s′ (cases (r .first) n cs s) (cases (r .second) n cs s′)
     q-cases n noCase h ws = fine (p-return r ws end)
     q-cases n (case token x body cs) h ws =
         q-next r _ _ (q-node x (h .0) ws)
-        (λ a. in-next Told Any Any told-kept _ (in-condition Told Any Any told-kept one n token a) λ _. in-next Told Any Any told-kept _ (tells-block body) λ b. in-next Told Any Any told-kept _ (in-cases Told Any Any told-kept one n cs (all-cases (λ _. tt) cs)) λ bs. in-return Told Any Any told-kept _)
+        (λ a. in-next Told Any Any told-kept _ (in-condition Told Any Any told-kept one n token a) λ _. in-next Told Any Any told-kept _ (tells-block body) λ b. in-next Told Any Any told-kept _ (in-cases Told Any Any told-kept told-enters one n cs (all-cases (λ _. tt) cs)) λ bs. in-return Told Any Any told-kept _)
         (λ a a′ u u′ g g′ v y. q-next r _ _ (fine (p-condition r v n token y))
-        (λ _. in-next Told Any Any told-kept _ (tells-block body) λ b. in-next Told Any Any told-kept _ (in-cases Told Any Any told-kept one n cs (all-cases (λ _. tt) cs)) λ bs. in-return Told Any Any told-kept _)
-        (λ _ _ u₂ u₂′ g₂ g₂′ v₂ _. q-next r _ _ (q-block body (h .1) v₂) (λ b. in-next Told Any Any told-kept _ (in-cases Told Any Any told-kept one n cs (all-cases (λ _. tt) cs)) λ bs. in-return Told Any Any told-kept _)
+        (λ _. in-next Told Any Any told-kept _ (tells-block body) λ b. in-next Told Any Any told-kept _ (in-cases Told Any Any told-kept told-enters one n cs (all-cases (λ _. tt) cs)) λ bs. in-return Told Any Any told-kept _)
+        (λ _ _ u₂ u₂′ g₂ g₂′ v₂ _. q-next r _ _ (q-block body (h .1) v₂) (λ b. in-next Told Any Any told-kept _ (in-cases Told Any Any told-kept told-enters one n cs (all-cases (λ _. tt) cs)) λ bs. in-return Told Any Any told-kept _)
         (λ b b′ u₃ u₃′ g₃ g₃′ v₃ z. q-next r _ _ (q-cases n cs (h .2) v₃) (λ bs. in-return Told Any Any told-kept _)
         (λ bs bs′ u₄ u₄′ g₄ g₄′ v₄ zs. fine (p-return r v₄ (and (record { token = refl; answer = z }) zs))))))
 
     pub q-values : (vs : Values) → SoundValues (Own r) (In r) vs → {s s′ : World} → Worlds r s s′ → Parts r (Pairs r) s s′ (values (r .first) vs s) (values (r .second) vs s′)
     q-values noValue h {s} {s′} ws = fine (p-return r ws (no-pairs r (s .types) (s′ .types)))
     q-values (value name x vs) h ws =
-        q-next r _ _ (q-node x (h .1) ws) (λ a. in-next Told Any Any told-kept _ (in-value Told Any Any told-kept a) λ w. in-next Told Any Any told-kept _ (in-values Told Any Any told-kept one vs (all-values (λ _. tt) vs)) λ ps. in-return Told Any Any told-kept _)
-        (λ a a′ u u′ g g′ v y. q-next r _ _ (fine (p-value r v y)) (λ w. in-next Told Any Any told-kept _ (in-values Told Any Any told-kept one vs (all-values (λ _. tt) vs)) λ ps. in-return Told Any Any told-kept _)
+        q-next r _ _ (q-node x (h .1) ws) (λ a. in-next Told Any Any told-kept _ (in-value Told Any Any told-kept a) λ w. in-next Told Any Any told-kept _ (in-values Told Any Any told-kept told-enters one vs (all-values (λ _. tt) vs)) λ ps. in-return Told Any Any told-kept _)
+        (λ a a′ u u′ g g′ v y. q-next r _ _ (fine (p-value r v y)) (λ w. in-next Told Any Any told-kept _ (in-values Told Any Any told-kept told-enters one vs (all-values (λ _. tt) vs)) λ ps. in-return Told Any Any told-kept _)
         (λ w w′ u₂ u₂′ g₂ g₂′ v₂ z. q-next r _ _ (q-values vs (h .2) v₂) (λ ps. in-return Told Any Any told-kept _)
         (λ ps ps′ u₃ u₃′ g₃ g₃′ v₃ zs. fine (p-return r v₃ (more-pairs r (name-of r v₃ (h .0)) (type-grow r g₃ g₃′ w w′ z) zs)))))
 
@@ -151,13 +151,13 @@ module _ (r : Runs) where
         → Parts r (Answers r) s s′ (array (r .first) n slot token xs s) (array (r .second) n slot token xs s′)
     q-array n slot token done o h ws = fine (p-poison r ws n refl)
     q-array n slot token (then x xs) o h ws =
-        q-next r _ _ (q-node x (h .0) ws) (λ a. in-members Told Any Any told-kept one n slot a false xs tt (all-among (λ _. tt) xs)) (λ a a′ u u′ g g′ v y. q-members n slot y false xs o (h .1) v)
+        q-next r _ _ (q-node x (h .0) ws) (λ a. in-members Told Any Any told-kept told-enters one n slot a false xs tt (all-among (λ _. tt) xs)) (λ a a′ u u′ g g′ v y. q-members n slot y false xs o (h .1) v)
 
     pub q-members : (n slot : ℕ) {a a′ : Answer} → SameAnswer r a a′ → (b : Bool) (xs : Nodes) → slot < r .first .void → SoundAll (Own r) (In r) xs → {s s′ : World} → Worlds r s s′
         → Parts r (Answers r) s s′ (members (r .first) n slot a b xs s) (members (r .second) n slot a′ b xs s′)
     q-members n slot y b done o h ws = fine (p-arrayOf r ws n slot o y b)
     q-members n slot {a} y b (then x xs) o h ws =
         q-next r _ _ (q-node x (h .0) ws)
-        (λ z. in-next Told Any Any told-kept _ (in-member Told Any Any told-kept one n (spanOf x) a z) λ m. in-goOn Told Any Any told-kept m b _ λ q. in-members Told Any Any told-kept one n slot a q xs tt (all-among (λ _. tt) xs))
-        (λ a₁ a₁′ u u′ g g′ v z. q-next r _ _ (fine (p-member r v n (spanOf x) y z)) (λ m. in-goOn Told Any Any told-kept m b _ λ q. in-members Told Any Any told-kept one n slot a q xs tt (all-among (λ _. tt) xs))
+        (λ z. in-next Told Any Any told-kept _ (in-member Told Any Any told-kept one n (spanOf x) a z) λ m. in-goOn Told Any Any told-kept m b _ λ q. in-members Told Any Any told-kept told-enters one n slot a q xs tt (all-among (λ _. tt) xs))
+        (λ a₁ a₁′ u u′ g g′ v z. q-next r _ _ (fine (p-member r v n (spanOf x) y z)) (λ m. in-goOn Told Any Any told-kept m b _ λ q. in-members Told Any Any told-kept told-enters one n slot a q xs tt (all-among (λ _. tt) xs))
         (λ m m′ u₂ u₂′ g₂ g₂′ v₂ e. rw (← e) (q-goOn r m b _ _ v₂ (λ q. q-members n slot y q xs o (h .1) v₂))))

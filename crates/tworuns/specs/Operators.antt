@@ -54,9 +54,12 @@ class-lows (suc (suc zero)) = refl
 class-lows (suc (suc (suc zero))) = refl
 class-lows (suc (suc (suc (suc i)))) = refl
 
-result-plain : (op l r : ℕ) → Plain (resultKind op l r)
+pub result-low : (op l r : ℕ) → resultKind op l r ≤ 5
 unfolding resultKind
-result-plain op l r = plain-low _ (getD-low (getD (getD operatorTables (classOf op) []) l []) r (getD-lows (getD operatorTables (classOf op) []) l (class-lows (classOf op))))
+result-low op l r = getD-low (getD (getD operatorTables (classOf op) []) l []) r (getD-lows (getD operatorTables (classOf op) []) l (class-lows (classOf op)))
+
+result-plain : (op l r : ℕ) → Plain (resultKind op l r)
+result-plain op l r = plain-low _ (result-low op l r)
 
 number-plain : (b : Bool) (k : ℕ) → (b && (eqb k 3 || eqb k 4)) ≡ true → Plain k
 number-plain b k h = elim (one-of 3 4 k (and-eq-true-iff b (eqb k 3 || eqb k 4) .0 h .1)) [ inl e ↦ plain-low k (omega arith) | inr e ↦ plain-low k (omega arith) ]

@@ -76,7 +76,7 @@ pub record Begins (pool : List ℕ) (d : Buffer) : Type 0 where
   pub front : take (length pool) (d .words) ≡ pool
   pub more : length pool ≤ d .used
 
-begins-grown : {pool : List ℕ} {d : Buffer} → Begins pool d → Grown (buffer pool (length pool)) d
+pub begins-grown : {pool : List ℕ} {d : Buffer} → Begins pool d → Grown (buffer pool (length pool)) d
 begins-grown {pool} {d} h = record {
   more = h .more;
   front = λ j l. sym (sym (getD-take (length pool) (d .words) j 0 l) ∙ ap (λ (x : List ℕ). getD x j 0) (h .front));

@@ -27,7 +27,7 @@ use Rattle.tworuns.specs.Runs.{Runs, Relation, Each, end, and, each-map,
 use Rattle.tworuns.specs.Runs as R
 use Rattle.tworuns.specs.Sound.{SoundType, SoundArgs, SoundExterns, SoundNames}
 use Rattle.laws.specs.Keeps.{Keeps, in-next, in-return, in-each, in-set, in-enter, in-typeFrom, in-checkReturn, in-import}
-use Rattle.tworuns.specs.Logic.{Told, Any, told-kept, Parts, fine, q-next, Gives, p-next, p-return, p-when, p-option, p-known, p-ifKnown, p-set, p-onTypes, Answers, Words, Nothing, Equal}
+use Rattle.tworuns.specs.Logic.{Told, Any, told-kept, Parts, fine, q-next, Gives, p-next, p-return, p-when, p-option, p-known, p-ifKnown, p-set, p-onTypes, Answers, Words, Nothing, Equal, told-enters}
 use Rattle.tworuns.specs.Primitive.{p-report, p-poison, p-insert, p-hold, p-enter, q-apart, q-told}
 use Rattle.tworuns.specs.Types.{t-wrap}
 use Rattle.tworuns.specs.Inner.{fields-same}
@@ -195,10 +195,10 @@ module _ (r : Runs) where
           q-next r _ _
           (q-apart r {Q = Words r} ws _ _ (λ ws₀.
           q-next r _ _ (fine (p-fnArguments n (slot + 1) args h o ws₀))
-          (λ ps. in-next Told Any Any told-kept _ (in-typeFrom Told Any Any told-kept (r .first) n e) λ ret. in-next Told Any Any told-kept _ (in-enter Told Any Any told-kept name ps ret) λ _. in-next Told Any Any told-kept _ bk λ a. in-next Told Any Any told-kept _ (in-checkReturn Told Any Any told-kept (r .first) n name e ret a) λ _. in-return Told Any Any told-kept ret)
+          (λ ps. in-next Told Any Any told-kept _ (in-typeFrom Told Any Any told-kept (r .first) n e) λ ret. in-next Told Any Any told-kept _ (in-enter Told Any Any told-kept told-enters name ps ret) λ _. in-next Told Any Any told-kept _ bk λ a. in-next Told Any Any told-kept _ (in-checkReturn Told Any Any told-kept (r .first) n name e ret a) λ _. in-return Told Any Any told-kept ret)
           (λ ps ps′ u₁ u₁′ g₁ g₁′ v₁ hs.
           q-next r _ _ (fine (p-typeFrom v₁ n e t))
-          (λ ret. in-next Told Any Any told-kept _ (in-enter Told Any Any told-kept name ps ret) λ _. in-next Told Any Any told-kept _ bk λ a. in-next Told Any Any told-kept _ (in-checkReturn Told Any Any told-kept (r .first) n name e ret a) λ _. in-return Told Any Any told-kept ret)
+          (λ ret. in-next Told Any Any told-kept _ (in-enter Told Any Any told-kept told-enters name ps ret) λ _. in-next Told Any Any told-kept _ bk λ a. in-next Told Any Any told-kept _ (in-checkReturn Told Any Any told-kept (r .first) n name e ret a) λ _. in-return Told Any Any told-kept ret)
           (λ ret ret′ u₂ u₂′ g₂ g₂′ v₂ x.
           q-next r _ _
           (fine (p-enter r v₂ name ps ps′ ret ret′ (record { name = name-of v₂ l; sig = record { params = each-map (param-grow r g₂ g₂′) hs; ret = x; withSlots = refl } })))

@@ -69,7 +69,7 @@ module _ (b : Buffer) (new : List ℕ) (some : 1 ≤ length new) (fits : b .used
   at-word k = rw (payloadOf-wordOf k (b .used) place-low) (ap (λ (p : ℕ). getD (append b new .words) p 0) (sym (add-zero (b .used))) ∙ at-place 0 some)
 
 module _ {t : Texts} (b : Buffer) where
-  means-wrap : (k inner : ℕ) {x : Ty} → wraps k ≡ true → Means t (b .words) (b .used) inner x → b .used + 1 ≤ min (length (b .words)) 8192
+  pub means-wrap : (k inner : ℕ) {x : Ty} → wraps k ≡ true → Means t (b .words) (b .used) inner x → b .used + 1 ≤ min (length (b .words)) 8192
       → Means t (append b (inner ∷ []) .words) (append b (inner ∷ []) .used) (wordOf k (b .used)) (wrap k x)
   unfolding append
   means-wrap k inner {x} h m fits =
@@ -77,7 +77,7 @@ module _ {t : Texts} (b : Buffer) where
       wrapped {x = x} (kindOf-wordOf k (b .used) p) h (rw (payloadOf-wordOf k (b .used) p) (omega arith))
       (rw (at-word b (inner ∷ []) (omega arith) fits k) (means-grow (grown-append b (inner ∷ [])) m))
 
-  means-record : (ps : List ℕ) {fs : Fields} → PairsMean t (b .words) (b .used) ps fs → b .used + (1 + length ps) ≤ min (length (b .words)) 8192
+  pub means-record : (ps : List ℕ) {fs : Fields} → PairsMean t (b .words) (b .used) ps fs → b .used + (1 + length ps) ≤ min (length (b .words)) 8192
       → Means t (append b (length ps / 2 ∷ ps) .words) (append b (length ps / 2 ∷ ps) .used) (wordOf 8 (b .used)) (rec fs)
   unfolding append
   means-record ps {fs} m fits =

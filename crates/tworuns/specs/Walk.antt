@@ -53,14 +53,14 @@ pub every-map : {A : Type 0} (P Q : A → Type 0) → ((a : A) → P a → Q a) 
 every-map P Q f xs h = every-both P P Q (λ a x _. f a x) xs h h
 
 -- "every library type measured": the world stays, or one is too deep
-abbrev Low : Ctx → World → ℕ → Type 0
+abbrev pub Low : Ctx → World → ℕ → Type 0
 Low c s w = depthOf (tyOf (c .texts) (s .types .words) w) ≤ 32
 
-data Measured (c : Ctx) (s : World) (words : List ℕ) : Result World Refusal Done → Type 0 where
+pub data Measured (c : Ctx) (s : World) (words : List ℕ) : Result World Refusal Done → Type 0 where
   low : Every (Low c s) words → Measured c s words (ok tt s)
   deep : {e : Refusal} → (Every (Low c s) words → ⊥) → Measured c s words (refused e)
 
-measured : (c : Ctx) (n : ℕ) (words : List ℕ) (s : World) → Measured c s words (measure c n words s)
+pub measured : (c : Ctx) (n : ℕ) (words : List ℕ) (s : World) → Measured c s words (measure c n words s)
 unfolding measure Every tree when
 measured c n [] s = low tt
 measured c n (w ∷ ws) s = by (leb (depthOf (tyOf (c .texts) (s .types .words) w)) 32) refl (measured c n ws s)
@@ -85,7 +85,7 @@ pub record Fresh (v : ℕ) (s : World) : Type 0 where
   pub messages : s .messages .used ≡ 0
 
 -- the pool in a types buffer
-begins-pool : (words pool part : List ℕ) → length pool ≤ length words → length part ≤ length pool → take (length part) pool ≡ part → Begins part (buffer (write words 0 pool) (length pool))
+pub begins-pool : (words pool part : List ℕ) → length pool ≤ length words → length part ≤ length pool → take (length part) pool ≡ part → Begins part (buffer (write words 0 pool) (length pool))
 begins-pool words pool part fits less e = record {
   front =
       let whole : take (length pool) (write words 0 pool) ≡ pool = ap (λ (n : ℕ). take n (write words 0 pool)) (sym (zero-add (length pool))) ∙ take-written words 0 pool (rw zero-add fits) in

@@ -1,0 +1,40 @@
+-- The mission's demands as theorems: a value of each promise's type (rules: `Promises`). They assume nothing.
+use Rattle.rules.specs.Promises.{Demand1, NamesWellFormed, AnsweredLonger, Larger, LargerWithoutStatements, EachVisitedOnce}
+use Rattle.tworuns.specs.Longer as L
+use Rattle.tworuns.specs.Larger as M
+use Rattle.accepts.specs.Once as O
+use Rattle.accepts.specs.AcceptedInputs.{accepts}
+use Rattle.accepts.specs.Extended.{extends}
+use Rattle.accepts.specs.Table.{table-holds}
+use Rattle.accepts.specs.NamesWell.{names-read-well}
+
+-- "An input outside document 01's limits gets that paper's refusal, and every lent buffer then holds what its table says."
+pub demand-1 : Demand1
+unfolding Demand1
+demand-1 = table-holds
+
+-- "names are read .. only as UTF-8 well formed by it [RFC 3629]"
+pub names-well-formed : NamesWellFormed
+unfolding NamesWellFormed
+names-well-formed = names-read-well
+
+-- "with longer buffers alone it is answered, alike in every number returned and in every word and byte used"
+pub answered-longer : AnsweredLonger
+unfolding AnsweredLonger
+answered-longer = L.answered-longer accepts
+
+-- "If the larger case is answered, every node visited before has the same type in both answers, every old function the same signature and
+-- place, and every diagnostic comes from the new statements"
+pub larger : Larger
+unfolding Larger
+larger = M.larger accepts extends
+
+-- "so that without new ones there is none"
+pub larger-without-statements : LargerWithoutStatements
+unfolding LargerWithoutStatements
+larger-without-statements = M.larger-without-statements accepts extends
+
+-- no node's rule is entered twice
+pub each-visited-once : EachVisitedOnce
+unfolding EachVisitedOnce
+each-visited-once = O.each-visited-once
