@@ -1,0 +1,1 @@
+// Two of the promises, proved of every input; no code.

@@ -1,0 +1,2 @@
+-- The proofs of the readers of parts.
+pub mod Ways

@@ -1,0 +1,3 @@
+-- What the contracts of the readers of parts cite.
+pub mod Runs
+pub mod Lists

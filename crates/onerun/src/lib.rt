@@ -1,0 +1,1 @@
+// Theorems over one run of the rules; no code.
