@@ -17,9 +17,9 @@ use Rattle.onerun.specs.Walk.{Ends, walk-ends}
 use Rattle.clean.specs.ProperTrees.{roots-proper}
 use Rattle.clean.specs.LibraryTypes.{library-ok}
 
-module _ (quiet : Type 0) (i : Inputs) (b : Buffers) (p : Passed i b) where
+module _ (clean : Type 0) (i : Inputs) (b : Buffers) (p : Passed i b) where
   abbrev pub run : Run
-  run = record { ctx = ctxOf i; quiet = quiet }
+  run = record { ctx = ctxOf i; clean = clean }
 
   script-name : (at : ℕ) → Named (i .script) (i .image) at → NameAt run (wordAt (i .image) at)
   unfolding ctxOf

@@ -25,14 +25,14 @@ module _ (r : Run) (bs : List Binding) where
   pub record Applied (x : Ty) (d : Buffer) (w : ℕ) : Type 0 where
     pub tree : Ty
     pub is : Is r d w tree
-    pub filled : r .quiet → slotsAre (isBound bs) x ≡ true → containsSlot tree ≡ false
-    pub free : r .quiet → containsSlot tree ≡ false → slotsAre (isBound bs) x ≡ true
+    pub filled : r .clean → slotsAre (isBound bs) x ≡ true → containsSlot tree ≡ false
+    pub free : r .clean → containsSlot tree ≡ false → slotsAre (isBound bs) x ≡ true
 
   record AppliedFields (fs : Fields) (d : Buffer) (ps : List ℕ) : Type 0 where
     fields : Fields
     are : PairsAre r d ps fields
-    filled : r .quiet → fieldSlotsAre (isBound bs) fs ≡ true → anySlot fields ≡ false
-    free : r .quiet → anySlot fields ≡ false → fieldSlotsAre (isBound bs) fs ≡ true
+    filled : r .clean → fieldSlotsAre (isBound bs) fs ≡ true → anySlot fields ≡ false
+    free : r .clean → anySlot fields ≡ false → fieldSlotsAre (isBound bs) fs ≡ true
 
   -- a type without a bound slot
   unbound : {b : Buffer} {w : ℕ} {x : Ty} → hasBoundSlot bs x ≡ false → Is r b w x → Applied x b w

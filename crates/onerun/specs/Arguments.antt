@@ -21,7 +21,7 @@ use Rattle.rules.specs.World.{World}
 use Rattle.rules.specs.Steps.{ty, tree}
 use Rattle.rules.specs.Calls.{Provided, compared, afterBinding, slottedArgument, plainArgument, argument}
 use Rattle.tworuns.specs.Means.{Grown}
-use Rattle.onerun.specs.Claim.{Run, All, end, and, Both, Loud, Name, Good, BindingOk, ParamOk, Recorded, Holds, slotsAre, allSlotsAre}
+use Rattle.onerun.specs.Claim.{Run, All, end, and, Both, OfNames, Name, Good, BindingOk, ParamOk, Recorded, Holds, slotsAre, allSlotsAre}
 use Rattle.onerun.specs.Claim as C
 use Rattle.onerun.specs.Grows.{all-map, both-map, is-grow, binding-grow, param-grow, is-tree, fine-names, typed-names, typed-known, typed-free}
 use Rattle.onerun.specs.Logic.{Silent, before, After, Gives, g-next, g-return, g-when, g-map, g-onTypes, GivesT}
@@ -34,7 +34,7 @@ module _ (r : Run) where
   -- an argument that a call provides
   pub record ProvidedOk (s : World) (a : Provided) : Type 0 where
     pub low : a .slot ≤ r .ctx .void
-    pub has : r .quiet → Recorded r s (a .slot)
+    pub has : r .clean → Recorded r s (a .slot)
 
   pub provided-later : {s u : World} → ((slot : ℕ) → Recorded r s slot → Recorded r u slot) → (a : Provided) → ProvidedOk s a → ProvidedOk u a
   provided-later k a h = record { low = h .low; has = λ q. k (a .slot) (h .has q) }
@@ -77,12 +77,12 @@ module _ (r : Run) where
   pub record Passed (slotted : Bool) (ps : List Param) (bs : List Binding) (u : World) (cs : List Binding) : Type 0 where
     pub bindings : All (BindingOk r (u .types)) cs
     pub more : More bs cs
-    pub filled : r .quiet → (p : List ℕ → Bool) → Covers slotted cs p → All (SlotsOf p (u .types)) ps
+    pub filled : r .clean → (p : List ℕ → Bool) → Covers slotted cs p → All (SlotsOf p (u .types)) ps
 
   module _ (n : ℕ) (name : List ℕ) (m : Name r name) (p : Param) (a : Provided) where
     -- the expected and the provided type are equal, or it was reported
-    g-compared : {s : World} (e t : Ty) → (Silent r s → Holds r s) → (Silent r s → ParamTyped (s .types) p) → (Loud r → Silent r s → namesWellFormed e ≡ true) → (Loud r → Silent r s → namesWellFormed t ≡ true)
-        → Gives r (λ u _. r .quiet → e ≡ t) s (compared (r .ctx) n name p a e t s)
+    g-compared : {s : World} (e t : Ty) → (Silent r s → Holds r s) → (Silent r s → ParamTyped (s .types) p) → (OfNames r → Silent r s → namesWellFormed e ≡ true) → (OfNames r → Silent r s → namesWellFormed t ≡ true)
+        → Gives r (λ u _. r .clean → e ≡ t) s (compared (r .ctx) n name p a e t s)
     unfolding compared
     g-compared e t h k x y =
         g-when r _ _ (λ q. g-return r h (λ z _. sameTy-true e t q))
@@ -146,19 +146,19 @@ module _ (r : Run) where
           g-next r _ (g-report r h n (λ l z. well l (bk z)))
           (λ _ u t f. g-return r (λ z. f z .holds) (λ z. after (f z) (bk (before r t z))))
         where
-          well : Loud r → BoundOk r (s .types) bs (conflict cs slot old new) → WellFormed (slotConflict (a .span) name slot (tyOf (r .ctx .texts) (s .types .words) old) (tyOf (r .ctx .texts) (s .types .words) new))
+          well : OfNames r → BoundOk r (s .types) bs (conflict cs slot old new) → WellFormed (slotConflict (a .span) name slot (tyOf (r .ctx .texts) (s .types .words) old) (tyOf (r .ctx .texts) (s .types .words) new))
           well l (clash h mo y e i) = slotConflict-well (a .span) name slot _ _ (m l) (y l) (typed-names r e l) (typed-names r i l)
 
-          after : {u : World} → After r (λ _ _. Loud r) s u (tt {0}) → BoundOk r (s .types) bs (conflict cs slot old new) → Passed true (p ∷ []) bs u cs
+          after : {u : World} → After r (λ _ _. OfNames r) s u (tt {0}) → BoundOk r (s .types) bs (conflict cs slot old new) → Passed true (p ∷ []) bs u cs
           after x (clash h mo y e i) = record { bindings = all-map (binding-grow r (x .grown)) h; more = mo; filled = λ q. absurd (x .value q) }
       g-bound {w} {bs} (voidSlot cs slot) g bk =
           g-next r _ (g-report r h n (λ l z. well l (bk z)))
           (λ _ u t f. g-return r (λ z. f z .holds) (λ z. after (f z) (bk (before r t z))))
         where
-          well : Loud r → BoundOk r (s .types) bs (voidSlot cs slot) → WellFormed (slotVoid (a .span) name slot)
+          well : OfNames r → BoundOk r (s .types) bs (voidSlot cs slot) → WellFormed (slotVoid (a .span) name slot)
           well l (ofVoid h mo y) = slotVoid-well (a .span) name slot (m l) (y l)
 
-          after : {u : World} → After r (λ _ _. Loud r) s u (tt {0}) → BoundOk r (s .types) bs (voidSlot cs slot) → Passed true (p ∷ []) bs u cs
+          after : {u : World} → After r (λ _ _. OfNames r) s u (tt {0}) → BoundOk r (s .types) bs (voidSlot cs slot) → Passed true (p ∷ []) bs u cs
           after x (ofVoid h mo y) = record { bindings = all-map (binding-grow r (x .grown)) h; more = mo; filled = λ q. absurd (x .value q) }
 
       -- One argument. It has a type that is known, or that is not claimed.
@@ -176,13 +176,13 @@ module _ (r : Run) where
           good : Silent r s → (eqb (getD (s .slots) (a .slot) 0) 0 || containsUnknown (tyOf (r .ctx .texts) (s .types .words) (getD (s .slots) (a .slot) 0))) ≡ false → Good r (s .types) (getD (s .slots) (a .slot) 0)
           good z e = h z .slots (a .slot) (record { other = eqb-false _ 0 (or-none _ _ e .0); low = pk z .low })
 
-          unknown : Silent r s → r .quiet → (eqb (getD (s .slots) (a .slot) 0) 0 || containsUnknown (tyOf (r .ctx .texts) (s .types .words) (getD (s .slots) (a .slot) 0))) ≡ true → ⊥
+          unknown : Silent r s → r .clean → (eqb (getD (s .slots) (a .slot) 0) 0 || containsUnknown (tyOf (r .ctx .texts) (s .types .words) (getD (s .slots) (a .slot) 0))) ≡ true → ⊥
           unknown z q e =
               let i = pk z .has q in
               let g = h z .slots (a .slot) i in
               false≢true (rw (ne-eqb (getD (s .slots) (a .slot) 0) 0 (i .other), typed-known r g q) at e)
 
-          stays : {slotted : Bool} → Silent r s → (r .quiet → ⊥) → Passed slotted (p ∷ []) bs s bs
+          stays : {slotted : Bool} → Silent r s → (r .clean → ⊥) → Passed slotted (p ∷ []) bs s bs
           stays z l = record { bindings = bk z; more = more-same bs; filled = λ q. absurd (l q) }
 
           flagged : (slotted : Bool) → (Silent r s → Good r (s .types) (getD (s .slots) (a .slot) 0))

@@ -97,7 +97,7 @@ module _ (r : Run) {b : Buffer} where
         pick (BoundOk r b bs) {t = eqb (kindOf w) 8} _ _ (λ q. bind-fields m f (fields-typed r h (eqb-true (kindOf w) 8 q)) k) (λ _. all k (more-same bs))
     bind-ok {bs = bs} (M.called {k = j} {n = n} e i q) (called y) h k = pick (BoundOk r b bs) {t = eqb j 10} _ _ (λ _. one-ok n y h k) (λ _. all k (more-same bs))
 
-    pub bind-fields : {t : Texts} {types : List ℕ} {used v j at left : ℕ} {fs : Fields} {bs : List Binding} → FieldsMean t types used v j fs → FineFields r fs → FieldsTyped r (r .quiet) b at left → All (BindingOk r b) bs
+    pub bind-fields : {t : Texts} {types : List ℕ} {used v j at left : ℕ} {fs : Fields} {bs : List Binding} → FieldsMean t types used v j fs → FineFields r fs → FieldsTyped r (r .clean) b at left → All (BindingOk r b) bs
         → BoundOk r b bs (bindFields (r .ctx .texts) (b .words) fs at left bs)
     bind-fields {bs = bs} M.noMore noMore h k = all k (more-same bs)
     bind-fields {left = left} {bs = bs} (M.oneMore q l m ms) (oneMore y f fs) h k =

@@ -18,7 +18,7 @@ use Rattle.rules.specs.World.{World, Walk}
 use Rattle.rules.specs.Steps.{tree}
 use Rattle.rules.specs.Calls.{Provided, arguments, returned, checkCallArgs}
 use Rattle.onerun.specs.Claim.{Run, All, end, and, Name, Good, BindingOk, SignatureOk, Holds}
-use Rattle.onerun.specs.Grows.{all-map, signature-grow, is-tree, loud-typed}
+use Rattle.onerun.specs.Grows.{all-map, signature-grow, is-tree, names-typed}
 use Rattle.onerun.specs.Logic.{Silent, before, After, Gives, g-next, g-return, g-when, g-map, g-onTypes, g-set, Own, own-poison, t-map}
 use Rattle.onerun.specs.Report.{g-report}
 use Rattle.onerun.specs.Trees.{isBound, never, never-free}
@@ -76,7 +76,7 @@ module _ (r : Run) where
             only (and x end) = x
 
     g-returned : (f : Signature) {bs : List Binding} {s : World} → (Silent r s → Holds r s) → (Silent r s → SignatureOk r (s .types) f) → (Silent r s → All (BindingOk r (s .types)) bs)
-        → (Silent r s → r .quiet → (p : List ℕ → Bool) → Covers r (f .withSlots) bs p → All (SlotsOf r p (s .types)) (f .params))
+        → (Silent r s → r .clean → (p : List ℕ → Bool) → Covers r (f .withSlots) bs p → All (SlotsOf r p (s .types)) (f .params))
         → Gives r (λ u w. Good r (u .types) w) s (returned (r .ctx) n f bs s)
     unfolding returned tree
     g-returned f {bs} {s} h k b c =
@@ -106,4 +106,4 @@ module _ (r : Run) where
         g-set r slot own (λ z. y z .holds) (λ z. y z .value))))
         (λ _. g-next r _ (g-report r h n (λ l z. argumentCount-well token name (length (f .params)) (length given) (m l))) (λ _ u t x.
         g-when r _ _ (λ _. g-return r (λ z. x z .holds) (λ z. own-poison r (x z .value)))
-        (λ _. g-set r slot own (λ z. x z .holds) (λ z. loud-typed r (x z .value) (signature-grow r (x z .grown) f (k (before r t z)) .returns)))))
+        (λ _. g-set r slot own (λ z. x z .holds) (λ z. names-typed r (x z .value) (signature-grow r (x z .grown) f (k (before r t z)) .returns)))))

@@ -8,7 +8,7 @@ use mathlib.Core.List.{List, [], _∷_}
 use lib.Dec.{eqb}
 use lib.ListN.{getD, length, take, drop}
 use Rattle.utf8.specs.Rfc3629.{wellFormed}
-use Rattle.tok.specs.Text.{Texts, nameBytes}
+use Rattle.tok.specs.Text.{nameBytes}
 use Rattle.ptype.specs.Ty.{Ty, Fields, plain, wrap, rec, named, noField, field, containsSlot, depthOf}
 use Rattle.ptype.specs.Add.{Buffer}
 use Rattle.ptype.specs.Slots.{Binding}
@@ -18,10 +18,11 @@ use Rattle.rules.specs.declared.Answer.the-variants.{Known, Poison}
 use Rattle.rules.specs.World.{Ctx, Local, World}
 use Rattle.tworuns.specs.Means.{Means}
 
--- A run, and which of the two is claimed: `quiet` holds where nothing is claimed any more once a diagnostic is raised.
+-- A run, and which of the two is claimed of it: where `clean` holds, types free of Unknown and of slots, and only as long as no diagnostic is
+-- raised; where it does not, names that are well formed, diagnostics or not.
 pub record Run : Type 1 where
   pub ctx : Ctx
-  pub quiet : Type 0
+  pub clean : Type 0
 
 -- what holds of each of a list, and of two lists entry by entry
 pub data All {A : Type 0} (P : A → Type 0) : List A → Type 0 where
@@ -62,23 +63,20 @@ pub record ToldWell (diagnostics messages : Buffer) (k : ℕ) : Type 0 where
   pub primaryWell : wellFormed (take primary (drop (start + message) (messages .words))) ≡ true
 
 module _ (r : Run) where
-  abbrev pub texts : Texts
-  texts = r .ctx .texts
-
-  -- where it is names that are claimed to be well formed
-  abbrev pub Loud : Type 0
-  Loud = r .quiet → ⊥
+  -- it is names that are claimed to be well formed
+  abbrev pub OfNames : Type 0
+  OfNames = r .clean → ⊥
 
   abbrev pub Name : List ℕ → Type 0
-  Name n = Loud → wellFormed n ≡ true
+  Name n = OfNames → wellFormed n ≡ true
 
   abbrev pub NameAt : (word : ℕ) → Type 0
   NameAt w = Name (nameBytes (r .ctx .texts) w)
 
-  -- A type of well formed names, free of Unknown.
+  -- A type whose names are well formed, or which is free of Unknown, whichever is claimed.
   mutual
     pub data Fine : Ty → Type 0 where
-      flat : {k : ℕ} → 1 ≤ k → (r .quiet → k ≡ 11 → ⊥) → Fine (plain k)
+      flat : {k : ℕ} → 1 ≤ k → (r .clean → k ≡ 11 → ⊥) → Fine (plain k)
       wrapped : {k : ℕ} {x : Ty} → Fine x → Fine (wrap k x)
       recorded : {fs : Fields} → FineFields fs → Fine (rec fs)
       called : {k : ℕ} {n : List ℕ} → Name n → Fine (named k n)
@@ -100,11 +98,11 @@ module _ (r : Run) where
 
   -- the words in slots, in scope, of own functions and of Externs
   abbrev pub Good : Buffer → ℕ → Type 0
-  Good b w = Typed (r .quiet) b w
+  Good b w = Typed (r .clean) b w
 
   -- A name in scope. "none is a poisoned binding".
   pub data Bound (b : Buffer) : Option ℕ → Type 0 where
-    poisoned : Loud → Bound b none
+    poisoned : OfNames → Bound b none
     bound : {w : ℕ} → Good b w → Bound b (some w)
 
   pub record LocalOk (b : Buffer) (l : Local) : Type 0 where
@@ -124,7 +122,7 @@ module _ (r : Run) where
     pub params : Both (ParamOk b) (f .params) trees
     pub ret : Ty
     pub returns : Is b (f .ret) ret
-    pub stands : r .quiet → (p : List ℕ → Bool) → allSlotsAre p trees ≡ true → slotsAre p ret ≡ true
+    pub stands : r .clean → (p : List ℕ → Bool) → allSlotsAre p trees ≡ true → slotsAre p ret ≡ true
 
   pub record FunctionOk (b : Buffer) (f : Function) : Type 0 where
     pub sig : SignatureOk b (f .sig)
@@ -146,9 +144,9 @@ module _ (r : Run) where
     pub packages : All (PackageOk (s .types)) (s .packages)
     pub own : All (FunctionOk (s .types)) (s .own)
     pub library : All (PackageOk (s .types)) (r .ctx .library)
-    pub told : Loud → (k : ℕ) → k < s .diagnostics .used → ToldWell (s .diagnostics) (s .messages) k
+    pub told : OfNames → (k : ℕ) → k < s .diagnostics .used → ToldWell (s .diagnostics) (s .messages) k
 
   -- An answer: a slot that has a type, or poison, which there is only after a diagnostic.
   pub data AnswerOk (s : World) : Answer → Type 0 where
     known : {a : ℕ} → Recorded s a → AnswerOk s (Known a)
-    poison : Loud → AnswerOk s Poison
+    poison : OfNames → AnswerOk s Poison

@@ -73,11 +73,11 @@ module _ (r : Run) where
   -- what a block answers, and the nodes visited by then
   pub record BlockOk (ys : List Node) (u : World) (a : Answer) : Type 0 where
     pub answer : AnswerOk r u a
-    pub seen : r .quiet → Seen r u ys
+    pub seen : r .clean → Seen r u ys
 
   record FnOk (ys : List Node) (u : World) (ret : ℕ) : Type 0 where
     type : Good r (u .types) ret
-    seen : r .quiet → Seen r u ys
+    seen : r .clean → Seen r u ys
 
   pub g-fn : (n slot name : ℕ) (e : TypeExpr) (args : List Arg) (ys : List Node) (body : Walk Answer) → Below slot → NameAt r name → ProperType Below (NameAt r) e → ProperArgs Below (NameAt r) args → ArgSlots Below (slot + 1) args
       → ((s : World) → (Silent r s → Holds r s) → Gives r (BlockOk ys) s (body s)) → {s : World} → (Silent r s → Holds r s)

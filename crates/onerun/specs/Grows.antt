@@ -17,7 +17,7 @@ use Rattle.library.specs.Package.{Param, Signature, Function, Package}
 use Rattle.rules.specs.World.{Local, World, withTypes}
 use Rattle.tworuns.specs.Means.{Means, means-kind, means-tyOf, means-grow, Grown}
 use Rattle.tworuns.specs.Means as M
-use Rattle.onerun.specs.Claim.{Run, All, end, and, Both, Loud, Fine, flat, wrapped, recorded, called, FineFields, noMore, oneMore, Is, Typed, Good, Bound, poisoned, bound, LocalOk, BindingOk, ParamOk, SignatureOk, FunctionOk, PackageOk, Holds}
+use Rattle.onerun.specs.Claim.{Run, All, end, and, Both, OfNames, Fine, flat, wrapped, recorded, called, FineFields, noMore, oneMore, Is, Typed, Good, Bound, poisoned, bound, LocalOk, BindingOk, ParamOk, SignatureOk, FunctionOk, PackageOk, Holds}
 use Rattle.onerun.specs.Claim as C
 
 pub all-map : {A : Type 0} {P Q : A → Type 0} {xs : List A} → ((a : A) → P a → Q a) → All P xs → All Q xs
@@ -89,26 +89,26 @@ module _ (r : Run) where
   mutual
     unfolding namesWellFormed
 
-    pub fine-names : Loud r → {x : Ty} → Fine r x → namesWellFormed x ≡ true
+    pub fine-names : OfNames r → {x : Ty} → Fine r x → namesWellFormed x ≡ true
     fine-names l (flat p q) = refl
     fine-names l (wrapped f) = fine-names l f
     fine-names l (recorded fs) = fine-fields l fs
     fine-names l (called n) = n l
 
-    fine-fields : Loud r → {fs : Fields} → FineFields r fs → fieldsWellFormed fs ≡ true
+    fine-fields : OfNames r → {fs : Fields} → FineFields r fs → fieldsWellFormed fs ≡ true
     fine-fields l noMore = refl
     fine-fields l (oneMore {n = n} {x = x} {fs = fs} m f rest) = rw (m l, fine-names l f, fine-fields l rest) refl
 
   mutual
     unfolding containsUnknown
 
-    pub fine-known : r .quiet → {x : Ty} → Fine r x → containsUnknown x ≡ false
+    pub fine-known : r .clean → {x : Ty} → Fine r x → containsUnknown x ≡ false
     fine-known q (flat {k = k} p u) = ne-eqb k 11 (u q)
     fine-known q (wrapped f) = fine-known q f
     fine-known q (recorded fs) = fields-known q fs
     fine-known q (called n) = refl
 
-    fields-known : r .quiet → {fs : Fields} → FineFields r fs → anyUnknown fs ≡ false
+    fields-known : r .clean → {fs : Fields} → FineFields r fs → anyUnknown fs ≡ false
     fields-known q noMore = refl
     fields-known q (oneMore m f rest) = rw (fine-known q f, fields-known q rest) refl
 
@@ -116,10 +116,10 @@ module _ (r : Run) where
     pub typed-tree : tyOf (r .ctx .texts) (b .words) w ≡ h .tree
     typed-tree = is-tree (h .is)
 
-    pub typed-names : Loud r → namesWellFormed (tyOf (r .ctx .texts) (b .words) w) ≡ true
+    pub typed-names : OfNames r → namesWellFormed (tyOf (r .ctx .texts) (b .words) w) ≡ true
     typed-names l = rw typed-tree (fine-names l (h .is .fine))
 
-    pub typed-known : r .quiet → containsUnknown (tyOf (r .ctx .texts) (b .words) w) ≡ false
+    pub typed-known : r .clean → containsUnknown (tyOf (r .ctx .texts) (b .words) w) ≡ false
     typed-known q = rw typed-tree (fine-known q (h .is .fine))
 
     pub typed-free : free → containsSlot (tyOf (r .ctx .texts) (b .words) w) ≡ false
@@ -129,5 +129,5 @@ module _ (r : Run) where
     typed-kind = means-kind (h .is .means)
 
 -- a type whose names alone are claimed has no slot where nothing is claimed of slots
-pub loud-typed : (r : Run) {b : Buffer} {w : ℕ} {x : Ty} → Loud r → Is r b w x → Good r b w
-loud-typed r {x = x} l h = record { tree = x; is = h; noSlot = λ q. absurd (l q) }
+pub names-typed : (r : Run) {b : Buffer} {w : ℕ} {x : Ty} → OfNames r → Is r b w x → Good r b w
+names-typed r {x = x} l h = record { tree = x; is = h; noSlot = λ q. absurd (l q) }

@@ -15,7 +15,7 @@ use Rattle.rules.specs.declared.Answer.the-variants.{Known, Poison}
 use Rattle.rules.specs.World.{World, Walk, withSlots, withTypes}
 use Rattle.rules.specs.Steps.{Done, known, ifKnown, onOption, setKnown, raised, onTypes}
 use Rattle.tworuns.specs.Means.{Grown, grown-same, grown-trans}
-use Rattle.onerun.specs.Claim.{Run, Loud, Good, Recorded, Holds, AnswerOk, poison}
+use Rattle.onerun.specs.Claim.{Run, OfNames, Good, Recorded, Holds, AnswerOk, poison}
 use Rattle.onerun.specs.Claim as C
 use Rattle.onerun.specs.Grows.{holds-grow, typed-other}
 
@@ -32,7 +32,7 @@ later x y = record { more = omega (arith, x .more, y .more) }
 module _ (r : Run) where
   -- no diagnostic was raised, or that is not asked
   pub record Silent (s : World) : Type 0 where
-    pub none : r .quiet → s .diagnostics .used ≡ 0
+    pub none : r .clean → s .diagnostics .used ≡ 0
 
   pub before : {s u : World} → Later s u → Silent u → Silent s
   before t z = record { none = λ q. omega (arith, t .more, z .none q) }
@@ -126,23 +126,23 @@ module _ (r : Run) where
   -- the answer of a node's rule: its own slot has a type, or it is poisoned
   pub record Own (slot : ℕ) (u : World) (a : Answer) : Type 0 where
     pub answer : AnswerOk r u a
-    pub own : r .quiet → Recorded r u slot
+    pub own : r .clean → Recorded r u slot
 
-  pub own-poison : {slot : ℕ} {u : World} → Loud r → Own slot u Poison
+  pub own-poison : {slot : ℕ} {u : World} → OfNames r → Own slot u Poison
   own-poison l = record { answer = poison l; own = λ q. absurd (l q) }
 
   -- "a Known answer yields its slot, otherwise Poison ends the rule"
-  pub g-known : {Q : World → Answer → Type 0} {a : Answer} (f : ℕ → Walk Answer) {s : World} → (Silent s → Holds r s) → (Silent s → AnswerOk r s a) → (Loud r → Q s Poison)
+  pub g-known : {Q : World → Answer → Type 0} {a : Answer} (f : ℕ → Walk Answer) {s : World} → (Silent s → Holds r s) → (Silent s → AnswerOk r s a) → (OfNames r → Q s Poison)
       → ((x : ℕ) → (Silent s → Recorded r s x) → Gives Q s (f x s)) → Gives Q s (known a f s)
   unfolding known
   g-known {a = Known x} f h k p g = g x (λ z. has (k z))
     where
       has : {u : World} → AnswerOk r u (Known x) → Recorded r u x
       has (C.known e) = e
-  g-known {a = Poison} f h k p g = g-return h (λ z. p (loud (k z)))
+  g-known {a = Poison} f h k p g = g-return h (λ z. p (ofNames (k z)))
     where
-      loud : {u : World} → AnswerOk r u Poison → Loud r
-      loud (poison l) = l
+      ofNames : {u : World} → AnswerOk r u Poison → OfNames r
+      ofNames (poison l) = l
 
   pub g-ifKnown : {Q : World → Done → Type 0} {a : Answer} (f : ℕ → Walk Done) {s : World} → (Silent s → Holds r s) → (Silent s → AnswerOk r s a) → (Silent s → Q s tt)
       → ((x : ℕ) → (Silent s → Recorded r s x) → Gives Q s (f x s)) → Gives Q s (ifKnown a f s)

@@ -16,12 +16,12 @@ use Rattle.rules.specs.Steps as S
 use Rattle.rules.specs.Calls.{calleeOf, providedOf}
 use Rattle.rules.specs.Rules.{Member, alike, silent, differs, goOn, Branch, node, block, last, visitAll, cases, values, array, members}
 use Rattle.rules.specs.Visited.{visitedBelow, visitedAmong, visitedInCases, visitedInValues}
-use Rattle.onerun.specs.Claim.{Run, All, end, and, Loud, NameAt, Good, Holds, AnswerOk, poison}
+use Rattle.onerun.specs.Claim.{Run, All, end, and, OfNames, NameAt, Good, Holds, AnswerOk, poison}
 use Rattle.onerun.specs.Claim as C
 use Rattle.onerun.specs.Grows.{all-map, typed-grow}
 use Rattle.onerun.specs.Logic.{Silent, before, Gives, g-next, g-return, g-map, g-onTypes, g-known, g-set, own-poison, answer-later}
 use Rattle.onerun.specs.Report.{g-report}
-use Rattle.onerun.specs.Seen.{Seen, seen-later, seen-both, NodeOk, g-keep, loud-node, node-poison}
+use Rattle.onerun.specs.Seen.{Seen, seen-later, seen-both, NodeOk, g-keep, names-node, node-poison}
 use Rattle.onerun.specs.Scope.{answer-env, seen-env, g-insert, g-hold, g-framed}
 use Rattle.onerun.specs.Types.{PairsTyped, no-typed, more-typed, t-recordGood, low-good, void-good}
 use Rattle.onerun.specs.Operators.{g-fuse, g-unary, g-cast}
@@ -55,47 +55,47 @@ module _ (r : Run) where
   abbrev pub Visited : Node → World → Answer → Type 0
   Visited x u a = NodeOk r (slotOf x) (visitedBelow x) u a
 
-  whole : (x : Node) {u : World} {a : Answer} → Visited x u a → r .quiet → Seen r u (x ∷ visitedBelow x)
+  whole : (x : Node) {u : World} {a : Answer} → Visited x u a → r .clean → Seen r u (x ∷ visitedBelow x)
   whole x h q = and (h .own .own q) (h .seen q)
 
   -- nodes visited before
-  more-node : {slot : ℕ} {xs ys : List Node} {s : World} {x : Result World Refusal Answer} → (Silent r s → r .quiet → Seen r s xs) → Gives r (NodeOk r slot ys) s x → Gives r (NodeOk r slot (xs ++ ys)) s x
+  more-node : {slot : ℕ} {xs ys : List Node} {s : World} {x : Result World Refusal Answer} → (Silent r s → r .clean → Seen r s xs) → Gives r (NodeOk r slot ys) s x → Gives r (NodeOk r slot (xs ++ ys)) s x
   more-node h g = g-map r (λ u a t f z. record { own = f z .value .own; seen = λ q. seen-both r (seen-later r (f z) (h (before r t z) q)) (f z .value .seen q) }) g
 
-  more-block : {xs ys : List Node} {s : World} {x : Result World Refusal Answer} → (Silent r s → r .quiet → Seen r s xs) → Gives r (BlockOk r ys) s x → Gives r (BlockOk r (xs ++ ys)) s x
+  more-block : {xs ys : List Node} {s : World} {x : Result World Refusal Answer} → (Silent r s → r .clean → Seen r s xs) → Gives r (BlockOk r ys) s x → Gives r (BlockOk r (xs ++ ys)) s x
   more-block h g = g-map r (λ u a t f z. record { answer = f z .value .answer; seen = λ q. seen-both r (seen-later r (f z) (h (before r t z) q)) (f z .value .seen q) }) g
 
-  g-goOn : {slot : ℕ} {ys : List Node} (m : Member) (b : Bool) (f : Bool → Walk Answer) {s : World} → (Silent r s → Holds r s) → (Silent r s → MemberOk r m) → (Silent r s → b ≡ true → Loud r)
-      → ((b : Bool) → (Silent r s → b ≡ true → Loud r) → Gives r (NodeOk r slot ys) s (f b s)) → Gives r (NodeOk r slot ys) s (goOn m b f s)
+  g-goOn : {slot : ℕ} {ys : List Node} (m : Member) (b : Bool) (f : Bool → Walk Answer) {s : World} → (Silent r s → Holds r s) → (Silent r s → MemberOk r m) → (Silent r s → b ≡ true → OfNames r)
+      → ((b : Bool) → (Silent r s → b ≡ true → OfNames r) → Gives r (NodeOk r slot ys) s (f b s)) → Gives r (NodeOk r slot ys) s (goOn m b f s)
   unfolding goOn
   g-goOn alike b f h k l g = g b l
-  g-goOn silent b f h k l g = g true (λ z _. loud (k z))
+  g-goOn silent b f h k l g = g true (λ z _. ofNames (k z))
     where
-      loud : MemberOk r silent → Loud r
-      loud (isSilent o) = o
-  g-goOn differs b f h k l g = g-return r h (λ z. loud-node r (loud (k z)))
+      ofNames : MemberOk r silent → OfNames r
+      ofNames (isSilent o) = o
+  g-goOn differs b f h k l g = g-return r h (λ z. names-node r (ofNames (k z)))
     where
-      loud : MemberOk r differs → Loud r
-      loud (isDifferent o) = o
+      ofNames : MemberOk r differs → OfNames r
+      ofNames (isDifferent o) = o
 
   -- an argument's answer
-  poison-loud : {s : World} {a : Answer} (b : Bool) → AnswerOk r s a → (b ≡ true → Loud r) → (isPoison a || b) ≡ true → Loud r
+  poison-names : {s : World} {a : Answer} (b : Bool) → AnswerOk r s a → (b ≡ true → OfNames r) → (isPoison a || b) ≡ true → OfNames r
   unfolding isPoison
-  poison-loud b (C.known e) k i = k i
-  poison-loud b (poison o) k i = o
+  poison-names b (C.known e) k i = k i
+  poison-names b (poison o) k i = o
 
   record ArgumentsOk (xs : Nodes) (u : World) (b : Bool) : Type 0 where
     provided : All (ProvidedOk r u) (providedOf xs)
-    loud : b ≡ true → Loud r
-    seen : r .quiet → Seen r u (visitedAmong xs)
+    ofNames : b ≡ true → OfNames r
+    seen : r .clean → Seen r u (visitedAmong xs)
 
   record CasesOk (ys : List Node) (u : World) (bs : List Branch) : Type 0 where
     branches : All (BranchOk r u) bs
-    seen : r .quiet → Seen r u ys
+    seen : r .clean → Seen r u ys
 
   record ValuesOk (ys : List Node) (u : World) (ps : List ℕ) : Type 0 where
     pairs : PairsTyped r (u .types) ps
-    seen : r .quiet → Seen r u ys
+    seen : r .clean → Seen r u ys
 
   mutual
     unfolding node Proper visitedBelow slotOf providedOf S.poison
@@ -123,7 +123,7 @@ module _ (r : Run) where
         (g-matched r n slot (p .0) bs (λ z. g z .holds) (λ z. all-map (branch-later r (g z)) (f (before r t₁ z) .value .branches)) (λ z. g z .value .answer))))
     g-node (Call n slot target args) p h =
         g-call r n slot (p .0) (providedOf args) (visitedAmong args) (Below r) (calleeOf target) (p .1) (visitAll (r .ctx) args) h
-        (g-map r (λ u b t f z. let x = f z .value in record { provided = x .provided; loud = x .loud; seen = x .seen }) (g-all args (p .2) h))
+        (g-map r (λ u b t f z. let x = f z .value in record { provided = x .provided; ofNames = x .ofNames; seen = x .seen }) (g-all args (p .2) h))
     g-node (Field n slot target name) p h =
         g-next r _ (g-node target (p .1) h) (λ a u t f. g-keep r (λ z q. whole target (f z .value) q)
         (g-known r _ (λ z. f z .holds) (λ z. f z .value .own .answer) (λ o. own-poison r o) (λ i ei. g-field r (λ z. f z .holds) n slot name (p .0) (p .2) ei)))
@@ -155,12 +155,12 @@ module _ (r : Run) where
         g-next r _ (g-node x (p .0) h) (λ b u t f. more-block (λ z q. whole x (f z .value) q) (g-last xs (p .1) (λ z. f z .holds) (λ z. f z .value .own .answer)))
 
     g-all : (xs : Nodes) → ProperAll (Below r) (NameAt r) xs → {s : World} → (Silent r s → Holds r s) → Gives r (ArgumentsOk xs) s (visitAll (r .ctx) xs s)
-    g-all done p h = g-return r h (λ z. record { provided = end; loud = λ e. absurd (false≢true e); seen = λ q. end })
+    g-all done p h = g-return r h (λ z. record { provided = end; ofNames = λ e. absurd (false≢true e); seen = λ q. end })
     g-all (then x xs) p h =
         g-next r _ (g-node x (p .0) h) (λ a u t f. g-next r _ (g-all xs (p .1) (λ z. f z .holds)) (λ b v t₁ g.
         g-return r (λ z. g z .holds) (λ z. let y = f (before r t₁ z) .value in record {
           provided = and (record { low = let l = proper-slot x (p .0) in omega arith; has = λ q. g z .recorded (slotOf x) (y .own .own q) }) (g z .value .provided);
-          loud = poison-loud b (y .own .answer) (g z .value .loud);
+          ofNames = poison-names b (y .own .answer) (g z .value .ofNames);
           seen = λ q. seen-both r (seen-later r (g z) (whole x y q)) (g z .value .seen q);
         })))
 
@@ -198,7 +198,7 @@ module _ (r : Run) where
         g-next r _ (g-node x (p .0) h) (λ a u t f. more-node (λ z q. whole x (f z .value) q)
         (g-members n slot xs false o (p .1) (λ z. f z .holds) (λ z. f z .value .own .answer) (λ z e. absurd (false≢true e))))
 
-    g-members : (n slot : ℕ) (xs : Nodes) (b : Bool) {a : Answer} → slot < r .ctx .void → ProperAll (Below r) (NameAt r) xs → {s : World} → (Silent r s → Holds r s) → (Silent r s → AnswerOk r s a) → (Silent r s → b ≡ true → Loud r)
+    g-members : (n slot : ℕ) (xs : Nodes) (b : Bool) {a : Answer} → slot < r .ctx .void → ProperAll (Below r) (NameAt r) xs → {s : World} → (Silent r s → Holds r s) → (Silent r s → AnswerOk r s a) → (Silent r s → b ≡ true → OfNames r)
         → Gives r (NodeOk r slot (visitedAmong xs)) s (members (r .ctx) n slot a b xs s)
     g-members n slot done b o p h k l = g-keep r (λ z q. end) (g-arrayOf r h n slot o k b l)
     g-members n slot (then x xs) b o p h k l =

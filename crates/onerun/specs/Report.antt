@@ -22,7 +22,7 @@ use Rattle.rules.specs.Steps.{Done, raisedTold, report, outputOf}
 use Rattle.rules.specs.Steps as S
 use Rattle.tworuns.specs.Means.{grown-same}
 use Rattle.tworuns.specs.Written.{getD-before, take-written, getD-written}
-use Rattle.onerun.specs.Claim.{Run, Loud, ToldWell, Holds}
+use Rattle.onerun.specs.Claim.{Run, OfNames, ToldWell, Holds}
 use Rattle.onerun.specs.Logic.{Silent, After, Gives, gives, stopped, g-next, g-return, Own, own-poison}
 
 -- ── Parts of a list ──
@@ -130,17 +130,17 @@ module _ (s : World) (d : Diagnostic) (room : Room s d) where
 module _ (r : Run) where
   -- after a diagnostic, it is names that are claimed, or nothing
   abbrev pub Raised : {A : Type 0} → World → A → Type 0
-  Raised u a = Loud r
+  Raised u a = OfNames r
 
-  module _ {s : World} (h : Silent r s → Holds r s) (n : ℕ) {d : Diagnostic} (w : Loud r → Silent r s → WellFormed d) where
+  module _ {s : World} (h : Silent r s → Holds r s) (n : ℕ) {d : Diagnostic} (w : OfNames r → Silent r s → WellFormed d) where
     abbrev u : World
     u = withTold s (oneMore (s .diagnostics) (sixWords d (s .messages .used))) (append (s .messages) (bytesOf d))
 
-    loud : Silent r u → Loud r
-    loud z q = let e = z .none q in omega arith
+    ofNames : Silent r u → OfNames r
+    ofNames z q = let e = z .none q in omega arith
 
     before-it : Silent r u → Silent r s
-    before-it z = record { none = λ q. absurd (loud z q) }
+    before-it z = record { none = λ q. absurd (ofNames z q) }
 
     after-report : Room s d → Silent r u → After r Raised s u (tt {0})
     after-report room z =
@@ -158,7 +158,7 @@ module _ (r : Run) where
             library = x .library;
             told = λ l. told-all s d room (x .told l) (w l (before-it z));
           };
-          value = loud z;
+          value = ofNames z;
         }
 
     pub g-report : Gives r Raised s (report n d s)

@@ -22,7 +22,7 @@ use Rattle.rules.specs.Steps.{onOption, setKnown, ty, tree, tyTree}
 use Rattle.rules.specs.Rules.{ident, letBinding, fieldType, field, valueType, Member, alike, silent, differs, memberTypes, member, arrayOf, condition, Branch, compareBranches, matched, importOne, importAll}
 use Rattle.tworuns.specs.Means.{Means}
 use Rattle.tworuns.specs.Means as M
-use Rattle.onerun.specs.Claim.{Run, All, end, and, Loud, NameAt, Fine, flat, Good, Bound, poisoned, bound, Recorded, Holds, AnswerOk, poison}
+use Rattle.onerun.specs.Claim.{Run, All, end, and, OfNames, NameAt, Fine, flat, Good, Bound, poisoned, bound, Recorded, Holds, AnswerOk, poison}
 use Rattle.onerun.specs.Claim as C
 use Rattle.onerun.specs.Grows.{all-map, typed-names, typed-known}
 use Rattle.onerun.specs.Logic.{Silent, before, After, Gives, g-next, g-return, g-when, g-option, g-map, g-onTypes, g-known, g-ifKnown, g-set, Own, own-poison, answer-later}
@@ -36,7 +36,7 @@ use Rattle.onerun.specs.Proper.{ProperNames}
 
 module _ (r : Run) where
   -- where nothing may be Unknown, no kind is
-  kind-known : {b : Buffer} {w : ℕ} {x : Ty} → r .quiet → Means (r .ctx .texts) (b .words) (b .used) w x → Fine r x → kindOf w ≡ 11 → ⊥
+  kind-known : {b : Buffer} {w : ℕ} {x : Ty} → r .clean → Means (r .ctx .texts) (b .words) (b .used) w x → Fine r x → kindOf w ≡ 11 → ⊥
   kind-known q (M.flat e p z) (flat l u) k = u q (sym e ∙ k)
   kind-known q (M.wrapped e h l m) f k = true≢false (sym h ∙ ap wraps (sym e ∙ k))
   kind-known q (M.recorded e l m) f k = let i = sym e ∙ k in omega arith
@@ -48,14 +48,14 @@ module _ (r : Run) where
       g-option r _ _ (λ _. g-poison r h n (λ l z. noBinding-well name _ (m l)))
       (λ o e. at o (λ z. local-found r _ (h z .env) e))
     where
-      loud : {b : Buffer} → Bound r b none → Loud r
-      loud (poisoned l) = l
+      ofNames : {b : Buffer} → Bound r b none → OfNames r
+      ofNames (poisoned l) = l
 
       good : {b : Buffer} {w : ℕ} → Bound r b (some w) → Good r b w
       good (bound g) = g
 
       at : (o : Option ℕ) → (Silent r s → Bound r (s .types) o) → Gives r (Own r slot) s (onOption o (return Poison) (λ w. setKnown slot w) s)
-      at o k = g-option r _ _ (λ e. g-return r h (λ z. own-poison r (loud (rw e at (k z))))) (λ w e. g-set r slot own h (λ z. good (rw e at (k z))))
+      at o k = g-option r _ _ (λ e. g-return r h (λ z. own-poison r (ofNames (rw e at (k z))))) (λ w e. g-set r slot own h (λ z. good (rw e at (k z))))
 
   pub g-let : (n name : ℕ) {a : Answer} {s : World} → (Silent r s → Holds r s) → (Silent r s → AnswerOk r s a) → Gives r (λ u o. Bound r (u .types) o) s (letBinding n name a s)
   unfolding letBinding ty
@@ -65,17 +65,17 @@ module _ (r : Run) where
     where
       good : Holds r s → AnswerOk r s (Known a) → Good r (s .types) (getD (s .slots) a 0)
       good h (C.known e) = h .slots a e
-  g-let n name {a = Poison} h k = g-return r h (λ z. loud (k z))
+  g-let n name {a = Poison} h k = g-return r h (λ z. ofNames (k z))
     where
-      loud : {s : World} → AnswerOk r s Poison → Bound r (s .types) none
-      loud (poison l) = poisoned l
+      ofNames : {s : World} → AnswerOk r s Poison → Bound r (s .types) none
+      ofNames (poison l) = poisoned l
 
   module _ {s : World} (h : Silent r s → Holds r s) where
     g-fieldType : (slot : ℕ) {w : ℕ} → slot < r .ctx .void → (Silent r s → Good r (s .types) w) → Gives r (Own r slot) s (fieldType slot w s)
     unfolding fieldType
     g-fieldType slot {w} own g =
         g-when r _ _
-        (λ e. let l : Silent r s → Loud r = λ z q. kind-known q (g z .is .means) (g z .is .fine) (eqb-true (kindOf w) 11 e) in
+        (λ e. let l : Silent r s → OfNames r = λ z q. kind-known q (g z .is .means) (g z .is .fine) (eqb-true (kindOf w) 11 e) in
         g-next r _ (g-set r slot own h (λ z. unknown-good r (s .types) (l z))) (λ _ u t x. g-return r (λ z. x z .holds) (λ z. own-poison r (l (before r t z)))))
         (λ _. g-set r slot own h g)
 
@@ -95,10 +95,10 @@ module _ (r : Run) where
       where
         good : Holds r s → AnswerOk r s (Known a) → Good r (s .types) (getD (s .slots) a 0)
         good h (C.known e) = h .slots a e
-    g-value {a = Poison} k = g-return r h (λ z. loud (k z))
+    g-value {a = Poison} k = g-return r h (λ z. ofNames (k z))
       where
-        loud : AnswerOk r s Poison → Good r (s .types) unknownWord
-        loud (poison l) = unknown-good r (s .types) l
+        ofNames : AnswerOk r s Poison → Good r (s .types) unknownWord
+        ofNames (poison l) = unknown-good r (s .types) l
 
     pub g-condition : (n token : ℕ) {a : Answer} → (Silent r s → AnswerOk r s a) → Gives r (Any r) s (condition (r .ctx) n token a s)
     unfolding condition tyTree ty tree
@@ -106,7 +106,7 @@ module _ (r : Run) where
         g-ifKnown r _ h k (λ z. tt) (λ a e. g-when r _ _ (λ _. g-return r h (λ z. tt))
         (λ _. g-map r (λ u _ t x z. tt) (g-report r h n (λ o z. badCondition-well token _ (typed-names r (slot-good r h e z) o)))))
 
-    pub g-arrayOf : (n slot : ℕ) → slot < r .ctx .void → {a : Answer} → (Silent r s → AnswerOk r s a) → (b : Bool) → (Silent r s → b ≡ true → Loud r) → Gives r (Own r slot) s (arrayOf (r .ctx) n slot a b s)
+    pub g-arrayOf : (n slot : ℕ) → slot < r .ctx .void → {a : Answer} → (Silent r s → AnswerOk r s a) → (b : Bool) → (Silent r s → b ≡ true → OfNames r) → Gives r (Own r slot) s (arrayOf (r .ctx) n slot a b s)
     unfolding arrayOf ty
     g-arrayOf n slot own k b l =
         g-known r _ h k (λ o. own-poison r o) (λ a ea. g-when r _ _ (λ e. g-return r h (λ z. own-poison r (l z e)))
@@ -117,8 +117,8 @@ module _ (r : Run) where
   -- a member is alike, or it is names that are claimed
   pub data MemberOk : Member → Type 0 where
     isAlike : MemberOk alike
-    isSilent : Loud r → MemberOk silent
-    isDifferent : Loud r → MemberOk differs
+    isSilent : OfNames r → MemberOk silent
+    isDifferent : OfNames r → MemberOk differs
 
   g-members : (n : ℕ) (span : Span) (a b : ℕ) {s : World} → (Silent r s → Holds r s) → (Silent r s → Good r (s .types) (getD (s .slots) a 0)) → (Silent r s → Good r (s .types) (getD (s .slots) b 0))
       → Gives r (λ _ m. MemberOk m) s (memberTypes (r .ctx) n span a b s)
@@ -134,14 +134,14 @@ module _ (r : Run) where
     where
       good : {x : ℕ} → Holds r s → AnswerOk r s (Known x) → Good r (s .types) (getD (s .slots) x 0)
       good {x} h (C.known e) = h .slots x e
-  g-member n span {a = Known a} {b = Poison} h k l = g-return r h (λ z. loud (l z))
+  g-member n span {a = Known a} {b = Poison} h k l = g-return r h (λ z. ofNames (l z))
     where
-      loud : {s : World} → AnswerOk r s Poison → MemberOk silent
-      loud (poison o) = isSilent o
-  g-member n span {a = Poison} {b = b} h k l = g-return r h (λ z. loud (k z))
+      ofNames : {s : World} → AnswerOk r s Poison → MemberOk silent
+      ofNames (poison o) = isSilent o
+  g-member n span {a = Poison} {b = b} h k l = g-return r h (λ z. ofNames (k z))
     where
-      loud : {s : World} → AnswerOk r s Poison → MemberOk silent
-      loud (poison o) = isSilent o
+      ofNames : {s : World} → AnswerOk r s Poison → MemberOk silent
+      ofNames (poison o) = isSilent o
 
   -- ── Branches of a match ──
 

@@ -23,9 +23,9 @@ use Rattle.rules.specs.Steps.{ty, tree, tyTree, poison}
 use Rattle.rules.specs.Calls.{Callee, ownFunction, packageFunction, throughField, noCallee, Provided, resolveCall, paramTrees, providedTrees, overloadMatches, position, allReturn, commonReturn, select, inGroup, resolvePkgCall, call}
 use Rattle.tworuns.specs.Means.{Grown}
 use Rattle.tworuns.specs.Operators.{plain-low}
-use Rattle.onerun.specs.Claim.{Run, All, end, and, Both, Loud, Name, NameAt, Good, ParamOk, SignatureOk, Holds}
+use Rattle.onerun.specs.Claim.{Run, All, end, and, Both, OfNames, Name, NameAt, Good, ParamOk, SignatureOk, Holds}
 use Rattle.onerun.specs.Claim as C
-use Rattle.onerun.specs.Grows.{all-map, signature-grow, is-tree, fine-names, typed-names, typed-free, loud-typed}
+use Rattle.onerun.specs.Grows.{all-map, signature-grow, is-tree, fine-names, typed-names, typed-free, names-typed}
 use Rattle.onerun.specs.Logic.{Silent, before, Gives, g-next, g-return, g-when, g-option, g-set, Own, own-poison}
 use Rattle.onerun.specs.Report.{g-report, g-poison}
 use Rattle.onerun.specs.Seen.{Seen, NodeOk, g-keep, node-poison}
@@ -39,7 +39,7 @@ module _ (r : Run) where
   -- ── What is read ──
 
   -- the names of a slot's type, where it has one and where it has none
-  slot-names : {s : World} {a : ℕ} → Loud r → Holds r s → a ≤ r .ctx .void → namesWellFormed (treeAt r s (getD (s .slots) a 0)) ≡ true
+  slot-names : {s : World} {a : ℕ} → OfNames r → Holds r s → a ≤ r .ctx .void → namesWellFormed (treeAt r s (getD (s .slots) a 0)) ≡ true
   unfolding tyOf namesWellFormed
   slot-names {s} {a} l h low = by (ℕ-discrete (getD (s .slots) a 0) 0)
     where
@@ -47,18 +47,18 @@ module _ (r : Run) where
       by (yes e) = rw (e, unfolded-plain (r .ctx .texts) (s .types .words) 0 {deep = 33} refl refl (plain-low 0 (omega arith))) refl
       by (no n) = typed-names r (h .slots a (record { other = n; low = low })) l
 
-  provided-names : {s : World} → Loud r → Holds r s → {given : List Provided} → All (ProvidedOk r s) given → allWellFormed (map (λ a. treeAt r s (getD (s .slots) (a .slot) 0)) given) ≡ true
+  provided-names : {s : World} → OfNames r → Holds r s → {given : List Provided} → All (ProvidedOk r s) given → allWellFormed (map (λ a. treeAt r s (getD (s .slots) (a .slot) 0)) given) ≡ true
   unfolding allWellFormed
   provided-names l h end = refl
   provided-names l h (and {a = a} x xs) = rw (slot-names l h (x .low), provided-names l h xs) refl
 
-  param-names : (s : World) → Loud r → {ps : List Param} {xs : List Ty} → Both (ParamOk r (s .types)) ps xs → allWellFormed (map (λ p. treeAt r s (p .type)) ps) ≡ true
+  param-names : (s : World) → OfNames r → {ps : List Param} {xs : List Ty} → Both (ParamOk r (s .types)) ps xs → allWellFormed (map (λ p. treeAt r s (p .type)) ps) ≡ true
   unfolding allWellFormed
   param-names s l C.end = refl
   param-names s l (C.and {a = p} h hs) =
       rw (is-tree r (h .type), fine-names r l (h .type .fine), param-names s l hs) refl
 
-  candidate-names : (s : World) → Loud r → {fs : List Signature} → All (SignatureOk r (s .types)) fs → candidatesWellFormed (map (λ f. map (λ p. treeAt r s (p .type)) (f .params)) fs) ≡ true
+  candidate-names : (s : World) → OfNames r → {fs : List Signature} → All (SignatureOk r (s .types)) fs → candidatesWellFormed (map (λ f. map (λ p. treeAt r s (p .type)) (f .params)) fs) ≡ true
   unfolding candidatesWellFormed
   candidate-names s l end = refl
   candidate-names s l (and h hs) = rw (param-names s l (h .params), candidate-names s l hs) refl
@@ -107,14 +107,14 @@ module _ (r : Run) where
       let i = and-eq-true-iff (sameTy (treeAt r u (a .type)) t) (overloadMatches (map (λ p. treeAt r u (p .type)) ps) ts) .0 e in
       and {a = a} (record { are = free-slots p _ (rw (sameTy-true _ t (i .0)) x) }) (matched-slots p u ps ts (i .1) xs)
 
-  taken-good : {u : World} {f : Signature} {ts : List Ty} → Taken ts u f → (r .quiet → All (λ t. containsSlot t ≡ false) ts) → Good r (u .types) (f .ret)
+  taken-good : {u : World} {f : Signature} {ts : List Ty} → Taken ts u f → (r .clean → All (λ t. containsSlot t ≡ false) ts) → Good r (u .types) (f .ret)
   taken-good {u} {f} {ts} x free = record {
     tree = x .sig .ret;
     is = x .sig .returns;
     noSlot = λ q. never-free (x .sig .ret) (x .sig .stands q never (all-slots r never (x .sig .params) (matched-slots never u (f .params) ts (x .matches) (free q))));
   }
 
-  provided-free : {s : World} → r .quiet → Holds r s → {given : List Provided} → All (ProvidedOk r s) given → All (λ t. containsSlot t ≡ false) (map (λ a. treeAt r s (getD (s .slots) (a .slot) 0)) given)
+  provided-free : {s : World} → r .clean → Holds r s → {given : List Provided} → All (ProvidedOk r s) given → All (λ t. containsSlot t ≡ false) (map (λ a. treeAt r s (getD (s .slots) (a .slot) 0)) given)
   provided-free q h end = end
   provided-free q h (and {a = a} x xs) = and (typed-free r (h .slots (a .slot) (x .has q)) q) (provided-free q h xs)
 
@@ -125,17 +125,17 @@ module _ (r : Run) where
   g-allReturn t [] h = g-return r h (λ z. tt)
   g-allReturn t (f ∷ fs) h = g-when r _ _ (λ _. g-allReturn t fs h) (λ _. g-return r h (λ z. tt))
 
-  g-common : (slot : ℕ) → slot < r .ctx .void → (f : Signature) (others : List Signature) {s : World} → (Silent r s → Holds r s) → (Silent r s → Loud r) → (Silent r s → SignatureOk r (s .types) f)
+  g-common : (slot : ℕ) → slot < r .ctx .void → (f : Signature) (others : List Signature) {s : World} → (Silent r s → Holds r s) → (Silent r s → OfNames r) → (Silent r s → SignatureOk r (s .types) f)
       → Gives r (Own r slot) s (commonReturn (r .ctx) slot f others s)
   unfolding commonReturn tree
   g-common slot own f others h l k =
       g-next r _ (g-allReturn _ others h) (λ b u t x.
-      g-when r _ _ (λ _. g-set r slot own (λ z. x z .holds) (λ z. loud-typed r (l (before r t z)) (signature-grow r (x z .grown) f (k (before r t z)) .returns)))
+      g-when r _ _ (λ _. g-set r slot own (λ z. x z .holds) (λ z. names-typed r (l (before r t z)) (signature-grow r (x z .grown) f (k (before r t z)) .returns)))
       (λ _. g-return r (λ z. x z .holds) (λ z. own-poison r (l (before r t z)))))
 
   module _ (n slot : ℕ) (own : slot < r .ctx .void) (given : List Provided) where
     g-select : (token : ℕ) (name : List ℕ) → Name r name → (f : Signature) (others : List Signature) (poisoned : Bool) {s : World} → (Silent r s → Holds r s) → (Silent r s → All (ProvidedOk r s) given)
-        → (Silent r s → All (SignatureOk r (s .types)) (f ∷ others)) → (Silent r s → poisoned ≡ true → Loud r) → Gives r (Own r slot) s (select (r .ctx) n slot token name f others given poisoned s)
+        → (Silent r s → All (SignatureOk r (s .types)) (f ∷ others)) → (Silent r s → poisoned ≡ true → OfNames r) → Gives r (Own r slot) s (select (r .ctx) n slot token name f others given poisoned s)
     unfolding select
     g-select token name m f others poisoned {s} h i k l =
         g-when r _ _ (λ e. g-common slot own f others h (λ z. l z e) (λ z. first (k z)))
@@ -164,7 +164,7 @@ module _ (r : Run) where
             by (taken y) = y
 
     g-group : (token : ℕ) (name : List ℕ) → Name r name → (fs : List Signature) (poisoned : Bool) {s : World} → (Silent r s → Holds r s) → (Silent r s → All (ProvidedOk r s) given)
-        → (Silent r s → All (SignatureOk r (s .types)) fs) → (Silent r s → poisoned ≡ true → Loud r) → Gives r (Own r slot) s (inGroup (r .ctx) n slot token name fs given poisoned s)
+        → (Silent r s → All (SignatureOk r (s .types)) fs) → (Silent r s → poisoned ≡ true → OfNames r) → Gives r (Own r slot) s (inGroup (r .ctx) n slot token name fs given poisoned s)
     unfolding inGroup
     g-group token name m [] poisoned h i k l = g-poison r h n (λ o z. undefinedInPackage-well token name (m o))
     g-group token name m (f ∷ []) poisoned h i k l = g-checkCall r n name m slot token own given f h i (λ z. first (k z))
@@ -179,7 +179,7 @@ module _ (r : Run) where
         g-option r _ _ (λ _. g-poison r h n (λ l z. undefinedOwn-well name _ (m l)))
         (λ f e. g-checkCall r n _ m slot name own given f h i (λ z. function-found r _ (h z .own) e))
 
-    g-resolvePkg : (pkg name : ℕ) → NameAt r pkg → NameAt r name → (poisoned : Bool) {s : World} → (Silent r s → Holds r s) → (Silent r s → All (ProvidedOk r s) given) → (Silent r s → poisoned ≡ true → Loud r)
+    g-resolvePkg : (pkg name : ℕ) → NameAt r pkg → NameAt r name → (poisoned : Bool) {s : World} → (Silent r s → Holds r s) → (Silent r s → All (ProvidedOk r s) given) → (Silent r s → poisoned ≡ true → OfNames r)
         → Gives r (Own r slot) s (resolvePkgCall (r .ctx) n slot pkg name given poisoned s)
     unfolding resolvePkgCall
     g-resolvePkg pkg name k m poisoned h i l =
@@ -191,8 +191,8 @@ module _ (r : Run) where
 
     pub record Visits (ys : List Node) (u : World) (poisoned : Bool) : Type 0 where
       pub provided : All (ProvidedOk r u) given
-      pub loud : poisoned ≡ true → Loud r
-      pub seen : r .quiet → Seen r u ys
+      pub ofNames : poisoned ≡ true → OfNames r
+      pub seen : r .clean → Seen r u ys
 
     pub g-call : (ys : List Node) (P : ℕ → Type 0) (f : Callee) → ProperCallee P (NameAt r) f → (visits : Walk Bool) {s : World} → (Silent r s → Holds r s) → Gives r (Visits ys) s (visits s)
         → Gives r (NodeOk r slot ys) s (call (r .ctx) n slot f given visits s)
@@ -200,6 +200,6 @@ module _ (r : Run) where
     g-call ys P (ownFunction name) p visits h v =
         g-next r _ v (λ b u t x. g-keep r (λ z. x z .value .seen) (g-resolveCall name p (λ z. x z .holds) (λ z. x z .value .provided)))
     g-call ys P (packageFunction pkg name) p visits h v =
-        g-next r _ v (λ b u t x. g-keep r (λ z. x z .value .seen) (g-resolvePkg pkg name (p .0) (p .1) b (λ z. x z .holds) (λ z. x z .value .provided) (λ z. x z .value .loud)))
+        g-next r _ v (λ b u t x. g-keep r (λ z. x z .value .seen) (g-resolvePkg pkg name (p .0) (p .1) b (λ z. x z .holds) (λ z. x z .value .provided) (λ z. x z .value .ofNames)))
     g-call ys P (throughField name) p visits h v = node-poison r (g-report r h n (λ l z. callThroughField-well name))
     g-call ys P noCallee p visits h v = absurd p

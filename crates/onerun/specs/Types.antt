@@ -24,7 +24,7 @@ use Rattle.tworuns.specs.Means as M
 use Rattle.tworuns.specs.Types.{PairsMean, noPair, pair, means-wrap, means-record}
 use Rattle.tworuns.specs.Written.{grown-append}
 use Rattle.tworuns.specs.Operators.{plain-low}
-use Rattle.onerun.specs.Claim.{Run, Loud, NameAt, flat, wrapped, recorded, called, FineFields, noMore, oneMore, Is, Good}
+use Rattle.onerun.specs.Claim.{Run, OfNames, NameAt, flat, wrapped, recorded, called, FineFields, noMore, oneMore, Is, Good}
 use Rattle.onerun.specs.Grows.{typed-grow}
 use Rattle.onerun.specs.Logic.{GivesT, typed, stoppedT, t-next, t-map}
 use Rattle.onerun.specs.Proper.{ProperType, ProperTypes}
@@ -83,7 +83,7 @@ module _ (r : Run) where
   pub record PairsTyped (b : Buffer) (ps : List ℕ) : Type 0 where
     pub fields : Fields
     pub are : PairsAre b ps fields
-    pub noSlot : r .quiet → anySlot fields ≡ false
+    pub noSlot : r .clean → anySlot fields ≡ false
 
   pub no-typed : (b : Buffer) → PairsTyped b []
   unfolding containsSlot
@@ -106,7 +106,7 @@ module _ (r : Run) where
   t-recordGood {b} n ps i = t-map r (λ w d y. record { tree = rec (i .fields); is = y; noSlot = i .noSlot }) (t-record n ps (i .are))
 
   -- a word of nothing but a kind
-  pub plain-good : (b : Buffer) (k : ℕ) → Plain k → 1 ≤ k → (r .quiet → k ≡ 11 → ⊥) → Good r b (wordOf k 0)
+  pub plain-good : (b : Buffer) (k : ℕ) → Plain k → 1 ≤ k → (r .clean → k ≡ 11 → ⊥) → Good r b (wordOf k 0)
   unfolding depthOf containsSlot
   plain-good b k p l u = record {
     tree = plain k;
@@ -120,7 +120,7 @@ module _ (r : Run) where
   pub void-good : (b : Buffer) → Good r b voidWord
   void-good b = low-good b 1 (omega arith) (omega arith)
 
-  pub unknown-good : (b : Buffer) → Loud r → Good r b unknownWord
+  pub unknown-good : (b : Buffer) → OfNames r → Good r b unknownWord
   unknown-good b l = plain-good b 11 (record { noWrap = refl; noRecord = λ e. omega arith; noName = refl }) (omega arith) (λ q e. l q)
 
   foreign-good : (b : Buffer) (token : ℕ) → NameAt r token → Good r b (wordOf 9 (payloadOf token))

@@ -38,7 +38,7 @@ use Rattle.onerun.specs.Nodes.{g-last}
 -- what a walk ends in
 pub record Claimed (r : Run) (roots : Nodes) (u : World) : Type 0 where
   pub holds : Holds r u
-  pub seen : r .quiet → Seen r u (visitedAmong roots)
+  pub seen : r .clean → Seen r u (visitedAmong roots)
 
 pub data Ends (r : Run) (roots : Nodes) : Result World Refusal Done → Type 0 where
   ends : {u : World} → (Silent r u → Claimed r roots u) → Ends r roots (ok tt u)

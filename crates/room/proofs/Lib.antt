@@ -1,0 +1,2 @@
+-- The proofs of the test for room.
+pub mod Ways
