@@ -1,6 +1,6 @@
 -- The claims of all nodes as the code finds them, one law for each way out. Assumes nothing.
-use Prim.Native.Nat.{ℕ, zero, suc, _+_, _-_, _≤_, _<_}
-use mathlib.Core.Bool.{Bool, true, false, _||_, true≢false}
+use Prim.Native.Nat.{ℕ, _+_, _-_, _≤_, _<_}
+use mathlib.Core.Bool.{Bool, true, false, true≢false}
 use mathlib.Core.Path.{_≡_, refl, sym, ap, ap₂, _∙_}
 use mathlib.Core.Option.{Option, none, some}
 use mathlib.Core.List.{List, [], _∷_}
@@ -11,6 +11,7 @@ use Rattle.ast.specs.Outline.{Outline}
 use Rattle.ast.specs.Claims.{countFrom, slotsOwned}
 use Rattle.image_laws.specs.OutlineAt.{partsFrom, argumentsAt, partsAt, outlineFrom, outlineAt, outlinesFrom}
 use Rattle.node_parts.specs.Lists.{outlines-next, outlines-none, NodesLeft, nodes-first, nodes-step}
+use Rattle.node_parts.specs.Faults.{fault-same}
 use Rattle.claims.specs.Marks.{markAll, marked, claimsMarked, claimsBy, Marking, Claiming}
 
 -- ── One node ──
@@ -43,26 +44,22 @@ module _ {image : List ℕ} {at : ℕ} {nodes slots nodes′ : List ℕ} {b : Bo
 -- ── All nodes ──
 
 module _ (nodes slots : List ℕ) (i : ℕ) (roots : List ℕ) where
-  by-test : (a b : Bool) (y : Option ℕ) → a ≡ b
-      → _≡_ {A = Option ℕ} (elim a as (λ _. Option ℕ) [ true ↦ some i | false ↦ y ]) (elim b as (λ _. Option ℕ) [ true ↦ some i | false ↦ y ])
-  by-test a b y e = ap (λ t. elim t as (λ _. Option ℕ) [ true ↦ some i | false ↦ y ]) e
-
   node-twice : (o : Outline) (os : List Outline) → claimsMarked nodes slots o ≡ true → claimsBy nodes slots i roots (o ∷ os) ≡ some i
   unfolding claimsBy
-  node-twice o os e = by-test _ true _ e
+  node-twice o os e = fault-same _ true i _ _ e refl
 
   node-once : (o : Outline) (os : List Outline) → claimsMarked nodes slots o ≡ false
       → claimsBy nodes slots i roots (o ∷ os) ≡ claimsBy (markAll nodes (o .parts)) (markAll slots (slotsOwned o)) (i + 1) roots os
   unfolding claimsBy
-  node-once o os e = by-test _ false _ e
+  node-once o os e = fault-same _ false i _ _ e refl
 
   roots-twice : marked nodes roots ≡ true → claimsBy nodes slots i roots [] ≡ some i
   unfolding claimsBy
-  roots-twice e = by-test _ true _ e
+  roots-twice e = fault-same _ true i _ _ e refl
 
   roots-once : marked nodes roots ≡ false → claimsBy nodes slots i roots [] ≡ none
   unfolding claimsBy
-  roots-once e = by-test _ false _ e
+  roots-once e = fault-same _ false i _ _ e refl
 
 -- with roots, marks and the nodes from number i on
 abbrev Left : (image roots nodes slots : List ℕ) (n i : ℕ) → Option ℕ

@@ -2,7 +2,6 @@
 use Prim.Native.Nat.{ℕ, zero, suc, _+_, _≤_, _<_}
 use mathlib.Core.Bool.{Bool, true, false, _||_, cond, or-assoc}
 use mathlib.Core.Path.{_≡_, refl, sym, ap, ap₂, _∙_}
-use mathlib.Core.Option.{Option, none, some}
 use mathlib.Core.List.{List, [], _∷_, _++_}
 use native.Mathlib.Omega.{arith}
 use native.Mathlib.Decide.{ℕ-discrete}
@@ -10,13 +9,13 @@ use lib.ListN.{length, getD, set, replicate, length-set, length-replicate, getD-
 use lib.Seq.{getD-set-same, getD-set-other}
 use lib.Dec.{eqb}
 use borrow.Author.Tests.{eq-eqb, ne-eqb}
-use Rattle.ast.specs.Image.{nodeCount, nodePlace}
+use Rattle.ast.specs.Image.{nodeCount}
 use Rattle.ast.specs.Outline.{Outline}
-use Rattle.ast.specs.ImageFault.{Outlines}
 use Rattle.ast.specs.Claims.{among, twice, countFrom, slotsOwned, claimsTwice, claimsFrom, claimsFault}
 use Rattle.image_laws.specs.OutlineAt.{outlineAt, outlinesFrom, outlinesIn}
 use Rattle.image_laws.specs.PartsBelow.{Below, no-parts, part, each-below, parts-below, slots-below}
 use Rattle.image_laws.specs.Accepted.{Accepted}
+use Rattle.node_parts.specs.Faults.{fault-same}
 use Rattle.claims.specs.Marks.{markAll, marked, claimsMarked, claimsBy, claimsOf, claimsIn}
 
 -- a mark for each number below `most` that is taken
@@ -81,12 +80,6 @@ pub record Small (o : Outline) : Type 0 where
 pub data AllSmall : List Outline → Type 0 where
   no-nodes : AllSmall []
   node : {o : Outline} {os : List Outline} → Small o → AllSmall os → AllSmall (o ∷ os)
-
--- the same test, and the same where it fails
-fault-same : (a b : Bool) (i : ℕ) (y z : Option ℕ) → a ≡ b → y ≡ z
-    → _≡_ {A = Option ℕ} (elim a as (λ _. Option ℕ) [ true ↦ some i | false ↦ y ]) (elim b as (λ _. Option ℕ) [ true ↦ some i | false ↦ z ])
-fault-same true b i y z e f = rw (← e) refl
-fault-same false b i y z e f = rw (← e) f
 
 claims-same : {os : List Outline} {nodes slots claimed owned : List ℕ} (i : ℕ) (roots : List ℕ) → Below 2048 roots → AllSmall os → MarksOf 2048 nodes claimed → MarksOf 4096 slots owned
     → claimsBy nodes slots i roots os ≡ claimsFrom claimed owned i roots os

@@ -1,31 +1,28 @@
 -- The depths of all nodes as the code finds them, one law for each way out. Assumes nothing.
 use Prim.Native.Nat.{ℕ, _+_, _-_, _≤_, _<_}
-use mathlib.Core.Bool.{Bool, true, false}
+use mathlib.Core.Bool.{true, false}
 use mathlib.Core.Path.{_≡_, refl, sym, ap, _∙_}
 use mathlib.Core.Option.{Option, none, some}
 use mathlib.Core.List.{List, [], _∷_}
 use native.Mathlib.Omega.{arith}
 use lib.ListN.{length, set, length-set}
-use lib.Dec.{ltb}
 use borrow.Author.Tests.{lt-ltb, le-ltb}
 use Rattle.ast.specs.Image.{nodeCount, rootCount, recordLength}
 use Rattle.ast.specs.Outline.{Outline}
 use Rattle.ast.specs.Depth.{deepest}
 use Rattle.image_laws.specs.OutlineAt.{partsAt, outlineAt, outlinesFrom}
 use Rattle.node_parts.specs.Lists.{outlines-next, outlines-none, NodesLeft, nodes-first, nodes-step}
+use Rattle.node_parts.specs.Faults.{fault-same}
 use Rattle.depth.specs.Depths.{depthBy}
 
 module _ (depths : List ℕ) (i : ℕ) (o : Outline) (os : List Outline) where
-  by-test : (b : Bool) → ltb 64 (1 + deepest depths (o .parts)) ≡ b
-      → depthBy depths i (o ∷ os) ≡ elim b as (λ _. Option ℕ) [ true ↦ some i | false ↦ depthBy (set depths i (1 + deepest depths (o .parts))) (i + 1) os ]
-  unfolding depthBy
-  by-test b e = ap (λ t. elim t as (λ _. Option ℕ) [ true ↦ some i | false ↦ depthBy (set depths i (1 + deepest depths (o .parts))) (i + 1) os ]) e
-
   too-deep : 64 ≤ deepest depths (o .parts) → depthBy depths i (o ∷ os) ≡ some i
-  too-deep h = by-test true (lt-ltb 64 (1 + deepest depths (o .parts)) (omega arith))
+  unfolding depthBy
+  too-deep h = fault-same _ true i _ _ (lt-ltb 64 (1 + deepest depths (o .parts)) (omega arith)) refl
 
   not-deep : deepest depths (o .parts) < 64 → depthBy depths i (o ∷ os) ≡ depthBy (set depths i (1 + deepest depths (o .parts))) (i + 1) os
-  not-deep h = by-test false (le-ltb 64 (1 + deepest depths (o .parts)) (omega arith))
+  unfolding depthBy
+  not-deep h = fault-same _ false i _ _ (le-ltb 64 (1 + deepest depths (o .parts)) (omega arith)) refl
 
 -- the nodes from number i on are left, the next at word `at`
 pub record NodesToMeasure (image : List ℕ) (n : ℕ) (before depths : List ℕ) (at i : ℕ) : Type 0 where

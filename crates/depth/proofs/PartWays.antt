@@ -1,6 +1,6 @@
 -- The greatest depth of a node's parts as the code finds it, one law for each way out. Assumes nothing.
-use Prim.Native.Nat.{ℕ, zero, suc, _+_, _*_, _-_, _^_, _≤_, _<_, max}
-use mathlib.Core.Path.{_≡_, refl, sym, ap, ap₂, _∙_}
+use Prim.Native.Nat.{ℕ, _+_, _*_, _-_, _^_, _≤_, _<_, max}
+use mathlib.Core.Path.{_≡_, refl, sym, ap, _∙_}
 use mathlib.Core.List.{List, [], _∷_, _++_}
 use native.Mathlib.Omega.{arith}
 use native.Mathlib.Nat.{zero-max, max-zero}

@@ -1,8 +1,6 @@
 -- The array tells the same as the list of depths: of at most 2,048 nodes the fault is that of refusal 5. Assumes nothing.
-use Prim.Native.Nat.{ℕ, zero, suc, _+_, _≤_, _<_, max}
-use mathlib.Core.Bool.{Bool, true, false}
+use Prim.Native.Nat.{ℕ, _+_, _≤_, _<_, max}
 use mathlib.Core.Path.{_≡_, refl, sym, ap, ap₂, _∙_}
-use mathlib.Core.Option.{Option, none, some}
 use mathlib.Core.List.{List, [], _∷_, _++_}
 use native.Mathlib.Omega.{arith}
 use native.Mathlib.Decide.{ℕ-discrete, decLt}
@@ -12,9 +10,10 @@ use lib.Dec.{ltb}
 use Rattle.ast.specs.Image.{nodeCount}
 use Rattle.ast.specs.Outline.{Outline}
 use Rattle.ast.specs.Depth.{deepest, depthFrom, depthFault}
-use Rattle.image_laws.specs.OutlineAt.{outlinesFrom, outlinesIn}
+use Rattle.image_laws.specs.OutlineAt.{outlinesIn}
 use Rattle.image_laws.specs.Places.{outlines-length}
 use Rattle.image_laws.specs.Accepted.{Accepted}
+use Rattle.node_parts.specs.Faults.{fault-same}
 use Rattle.depth.specs.Depths.{depthBy, depthOf, depthIn}
 
 -- the array holds the depths of i nodes, and zeros
@@ -58,12 +57,6 @@ holds-next {array} {depths} {i} d h a =
       few = length-append depths (d ∷ []) ∙ ap (λ n. n + 1) (a .few);
       each = λ p. holds-each d p h a;
     }
-
--- the same test, and the same where it fails
-fault-same : (a b : Bool) (i : ℕ) (y z : Option ℕ) → a ≡ b → y ≡ z
-    → _≡_ {A = Option ℕ} (elim a as (λ _. Option ℕ) [ true ↦ some i | false ↦ y ]) (elim b as (λ _. Option ℕ) [ true ↦ some i | false ↦ z ])
-fault-same true b i y z e f = rw (← e) refl
-fault-same false b i y z e f = rw (← e) f
 
 depth-same : {array depths : List ℕ} (i : ℕ) (os : List Outline) → i + length os ≤ 2048 → Holds array depths i → depthBy array i os ≡ depthFrom depths i os
 unfolding depthBy depthFrom

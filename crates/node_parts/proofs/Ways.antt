@@ -1,13 +1,11 @@
 -- The parts of a record as the code finds them, one law for each way out. Assumes nothing.
 use Prim.Native.Nat.{ℕ, zero, suc, _+_, _*_, _-_, _/_, _^_, _≤_, _<_}
-use mathlib.Core.Bool.{cond}
 use mathlib.Core.Path.{_≡_, refl, sym, ap, subst, _∙_}
 use mathlib.Core.List.{List}
 use native.Mathlib.Omega.{arith}
 use native.Mathlib.Nat.{add-zero}
 use lib.ListN.{length, getD, List·getD-eq-default}
-use lib.Dec.{eqb}
-use borrow.Author.Tests.{eq-eqb, ne-eqb}
+use borrow.Author.Tests.{ne-eqb}
 use Rattle.tok.specs.Word.{kindOf, payloadOf}
 use Rattle.tok.proofs.WordLaws.{payloadOf-lt}
 use Rattle.ast.specs.Image.{wordAt, recordKind, recordLength}

@@ -1,0 +1,74 @@
+-- `places::record_places` meets its contract: the nodes and then the types, counted and begun as the image's head says. Assumes nothing.
+use Rattle.places.proofs.Filling.{all-filled}
+use borrow.Author.Needs.{needs}
+use Rattle.places.proofs.record_places.Statement.{statement}
+use Rattle.places.proofs.record_places.Tie as tie
+
+word-at-requires : tie.Need-word-at-requires
+word-at-requires c κs = search needs
+
+wide-requires : tie.Need-wide-requires
+wide-requires c κs = search needs
+
+least-requires : tie.Need-least-requires
+least-requires c κs = search needs
+
+word-at-requires-2 : tie.Need-word-at-requires-2
+word-at-requires-2 c κs = search needs
+
+wide-requires-2 : tie.Need-wide-requires-2
+wide-requires-2 c κs = search needs
+
+least-requires-2 : tie.Need-least-requires-2
+least-requires-2 c κs = search needs
+
+word-at-requires-3 : tie.Need-word-at-requires-3
+word-at-requires-3 c κs = search needs
+
+wide-requires-3 : tie.Need-wide-requires-3
+wide-requires-3 c κs = search needs
+
+add-clipped : tie.Need-add-clipped
+add-clipped c = search needs
+
+clipped-requires : tie.Need-clipped-requires
+clipped-requires c κs = search needs
+
+no-places-requires : tie.Need-no-places-requires
+no-places-requires c κs = search needs
+
+slice-aggregate-fill : tie.Need-slice-aggregate-fill
+slice-aggregate-fill c = search needs
+
+fill-requires : tie.Need-fill-requires
+fill-requires c κs = search needs
+
+slice-aggregate-fill-2 : tie.Need-slice-aggregate-fill-2
+slice-aggregate-fill-2 c = search needs
+
+fill-requires-2 : tie.Need-fill-requires-2
+fill-requires-2 c κs = search needs
+
+returns : tie.Need-returns
+returns c = all-filled _ (c .before .before .before .before .before .before .before .before .before .before .before .before .before .before .before .word-at .ensures) (c .before .before .before .before .before .before .before .before .before .before .before .before .before .before .wide .ensures) (c .before .before .before .before .before .before .before .before .before .before .before .before .before .least .ensures) (c .before .before .before .before .before .before .before .before .before .before .before .before .word-at2 .ensures) (c .before .before .before .before .before .before .before .before .before .before .before .wide2 .ensures) (c .before .before .before .before .before .before .before .before .before .before .least2 .ensures) (c .before .before .before .before .before .before .before .before .before .word-at3 .ensures) (c .before .before .before .before .before .before .before .before .wide3 .ensures) (c .before .before .before .before .before .before .before .clipped .ensures) (c .before .before .before .before .before .before .no-places .ensures) (c .before .before .before .before .fill .ensures) (c .before .fill2 .ensures)
+
+pub record-places-spec : {M : Type 1} → statement M
+record-places-spec =
+    tie.close
+    (tie.spec
+    word-at-requires
+    wide-requires
+    least-requires
+    word-at-requires-2
+    wide-requires-2
+    least-requires-2
+    word-at-requires-3
+    wide-requires-3
+    add-clipped
+    clipped-requires
+    no-places-requires
+    slice-aggregate-fill
+    fill-requires
+    slice-aggregate-fill-2
+    fill-requires-2
+    returns)

@@ -1,0 +1,2 @@
+-- The proofs of the refusals before the walk.
+pub mod Ways

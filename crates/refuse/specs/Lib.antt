@@ -1,0 +1,2 @@
+-- What the contract of the refusals before the walk cites.
+pub mod Answer

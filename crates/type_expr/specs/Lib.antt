@@ -1,0 +1,3 @@
+-- What the functions that read type expressions ask for, and the type expressions by the words of their records.
+pub mod Ready
+pub mod TypesAt
