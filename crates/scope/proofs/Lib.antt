@@ -1,0 +1,3 @@
+mod EnvWays
+mod OwnWays
+mod HeldWays

@@ -1,0 +1,3 @@
+-- What the contracts of the crate cite, and laws of entries.
+pub mod Entries
+pub mod EntryLaws

@@ -1,0 +1,2 @@
+-- What the answers of the crate's steps mean.
+pub mod Answers
