@@ -8,7 +8,7 @@ use mathlib.Core.Option.{none}
 use mathlib.Core.List.{List, [], _∷_, map}
 use lib.ListN.{length}
 use Rattle.ast.specs.Image.{nodeCount, rootCount, nodePlace, recordLength}
-use Rattle.ast.specs.Node.{Node, rootsOf, treeOf}
+use Rattle.ast.specs.Node.{Node, rootsOf}
 use Rattle.ast.specs.Room.{entryWords}
 use Rattle.ast.specs.Claims.{claimsFault}
 use Rattle.image_laws.specs.OutlineAt.{outlineAt, outlinesIn}
@@ -16,7 +16,7 @@ use Rattle.image_laws.specs.Accepted.{Accepted}
 use Rattle.refusals.specs.Inputs.{Inputs, Buffers}
 use Rattle.rules.specs.Visited.{visitedIn, numberOf}
 use Rattle.rules.specs.Promises.{Every}
-use Rattle.accepts.specs.Count.{total, total-map, total-le, upTo, count, once-le}
+use Rattle.accepts.specs.Count.{total-map, total-le, count, once-le}
 use Rattle.accepts.specs.Passed.{Passed}
 use Rattle.accepts.specs.ClaimedOnce.{entries-sum}
 use Rattle.accepts.specs.VisitedParts.{entryLength}

@@ -1,6 +1,6 @@
 -- What a node takes by itself is no more than its record in the image is long; and the records lie one after the other within the image.
 -- Assumes nothing but that the image is accepted.
-use Prim.Native.Nat.{ℕ, zero, suc, _+_, _*_, _-_, _≤_, _<_}
+use Prim.Native.Nat.{ℕ, zero, suc, _+_, _-_, _≤_, _<_}
 use native.Mathlib.Omega.{arith}
 use native.Mathlib.Numerals.{add-one}
 use mathlib.Core.Path.{_≡_, refl, ap}
@@ -11,7 +11,7 @@ use Rattle.ast.specs.TypeExpr.{argsFrom}
 use Rattle.ast.specs.Node.{Node, nodesFrom, wordsFrom, externsFrom, treeOf}
 use Rattle.ast.specs.Outline.{Counts}
 use Rattle.image_laws.specs.RecordWords.{FunctionsWords, noFunctions, functionWords}
-use Rattle.image_laws.specs.NodesRead.{let-words, fn-words, call-words, import-words, extern-words}
+use Rattle.image_laws.specs.NodesRead.{let-words, fn-words, extern-words}
 use Rattle.image_laws.specs.Places.{node-next, type-next, type-first}
 use Rattle.image_laws.specs.Accepted.{Accepted}
 use Rattle.trees.specs.Trees.{tree-atom, tree-ident, tree-bin, tree-unary, tree-let, tree-fn, tree-match, tree-call, tree-field, tree-cast, tree-import, tree-extern, tree-record, tree-array}

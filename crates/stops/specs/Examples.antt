@@ -1,9 +1,10 @@
 -- The stops are there: inputs that refusals 1 to 6 keep out meet them, and a node met twice is found checked. Computed.
 use Prim.Native.Nat.{ℕ}
 use mathlib.Core.Path.{_≡_, refl}
-use mathlib.Core.List.{List, [], _∷_}
+use mathlib.Core.List.{[], _∷_}
 use Rattle.tok.specs.Step.{ok, refused, refusal, when}
 use Rattle.ptype.specs.Add.{buffer}
+use Rattle.ptype.specs.Ty.{arrayTy, slotTy}
 use Rattle.ptype.specs.Words.{voidWord}
 use Rattle.tok.specs.Word.{wordOf}
 use Rattle.ast.specs.TypeExpr.{AtomType}
@@ -13,8 +14,9 @@ use Rattle.rules.specs.World.{Ctx, World}
 use Rattle.rules.specs.Steps.{known, ifKnown, ty, setKnown}
 use Rattle.rules.specs.Calls.{calleeOf}
 use Rattle.rules.specs.Rules.{letBinding}
-use Rattle.stops.specs.Guards.{stop, unless, expect, expectOf, checked, unlessChecked, lastFrame, atomKind, lexTypes, operator}
-use Rattle.stops.specs.Guarded.{callOrStop, nodeOrStop}
+use Rattle.stops.specs.Guards.{stop, unless, expect, expectOf, checked, unlessChecked, lastFrame, atomKind, lexTypes, operator, meetsSlot, bindable}
+use Rattle.stops.specs.Guarded.{nodeOrStop}
+use Rattle.stops.specs.GuardedCalls.{callOrStop}
 
 -- two slots, the second of which may have a type; slot 2 is Void
 abbrev world : (second : ℕ) → World
@@ -70,3 +72,8 @@ no-type = refl
 no-node : nodeOrStop ctx 1 (Absent 7) (world 0) ≡ refused (refusal 12 28)
 unfolding nodeOrStop callOrStop calleeOf unlessChecked checked expect expectOf unless lastFrame atomKind operator lexTypes stop when setKnown known ifKnown letBinding ty
 no-node = refl
+
+-- a Slot that is provided to `bind_slots`
+no-binding : bindable [] (arrayTy (slotTy [])) (wordOf 10 0) (world 0) ≡ refused (refusal 13 143)
+unfolding bindable meetsSlot unless stop when
+no-binding = refl

@@ -4,13 +4,13 @@ use Prim.Native.Nat.{ℕ, suc}
 use mathlib.Core.Bool.{Bool, false, _&&_, _||_}
 use mathlib.Core.List.{List, [], _∷_, _++_}
 use Rattle.tok.specs.Word.{wordOf}
-use Rattle.tok.specs.Step.{_>>=_, _>>_, return, when, forEach}
+use Rattle.tok.specs.Step.{_>>=_, _>>_, return, forEach}
 use Rattle.ptype.specs.Words.{voidWord}
 use Rattle.ptype.specs.Add.{addRecord}
 use Rattle.ast.specs.Image.{nodeCount, rootCount, slotCount}
 use Rattle.ast.specs.Node.{Node, Nodes, Cases, Values, Atom, Ident, Bin, Unary, Let, Fn, Match, Call, Field, Cast, Import, Extern, Record, Array, Absent, done, then, noCase, case, noValue, value, firstRoots}
 use Rattle.ast.specs.Span.{spanOf}
-use Rattle.err.specs.Message.{emptyArray, callThroughField}
+use Rattle.err.specs.Message.{emptyArray}
 use Rattle.library.specs.Package.{pkg, poolOf, packagesOf}
 use Rattle.refusals.specs.Inputs.{Inputs}
 use Rattle.rules.specs.declared.Answer.{Answer}
@@ -18,10 +18,11 @@ use Rattle.rules.specs.declared.Answer.the-variants.{Known}
 use Rattle.rules.specs.World.{Ctx, Walk}
 use Rattle.rules.specs.Steps.{Done, skip, known, isPoison, onTypes, setKnown, poison, envInsert, framed, hold, typeFromExpr}
 use Rattle.rules.specs.Operators.{fuse, unary, cast}
-use Rattle.rules.specs.Calls.{Callee, ownFunction, packageFunction, throughField, noCallee, Provided, calleeOf, providedOf, resolveCall, resolvePkgCall}
+use Rattle.rules.specs.Calls.{calleeOf, providedOf}
 use Rattle.rules.specs.Rules.{ident, letBinding, fn, unlessDefined, field, valueType, member, goOn, arrayOf, condition, Branch, matched, importAll, externFn}
 use Rattle.rules.specs.Walk.{ctxOf, copyPool, poolTypes, packageTypes, measure}
-use Rattle.stops.specs.Guards.{stop, unless, expect, expectOf, expectBranches, expectAll, unlessChecked, lastFrame, atomKind, lexTypes, argLexTypes, externLexTypes, operator}
+use Rattle.stops.specs.Guards.{stop, unless, expect, expectOf, expectBranches, unlessChecked, lastFrame, atomKind, lexTypes, argLexTypes, externLexTypes, operator}
+use Rattle.stops.specs.GuardedCalls.{callOrStop}
 
 -- a block's answer, once `ty` may be asked for it
 unfoldable pub answered : (line : ℕ) → Walk Answer → Walk Answer
@@ -29,18 +30,6 @@ answered line m = do
   a ← m
   expectOf line a
   return a
-
--- 963 to 967, and 472, where no argument is poisoned: `resolved_arg_ty` of each
-unfoldable pub callOrStop : Ctx → (n slot : ℕ) → Callee → List Provided → (visits : Walk Bool) → Walk Answer
-callOrStop c n slot (ownFunction name) given visits = do
-  _ ← visits
-  resolveCall c n slot name given
-callOrStop c n slot (packageFunction p name) given visits = do
-  poisoned ← visits
-  when poisoned skip (expectAll 249 given)
-  resolvePkgCall c n slot p name given poisoned
-callOrStop c n slot (throughField name) given visits = poison n (callThroughField name)
-callOrStop c n slot noCallee given visits = stop 10 966
 
 unfoldable mutual
   pub nodeOrStop : Ctx → (frames : ℕ) → Node → Walk Answer

@@ -1,12 +1,15 @@
 -- The places at which the Rust stops dead, or finds a node already checked, as steps. A stop is a refusal whose number no refusal of document
--- 01 has: 10 for typecheck/lib.rs, 11 for frontend/lib.rs, 12 for ast.rs; its place is the line. Definitions.
-use Prim.Native.Nat.{ℕ, zero, suc}
-use mathlib.Core.Bool.{Bool, true, false, _&&_}
+-- 01 has: 10 for typecheck/lib.rs, 11 for frontend/lib.rs, 12 for ast.rs, 13 for ptype.rs; its place is the line. Definitions.
+use Prim.Native.Nat.{ℕ, zero, suc, _+_, _-_}
+use mathlib.Core.Bool.{Bool, true, false, not, _&&_, _||_}
 use mathlib.Core.List.{List, [], _∷_}
 use lib.ListN.{getD}
 use lib.Dec.{eqb, leb}
-use Rattle.tok.specs.Word.{kindOf}
+use Rattle.tok.specs.Word.{kindOf, payloadOf}
 use Rattle.tok.specs.Step.{refusal, _>>=_, _>>_, return, look, refuse, when}
+use Rattle.ptype.specs.Ty.{Ty, Fields, plain, wrap, rec, named, noField, field}
+use Rattle.ptype.specs.Words.{innerWord, fieldCount}
+use Rattle.ptype.specs.Kinds.{wraps}
 use Rattle.ast.specs.TypeExpr.{TypeExpr, TypeFields, Arg, AtomType, ForeignType, OptionType, ArrayType, RecordType, noType, typeField}
 use Rattle.ast.specs.Node.{ExternFn}
 use Rattle.rules.specs.declared.Answer.{Answer}
@@ -87,3 +90,19 @@ externLexTypes (f ∷ fs) = argLexTypes (f .args) && (lexTypes (f .ret) && exter
 -- 373, `fuse`: one of the nine operators
 unfoldable pub operator : (op : ℕ) → Walk Done
 operator op = unless (leb op 8) 10 373
+
+-- ptype.rs 142 to 144, `bind_slots`: (_, Slot(_)) at one of the pairs that it goes to, errors or not
+unfoldable mutual
+  pub meetsSlot : (types : List ℕ) → (expected : Ty) → (provided : ℕ) → Bool
+  meetsSlot types (plain k) w = eqb (kindOf w) 10
+  meetsSlot types (wrap k t) w = eqb (kindOf w) 10 || elim (wraps k && eqb (kindOf w) k) [ true ↦ meetsSlot types t (innerWord types w) | false ↦ false ]
+  meetsSlot types (rec fs) w = eqb (kindOf w) 10 || elim (eqb (kindOf w) 8) [ true ↦ meetsSlots types fs (payloadOf w + 1) (fieldCount types w) | false ↦ false ]
+  meetsSlot types (named k n) w = eqb (kindOf w) 10
+
+  pub meetsSlots : (types : List ℕ) → (expected : Fields) → (at left : ℕ) → Bool
+  meetsSlots types noField at left = false
+  meetsSlots types (field n t fs) at left =
+      elim (eqb left 0) [ true ↦ false | false ↦ meetsSlot types t (getD types (at + 1) 0) || meetsSlots types fs (at + 2) (left - 1) ]
+
+unfoldable pub bindable : (types : List ℕ) → (expected : Ty) → (provided : ℕ) → Walk Done
+bindable types t w = unless (not (meetsSlot types t w)) 13 143

@@ -4,16 +4,14 @@ use Prim.Native.Nat.{ℕ, zero, suc, _+_, _≤_, _<_}
 use native.Mathlib.Omega.{arith}
 use native.Mathlib.Decide.{ℕ-discrete}
 use mathlib.Core.Path.{_≡_, refl, sym, _∙_}
-use mathlib.Core.Bool.{Bool, true, false}
 use mathlib.Core.Option.{none}
 use mathlib.Core.List.{List, [], _∷_}
-use lib.ListN.{getD, length}
 use Rattle.tok.specs.Step.{Result, ok, refused, Refusal, next}
 use Rattle.tok.specs.Name.{inScript}
 use Rattle.tok.proofs.NameLaws.{goodName-payload, nameBytes-wellFormed}
 use Rattle.library.specs.Package.{poolOf}
 use Rattle.ast.specs.Image.{wordAt, nodeCount, rootCount, slotCount}
-use Rattle.ast.specs.Node.{Node, Nodes, done, rootsOf, treeOf}
+use Rattle.ast.specs.Node.{Node, done, rootsOf, treeOf}
 use Rattle.ast.specs.Claims.{countFrom, slotsOwned}
 use Rattle.image_laws.specs.OutlineAt.{outlineAt}
 use Rattle.image_laws.specs.PartsBelow.{slots-below}
@@ -22,7 +20,7 @@ use Rattle.image_laws.specs.Accepted.{Accepted}
 use Rattle.refusals.specs.Inputs.{Inputs, Buffers, textsIn}
 use Rattle.refusals.specs.Refusals.{refusalOf}
 use Rattle.rules.specs.declared.Answer.the-variants.{Known}
-use Rattle.rules.specs.World.{World, withTypes}
+use Rattle.rules.specs.World.{World}
 use Rattle.rules.specs.Steps.{Done, skip}
 use Rattle.rules.specs.Rules.{last}
 use Rattle.rules.specs.Visited.{visitedIn}
@@ -30,7 +28,7 @@ use Rattle.rules.specs.Walk.{ctxOf, startOf, copyPool, measure, walkFirst, walk
 use Rattle.rules.specs.Promises.{Every}
 use Rattle.laws.specs.Keeps.{Keeps, kept, stopped}
 use Rattle.laws.specs.Keeps as K
-use Rattle.laws.specs.Grow.{Grow, Walked, walk-grows}
+use Rattle.laws.specs.Grow.{Walked, walk-grows}
 use Rattle.tworuns.specs.Walk.{over}
 use Rattle.tworuns.specs.Accepted.{TypeOf, libraryTypes, fresh-start}
 use Rattle.library_laws.specs.Types.{library-types}
@@ -43,9 +41,8 @@ use Rattle.accepts.specs.OtherSlots.{owned}
 use Rattle.accepts.specs.LowSlots.{low-slots}
 use Rattle.accepts.specs.Passed.{Passed, passed}
 use Rattle.onerun.specs.Claim.{NameAt}
-use Rattle.onerun.specs.Functions.{Below}
 use Rattle.onerun.specs.Proper.{ProperAll}
-use Rattle.onerun.specs.Walk.{Ends, ends, stops, walk-ends}
+use Rattle.onerun.specs.Walk.{Ends, ends, walk-ends}
 use Rattle.clean.specs.ProperTrees.{roots-proper}
 use Rattle.clean.specs.LibraryTypes.{library-ok}
 use Rattle.stops.specs.Guarded.{lastOrStop, walkOrStop}
@@ -85,11 +82,15 @@ node-low {text} {image} a n l = record {
       omega arith;
 }
 
+-- "slots (an Fn's argument slots too) below V"
+pub visited-low : {text image : List ℕ} → Accepted text image → (slot : ℕ) → 1 ≤ owned slot (visitedIn image) → slot < slotCount image
+visited-low {text} {image} a = all-low (slotCount image) (visitedIn image) (visited-every a (Low (slotCount image)) (node-low a))
+
 module _ (i : Inputs) (b : Buffers) (p : Passed i b) where
   start-ready : Ready (startOf i b) (visitedIn (i .image))
   start-ready = record {
     once = slots-once (p .image) (p .claims);
-    unset = λ slot l. fresh-start i b (p .slots) .empty slot (all-low (slotCount (i .image)) (visitedIn (i .image)) (visited-every (p .image) (Low (slotCount (i .image))) (node-low (p .image))) slot l);
+    unset = λ slot l. fresh-start i b (p .slots) .empty slot (visited-low (p .image) slot l);
     fit = visited-every (p .image) Fits (fits (p .image));
   }
 

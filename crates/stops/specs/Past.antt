@@ -1,28 +1,24 @@
--- Each stop is passed: where a slot has a type, a test holds, a frame is there; and the Fn and Call rules, of the steps that they are given.
+-- Each stop is passed: where a slot has a type, a test holds, a frame is there; and the Fn rule, of the body that it is given.
 -- What is claimed of the world is `Holds` of one run, diagnostics or not. Assumes nothing.
-use Prim.Native.Nat.{ℕ, suc, _+_, _≤_, _<_}
-use mathlib.Core.Path.{_≡_, refl, ap}
-use mathlib.Core.Bool.{Bool, true, false, _&&_, _||_, true≢false}
+use Prim.Native.Nat.{ℕ, _+_, _≤_}
+use mathlib.Core.Path.{_≡_, refl}
+use mathlib.Core.Bool.{Bool, true, false, _&&_}
 use mathlib.Core.Option.{Option, none, some}
 use mathlib.Core.List.{List, [], _∷_}
 use lib.ListN.{getD}
-use lib.Dec.{eqb, leb}
+use lib.Dec.{leb}
 use borrow.Author.Tests.{le-leb, ne-eqb}
-use Rattle.tok.specs.Step.{Result, ok, refused, Refusal, next, _>>=_, _>>_, return, when}
-use Rattle.ptype.specs.Add.{Buffer}
+use Rattle.tok.specs.Step.{Result, ok, Refusal, next, _>>_, return, when}
 use Rattle.ast.specs.TypeExpr.{TypeExpr, TypeFields, Arg, AtomType, ForeignType, OptionType, ArrayType, RecordType, noType, typeField}
-use Rattle.ast.specs.Node.{Node, Nodes, ExternFn, done, then, slotOf}
-use Rattle.library.specs.Package.{Param, param, signature, function, findFunction}
+use Rattle.ast.specs.Node.{Node, ExternFn}
 use Rattle.rules.specs.declared.Answer.{Answer}
-use Rattle.rules.specs.declared.Answer.the-variants.{Known, Poison}
-use Rattle.rules.specs.World.{Ctx, World, Walk, withEnv, nameIn}
-use Rattle.rules.specs.Steps.{Done, skip, known, ifKnown, isPoison, onOption, poison, framed, apart, typeFromExpr}
-use Rattle.rules.specs.Calls.{Callee, ownFunction, packageFunction, throughField, noCallee, Provided, providedOf, call}
-use Rattle.rules.specs.Rules.{Member, alike, silent, differs, goOn, Branch, fnArguments, fn, unlessDefined, block}
+use Rattle.rules.specs.World.{Ctx, World, Walk, withEnv}
+use Rattle.rules.specs.Steps.{known, ifKnown, onOption, poison, framed, apart}
+use Rattle.rules.specs.Rules.{Member, alike, silent, differs, goOn, Branch, fnArguments, fn, unlessDefined}
 use Rattle.laws.specs.SlotsOf.{ArgSlots}
 use Rattle.laws.specs.Keeps.{Keeps, kept}
 use Rattle.laws.specs.Keeps as K
-use Rattle.onerun.specs.Claim.{Run, All, end, and, NameAt, bound, FunctionOk, Recorded, Holds, AnswerOk}
+use Rattle.onerun.specs.Claim.{Run, All, end, and, NameAt, bound, Recorded, Holds, AnswerOk}
 use Rattle.onerun.specs.Claim as C
 use Rattle.onerun.specs.Grows.{typed-grow}
 use Rattle.onerun.specs.Logic.{Silent, After, Gives, gives, stopped, g-next, g-return, g-set}
@@ -30,9 +26,9 @@ use Rattle.onerun.specs.Scope.{alone, g-insert, g-enter}
 use Rattle.onerun.specs.Arguments.{ParamsOk, params-grow}
 use Rattle.onerun.specs.Rules.{BranchOk}
 use Rattle.onerun.specs.Functions.{Below, BlockOk, g-typeFrom}
-use Rattle.onerun.specs.Proper.{ProperType, ProperTypes, ProperArgs, ProperExterns, ProperCallee}
-use Rattle.stops.specs.Guards.{stop, unless, expect, expectOf, expectBranches, expectAll, unlessChecked, lexTypes, fieldLexTypes, argLexTypes, externLexTypes}
-use Rattle.stops.specs.Guarded.{answered, callOrStop}
+use Rattle.onerun.specs.Proper.{ProperType, ProperTypes, ProperArgs, ProperExterns}
+use Rattle.stops.specs.Guards.{unless, expect, expectOf, expectBranches, unlessChecked, lexTypes, fieldLexTypes, argLexTypes, externLexTypes}
+use Rattle.stops.specs.Guarded.{answered}
 use Rattle.stops.specs.Ready.{Ready, ready-then, Leaves, Free, Any, leaves-kept, leaves-enters}
 
 -- ── Tests ──
@@ -114,10 +110,15 @@ module _ (c : Ctx) where
   known-same f g (C.known {a = x} e) h = h x e
   known-same f g (C.poison l) h = refl
 
-  pub option-same : {A B : Type 0} (o : Option A) (m k : Walk B) (f : A → Walk B) {s : World} → m s ≡ k s → onOption o m f s ≡ onOption o k f s
+  pub option-same : {A B : Type 0} (o : Option A) (m k : Walk B) (f g : A → Walk B) {s : World} → m s ≡ k s → ((a : A) → f a s ≡ g a s) → onOption o m f s ≡ onOption o k g s
   unfolding onOption
-  option-same none m k f e = e
-  option-same (some a) m k f e = refl
+  option-same none m k f g e h = e
+  option-same (some a) m k f g e h = h a
+
+  pub when-same : {A : Type 0} (t : Bool) (m k m′ k′ : Walk A) {s : World} → (t ≡ true → m s ≡ m′ s) → (t ≡ false → k s ≡ k′ s) → when t m k s ≡ when t m′ k′ s
+  unfolding when
+  when-same true m k m′ k′ e h = e refl
+  when-same false m k m′ k′ e h = h refl
 
   pub goOn-same : (m : Member) (b : Bool) (f g : Bool → Walk Answer) {s : World} → ((q : Bool) → f q s ≡ g q s) → goOn m b f s ≡ goOn m b g s
   unfolding goOn
@@ -148,30 +149,6 @@ module _ (c : Ctx) where
   pub past-branches : {A : Type 0} (line : ℕ) (bs : List Branch) {s : World} → All (BranchOk run s) bs → (m : Walk A) {y : Result World Refusal A} → m s ≡ y → _>>_ (expectBranches line bs) m s ≡ y
   past-branches line bs h m e = rw (all-branches line bs h) e
 
-  all-recorded : (line : ℕ) (xs : List Provided) {s : World} → All (λ a. Recorded run s (a .slot)) xs → expectAll line xs s ≡ ok tt s
-  unfolding expectAll
-  all-recorded line [] end = refl
-  all-recorded line (a ∷ xs) (and h hs) = past-expect line h (expectAll line xs) (all-recorded line xs hs)
-
-  -- ── Call ──
-
-  -- "arg typed before overload selection": where no argument is poisoned, each has a type
-  pub record AllTyped (xs : List Provided) (u : World) (poisoned : Bool) : Type 0 where
-    pub typed : poisoned ≡ false → All (λ a. Recorded run u (a .slot)) xs
-
-  past-all : {A : Type 0} (line : ℕ) (xs : List Provided) (b : Bool) {s : World} → AllTyped xs s b → (m : Walk A) {y : Result World Refusal A} → m s ≡ y → _>>_ (when b skip (expectAll line xs)) m s ≡ y
-  unfolding when
-  past-all line xs true h m e = e
-  past-all line xs false h m e = rw (all-recorded line xs (h .typed refl)) e
-
-  pub call-same : (P N : ℕ → Type 0) (n slot : ℕ) (f : Callee) → ProperCallee P N f → (xs : List Provided) (m k : Walk Bool) {s : World} → m s ≡ k s → Gives run (AllTyped xs) s (k s)
-      → callOrStop c n slot f xs m s ≡ call c n slot f xs k s
-  unfolding ProperCallee callOrStop call
-  call-same P N n slot (ownFunction name) p xs m k e g = rw e refl
-  call-same P N n slot (packageFunction q name) p xs m k e g = then-same _ _ e g (λ b u h. past-all 249 xs b (h .value) _ refl)
-  call-same P N n slot (throughField name) p xs m k e g = refl
-  call-same P N n slot noCallee p xs m k e g = absurd p
-
   -- ── Fn ──
 
   -- the world once an Fn's arguments are bound
@@ -195,7 +172,7 @@ module _ (c : Ctx) where
         → unlessDefined c n name (fn c n slot name e args guarded) s ≡ unlessDefined c n name (fn c n slot name e args body) s
     unfolding unlessDefined fn apart framed
     fn-same n slot name e args p pa low free {s} d h =
-        option-same _ _ _ _
+        option-same _ _ _ _ _
         (next-same _ (next-same _
         (then-left ys _ _ refl (arguments-hold n (slot + 1) args pa low (alone run (λ _. h) quiet)) (K.in-fnArguments (Leaves ys) Any (Free ys) (leaves-kept ys) c n (slot + 1) args free (withEnv s [])) (λ ps u₁ x₁ l₁.
         then-left ys _ _ refl (g-typeFrom run n e p (λ _. x₁ .holds)) (K.in-typeFrom (Leaves ys) Any (Free ys) (leaves-kept ys) c n e u₁) (λ ret u₂ x₂ l₂.
@@ -206,7 +183,7 @@ module _ (c : Ctx) where
         record { sig = record { trees = params .trees; params = params .each; ret = g .tree; returns = g .is; stands = λ q. absurd q } }))
         (K.in-enter (Leaves ys) Any (Free ys) (leaves-kept ys) (leaves-enters ys) name ps ret u₂) (λ _ u₃ x₃ l₃.
         let r₁ : Ready u₁ ys = ready-then [] ys (record { once = d .once; unset = d .unset; fit = d .fit }) l₁ in
-        next-same _ (same u₃ (ready-then [] ys (ready-then [] ys r₁ l₂) l₃) (x₃ .holds))))))))
+        next-same _ (same u₃ (ready-then [] ys (ready-then [] ys r₁ l₂) l₃) (x₃ .holds)))))))) (λ _. refl)
 
   -- a block's answer has a type
   pub answered-same : (line : ℕ) {zs : List Node} (m : Walk Answer) {s : World} {y : Result World Refusal Answer} → m s ≡ y → Gives run (BlockOk run zs) s y → answered line m s ≡ y

@@ -2,17 +2,17 @@
 -- while other nodes are visited, which write their own slots alone. Assumes nothing.
 use Prim.Native.Nat.{ℕ, zero, suc, _+_, _≤_, _<_}
 use native.Mathlib.Omega.{arith}
-use mathlib.Core.Path.{_≡_, refl, sym, subst, _∙_}
+use mathlib.Core.Path.{_≡_, refl, subst, _∙_}
 use mathlib.Core.List.{List, [], _∷_, _++_, append-assoc}
-use lib.ListN.{getD, length}
+use lib.ListN.{getD}
 use lib.Seq.{getD-set-other}
 use Rattle.ast.specs.Image.{nodeCount, nodePlace, recordKind}
 use Rattle.ast.specs.TypeExpr.{TypeExpr, Arg}
-use Rattle.ast.specs.Node.{Node, Nodes, Cases, Values, Atom, Ident, Bin, Unary, Let, Fn, Match, Call, Field, Cast, Import, Extern, Record, Array, Absent, done, then, slotOf, treeOf}
+use Rattle.ast.specs.Node.{Node, Nodes, Cases, Atom, Ident, Bin, Unary, Let, Fn, Match, Call, Field, Cast, Import, Extern, Record, Array, Absent, done, then, slotOf, treeOf}
 use Rattle.image_laws.specs.NodesRead.{atom-words, bin-words}
 use Rattle.image_laws.specs.Accepted.{Accepted}
 use Rattle.trees.specs.Trees.{tree-atom, tree-ident, tree-bin, tree-unary, tree-let, tree-fn, tree-match, tree-call, tree-field, tree-cast, tree-import, tree-extern, tree-record, tree-array}
-use Rattle.rules.specs.World.{Ctx, World, withEnv}
+use Rattle.rules.specs.World.{Ctx, World}
 use Rattle.rules.specs.Rules.{node, block, cases}
 use Rattle.rules.specs.Visited.{visitedBelow, visitedAmong, visitedInCases}
 use Rattle.rules.specs.Promises.{Every}

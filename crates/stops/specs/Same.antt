@@ -1,36 +1,38 @@
 -- No stop is met: from a world of which `Holds` is claimed, and before nodes whose slots have no type yet, the rules with every stop in its
 -- place do what the rules do. By induction on trees, a line for each kind of node. Assumes nothing.
-use Prim.Native.Nat.{ℕ, suc, _<_}
+use Prim.Native.Nat.{ℕ, suc}
+use native.Mathlib.Omega.{arith}
 use mathlib.Core.Path.{_≡_, refl}
 use mathlib.Core.Bool.{Bool, true, false, _||_, true≢false}
 use mathlib.Core.List.{List, [], _∷_, _++_}
-use Rattle.tok.specs.Step.{Result, ok, refused, Refusal, next}
+use borrow.Author.Tests.{le-leb}
+use Rattle.tok.specs.Step.{Result, Refusal}
 use Rattle.ast.specs.Node.{Node, Nodes, Cases, Values, Atom, Ident, Bin, Unary, Let, Fn, Match, Call, Field, Cast, Import, Extern, Record, Array, Absent, done, then, noCase, case, noValue, value, slotOf}
 use Rattle.ast.specs.Span.{spanOf}
 use Rattle.rules.specs.declared.Answer.{Answer}
-use Rattle.rules.specs.declared.Answer.the-variants.{Known, Poison}
+use Rattle.rules.specs.declared.Answer.the-variants.{Known}
 use Rattle.rules.specs.World.{Ctx, World}
 use Rattle.rules.specs.Steps.{isPoison}
 use Rattle.rules.specs.Calls.{calleeOf, providedOf}
-use Rattle.rules.specs.Rules.{Branch, node, block, last, visitAll, cases, values, array, members}
+use Rattle.rules.specs.Rules.{node, block, last, visitAll, cases, values, array, members}
 use Rattle.rules.specs.Visited.{visitedBelow, visitedAmong, visitedInCases, visitedInValues}
 use Rattle.laws.specs.Keeps as K
 use Rattle.laws.specs.Owns.{Owns, knows, poisons, own-node}
 use Rattle.onerun.specs.Claim.{All, end, and, NameAt, Recorded, Holds, AnswerOk}
 use Rattle.onerun.specs.Claim as C
 use Rattle.onerun.specs.Grows.{all-map}
-use Rattle.onerun.specs.Logic.{After, Gives, gives, stopped, g-next, g-return, answer-later}
+use Rattle.onerun.specs.Logic.{Gives, gives, stopped, g-next, g-return, answer-later}
 use Rattle.onerun.specs.Seen.{NodeOk}
 use Rattle.onerun.specs.Scope.{g-insert, g-hold}
 use Rattle.onerun.specs.Proper.{Proper, ProperAll, ProperCases, ProperValues}
 use Rattle.onerun.specs.Rules.{g-let, g-value, g-condition, g-member, BranchOk, branch-later, g-imports}
 use Rattle.onerun.specs.Functions.{Below, g-typeFrom, g-externs}
-use Rattle.onerun.specs.Nodes.{g-node, g-block}
+use Rattle.onerun.specs.Nodes.{proper-slot, g-node, g-block}
 use Rattle.stops.specs.Guards.{lastFrame, atomKind, operator}
 use Rattle.stops.specs.Guarded.{nodeOrStop, blockOrStop, lastOrStop, visitAllOrStop, casesOrStop, valuesOrStop, arrayOrStop, membersOrStop}
 use Rattle.stops.specs.Ready.{Fits, Ready, ready-left, ready-assoc, ready-below, ready-own, ready-fits, ready-then, Leaves, Free, Any, leaves-kept, node-leaves, block-leaves, cases-leave, arguments-free}
-use Rattle.stops.specs.Past.{run, quiet, atom-test, lex-type, lex-fn, lex-externs, past-unless, past-checked, next-same, then-same, then-left, known-same, goOn-same, framed-same, past-expect, past-answer, past-branches, AllTyped, call-same, fn-same, answered-same}
-use borrow.Author.Tests.{le-leb}
+use Rattle.stops.specs.Past.{run, quiet, atom-test, lex-type, lex-fn, lex-externs, past-unless, past-checked, next-same, then-same, then-left, known-same, goOn-same, framed-same, past-expect, past-answer, past-branches, fn-same, answered-same}
+use Rattle.stops.specs.SameCalls.{AllTyped, call-same}
 
 module _ (c : Ctx) where
   -- ── What the arguments of a call, and the cases of a Match, leave ──
@@ -52,11 +54,11 @@ module _ (c : Ctx) where
 
   all-typed : (xs : Nodes) → ProperAll (Below (run c)) (NameAt (run c)) xs → {s : World} → Holds (run c) s → Gives (run c) (AllTyped c (providedOf xs)) s (visitAll c xs s)
   unfolding visitAll providedOf ProperAll
-  all-typed done p h = g-return (run c) (λ _. h) (λ _. record { typed = λ e. end })
+  all-typed done p h = g-return (run c) (λ _. h) (λ _. record { typed = λ e. end; low = end })
   all-typed (then x xs) p {s} h =
       g-next (run c) _ (own-typed (slotOf x) (own-node c x s) (g-node (run c) x (p .0) (λ _. h))) (λ a u t k.
       g-next (run c) _ (all-typed xs (p .1) (k (quiet c) .holds)) (λ b v t₁ k₁.
-      g-return (run c) (λ z. k₁ z .holds) (λ z. record { typed = λ e. let n = neither (isPoison a) b e in and (k₁ z .recorded (slotOf x) (k (quiet c) .value (n .0))) (k₁ z .value .typed (n .1)) })))
+      g-return (run c) (λ z. k₁ z .holds) (λ z. record { typed = λ e. let n = neither (isPoison a) b e in and (k₁ z .recorded (slotOf x) (k (quiet c) .value (n .0))) (k₁ z .value .typed (n .1)); low = and (let l = proper-slot (run c) x (p .0) in omega arith) (k₁ z .value .low) })))
 
   cases-typed : (n : ℕ) (cs : Cases) → ProperCases (Below (run c)) (NameAt (run c)) cs → {s : World} → Holds (run c) s → Gives (run c) (λ u bs. All (BranchOk (run c) u) bs) s (cases c n cs s)
   unfolding cases ProperCases
