@@ -191,16 +191,15 @@ def write(out, random_path):
             answer = refusal(*parts, lent)
             stream.case(parts, lent, answer)
             lines.append(line(len(lines), answer))
-            kept.append((hash(tuple(parts.image)), answer))
+            kept.append((parts, lent, answer))
             tally[answer[0] if answer else 0] += 1
         print("%-45s %6d  %s" % (name, sum(tally.values()), " ".join(str(tally[n]) for n in range(7))))
         total += tally
     print("%-45s %6d  %s" % ("all", len(lines), " ".join(str(total[n]) for n in range(7))))
-    places = collections.Counter(answer for _, answer in kept if answer)
-    print("%d pairs of number and place" % len(places))
+    print("%d pairs of number and place" % len({answer for _, _, answer in kept if answer}))
     data = stream.bytes()
-    for (_, wanted), (lists, lent, expected) in zip(kept, replay(data)):
-        assert wanted == expected
+    for (parts, lent, answer), (lists, lengths, expected) in zip(kept, replay(data)):
+        assert [list(p) for p in parts] == lists and list(lent) == lengths and answer == expected
     with open(os.path.join(out, "stdin"), "wb") as f:
         f.write(data)
     with open(os.path.join(out, "stdout"), "w") as f:
@@ -214,7 +213,7 @@ def sample(path):
     cases, lines, seen = [], [], set()
     for name, made in groups(None):
         small = [c for c in distinct(made, seen) if len(join_case(c[0])) < 1600]
-        for parts, lent in small[::max(1, len(small) // 45)]:
+        for parts, lent in small[::max(1, len(small) // 16)]:
             answer = refusal(*parts, lent)
             said = "accepted" if answer is None else "refused %d %d" % answer
             cases.append(join_case(parts))

@@ -12,39 +12,39 @@ Inv-loop out₀ stride start count value step at₀ w₀ counter₀ out at w cou
 abbrev μ-loop : tie.MeasureT-loop
 μ-loop out₀ stride start count value step at₀ w₀ counter₀ out at w counter = count - counter
 
--- src/main.rt:110:5
+-- src/main.rt:122:5
 loop-holds : tie.Need-loop-holds Inv-loop μ-loop
 loop-holds c = search needs
 
--- src/main.rt:111:9
+-- src/main.rt:123:9
 put-byte-requires : tie.Need-put-byte-requires Inv-loop μ-loop
 put-byte-requires c κs = search needs
 
--- src/main.rt:112:9
+-- src/main.rt:124:9
 wrapping-add-usize-requires : tie.Need-wrapping-add-usize-requires Inv-loop μ-loop
 wrapping-add-usize-requires c κs = search needs
 
--- src/main.rt:113:9
+-- src/main.rt:125:9
 wrapping-add-u32-requires : tie.Need-wrapping-add-u32-requires Inv-loop μ-loop
 wrapping-add-u32-requires c κs = search needs
 
--- src/main.rt:110:9
+-- src/main.rt:122:9
 add-counter : tie.Need-add-counter Inv-loop μ-loop
 add-counter c = search needs
 
--- src/main.rt:110:5
+-- src/main.rt:122:5
 loop-less : tie.Need-loop-less Inv-loop μ-loop
 loop-less c = search needs
 
--- src/main.rt:110:5
+-- src/main.rt:122:5
 loop-again : tie.Need-loop-again Inv-loop μ-loop
 loop-again c = search needs
 
--- src/main.rt:107:1
+-- src/main.rt:119:1
 same-length : tie.Need-same-length Inv-loop μ-loop
 same-length c = search needs
 
--- src/main.rt:107:1
+-- src/main.rt:119:1
 returns : tie.Need-returns Inv-loop μ-loop
 returns c = search needs
 

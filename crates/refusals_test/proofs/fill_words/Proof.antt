@@ -12,39 +12,39 @@ Inv-loop out₀ stride start count value step at₀ w₀ counter₀ out at w cou
 abbrev μ-loop : tie.MeasureT-loop
 μ-loop out₀ stride start count value step at₀ w₀ counter₀ out at w counter = count - counter
 
--- src/main.rt:100:5
+-- src/main.rt:112:5
 loop-holds : tie.Need-loop-holds Inv-loop μ-loop
 loop-holds c = search needs
 
--- src/main.rt:101:9
+-- src/main.rt:113:9
 put-requires : tie.Need-put-requires Inv-loop μ-loop
 put-requires c κs = search needs
 
--- src/main.rt:102:9
+-- src/main.rt:114:9
 wrapping-add-usize-requires : tie.Need-wrapping-add-usize-requires Inv-loop μ-loop
 wrapping-add-usize-requires c κs = search needs
 
--- src/main.rt:103:9
+-- src/main.rt:115:9
 wrapping-add-u32-requires : tie.Need-wrapping-add-u32-requires Inv-loop μ-loop
 wrapping-add-u32-requires c κs = search needs
 
--- src/main.rt:100:9
+-- src/main.rt:112:9
 add-counter : tie.Need-add-counter Inv-loop μ-loop
 add-counter c = search needs
 
--- src/main.rt:100:5
+-- src/main.rt:112:5
 loop-less : tie.Need-loop-less Inv-loop μ-loop
 loop-less c = search needs
 
--- src/main.rt:100:5
+-- src/main.rt:112:5
 loop-again : tie.Need-loop-again Inv-loop μ-loop
 loop-again c = search needs
 
--- src/main.rt:97:1
+-- src/main.rt:109:1
 same-length : tie.Need-same-length Inv-loop μ-loop
 same-length c = search needs
 
--- src/main.rt:97:1
+-- src/main.rt:109:1
 returns : tie.Need-returns Inv-loop μ-loop
 returns c = search needs
 
