@@ -108,7 +108,7 @@ def long_libraries():
         yield library_of([1 + 2 * n, 0, n] + [LIBRARY_NAME, void] * n)
         yield library_of([2 + 2 * n, 0, n] + [LIBRARY_NAME, void] * n + [word(8, 0)])
         yield library_of([2 * n, 0, n] + [LIBRARY_NAME, void] * n)
-    for more in (1, 2, 100):
+    for more in (1, 2, 10):
         yield library_of([8190, 0] + [void] * 8190 + [0] * more)
         yield library_of([0, 0] + [0] * (8189 + more))
     for k in (6, 7):
@@ -213,7 +213,7 @@ def depths():
         i.roots = [i.binary(a, b)]
         yield i.parts()
     i = Image()
-    deep = i.chain(2048, i.unary)
+    deep = i.chain(1600, i.unary)
     yield i.parts(roots=[deep])
     source = random.Random(5)
     for _ in range(6):

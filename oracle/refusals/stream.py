@@ -75,6 +75,7 @@ class Stream:
     def case(self, parts, lent, expected):
         for k, name in enumerate(LISTS):
             new = list(getattr(parts, name))
+            assert len(new) <= SIZES[k]
             self.change(k, new)
             self.length(k, len(new))
         for k, n in enumerate(lent):

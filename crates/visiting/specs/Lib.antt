@@ -3,3 +3,4 @@ pub mod Then
 pub mod Leads
 pub mod Blocks
 pub mod Operands
+pub mod Turns

@@ -6,7 +6,9 @@ use native.Mathlib.Omega.{arith}
 use Rattle.ast.specs.Node.{Node, Bin, Unary, Field}
 use Rattle.rules.specs.declared.Answer.{Answer}
 use Rattle.rules.specs.declared.Answer.the-variants.{Known, Poison}
-use Rattle.rules.specs.World.{Ctx}
+use Rattle.tok.specs.Step.{_>>=_}
+use Rattle.rules.specs.World.{Ctx, Walk}
+use Rattle.rules.specs.Steps.{known}
 use Rattle.rules.specs.Operators.{fuse, unary}
 use Rattle.rules.specs.Rules.{field, node}
 use Rattle.visit.specs.declared.State.{State}
@@ -44,3 +46,31 @@ module _ (c : Ctx) (n slot token op : ℕ) (x y : Node) {library : List ℕ} {st
           → Visiting c library (Bin n slot token op x y) st b b₃ v₃
       unfolding node room rows
       bin-fused e f z = visits-then _ left came (visits-most (omega arith) (omega arith) (visits-then _ right came₂ (visits-known _ e (visits-known _ f z))))
+
+-- ── One operand ──
+
+-- A rule that visits one part and goes on with its slot: Unary, Field, and what is left of Cast.
+module _ (c : Ctx) (x : Node) (g : ℕ → Walk Answer) {library : List ℕ} {st : State} {b b₁ : Lent} {v : Visit} (part : Visiting c library x st b b₁ v) where
+  abbrev goes-with : Walk Answer
+  goes-with = _>>=_ (node c x) (λ a. known a g)
+
+  pub operand-stops : Stopped v → Visits goes-with (room x) (rows x) library st b b₁ v
+  operand-stops s = visits-stop _ part (room x) (rows x) s
+
+  module _ {a : Answer} {st₁ : State} (came : Came v a st₁) where
+    pub operand-poisoned : a ≡ Poison → Visits goes-with (room x) (rows x) library st b b₁ (X.Poison st₁)
+    operand-poisoned e = visits-most (omega arith) (omega arith) (visits-then _ part came (visits-poison _ library st₁ b₁ e))
+
+    pub operand-goes : {i : ℕ} {b₂ : Lent} {v₂ : Visit} → a ≡ Known i → Visits (g i) 0 0 library st₁ b₁ b₂ v₂ → Visits goes-with (room x) (rows x) library st b b₂ v₂
+    operand-goes e z = visits-most (omega arith) (omega arith) (visits-then _ part came (visits-known _ e z))
+
+-- the rules that are one
+pub unary-is : (c : Ctx) (n slot token op : ℕ) (x : Node) {library : List ℕ} {st : State} {b b′ : Lent} {v : Visit}
+    → Visits (_>>=_ (node c x) (λ a. known a (λ i. unary c n slot token op i))) (room x) (rows x) library st b b′ v → Visiting c library (Unary n slot token op x) st b b′ v
+unfolding node room rows
+unary-is c n slot token op x h = record { step = h .step; keeps = h .keeps }
+
+pub field-is : (c : Ctx) (n slot name : ℕ) (x : Node) {library : List ℕ} {st : State} {b b′ : Lent} {v : Visit}
+    → Visits (_>>=_ (node c x) (λ a. known a (λ i. field c n slot name i))) (room x) (rows x) library st b b′ v → Visiting c library (Field n slot x name) st b b′ v
+unfolding node room rows
+field-is c n slot name x h = record { step = h .step; keeps = h .keeps }
