@@ -1,7 +1,7 @@
 """Refusals 1 to 6 of document 01 ("Words", "Limits", "Answers that end the check"), read a second time.
 
 `refusal(script, image, text, library, lent)` is (number, place), or None where none of the six comes. Written from document 01 and from
-docs/DECISIONS.md, entries 1 to 20, where document 01 leaves a point open; the definitions and the code were not looked at.
+docs/DECISIONS.md, entries 1 to 20, where document 01 leaves a point open; not from the definitions or the code in crates/.
 `# D3` names the entry that a line rests on.
 """
 from collections import namedtuple

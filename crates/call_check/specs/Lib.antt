@@ -1,0 +1,2 @@
+-- What the contract of the crate cites.
+pub mod Ready
