@@ -1,0 +1,2 @@
+-- Node::Extern in code: its functions, and its package.
+pub mod Packing

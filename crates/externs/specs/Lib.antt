@@ -1,0 +1,3 @@
+-- The functions of an Extern, as entries in scratch.
+pub mod Framed
+pub mod Entries

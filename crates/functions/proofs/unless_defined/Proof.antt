@@ -1,0 +1,66 @@
+-- `functions::unless_defined` meets its contract: one law for each return. Assumes nothing.
+use Rattle.functions.proofs.Returns.{name-new, name-met}
+use borrow.Author.Needs.{needs}
+use Rattle.functions.proofs.unless_defined.Statement.{statement}
+use Rattle.functions.proofs.unless_defined.Tie as tie
+use Rattle.functions.proofs.unless_defined.Reads as reads
+use Rattle.functions.proofs.unless_defined.Lts as lts
+use Rattle.err_names.proofs.defined_already.Reads as defined-already-reads
+use Rattle.scope.proofs.find_own.Reads as find-own-reads
+use Rattle.state.proofs.poisoned.Reads as poisoned-reads
+use Rattle.visit.proofs.answered.Reads as answered-reads
+
+-- src/lib.rt:56:9
+find-own-requires : tie.Need-find-own-requires
+find-own-requires c κs = c .before .before .before .before .before .pre
+
+-- src/lib.rt:59:13
+enum-told : tie.Need-enum-told
+enum-told c = search needs
+
+-- src/lib.rt:59:13
+returns : tie.Need-returns
+returns c = λ ls v words s t e. name-new _ (c .before .before .before .before .before .before .before .before .args .n) (c .before .before .before .before .before .before .before .before .args .name) (c .before .before .before .before .before .before .before .before .args .st) _ (c .before .before .find-own .result) (c .before .before .find-own .ensures) (c .enum-told .given .1) ls v words s t _ _ e
+
+-- src/lib.rt:62:17
+enum-told-2 : tie.Need-enum-told-2
+enum-told-2 c = search needs
+
+-- src/lib.rt:64:17
+defined-already-requires : tie.Need-defined-already-requires
+defined-already-requires c κs = search needs
+
+-- src/lib.rt:72:53
+poisoned-requires : tie.Need-poisoned-requires
+poisoned-requires c κs = search needs
+
+-- src/lib.rt:72:33
+answered-requires : tie.Need-answered-requires
+answered-requires c κs = search needs
+
+-- src/lib.rt:72:13
+same-length : tie.Need-same-length
+same-length c = search needs
+
+-- src/lib.rt:72:13
+same-length-2 : tie.Need-same-length-2
+same-length-2 c = search needs
+
+-- src/lib.rt:72:13
+returns-2 : tie.Need-returns-2
+returns-2 c = name-met _ (c .before .before .before .before .before .before .before .before .before .before .before .before .before .before .before .before .before .before .before .args .n) (c .before .before .before .before .before .before .before .before .before .before .before .before .before .before .before .before .before .before .before .args .name) (c .before .before .before .before .before .before .before .before .before .before .before .before .before .before .before .before .before .before .before .args .st) _ (c .before .before .before .before .before .before .before .before .before .before .before .before .before .find-own .result) (c .before .before .before .before .before .before .before .before .before .before .before .before .before .find-own .ensures) (c .before .before .before .before .before .before .before .before .before .before .before .enum-told2 .given .1) (c .before .before .before .before .before .before .defined-already .ensures) (c .before .poisoned .ensures) (c .answered .ensures)
+
+pub unless-defined-spec : {M : Type 1} → statement M
+unless-defined-spec =
+    tie.close
+    (tie.spec
+    find-own-requires
+    enum-told
+    returns
+    enum-told-2
+    defined-already-requires
+    poisoned-requires
+    answered-requires
+    same-length
+    same-length-2
+    returns-2)

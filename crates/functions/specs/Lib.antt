@@ -1,0 +1,3 @@
+-- Node::Fn in parts.
+pub mod Defined
+pub mod Entering

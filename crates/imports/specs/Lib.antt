@@ -1,0 +1,2 @@
+-- One more package of the library held.
+pub mod Holding
