@@ -10,26 +10,13 @@
 //!     signature TEXT, types TEXT, decimal TEXT
 //! SUM is a number that any single wrong byte of the text changes.
 
-use purple_garden_ir::ptype::{Field, Type};
+use purple_garden_ir::ptype::Type;
 use purple_garden_typecheck::FunctionType;
 
-type T = Type<'static>;
+#[path = "../leaked_types.rs"]
+mod leaked_types;
+use leaked_types::{T, boxed, name, record};
 
-fn name(s: String) -> &'static str {
-    s.leak()
-}
-
-fn boxed(t: T) -> &'static T {
-    Box::leak(Box::new(t))
-}
-
-fn record(fields: &[(&'static str, T)]) -> T {
-    let fields: Vec<_> = fields
-        .iter()
-        .map(|&(name, ty)| Field { name, ty })
-        .collect();
-    Type::Record(fields.leak())
-}
 
 /// Records that each hold the last one twice.
 fn tower(levels: usize, leaf: T) -> T {

@@ -8,21 +8,16 @@
 use std::collections::HashMap;
 
 use purple_garden_allocators::bump::Bump;
-use purple_garden_ir::ptype::{BindError, Field, Type};
+use purple_garden_ir::ptype::{BindError, Type};
 
-type T = Type<'static>;
+#[path = "../leaked_types.rs"]
+mod leaked_types;
+use leaked_types::{T, boxed, name, record};
+
 type Bindings = HashMap<&'static str, T>;
-
-fn name(s: String) -> &'static str {
-    s.leak()
-}
 
 fn arena() -> &'static Bump {
     Box::leak(Box::new(Bump::new()))
-}
-
-fn boxed(t: T) -> &'static T {
-    Box::leak(Box::new(t))
 }
 
 fn option(t: T) -> T {
@@ -31,14 +26,6 @@ fn option(t: T) -> T {
 
 fn array(t: T) -> T {
     Type::Array(boxed(t))
-}
-
-fn record(fields: &[(&'static str, T)]) -> T {
-    let fields: Vec<_> = fields
-        .iter()
-        .map(|&(name, ty)| Field { name, ty })
-        .collect();
-    Type::Record(fields.leak())
 }
 
 /// "type depth 32 (a type with nothing inside is 1)"
