@@ -9,6 +9,7 @@ mod domain;
 mod packages;
 pub mod rows;
 mod sites;
+pub mod timed;
 mod visits;
 
 use std::process::ExitCode;

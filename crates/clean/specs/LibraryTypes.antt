@@ -20,7 +20,7 @@ use Rattle.ptype.specs.DepthLaws.{depth-positive}
 use Rattle.ptype.specs.Inside.{wrapped, inField}
 use Rattle.ptype.specs.Add.{Buffer, buffer}
 use Rattle.library.specs.Pool.{Pool}
-use Rattle.library.specs.Package.{Param, Function, Package, poolOf, packagesOf}
+use Rattle.library.specs.Package.{Param, Signature, Function, Package, poolOf, packagesOf}
 use Rattle.library.specs.LibraryFault.{libraryFault}
 use Rattle.library.specs.Each.{Each}
 use Rattle.library.specs.TypeWords.{TypeWord}
@@ -37,6 +37,7 @@ use Rattle.tworuns.specs.Walk.{every-both, every-map}
 use Rattle.tworuns.specs.Accepted.{TypeOf, libraryTypes}
 use Rattle.library_laws.specs.Types.{type-words, library-types}
 use Rattle.library_laws.specs.Slots.{Measured, SignatureTypes, signature-types}
+use Rattle.library_laws.specs.Room.{RoomFor, signatures-room}
 use Rattle.onerun.specs.Claim.{Run, All, end, and, Both, NameAt, Fine, FineFields, Is, ParamOk, FunctionOk, PackageOk}
 use Rattle.onerun.specs.Claim as C
 use Rattle.onerun.specs.Walk.{Shallow}
@@ -129,30 +130,39 @@ module _ (r : Run) (words : List ℕ) (accepted : libraryFault (r .ctx .texts) w
   params-ok s [] h k = C.end
   params-ok s (a ∷ ps) h k = C.and (record { name = library-name (a .name) (goodName-payload inLibrary (r .ctx .texts .library) (a .name) (h .0 .name)); type = k .0 }) (params-ok s ps (h .1) (k .1))
 
-  functions-ok : (fs : List Function) → Each (FunctionFine pool) fs → Every One (functionTypes fs) → Every (λ f. SignatureTypes (r .ctx .texts) (poolOf words) (f .sig)) fs → All (FunctionOk r poolBuffer) fs
-  unfolding Each Every functionTypes
-  functions-ok [] h k s = end
-  functions-ok (f ∷ fs) h k s =
-      let rest = every-back One (paramTypes (f .sig .params)) (f .sig .ret ∷ functionTypes fs) k in
-      and (record {
-        sig = record {
-          trees = map (λ a. tyOf (r .ctx .texts) (poolOf words) (a .type)) (f .sig .params);
-          params = params-ok (f .sig .withSlots) (f .sig .params) (h .0 .sig .params) (every-front One (paramTypes (f .sig .params)) (f .sig .ret ∷ functionTypes fs) k);
-          ret = tyOf (r .ctx .texts) (poolOf words) (f .sig .ret);
-          returns = rest .0;
-          stands = λ q p e. names-slots p _ (λ n i. params-names p (r .ctx .texts) (poolOf words) (f .sig .params) e n (s .0 .stand n i));
-        };
-      })
-      (functions-ok fs (h .1) (rest .1) (s .1))
+  abbrev Room : Signature → Type 0
+  Room f = RoomFor (r .ctx .texts) (poolOf words) f
 
-  packages-ok : (ks : List Package) → Each (PackageFine pool) ks → Every One (packageTypes ks) → Every (λ k. Every (λ f. SignatureTypes (r .ctx .texts) (poolOf words) (f .sig)) (k .functions)) ks → All (PackageOk r poolBuffer) ks
-  unfolding Each Every packageTypes
-  packages-ok [] h k s = end
-  packages-ok (p ∷ ks) h k s =
-      and (record { functions = functions-ok (p .functions) (h .0 .functions) (every-front One (functionTypes (p .functions)) (packageTypes ks) k) (s .0) })
-      (packages-ok ks (h .1) (every-back One (functionTypes (p .functions)) (packageTypes ks) k) (s .1))
+  -- what more is claimed of a signature follows from the room that its bindings have
+  module _ (claimed : (f : Signature) → RoomFor (r .ctx .texts) (poolOf words) f → r .sig f (map (λ a. tyOf (r .ctx .texts) (poolOf words) (a .type)) (f .params))) where
+    functions-ok : (fs : List Function) → Each (FunctionFine pool) fs → Every One (functionTypes fs) → Every (λ f. SignatureTypes (r .ctx .texts) (poolOf words) (f .sig)) fs → Every (λ f. Room (f .sig)) fs
+        → All (FunctionOk r poolBuffer) fs
+    unfolding Each Every functionTypes
+    functions-ok [] h k s m = end
+    functions-ok (f ∷ fs) h k s m =
+        let rest = every-back One (paramTypes (f .sig .params)) (f .sig .ret ∷ functionTypes fs) k in
+        and (record {
+          sig = record {
+            trees = map (λ a. tyOf (r .ctx .texts) (poolOf words) (a .type)) (f .sig .params);
+            params = params-ok (f .sig .withSlots) (f .sig .params) (h .0 .sig .params) (every-front One (paramTypes (f .sig .params)) (f .sig .ret ∷ functionTypes fs) k);
+            ret = tyOf (r .ctx .texts) (poolOf words) (f .sig .ret);
+            returns = rest .0;
+            stands = λ q p e. names-slots p _ (λ n i. params-names p (r .ctx .texts) (poolOf words) (f .sig .params) e n (s .0 .stand n i));
+            sig = claimed (f .sig) (m .0);
+          };
+        })
+        (functions-ok fs (h .1) (rest .1) (s .1) (m .1))
 
-  -- THE LAW
-  pub library-ok : Every (Shallow r (poolOf words)) (libraryTypes words) → All (PackageOk r poolBuffer) (packagesOf words)
-  library-ok m =
-      packages-ok (packagesOf words) (library-fine (r .ctx .texts) words accepted .packages) (package-words m) (signature-types (r .ctx .texts) words accepted (package-measured m))
+    packages-ok : (ks : List Package) → Each (PackageFine pool) ks → Every One (packageTypes ks) → Every (λ k. Every (λ f. SignatureTypes (r .ctx .texts) (poolOf words) (f .sig)) (k .functions)) ks
+        → Every (λ k. Every (λ f. Room (f .sig)) (k .functions)) ks → All (PackageOk r poolBuffer) ks
+    unfolding Each Every packageTypes
+    packages-ok [] h k s m = end
+    packages-ok (p ∷ ks) h k s m =
+        and (record { functions = functions-ok (p .functions) (h .0 .functions) (every-front One (functionTypes (p .functions)) (packageTypes ks) k) (s .0) (m .0) })
+        (packages-ok ks (h .1) (every-back One (functionTypes (p .functions)) (packageTypes ks) k) (s .1) (m .1))
+
+    -- THE LAW
+    pub library-ok : Every (Shallow r (poolOf words)) (libraryTypes words) → All (PackageOk r poolBuffer) (packagesOf words)
+    library-ok m =
+        packages-ok (packagesOf words) (library-fine (r .ctx .texts) words accepted .packages) (package-words m) (signature-types (r .ctx .texts) words accepted (package-measured m))
+        (signatures-room (r .ctx .texts) words accepted)

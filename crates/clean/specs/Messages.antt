@@ -26,7 +26,7 @@ pub record ReadWell (e : Ended) (k : ℕ) : Type 0 where
 
 -- here it is names that are claimed
 abbrev named : Ctx → Run
-named c = record { ctx = c; clean = ⊥ }
+named c = record { ctx = c; clean = ⊥; sig = λ f xs. Unit {0}; plain = λ ps ret xs. tt }
 
 told-read : (b : Buffers) (u : World) (k : ℕ) → ToldWell (u .diagnostics) (u .messages) k → ReadWell (endOf b (ok tt u)) k
 unfolding endOf

@@ -178,7 +178,11 @@ module _ (t : Texts) {image : List ℕ} (a : Accepted (t .script) image) (N : �
   deep zero n h l = absurd (omega arith)
   deep (suc f) n h l = by-kind n (λ p q. deep f p (omega arith) (omega arith)) l (recordKind image (nodePlace image n)) refl
 
+  -- THE LAW of a node
+  pub tree-proper : (n : ℕ) → n < nodeCount image → Proper (λ slot. slot < slotCount image) N (treeOf image n)
+  tree-proper n l = deep (nodeCount image) n l l
+
   -- THE LAW
   pub roots-proper : ProperAll (λ slot. slot < slotCount image) N (rootsOf image)
   unfolding rootsOf firstRoots
-  roots-proper = nodes-proper (nodeCount image) (λ p q. deep (nodeCount image) p q q) (rootCount image) 4 (a .roots)
+  roots-proper = nodes-proper (nodeCount image) tree-proper (rootCount image) 4 (a .roots)

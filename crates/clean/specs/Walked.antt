@@ -1,5 +1,10 @@
 -- The walk of inputs that pass refusals 1 to 6: what is claimed of one run holds of its end. Assumes nothing.
 use Prim.Native.Nat.{ℕ, _<_}
+use mathlib.Core.Path.{_≡_}
+use mathlib.Core.Bool.{true}
+use mathlib.Core.List.{List}
+use Rattle.utf8.specs.Rfc3629.{wellFormed}
+use Rattle.tok.specs.Text.{Texts, nameBytes}
 use Rattle.tok.specs.Name.{inScript}
 use Rattle.tok.proofs.NameLaws.{goodName-payload, nameBytes-wellFormed}
 use Rattle.library.specs.Package.{poolOf}
@@ -17,20 +22,21 @@ use Rattle.onerun.specs.Walk.{Ends, walk-ends}
 use Rattle.clean.specs.ProperTrees.{roots-proper}
 use Rattle.clean.specs.LibraryTypes.{library-ok}
 
+-- a good name of the script is well formed
+pub script-name : (t : Texts) (image : List ℕ) (at : ℕ) → Named (t .script) image at → wellFormed (nameBytes t (wordAt image at)) ≡ true
+script-name t image at n = nameBytes-wellFormed t inScript (wordAt image at) (goodName-payload inScript (t .script) (wordAt image at) (n .good))
+
 module _ (clean : Type 0) (i : Inputs) (b : Buffers) (p : Passed i b) where
   abbrev pub run : Run
-  run = record { ctx = ctxOf i; clean = clean }
-
-  script-name : (at : ℕ) → Named (i .script) (i .image) at → NameAt run (wordAt (i .image) at)
-  unfolding ctxOf
-  script-name at n l = nameBytes-wellFormed (textsIn i) inScript (wordAt (i .image) at) (goodName-payload inScript (i .script) (wordAt (i .image) at) (n .good))
+  run = record { ctx = ctxOf i; clean = clean; sig = λ f xs. Unit {0}; plain = λ ps ret xs. tt }
 
   roots : ProperAll (λ slot. slot < slotCount (i .image)) (NameAt run) (rootsOf (i .image))
-  roots = roots-proper (textsIn i) (p .image) (NameAt run) script-name
+  unfolding ctxOf
+  roots = roots-proper (textsIn i) (p .image) (NameAt run) (λ at n l. script-name (textsIn i) (i .image) at n)
 
   pub walked : Ends run (rootsOf (i .image)) (walkOf i b)
   unfolding walkOf walk rootsOf ctxOf TypeOf
   walked =
       rw (walk-over i (rootCount (i .image)))
       (walk-ends run (poolOf (i .library)) (nodeCount (i .image)) (libraryTypes (i .library)) (library-types (textsIn i) (i .library) (p .library))
-      (library-ok run (i .library) (p .library)) (rootsOf (i .image)) roots (fresh-start i b (p .slots)))
+      (library-ok run (i .library) (p .library) (λ f m. tt)) (rootsOf (i .image)) roots (fresh-start i b (p .slots)))

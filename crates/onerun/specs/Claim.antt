@@ -12,17 +12,20 @@ use Rattle.tok.specs.Text.{nameBytes}
 use Rattle.ptype.specs.Ty.{Ty, Fields, plain, wrap, rec, named, noField, field, containsSlot, depthOf}
 use Rattle.ptype.specs.Add.{Buffer}
 use Rattle.ptype.specs.Slots.{Binding}
-use Rattle.library.specs.Package.{Param, Signature, Function, Package}
+use Rattle.library.specs.Package.{Param, Signature, signature, Function, Package}
 use Rattle.rules.specs.declared.Answer.{Answer}
 use Rattle.rules.specs.declared.Answer.the-variants.{Known, Poison}
 use Rattle.rules.specs.World.{Ctx, Local, World}
 use Rattle.tworuns.specs.Means.{Means}
 
 -- A run, and which of the two is claimed of it: where `clean` holds, types free of Unknown and of slots, and only as long as no diagnostic is
--- raised; where it does not, names that are well formed, diagnostics or not.
+-- raised; where it does not, names that are well formed, diagnostics or not. Of signatures with slots, and the trees of their arguments,
+-- something more may be claimed (`sig`); of those without there is nothing to show.
 pub record Run : Type 1 where
   pub ctx : Ctx
   pub clean : Type 0
+  pub sig : Signature → List Ty → Type 0
+  pub plain : (ps : List Param) (ret : ℕ) (xs : List Ty) → sig (signature ps ret false) xs
 
 -- what holds of each of a list, and of two lists entry by entry
 pub data All {A : Type 0} (P : A → Type 0) : List A → Type 0 where
@@ -123,6 +126,7 @@ module _ (r : Run) where
     pub ret : Ty
     pub returns : Is b (f .ret) ret
     pub stands : r .clean → (p : List ℕ → Bool) → allSlotsAre p trees ≡ true → slotsAre p ret ≡ true
+    pub sig : r .sig f trees
 
   pub record FunctionOk (b : Buffer) (f : Function) : Type 0 where
     pub sig : SignatureOk b (f .sig)

@@ -1,6 +1,6 @@
 -- Fn and Extern: signatures made of type expressions, which have no slots. Assumes nothing.
 use Prim.Native.Nat.{ℕ, _+_, _<_}
-use mathlib.Core.Bool.{Bool}
+use mathlib.Core.Bool.{false}
 use mathlib.Core.List.{List, [], _∷_}
 use Rattle.tok.specs.Step.{_>>=_, return, forEach}
 use Rattle.ptype.specs.Add.{Buffer}
@@ -14,10 +14,9 @@ use Rattle.rules.specs.Steps.{ty, tree, tyTree, typeFromExpr}
 use Rattle.rules.specs.Steps as S
 use Rattle.rules.specs.Rules.{fnArguments, checkReturn, fn, unlessDefined, externFn}
 use Rattle.laws.specs.SlotsOf.{ArgSlots}
-use Rattle.tworuns.specs.Means.{Grown}
 use Rattle.onerun.specs.Claim.{Run, All, end, and, NameAt, Good, bound, SignatureOk, FunctionOk, Holds, AnswerOk}
 use Rattle.onerun.specs.Claim as C
-use Rattle.onerun.specs.Grows.{both-map, typed-grow, param-grow, function-grow, typed-names}
+use Rattle.onerun.specs.Grows.{typed-grow, param-grow, function-grow, typed-names}
 use Rattle.onerun.specs.Logic.{Silent, before, Gives, g-next, g-return, g-when, g-option, g-map, g-onTypes, g-ifKnown, g-set}
 use Rattle.onerun.specs.Report.{g-report}
 use Rattle.onerun.specs.Seen.{Seen, seen-later, NodeOk, g-keep, node-poison}
@@ -26,7 +25,7 @@ use Rattle.onerun.specs.Trees.{free-slots}
 use Rattle.onerun.specs.Types.{t-typeFrom}
 use Rattle.onerun.specs.Operators.{slot-good}
 use Rattle.onerun.specs.Proper.{ProperType, ProperArgs, ProperExterns}
-use Rattle.onerun.specs.Arguments.{ParamTyped, ParamsOk}
+use Rattle.onerun.specs.Arguments.{ParamTyped, ParamsOk, params-grow}
 
 module _ (r : Run) where
   abbrev pub Below : ℕ → Type 0
@@ -42,14 +41,18 @@ module _ (r : Run) where
   more-params : {b : Buffer} {name w : ℕ} {ps : List Param} → NameAt r name → Good r b w → ParamsOk r b ps → ParamsOk r b (param name w ∷ ps)
   more-params m g h = record { trees = g .tree ∷ h .trees; each = C.and (record { name = m; type = g .is }) (h .each) }
 
-  params-grow : {b d : Buffer} {ps : List Param} → Grown b d → ParamsOk r b ps → ParamsOk r d ps
-  params-grow g h = record { trees = h .trees; each = both-map (param-grow r g) (h .each) }
-
   -- a signature whose return type has no slot
-  signature-ok : {b : Buffer} {ps : List Param} {ret : ℕ} {slotted : Bool} → ParamsOk r b ps → Good r b ret → SignatureOk r b (signature ps ret slotted)
-  signature-ok h g = record { trees = h .trees; params = h .each; ret = g .tree; returns = g .is; stands = λ q p e. free-slots p (g .tree) (g .noSlot q) }
+  pub signature-ok : {b : Buffer} {ps : List Param} {ret : ℕ} → ParamsOk r b ps → Good r b ret → SignatureOk r b (signature ps ret false)
+  signature-ok {ps = ps} {ret = ret} h g = record {
+    trees = h .trees;
+    params = h .each;
+    ret = g .tree;
+    returns = g .is;
+    stands = λ q p e. free-slots p (g .tree) (g .noSlot q);
+    sig = r .plain ps ret (h .trees);
+  }
 
-  g-fnArguments : (n slot : ℕ) (args : List Arg) → ProperArgs Below (NameAt r) args → ArgSlots Below slot args → {s : World} → (Silent r s → Holds r s)
+  pub g-fnArguments : (n slot : ℕ) (args : List Arg) → ProperArgs Below (NameAt r) args → ArgSlots Below slot args → {s : World} → (Silent r s → Holds r s)
       → Gives r (λ u ps. ParamsOk r (u .types) ps) s (fnArguments (r .ctx) n slot args s)
   unfolding fnArguments ProperArgs ArgSlots
   g-fnArguments n slot [] p o {s} h = g-return r h (λ z. no-params (s .types))
@@ -89,7 +92,7 @@ module _ (r : Run) where
       (g-apart r {Q = FnOk ys} (λ u en a x. record { type = x .type; seen = λ q. seen-env r (x .seen q) }) _ h
       (g-next r _ (g-fnArguments n (slot + 1) args pa o (alone r h)) (λ ps u₁ t₁ x₁.
       g-next r _ (g-typeFrom n e p (λ z. x₁ z .holds)) (λ ret u₂ t₂ x₂.
-      g-next r _ (g-enter r name ps ret (λ z. x₂ z .holds) (λ z. record { sig = signature-ok (params-grow (x₂ z .grown) (x₁ (before r t₂ z) .value)) (x₂ z .value) })) (λ _ u₃ t₃ x₃.
+      g-next r _ (g-enter r name ps ret (λ z. x₂ z .holds) (λ z. record { sig = signature-ok (params-grow r (x₂ z .grown) (x₁ (before r t₂ z) .value)) (x₂ z .value) })) (λ _ u₃ t₃ x₃.
       g-next r _ (k u₃ (λ z. x₃ z .holds)) (λ a u₄ t₄ x₄.
       let g : Silent r u₄ → Good r (u₄ .types) ret = λ z. let z₃ = before r t₄ z in typed-grow r (x₄ z .grown) (typed-grow r (x₃ z₃ .grown) (x₂ (before r t₃ z₃) .value)) in
       g-next r _ (g-checkReturn n name m e (λ z. x₄ z .holds) g (λ z. x₄ z .value .answer)) (λ _ u₅ t₅ x₅.
@@ -130,7 +133,7 @@ module _ (r : Run) where
       g-next r _
       (g-each r ArgProper (ParamTyped r) (λ b d g x y. record { tree = y .tree; ok = param-grow r g x (y .tree) (y .ok) }) _ (λ a i s k. g-arg n a i s k) (args-all (f .args) (p .args)) h)
       (λ ps u t x. g-next r _ (g-typeFrom n (f .ret) (p .ret) (λ z. x z .holds)) (λ ret v t₁ y.
-      g-return r (λ z. y z .holds) (λ z. record { sig = signature-ok (params-grow (y z .grown) (params-all (x (before r t₁ z) .value))) (y z .value) })))
+      g-return r (λ z. y z .holds) (λ z. record { sig = signature-ok (params-grow r (y z .grown) (params-all (x (before r t₁ z) .value))) (y z .value) })))
 
   pub g-externs : (n : ℕ) (fs : List ExternFn) → ProperExterns Below (NameAt r) fs → {s : World} → (Silent r s → Holds r s)
       → Gives r (λ u gs. All (FunctionOk r (u .types)) gs) s (forEach (λ f. externFn (r .ctx) n f) fs s)

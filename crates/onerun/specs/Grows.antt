@@ -49,7 +49,7 @@ module _ (r : Run) {b d : Buffer} (g : Grown b d) where
   param-grow p x h = record { name = h .name; type = is-grow (h .type) }
 
   pub signature-grow : (f : Signature) → SignatureOk r b f → SignatureOk r d f
-  signature-grow f h = record { trees = h .trees; params = both-map param-grow (h .params); ret = h .ret; returns = is-grow (h .returns); stands = h .stands }
+  signature-grow f h = record { trees = h .trees; params = both-map param-grow (h .params); ret = h .ret; returns = is-grow (h .returns); stands = h .stands; sig = h .sig }
 
   pub function-grow : (f : Function) → FunctionOk r b f → FunctionOk r d f
   function-grow f h = record { sig = signature-grow (f .sig) (h .sig) }

@@ -21,7 +21,7 @@ use Rattle.onerun.specs.Trees.{or-none}
 less : (i : ℕ) → suc i - 1 ≡ i
 less i = omega arith
 
-no-name : (k : ℕ) → wraps k ≡ true → names k ≡ true → ⊥
+pub no-name : (k : ℕ) → wraps k ≡ true → names k ≡ true → ⊥
 no-name k h i = elim (one-of 6 7 k h) [ inl e ↦ true≢false (sym (rw e at i)) | inr e ↦ true≢false (sym (rw e at i)) ]
 
 module _ (r : Run) where

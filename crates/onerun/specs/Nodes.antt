@@ -84,18 +84,18 @@ module _ (r : Run) where
   poison-names b (C.known e) k i = k i
   poison-names b (poison o) k i = o
 
-  record ArgumentsOk (xs : Nodes) (u : World) (b : Bool) : Type 0 where
-    provided : All (ProvidedOk r u) (providedOf xs)
-    ofNames : b ≡ true → OfNames r
-    seen : r .clean → Seen r u (visitedAmong xs)
+  pub record ArgumentsOk (xs : Nodes) (u : World) (b : Bool) : Type 0 where
+    pub provided : All (ProvidedOk r u) (providedOf xs)
+    pub ofNames : b ≡ true → OfNames r
+    pub seen : r .clean → Seen r u (visitedAmong xs)
 
-  record CasesOk (ys : List Node) (u : World) (bs : List Branch) : Type 0 where
-    branches : All (BranchOk r u) bs
-    seen : r .clean → Seen r u ys
+  pub record CasesOk (ys : List Node) (u : World) (bs : List Branch) : Type 0 where
+    pub branches : All (BranchOk r u) bs
+    pub seen : r .clean → Seen r u ys
 
-  record ValuesOk (ys : List Node) (u : World) (ps : List ℕ) : Type 0 where
-    pairs : PairsTyped r (u .types) ps
-    seen : r .clean → Seen r u ys
+  pub record ValuesOk (ys : List Node) (u : World) (ps : List ℕ) : Type 0 where
+    pub pairs : PairsTyped r (u .types) ps
+    pub seen : r .clean → Seen r u ys
 
   mutual
     unfolding node Proper visitedBelow slotOf providedOf S.poison
@@ -154,7 +154,7 @@ module _ (r : Run) where
     g-last (then x xs) p h k =
         g-next r _ (g-node x (p .0) h) (λ b u t f. more-block (λ z q. whole x (f z .value) q) (g-last xs (p .1) (λ z. f z .holds) (λ z. f z .value .own .answer)))
 
-    g-all : (xs : Nodes) → ProperAll (Below r) (NameAt r) xs → {s : World} → (Silent r s → Holds r s) → Gives r (ArgumentsOk xs) s (visitAll (r .ctx) xs s)
+    pub g-all : (xs : Nodes) → ProperAll (Below r) (NameAt r) xs → {s : World} → (Silent r s → Holds r s) → Gives r (ArgumentsOk xs) s (visitAll (r .ctx) xs s)
     g-all done p h = g-return r h (λ z. record { provided = end; ofNames = λ e. absurd (false≢true e); seen = λ q. end })
     g-all (then x xs) p h =
         g-next r _ (g-node x (p .0) h) (λ a u t f. g-next r _ (g-all xs (p .1) (λ z. f z .holds)) (λ b v t₁ g.
@@ -164,7 +164,7 @@ module _ (r : Run) where
           seen = λ q. seen-both r (seen-later r (g z) (whole x y q)) (g z .value .seen q);
         })))
 
-    g-cases : (n : ℕ) (cs : Cases) → ProperCases (Below r) (NameAt r) cs → {s : World} → (Silent r s → Holds r s) → Gives r (CasesOk (visitedInCases cs)) s (cases (r .ctx) n cs s)
+    pub g-cases : (n : ℕ) (cs : Cases) → ProperCases (Below r) (NameAt r) cs → {s : World} → (Silent r s → Holds r s) → Gives r (CasesOk (visitedInCases cs)) s (cases (r .ctx) n cs s)
     g-cases n noCase p h = g-return r h (λ z. record { branches = end; seen = λ q. end })
     g-cases n (case token x body cs) p h =
         g-next r _ (g-node x (p .0) h) (λ a u t f. g-next r _ (g-condition r (λ z. f z .holds) n token (λ z. f z .value .own .answer)) (λ _ u₁ t₁ f₁.
@@ -180,7 +180,7 @@ module _ (r : Run) where
               (f₃ z .value .seen q);
         })))))
 
-    g-values : (vs : Values) → ProperValues (Below r) (NameAt r) vs → {s : World} → (Silent r s → Holds r s) → Gives r (ValuesOk (visitedInValues vs)) s (values (r .ctx) vs s)
+    pub g-values : (vs : Values) → ProperValues (Below r) (NameAt r) vs → {s : World} → (Silent r s → Holds r s) → Gives r (ValuesOk (visitedInValues vs)) s (values (r .ctx) vs s)
     g-values noValue p {s} h = g-return r h (λ z. record { pairs = no-typed r (s .types); seen = λ q. end })
     g-values (value name x vs) p h =
         g-next r _ (g-node x (p .1) h) (λ a u t f. g-next r _ (g-value r (λ z. f z .holds) (λ z. f z .value .own .answer)) (λ w u₁ t₁ f₁.

@@ -2,7 +2,7 @@
 use Prim.Native.Nat.{ℕ, _≤_}
 use native.Mathlib.Omega.{arith}
 use native.Mathlib.Decide.{ℕ-discrete}
-use mathlib.Core.Path.{_≡_, refl}
+use mathlib.Core.Path.{_≡_, refl, subst}
 use mathlib.Core.Bool.{Bool, true, false}
 use mathlib.Core.List.{List}
 use lib.Dec.{leb}
@@ -43,6 +43,13 @@ pub record Claimed (r : Run) (roots : Nodes) (u : World) : Type 0 where
 pub data Ends (r : Run) (roots : Nodes) : Result World Refusal Done → Type 0 where
   ends : {u : World} → (Silent r u → Claimed r roots u) → Ends r roots (ok tt u)
   stops : {e : Refusal} → Ends r roots (refused e)
+
+-- the world of a result
+ok-world : {s u : World} → _≡_ {A = Result World Refusal Done} (ok tt s) (ok tt u) → s ≡ u
+ok-world e = cc e
+
+not-refused : {x : Refusal} {u : World} → _≡_ {A = Result World Refusal Done} (refused x) (ok tt u) → ⊥
+not-refused e = let z : _≡_ {A = ℕ} 0 1 = cc e in omega arith
 
 module _ (r : Run) (pool : List ℕ) where
   -- a type of the library that was measured
@@ -91,6 +98,25 @@ module _ (r : Run) (pool : List ℕ) where
           let h = start-holds k in
           after-last (g-last r roots proper (λ z. h) (λ z. C.known (h .voids)))
       after-measure (deep n) = stops
+
+  -- Where the pool was copied and every type of the library measured, the claim holds.
+  module _ (words : List ℕ) (fine : Every FineType words) (lib : Every Shallow words → All (PackageOk r (buffer pool (length pool))) (r .ctx .library)) {s : World} (fresh : Fresh (r .ctx .void) s) where
+    measured-holds : (fits : length pool ≤ length (s .types .words)) {x : Result World Refusal Done} {u : World} → Measured (r .ctx) (copied fresh fits) words x → x ≡ ok tt u → Holds r u
+    measured-holds fits (low ms) e =
+        let k = lib (every-both FineType (Low (r .ctx) (copied fresh fits)) Shallow (λ w f l. rw (begins-tree (r .ctx .texts) w (begins fresh fits) f) l) words fine ms) in
+        subst (Holds r) (ok-world e) (start-holds fresh fits k)
+    measured-holds fits (deep n) e = absurd (not-refused e)
+
+    pub begun-holds : (n : ℕ) {u : World} → next (copyPool n pool s) (λ _. measure (r .ctx) n words) ≡ ok tt u → Holds r u
+    unfolding copyPool when
+    begun-holds n {u} = by (leb (length pool) (typeRoom (s .types))) refl
+      where
+        by : (t : Bool) → leb (length pool) (typeRoom (s .types)) ≡ t
+            → next (when t (give (tt {0}) (withTypes s (buffer (write (s .types .words) 0 pool) (length pool)))) (refuse (refusal 7 n)) s) (λ _. measure (r .ctx) n words) ≡ ok tt u → Holds r u
+        by true e q =
+            let l = leb-true (length pool) (typeRoom (s .types)) e in
+            measured-holds (omega arith) (measured (r .ctx) n words (withTypes s (buffer (write (s .types .words) 0 pool) (length pool)))) q
+        by false e q = absurd (not-refused q)
 
   -- The walk of some roots, from a fresh world, of a library that is as claimed where its types were measured.
   pub walk-ends : (n : ℕ) (words : List ℕ) → Every FineType words → (Every Shallow words → All (PackageOk r (buffer pool (length pool))) (r .ctx .library))

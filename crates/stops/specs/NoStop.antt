@@ -7,15 +7,12 @@ use mathlib.Core.Path.{_≡_, refl, sym, _∙_}
 use mathlib.Core.Option.{none}
 use mathlib.Core.List.{List, [], _∷_}
 use Rattle.tok.specs.Step.{Result, ok, refused, Refusal, next}
-use Rattle.tok.specs.Name.{inScript}
-use Rattle.tok.proofs.NameLaws.{goodName-payload, nameBytes-wellFormed}
 use Rattle.library.specs.Package.{poolOf}
-use Rattle.ast.specs.Image.{wordAt, nodeCount, rootCount, slotCount}
+use Rattle.ast.specs.Image.{nodeCount, rootCount, slotCount}
 use Rattle.ast.specs.Node.{Node, done, rootsOf, treeOf}
 use Rattle.ast.specs.Claims.{countFrom, slotsOwned}
 use Rattle.image_laws.specs.OutlineAt.{outlineAt}
 use Rattle.image_laws.specs.PartsBelow.{slots-below}
-use Rattle.image_laws.specs.RecordWords.{Named}
 use Rattle.image_laws.specs.Accepted.{Accepted}
 use Rattle.refusals.specs.Inputs.{Inputs, Buffers, textsIn}
 use Rattle.refusals.specs.Refusals.{refusalOf}
@@ -45,6 +42,7 @@ use Rattle.onerun.specs.Proper.{ProperAll}
 use Rattle.onerun.specs.Walk.{Ends, ends, walk-ends}
 use Rattle.clean.specs.ProperTrees.{roots-proper}
 use Rattle.clean.specs.LibraryTypes.{library-ok}
+use Rattle.clean.specs.Walked.{script-name}
 use Rattle.stops.specs.Guarded.{lastOrStop, walkOrStop}
 use Rattle.stops.specs.Ready.{Fits, fits, Ready, ready-then, Leaves, Free, Any, leaves-kept}
 use Rattle.stops.specs.Past.{run, quiet, next-same}
@@ -96,19 +94,16 @@ module _ (i : Inputs) (b : Buffers) (p : Passed i b) where
 
   -- ── The walk ──
 
-  script-name : (at : ℕ) → Named (i .script) (i .image) at → NameAt (run (ctxOf i)) (wordAt (i .image) at)
-  unfolding ctxOf
-  script-name at n l = nameBytes-wellFormed (textsIn i) inScript (wordAt (i .image) at) (goodName-payload inScript (i .script) (wordAt (i .image) at) (n .good))
-
   roots : ProperAll (λ slot. slot < slotCount (i .image)) (NameAt (run (ctxOf i))) (rootsOf (i .image))
-  roots = roots-proper (textsIn i) (p .image) (NameAt (run (ctxOf i))) script-name
+  unfolding ctxOf
+  roots = roots-proper (textsIn i) (p .image) (NameAt (run (ctxOf i))) (λ at n l. script-name (textsIn i) (i .image) at n)
 
   -- the world once the pool is copied and the library's types are measured, before any root
   before-roots : Ends (run (ctxOf i)) done (over (ctxOf i) (nodeCount (i .image)) (poolOf (i .library)) (libraryTypes (i .library)) done (startOf i b))
   unfolding ctxOf TypeOf ProperAll
   before-roots =
       walk-ends (run (ctxOf i)) (poolOf (i .library)) (nodeCount (i .image)) (libraryTypes (i .library)) (library-types (textsIn i) (i .library) (p .library))
-      (library-ok (run (ctxOf i)) (i .library) (p .library)) done tt (fresh-start i b (p .slots))
+      (library-ok (run (ctxOf i)) (i .library) (p .library) (λ f m. tt)) done tt (fresh-start i b (p .slots))
 
   abbrev ys : List Node
   ys = visitedIn (i .image)

@@ -14,18 +14,17 @@ use Rattle.ast.specs.Node.{Node, ExternFn}
 use Rattle.rules.specs.declared.Answer.{Answer}
 use Rattle.rules.specs.World.{Ctx, World, Walk, withEnv}
 use Rattle.rules.specs.Steps.{known, ifKnown, onOption, poison, framed, apart}
-use Rattle.rules.specs.Rules.{Member, alike, silent, differs, goOn, Branch, fnArguments, fn, unlessDefined}
+use Rattle.rules.specs.Rules.{Member, alike, silent, differs, goOn, Branch, fn, unlessDefined}
 use Rattle.laws.specs.SlotsOf.{ArgSlots}
 use Rattle.laws.specs.Keeps.{Keeps, kept}
 use Rattle.laws.specs.Keeps as K
-use Rattle.onerun.specs.Claim.{Run, All, end, and, NameAt, bound, Recorded, Holds, AnswerOk}
+use Rattle.onerun.specs.Claim.{Run, All, end, and, NameAt, Recorded, Holds, AnswerOk}
 use Rattle.onerun.specs.Claim as C
-use Rattle.onerun.specs.Grows.{typed-grow}
-use Rattle.onerun.specs.Logic.{Silent, After, Gives, gives, stopped, g-next, g-return, g-set}
-use Rattle.onerun.specs.Scope.{alone, g-insert, g-enter}
-use Rattle.onerun.specs.Arguments.{ParamsOk, params-grow}
+use Rattle.onerun.specs.Logic.{Silent, After, Gives, gives, stopped}
+use Rattle.onerun.specs.Scope.{alone, g-enter}
+use Rattle.onerun.specs.Arguments.{params-grow}
 use Rattle.onerun.specs.Rules.{BranchOk}
-use Rattle.onerun.specs.Functions.{Below, BlockOk, g-typeFrom}
+use Rattle.onerun.specs.Functions.{Below, BlockOk, signature-ok, g-fnArguments, g-typeFrom}
 use Rattle.onerun.specs.Proper.{ProperType, ProperTypes, ProperArgs, ProperExterns}
 use Rattle.stops.specs.Guards.{unless, expect, expectOf, expectBranches, unlessChecked, lexTypes, fieldLexTypes, argLexTypes, externLexTypes}
 use Rattle.stops.specs.Guarded.{answered}
@@ -80,7 +79,7 @@ past-checked slot m e h = rw e h
 module _ (c : Ctx) where
   -- one run, of which nothing is claimed but what holds with diagnostics too
   abbrev pub run : Run
-  run = record { ctx = c; clean = ⊥ }
+  run = record { ctx = c; clean = ⊥; sig = λ f xs. Unit {0}; plain = λ ps ret xs. tt }
 
   pub quiet : {s : World} → Silent run s
   quiet = record { none = λ q. absurd q }
@@ -151,21 +150,6 @@ module _ (c : Ctx) where
 
   -- ── Fn ──
 
-  -- the world once an Fn's arguments are bound
-  arguments-hold : (n slot : ℕ) (args : List Arg) → ProperArgs (Below run) (NameAt run) args → ArgSlots (Below run) slot args → {s : World} → Holds run s
-      → Gives run (λ u ps. ParamsOk run (u .types) ps) s (fnArguments c n slot args s)
-  unfolding fnArguments ProperArgs ArgSlots
-  arguments-hold n slot [] p o h = g-return run (λ _. h) (λ _. record { trees = []; each = C.end })
-  arguments-hold n slot (a ∷ rest) p o h =
-      g-next run _ (g-typeFrom run n (a .type) (p .1) (λ _. h)) (λ w u t x.
-      g-next run _ (g-set run slot (o .0) (λ z. x z .holds) (λ z. x z .value)) (λ _ u₁ t₁ x₁.
-      g-next run _ (g-insert run (a .name) (λ z. x₁ z .holds) (λ z. bound (typed-grow run (x₁ z .grown) (x quiet .value)))) (λ _ u₂ t₂ x₂.
-      g-next run _ (arguments-hold n (slot + 1) rest (p .2) (o .1) (x₂ quiet .holds)) (λ ps u₃ t₃ x₃.
-      g-return run (λ z. x₃ z .holds) (λ z.
-      let g = typed-grow run (x₃ z .grown) (typed-grow run (x₂ quiet .grown) (typed-grow run (x₁ quiet .grown) (x quiet .value))) in
-      let ok = x₃ z .value in
-      record { trees = g .tree ∷ ok .trees; each = C.and (record { name = p .0; type = g .is }) (ok .each) })))))
-
   module _ (ys : List Node) (body : Walk Answer) (guarded : Walk Answer) (same : (u : World) → Ready u ys → Holds run u → guarded u ≡ body u) where
     pub fn-same : (n slot name : ℕ) (e : TypeExpr) (args : List Arg) → ProperType (Below run) (NameAt run) e → ProperArgs (Below run) (NameAt run) args → ArgSlots (Below run) (slot + 1) args
         → ArgSlots (Free ys) (slot + 1) args → {s : World} → Ready s ys → Holds run s
@@ -174,13 +158,10 @@ module _ (c : Ctx) where
     fn-same n slot name e args p pa low free {s} d h =
         option-same _ _ _ _ _
         (next-same _ (next-same _
-        (then-left ys _ _ refl (arguments-hold n (slot + 1) args pa low (alone run (λ _. h) quiet)) (K.in-fnArguments (Leaves ys) Any (Free ys) (leaves-kept ys) c n (slot + 1) args free (withEnv s [])) (λ ps u₁ x₁ l₁.
+        (then-left ys _ _ refl (g-fnArguments run n (slot + 1) args pa low (alone run (λ _. h))) (K.in-fnArguments (Leaves ys) Any (Free ys) (leaves-kept ys) c n (slot + 1) args free (withEnv s [])) (λ ps u₁ x₁ l₁.
         then-left ys _ _ refl (g-typeFrom run n e p (λ _. x₁ .holds)) (K.in-typeFrom (Leaves ys) Any (Free ys) (leaves-kept ys) c n e u₁) (λ ret u₂ x₂ l₂.
         then-left ys _ _ refl
-        (g-enter run name ps ret (λ _. x₂ .holds) (λ _.
-        let params = params-grow run (x₂ .grown) (x₁ .value) in
-        let g = x₂ .value in
-        record { sig = record { trees = params .trees; params = params .each; ret = g .tree; returns = g .is; stands = λ q. absurd q } }))
+        (g-enter run name ps ret (λ _. x₂ .holds) (λ _. record { sig = signature-ok run (params-grow run (x₂ .grown) (x₁ .value)) (x₂ .value) }))
         (K.in-enter (Leaves ys) Any (Free ys) (leaves-kept ys) (leaves-enters ys) name ps ret u₂) (λ _ u₃ x₃ l₃.
         let r₁ : Ready u₁ ys = ready-then [] ys (record { once = d .once; unset = d .unset; fit = d .fit }) l₁ in
         next-same _ (same u₃ (ready-then [] ys (ready-then [] ys r₁ l₂) l₃) (x₃ .holds)))))))) (λ _. refl)

@@ -89,7 +89,7 @@ module _ (st : State) {r w : ℕ} {st′ : State} {b b′ : Lent} (p : Within r 
       let e : 2 * (st .base + st .depth + 0) ≡ top st = omega arith in
       rw e at (p .names)
 
-  outer-within : Within r w st b (leftOf st′ st) b′
+  pub outer-within : Within r w st b (leftOf st′ st) b′
   outer-within = record {
     base = refl;
     deeper = omega arith;
@@ -102,7 +102,7 @@ module _ (st : State) {r w : ℕ} {st′ : State} {b b′ : Lent} (p : Within r 
     functions = p .functions;
   }
 
-  outer-names : (library : List ℕ) → withEnv (whole library st′ b′) (envUp (b .scratch) (st .base) (st .depth)) ≡ whole library (leftOf st′ st) b′
+  pub outer-names : (library : List ℕ) → withEnv (whole library st′ b′) (envUp (b .scratch) (st .base) (st .depth)) ≡ whole library (leftOf st′ st) b′
   outer-names library =
       let e : 2 * (st .base + st .depth) ≤ top st = omega arith in
       ap (λ l. withEnv (whole library st′ b′) l) (sym (env-front (top st) (b .scratch) (b′ .scratch) names-kept (st .base) (st .depth) e))

@@ -12,51 +12,39 @@ Inv-loop script₀ image₀ text₀ library₀ registers₀ words bytes count co
 abbrev μ-loop : tie.MeasureT-loop
 μ-loop script₀ image₀ text₀ library₀ registers₀ words bytes count counter₀ script image text library registers counter = count - counter
 
--- src/main.rt:348:5
 loop-holds : tie.Need-loop-holds Inv-loop μ-loop
 loop-holds c = search needs
 
--- src/main.rt:357:13
 next-command-requires : tie.Need-next-command-requires Inv-loop μ-loop
 next-command-requires c κs = search needs
 
--- src/main.rt:349:9
 obey-requires : tie.Need-obey-requires Inv-loop μ-loop
 obey-requires c κs = search needs
 
--- src/main.rt:348:9
 add-counter : tie.Need-add-counter Inv-loop μ-loop
 add-counter c = search needs
 
--- src/main.rt:348:5
 loop-less : tie.Need-loop-less Inv-loop μ-loop
 loop-less c = search needs
 
--- src/main.rt:348:5
 loop-again : tie.Need-loop-again Inv-loop μ-loop
 loop-again c = search needs
 
--- src/main.rt:338:1
 same-length : tie.Need-same-length Inv-loop μ-loop
 same-length c = search needs
 
--- src/main.rt:338:1
 same-length-2 : tie.Need-same-length-2 Inv-loop μ-loop
 same-length-2 c = search needs
 
--- src/main.rt:338:1
 same-length-3 : tie.Need-same-length-3 Inv-loop μ-loop
 same-length-3 c = search needs
 
--- src/main.rt:338:1
 same-length-4 : tie.Need-same-length-4 Inv-loop μ-loop
 same-length-4 c = search needs
 
--- src/main.rt:338:1
 same-length-5 : tie.Need-same-length-5 Inv-loop μ-loop
 same-length-5 c = search needs
 
--- src/main.rt:338:1
 returns : tie.Need-returns Inv-loop μ-loop
 returns c = search needs
 

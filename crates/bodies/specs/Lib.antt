@@ -1,0 +1,3 @@
+-- Node::Fn around its body.
+pub mod Bodies
+pub mod BodyLaws

@@ -1,0 +1,113 @@
+-- One law for each return of the crate's functions but `compare_branches`. Assumes nothing.
+use Prim.Native.Nat.{ℕ, zero, suc, _+_, _*_, _-_, _<_}
+use mathlib.Core.Path.{_≡_, refl, sym, ap, _∙_}
+use mathlib.Core.Bool.{Bool, true, false}
+use mathlib.Core.List.{List}
+use native.Mathlib.Omega.{arith}
+use lib.ListN.{getD}
+use Rattle.tok.specs.Text.{Texts}
+use Rattle.tok.specs.Step.{next}
+use Rattle.library.specs.Package.{Package}
+use Rattle.ast.specs.Image.{wordAt, slotCount}
+use Rattle.ast.specs.Node.{Node, nodesFrom, treeOf, slotOf}
+use Rattle.image_laws.specs.RecordWords.{Under}
+use Rattle.laws.specs.Owns.{endSlot}
+use Rattle.places.specs.NodesAt.{NodeReady, part-ready}
+use Rattle.spans.specs.Ready.{NodesReady}
+use Rattle.rules.specs.declared.Answer.{Answer}
+use Rattle.rules.specs.declared.Answer.the-variants.{Known, Poison}
+use Rattle.rules.specs.Steps.{isPoison}
+use Rattle.rules.specs.Rules.{condition, Branch, compareBranches, matched}
+use Rattle.values.specs.Answers.{alias, matched-known}
+use Rattle.state.specs.declared.Used.{Used}
+use Rattle.state.specs.declared.Step.{Step}
+use Rattle.state.specs.declared.Step.the-variants as S
+use Rattle.state.specs.declared.Went.{Went}
+use Rattle.state.specs.declared.Went.the-variants as W
+use Rattle.state.specs.Context.{ctx}
+use Rattle.state.specs.World.{gone, stepped, Steps, Goes}
+use Rattle.visit.specs.declared.State.{State}
+use Rattle.visit.specs.declared.Visit.{Visit}
+use Rattle.visit.specs.declared.Visit.the-variants as X
+use Rattle.visit.specs.declared.Walked.{Walked}
+use Rattle.visit.specs.Whole.{lent}
+use Rattle.visit.specs.Within.{Visits}
+use Rattle.visit.specs.Walks.{Walks}
+use Rattle.visit.specs.Plain.{visitOf, walkedOf, steps-visits, goes-walks}
+use Rattle.visiting.specs.Then.{visits-poison}
+use Rattle.branches.specs.Branches.{branchAnswer}
+
+-- ── A condition ──
+
+pub condition-walks : (T : Texts) (image : List ℕ) (n at : ℕ) (a : Answer) (st : State) {s t d m d′ m′ : List ℕ} {token : ℕ} {went : Went} {r : Walked} → token ≡ getD image at 0
+    → ((ls : List Package) (v : ℕ) → Goes (condition (ctx T ls v) n token a) s t d m (st .used) s t d′ m′ went) → r ≡ walkedOf st went
+    → (ls : List Package) (v : ℕ) (words f e : List ℕ) → Walks (condition (ctx T ls v) n (wordAt image at) a) 0 0 words st (lent s f t d m e) (lent s f t d′ m′ e) r
+condition-walks T image n at a st et g er ls v words f e = rw (er, ← et) (goes-walks (g ls v) words f e)
+
+-- ── Flags ──
+
+pub is-known : {a : Answer} {slot : ℕ} → a ≡ Known slot → false ≡ isPoison a
+unfolding isPoison
+is-known e = rw e refl
+
+pub is-poisoned : {a : Answer} → a ≡ Poison → true ≡ isPoison a
+unfolding isPoison
+is-poisoned e = rw e refl
+
+pub flag-poisoned : {p : Bool} (slot : ℕ) → p ≡ true → Poison ≡ branchAnswer p slot
+unfolding branchAnswer
+flag-poisoned slot e = rw e refl
+
+pub flag-known : {p : Bool} (slot : ℕ) → p ≡ false → Known slot ≡ branchAnswer p slot
+unfolding branchAnswer
+flag-known slot e = rw e refl
+
+-- ── A body's slot ──
+
+end-slot : (go : ℕ → Node) (image : List ℕ) (slot at k : ℕ) → endSlot slot (nodesFrom go image at (suc k)) ≡ slotOf (go (wordAt image (at + k)))
+unfolding endSlot nodesFrom
+end-slot go image slot at zero = let e : at + 0 ≡ at = omega arith in rw e refl
+end-slot go image slot at (suc k) = let e : at + suc k ≡ at + 1 + k = omega arith in rw e (end-slot go image (slotOf (go (wordAt image at))) (at + 1) k)
+
+module _ (image : List ℕ) (at : ℕ) {count : ℕ} where
+  pub no-body : {w : ℕ} → count ≡ 0 → w ≡ getD image 3 0 → w ≡ endSlot (slotCount image) (nodesFrom (treeOf image) image at count)
+  unfolding endSlot nodesFrom
+  no-body z e = rw z e
+
+  module _ (z : count ≡ 0 → ⊥) {number : ℕ} (e : number ≡ getD image (at + (count - 1)) 0) where
+    pub last-ready : {places : List ℕ} {n : ℕ} → NodesReady image places n at count → NodeReady image places number
+    last-ready {n = n} h =
+        let l : count - 1 < count = omega (arith, z) in
+        let i : at + 1 * (count - 1) ≡ at + (count - 1) = omega arith in
+        let u : Under n image (at + (count - 1)) = rw i at (h .nodes .each (count - 1) l) in
+        part-ready (h .ready) u e .ready
+
+    pub last-slot : {w : ℕ} → w ≡ slotOf (treeOf image number) → w ≡ endSlot (slotCount image) (nodesFrom (treeOf image) image at count)
+    last-slot ew =
+        let l : suc (count - 1) ≡ count = omega (arith, z) in
+        ew ∙ ap (λ x. slotOf (treeOf image x)) e ∙ sym (end-slot (treeOf image) image (slotCount image) at (count - 1)) ∙ ap (λ k. endSlot (slotCount image) (nodesFrom (treeOf image) image at k)) l
+
+-- ── The end of a Match ──
+
+module _ (T : Texts) (n own : ℕ) (bs : List Branch) (st : State) (s t d m : List ℕ) {default : Answer} where
+  pub end-poisoned : default ≡ Poison → (ls : List Package) (v : ℕ) (words f e : List ℕ) → Visits (matched (ctx T ls v) n own bs default) 0 0 words st (lent s f t d m e) (lent s f t d m e) (X.Poison st)
+  unfolding matched
+  end-poisoned q ls v words f e = visits-poison _ words st (lent s f t d m e) q
+
+  module _ {slot : ℕ} {bs′ : List Branch} (q : default ≡ Known slot) (eb : bs′ ≡ bs) {d′ m′ : List ℕ} {went : Went}
+      (g : (ls : List Package) (v : ℕ) → Goes (compareBranches (ctx T ls v) n slot bs′) s t d m (st .used) s t d′ m′ went) where
+    pub end-stops : {number place : ℕ} → went ≡ W.Refused number place
+        → (ls : List Package) (v : ℕ) (words f e : List ℕ) → Visits (matched (ctx T ls v) n own bs default) 0 0 words st (lent s f t d m e) (lent s f t d′ m′ e) (X.Refused number place)
+    unfolding gone stepped visitOf
+    end-stops {number} {place} o ls v words f e = steps-visits {r = S.Refused number place} steps words f e
+      where
+        steps : Steps (matched (ctx T ls v) n own bs default) s t d m (st .used) s t d′ m′ (S.Refused number place)
+        steps = record { step = λ rest. rw (q, ← eb, matched-known (ctx T ls v) n own bs′ slot) (ap (λ z. next z (λ _. alias own slot)) (g ls v .step rest) ∙ rw o refl) }
+
+    pub end-compared : {after : Used} {w : ℕ} {s′ : List ℕ} {x : Step} {r : Visit} → went ≡ W.On after → w ≡ own → ((t d m : List ℕ) → Steps (alias w slot) s t d m after s′ t d m x) → r ≡ visitOf st x
+        → (ls : List Package) (v : ℕ) (words f e : List ℕ) → Visits (matched (ctx T ls v) n own bs default) 0 0 words st (lent s f t d m e) (lent s′ f t d′ m′ e) r
+    unfolding gone
+    end-compared {w = w} {s′ = s′} {x = x} o ew a er ls v words f e = rw er (steps-visits {r = x} steps words f e)
+      where
+        steps : Steps (matched (ctx T ls v) n own bs default) s t d m (st .used) s′ t d′ m′ x
+        steps = record { step = λ rest. rw (q, ← eb, ← ew, matched-known (ctx T ls v) n w bs′ slot) (ap (λ z. next z (λ _. alias w slot)) (g ls v .step rest) ∙ rw o (a t d′ m′ .step rest)) }

@@ -1,0 +1,4 @@
+-- A Match's branches, as the image and one flag each tell of them, and the visits that a Match is put together of.
+pub mod Branches
+pub mod Case
+pub mod Cases

@@ -1,0 +1,3 @@
+-- The returns of the functions.
+mod Returns
+mod Resolving

@@ -1,0 +1,189 @@
+-- Each way out of the check's functions, over variables for what the calls gave. By cases. Assumes nothing.
+use Prim.Native.Nat.{ℕ, _+_, _≤_}
+use mathlib.Core.Path.{_≡_, refl, sym, ap, _∙_}
+use mathlib.Core.Option.{Option, none, some}
+use mathlib.Core.List.{List, [], _∷_}
+use mathlib.Core.Logic.{⊎-elim}
+use native.Mathlib.Omega.{arith}
+use lib.ListN.{length, replicate}
+use types.Run.{OneOf}
+use denote.Enum.Declared.{tagOf}
+use borrow.Author.Tests.{eqb-false}
+use Rattle.tok.specs.Step.{Result, ok, refused, Refusal, refusal, next}
+use Rattle.tok.specs.Text.{textsOf}
+use Rattle.library.specs.Package.{poolOf}
+use Rattle.ast.specs.Image.{nodeCount, rootCount, slotCount}
+use Rattle.ast.specs.Node.{firstRoots, rootsOf}
+use Rattle.refusals.specs.Inputs.{Inputs, Buffers}
+use Rattle.refusals.specs.Refusals.{refusalOf}
+use Rattle.refuse.specs.declared.Before.{Before}
+use Rattle.refuse.specs.declared.Before.the-variants.{Passed, Scratch, Library, Image, Claims, Depth, Room}
+use Rattle.refuse.specs.Answer.{refusalIn, inputsOf, buffersOf}
+use Rattle.rules.specs.declared.Answer.the-variants.{Known}
+use Rattle.rules.specs.World.{World}
+use Rattle.rules.specs.Steps.{Done, skip}
+use Rattle.rules.specs.Rules.{last}
+use Rattle.rules.specs.Walk.{ctxOf, startOf, walk, walkOf}
+use Rattle.rules.specs.Check.{Ended, refusedWith, zeros, zeroed, endOf, unlessRefused, checkOf}
+use Rattle.state.specs.Signatures.{entriesEnd}
+use Rattle.visit.specs.declared.State.{State}
+use Rattle.visit.specs.declared.Visit.{Visit}
+use Rattle.visit.specs.declared.Visit.the-variants as X
+use Rattle.visit.specs.declared.Walked.{Walked}
+use Rattle.visit.specs.declared.Walked.the-variants as W
+use Rattle.visit.specs.Whole.{Lent, lent, whole, visited}
+use Rattle.visit.specs.Within.{Keeps, knows, poisons, refuses, Visits}
+use Rattle.visit.specs.Walks.{walkedIn}
+use Rattle.visit.specs.Free.{FreeRows}
+use Rattle.accepts.specs.Passed.{passed}
+use Rattle.room_laws.specs.Room.{rooms, rowsAll}
+use Rattle.places.specs.Places.{placesOf}
+use Rattle.ready.specs.Ready.{Ready}
+use Rattle.ready.specs.Given.{startState, ready-start}
+use Rattle.walking.specs.Contracts.{ctxIn, nodesAt, ListVisit, ListVisited}
+use Rattle.zero.specs.Zero.{zeroFirst, zero-ends}
+use Rattle.start.specs.Begin.{beginning, firstState, Starts, walk-begins}
+use Rattle.checker.specs.declared.Checked.{Checked}
+use Rattle.checker.specs.declared.Checked.the-variants as C
+use Rattle.checker.specs.Ended.{endedOf, beforeOf, doneOf, Answers, overOf, RoomAfter, WalkEnds}
+use Rattle.refuse.proofs.Before.{the-type}
+
+-- ── Before the walk ──
+
+-- the tag of Passed is none of the others
+passed-not : OneOf (1 ∷ 2 ∷ 3 ∷ 4 ∷ 5 ∷ 6 ∷ []) 0 → ⊥
+passed-not t =
+    ⊎-elim (λ z. eqb-false 0 1 refl z)
+    (λ t. ⊎-elim (λ z. eqb-false 0 2 refl z)
+    (λ t. ⊎-elim (λ z. eqb-false 0 3 refl z)
+    (λ t. ⊎-elim (λ z. eqb-false 0 4 refl z)
+    (λ t. ⊎-elim (λ z. eqb-false 0 5 refl z) (λ z. eqb-false 0 6 refl z) t) t) t) t) t
+
+-- a cause that was found is the answer, and every buffer is as it was
+found-before : (i : Inputs) (b : Buffers) (q : Before) → refusalIn q ≡ refusalOf i b → OneOf (1 ∷ 2 ∷ 3 ∷ 4 ∷ 5 ∷ 6 ∷ []) (tagOf the-type q) → checkOf i b ≡ endedOf (beforeOf q) b
+unfolding checkOf unlessRefused
+found-before i b Passed h t = absurd (passed-not t)
+found-before i b Scratch h t = rw (← h)
+found-before i b (Library p) h t = rw (← h)
+found-before i b (Image p) h t = rw (← h)
+found-before i b (Claims p) h t = rw (← h)
+found-before i b (Depth p) h t = rw (← h)
+found-before i b Room h t = rw (← h)
+
+module _ (i : Inputs) (b : Buffers) (q : Before) (h : refusalIn q ≡ refusalOf i b) where
+  pub refused-before : {r : Checked} → OneOf (1 ∷ 2 ∷ 3 ∷ 4 ∷ 5 ∷ 6 ∷ []) (tagOf the-type q) → r ≡ beforeOf q → checkOf i b ≡ endedOf r b
+  refused-before t e = found-before i b q h t ∙ ap (λ x. endedOf x b) (sym e)
+
+  pub passed-before : q ≡ Passed → refusalOf i b ≡ none
+  passed-before e = sym h ∙ ap refusalIn e
+
+-- ── The walk ──
+
+-- the entries lie in the functions buffer where the visits kept within their part of it
+rows-kept : {rm rows : ℕ} {st : State} {b b′ : Lent} {v : Visit} → FreeRows rows st (b .functions) → Keeps rm rows st b b′ v → RoomAfter (b′ .functions) v
+unfolding RoomAfter
+rows-kept g (knows w) = omega (arith, g .after, w .written, w .functions)
+rows-kept g (poisons w) = omega (arith, g .after, w .written, w .functions)
+rows-kept g refuses = tt
+
+module _ (i : Inputs) (b : Buffers) where
+  -- it begins, and then its roots are visited
+  walk-is : walkOf i b ≡ next (beginning i (startOf i b)) (λ _ w. next (last (ctxOf i) (Known (slotCount (i .image))) (rootsOf (i .image)) w) (λ _. skip))
+  unfolding walkOf walk rootsOf
+  walk-is = walk-begins i (rootCount (i .image)) (startOf i b)
+
+module _ (script image text words s f t d m e : List ℕ) {s₁ t₁ : List ℕ} {r : Walked} (h : Starts image words s t s₁ t₁ r) where
+  abbrev inputs : Inputs
+  inputs = inputsOf script image text words
+
+  abbrev before : Buffers
+  before = buffersOf s f t d m e
+
+  begun : walkOf inputs before ≡ next (walkedIn words (lent s₁ f t₁ d m e) r) (λ _ w. next (last (ctxOf inputs) (Known (slotCount image)) (rootsOf image) w) (λ _. skip))
+  begun = walk-is inputs before ∙ rw (h .step script text f d m e)
+
+  pub walk-refused : {number place : ℕ} → r ≡ W.Refused number place → WalkEnds inputs before (lent s₁ f t₁ d m e) (X.Refused number place)
+  unfolding walkedIn visited RoomAfter
+  walk-refused p = record { step = begun ∙ rw p; room = tt }
+
+  module _ {st : State} (p : r ≡ W.On st) where
+    walk-visits : {b′ : Lent} {v : Visit} {room rows : ℕ} → FreeRows rows st f
+        → Visits (last (ctxIn (textsOf script text) image words) (Known (slotCount image)) (nodesAt image 4 (rootCount image))) room rows words st (lent s₁ f t₁ d m e) b′ v → WalkEnds inputs before b′ v
+    unfolding walkedIn ctxOf rootsOf firstRoots
+    walk-visits g q = record { step = begun ∙ rw (p, q .step); room = rows-kept g (q .keeps) }
+
+    -- what the visits of the roots ask for
+    roots-begun : beginning inputs (startOf inputs before) ≡ ok tt (whole words (startState (firstState (length (poolOf words)) .used)) (lent s₁ f t₁ d m e))
+    unfolding walkedIn
+    roots-begun = h .step script text f d m e ∙ rw (p, h .state st p)
+
+    module _ (accepted : refusalOf inputs before ≡ none) where
+      roots-start : Ready (textsOf script text) image (placesOf image) words (rooms (rootsOf image)) (rowsAll (rootsOf image)) st (lent s₁ f t₁ d m e)
+      unfolding beginning ctxOf
+      roots-start = rw (h .state st p) (ready-start inputs before accepted (firstState (length (poolOf words)) .used) (lent s₁ f t₁ d m e) roots-begun refl refl)
+
+      pub walk-roots : {b′ : Lent} {v : Visit} {k : ℕ} → k ≡ rootCount image → ListVisited (textsOf script text) image words 4 k st (lent s₁ f t₁ d m e) b′ v → WalkEnds inputs before b′ v
+      unfolding rootsOf firstRoots
+      walk-roots hk q = walk-visits (roots-start .rows) (rw hk at q)
+
+      pub roots-ready : {places : List ℕ} {n k : ℕ} → places ≡ placesOf image → n ≡ nodeCount image → k ≡ rootCount image
+          → ListVisit (textsOf script text) image places words n 4 k st (lent s₁ f t₁ d m e)
+      unfolding rootsOf firstRoots
+      roots-ready hp hn hk =
+          let a = passed inputs before accepted .image in
+          rw (hp, hn, hk) (record { below = omega arith; nodes = a .roots; inside = omega (arith, a .most-roots); ready = roots-start })
+
+-- ── What is left in the buffers ──
+
+module _ (words s f t d m e : List ℕ) (v : Visit) where
+  module _ {e′ : List ℕ} {st : State} {r : Checked} (h : Answers f st e e′ r) where
+    pub finish-known : {slot : ℕ} → v ≡ X.Known slot st → endOf (buffersOf s f t d m e) (overOf words (lent s f t d m e) v) ≡ endedOf r (buffersOf s f t d m e′)
+    unfolding endOf visited
+    finish-known p = rw (p, h .counts, h .zero)
+
+    pub finish-poison : v ≡ X.Poison st → endOf (buffersOf s f t d m e) (overOf words (lent s f t d m e) v) ≡ endedOf r (buffersOf s f t d m e′)
+    unfolding endOf visited
+    finish-poison p = rw (p, h .counts, h .zero)
+
+  pub finish-refused : {b′ : Buffers} {number place wide : ℕ} → b′ ≡ zeroed (buffersOf s f t d m e) → v ≡ X.Refused number place → wide ≡ place
+      → endOf (buffersOf s f t d m e) (overOf words (lent s f t d m e) v) ≡ endedOf (C.Refused number wide) b′
+  unfolding endOf visited
+  finish-refused z p q = rw (p, q, z)
+
+-- an answer's counts and scratch
+pub answers : (f e : List ℕ) (st : State) {e′ : List ℕ} {k : ℕ} → e′ ≡ zeroFirst (length e) e → k ≡ entriesEnd f 0 0 (st .functions)
+    → Answers f st e e′ (C.Done k (st .used .types) (st .used .told .diagnostics) (st .used .told .bytes))
+answers f e st z q = record { counts = rw q; zero = z ∙ zero-ends e }
+
+-- the entries lie in the functions buffer, by the answer
+pub room-known : (f : List ℕ) {v : Visit} {slot : ℕ} {st : State} → RoomAfter f v → v ≡ X.Known slot st → entriesEnd f 0 0 (st .functions) ≤ length f
+unfolding RoomAfter
+room-known f h p = rw p at h
+
+pub room-poison : (f : List ℕ) {v : Visit} {st : State} → RoomAfter f v → v ≡ X.Poison st → entriesEnd f 0 0 (st .functions) ≤ length f
+unfolding RoomAfter
+room-poison f h p = rw p at h
+
+-- ── The check ──
+
+zeros-as-long : (l l′ : List ℕ) → length l ≡ length l′ → zeros l ≡ zeros l′
+zeros-as-long l l′ p = ap (λ n. replicate n 0) p
+
+-- of the buffers before it, an end takes only the lengths
+end-as-long : (s f t d m e s′ f′ t′ d′ m′ e′ : List ℕ) → length s ≡ length s′ → length f ≡ length f′ → length t ≡ length t′ → length d ≡ length d′ → length m ≡ length m′ → length e ≡ length e′
+    → (x : Result World Refusal Done) → endOf (buffersOf s f t d m e) x ≡ endOf (buffersOf s′ f′ t′ d′ m′ e′) x
+unfolding endOf zeroed
+end-as-long s f t d m e s′ f′ t′ d′ m′ e′ p₁ p₂ p₃ p₄ p₅ p₆ (ok a w) = rw p₆
+end-as-long s f t d m e s′ f′ t′ d′ m′ e′ p₁ p₂ p₃ p₄ p₅ p₆ (refused r) = rw (p₁, p₂, p₃, p₄, p₅, p₆)
+
+accepted-is : (i : Inputs) (b : Buffers) → refusalOf i b ≡ none → checkOf i b ≡ endOf b (walkOf i b)
+unfolding checkOf unlessRefused
+accepted-is i b h = rw h
+
+module _ {i : Inputs} {s f t d m e s′ f′ t′ d′ m′ e′ : List ℕ} {v : Visit} (w : WalkEnds i (buffersOf s f t d m e) (lent s′ f′ t′ d′ m′ e′) v) where
+  pub accepted-ends : {x : Ended} → refusalOf i (buffersOf s f t d m e) ≡ none
+      → length s′ ≡ length s → length f′ ≡ length f → length t′ ≡ length t → length d′ ≡ length d → length m′ ≡ length m → length e′ ≡ length e
+      → endOf (buffersOf s′ f′ t′ d′ m′ e′) (overOf (i .library) (lent s′ f′ t′ d′ m′ e′) v) ≡ x → checkOf i (buffersOf s f t d m e) ≡ x
+  accepted-ends h p₁ p₂ p₃ p₄ p₅ p₆ q =
+      accepted-is i (buffersOf s f t d m e) h ∙ ap (endOf (buffersOf s f t d m e)) (w .step)
+      ∙ sym (end-as-long s′ f′ t′ d′ m′ e′ s f t d m e p₁ p₂ p₃ p₄ p₅ p₆ (overOf (i .library) (lent s′ f′ t′ d′ m′ e′) v)) ∙ q

@@ -1,0 +1,3 @@
+-- What the check answers.
+pub mod Demands
+pub mod Ended

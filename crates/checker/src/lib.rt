@@ -1,0 +1,244 @@
+// Typechecker::check: the check as a whole, for all inputs (document 01, "The walk", "Answers that end the check").
+// The buffers are lent in one order: slots, functions, types, diagnostics, messages, scratch.
+ghost use mathlib.Core.Path.{_≡_};
+ghost use mathlib.Core.Option.{none};
+ghost use mathlib.Core.List.{List};
+ghost use Prim.Native.Nat.{ℕ, _≤_};
+ghost use lib.ListN.{length};
+ghost use Rattle.refusals.specs.Refusals.{refusalOf};
+ghost use Rattle.refuse.specs.Answer.{inputsOf, buffersOf};
+ghost use Rattle.rules.specs.Check.{endOf, checkOf};
+ghost use Rattle.state.specs.Signatures.{entriesEnd};
+ghost use Rattle.visit.specs.Whole.{lent};
+ghost use Rattle.checker.specs.Ended.{endedOf, beforeOf, Answers, overOf, RoomAfter, WalkEnds};
+use refuse::Before;
+use visit::State;
+use visit::Visit;
+use visit::Walked;
+
+// What the check answers: how many function words, type words, diagnostics and message bytes are used; or a refusal's number and place.
+pub enum Checked {
+    Done {
+        function_words: usize,
+        type_words: usize,
+        diagnostics: usize,
+        message_bytes: usize,
+    },
+    Refused {
+        number: u32,
+        place: usize,
+    },
+}
+
+// The number and place of what is found before the walk.
+fn refused_before(before: Before) -> Checked
+    ensures { λ r. ⌜ r ≡ beforeOf before ⌝ }
+{
+    match before {
+        Before::Passed => return Checked::Refused {
+            number: 0,
+            place: 0,
+        },
+        Before::Scratch => return Checked::Refused {
+            number: 1,
+            place: 0,
+        },
+        Before::Library(word) => return Checked::Refused {
+            number: 2,
+            place: word,
+        },
+        Before::Image(word) => return Checked::Refused {
+            number: 3,
+            place: word,
+        },
+        Before::Claims(node) => return Checked::Refused {
+            number: 4,
+            place: node,
+        },
+        Before::Depth(node) => return Checked::Refused {
+            number: 5,
+            place: node,
+        },
+        Before::Room => return Checked::Refused {
+            number: 6,
+            place: 0,
+        },
+    }
+}
+
+// An answer: how much is used where the walk has ended. "Scratch is all zero."
+fn answer(functions: &[u32], scratch: &mut [u32], st: State) -> Checked
+    requires { ⌜ entriesEnd (now functions) 0 0 (st .functions) ≤ length (now functions) ⌝ }
+    ensures { λ r. ⌜ Answers (now (functions .entry)) st (now (scratch .entry)) (now (scratch .exit)) r ⌝ }
+{
+    let words = scratch.len();
+    zero::zero_first(scratch, words);
+    let used = st.used;
+    let told = used.told;
+    let function_words = scope::own_end(functions, st.functions);
+    Checked::Done {
+        function_words: function_words,
+        type_words: used.types,
+        diagnostics: told.diagnostics,
+        message_bytes: told.bytes,
+    }
+}
+
+// What is left in the buffers where the walk has ended: scratch zero after an answer, all of them after a refusal.
+fn finish(
+    slots: &mut [u32],
+    functions: &mut [u32],
+    types: &mut [u32],
+    diagnostics: &mut [u32],
+    messages: &mut [u8],
+    scratch: &mut [u32],
+    visit: Visit,
+) -> Checked
+    requires { ⌜ RoomAfter (now functions) visit ⌝ }
+    ensures { λ r. ⌜ ((words : List ℕ) → endOf (buffersOf (now (slots .entry)) (now (functions .entry)) (now (types .entry)) (now (diagnostics .entry)) (now (messages .entry)) (now (scratch .entry))) (overOf words (lent (now (slots .entry)) (now (functions .entry)) (now (types .entry)) (now (diagnostics .entry)) (now (messages .entry)) (now (scratch .entry))) visit) ≡ endedOf r (buffersOf (now (slots .exit)) (now (functions .exit)) (now (types .exit)) (now (diagnostics .exit)) (now (messages .exit)) (now (scratch .exit)))) ⌝ }
+{
+    match visit {
+        Visit::Known(_, st) => {
+            return answer(&functions[..], scratch, st);
+        }
+        Visit::Poison(st) => {
+            return answer(&functions[..], scratch, st);
+        }
+        Visit::Refused(number, place) => {
+            zero::zero_all(slots, functions, types, diagnostics, messages, scratch);
+            return Checked::Refused {
+                number: number,
+                place: tok::wide(place),
+            };
+        }
+    }
+}
+
+// The walk of accepted inputs: its beginning, and then the roots.
+fn walk<'a>(
+    slots: &mut [u32],
+    functions: &mut [u32],
+    types: &mut [u32],
+    diagnostics: &mut [u32],
+    messages: &mut [u8],
+    scratch: &mut [u32],
+    script: &'a [u8],
+    text: &'a [u8],
+    image: &[u32],
+    library: &[u32],
+) -> Visit
+    requires { ⌜ refusalOf (inputsOf (now script) (now image) (now text) (now library)) (buffersOf (now slots) (now functions) (now types) (now diagnostics) (now messages) (now scratch)) ≡ none ⌝ }
+    ensures { λ r. ⌜ WalkEnds (inputsOf (now (script .entry)) (now (image .entry)) (now (text .entry)) (now (library .entry))) (buffersOf (now (slots .entry)) (now (functions .entry)) (now (types .entry)) (now (diagnostics .entry)) (now (messages .entry)) (now (scratch .entry))) (lent (now (slots .exit)) (now (functions .exit)) (now (types .exit)) (now (diagnostics .exit)) (now (messages .exit)) (now (scratch .exit))) r ⌝ }
+{
+    let places = places::record_places(image);
+    match start::begin(slots, types, image, library) {
+        Walked::Refused(number, place) => {
+            return Visit::Refused(number, place);
+        }
+        Walked::On(st) => {
+            let nodes = tok::word_at(image, 0);
+            let roots = tok::wide(tok::word_at(image, 2));
+            return typecheck::nodes(
+                slots,
+                functions,
+                types,
+                diagnostics,
+                messages,
+                scratch,
+                script,
+                text,
+                image,
+                library,
+                &places[..],
+                st,
+                nodes,
+                4,
+                roots,
+            );
+        }
+    }
+}
+
+// The check of accepted inputs.
+fn check_accepted<'a>(
+    slots: &mut [u32],
+    functions: &mut [u32],
+    types: &mut [u32],
+    diagnostics: &mut [u32],
+    messages: &mut [u8],
+    scratch: &mut [u32],
+    script: &'a [u8],
+    text: &'a [u8],
+    image: &[u32],
+    library: &[u32],
+) -> Checked
+    requires { ⌜ refusalOf (inputsOf (now script) (now image) (now text) (now library)) (buffersOf (now slots) (now functions) (now types) (now diagnostics) (now messages) (now scratch)) ≡ none ⌝ }
+    ensures { λ r. ⌜ checkOf (inputsOf (now (script .entry)) (now (image .entry)) (now (text .entry)) (now (library .entry))) (buffersOf (now (slots .entry)) (now (functions .entry)) (now (types .entry)) (now (diagnostics .entry)) (now (messages .entry)) (now (scratch .entry))) ≡ endedOf r (buffersOf (now (slots .exit)) (now (functions .exit)) (now (types .exit)) (now (diagnostics .exit)) (now (messages .exit)) (now (scratch .exit))) ⌝ }
+{
+    let visit = walk(
+        slots,
+        functions,
+        types,
+        diagnostics,
+        messages,
+        scratch,
+        script,
+        text,
+        image,
+        library,
+    );
+    finish(
+        slots,
+        functions,
+        types,
+        diagnostics,
+        messages,
+        scratch,
+        visit,
+    )
+}
+
+// The check, of whatever is given; `text` is the library text. "Numbers 1 to 6 are tried in that order before the walk", and leave every
+// buffer as it was.
+pub fn check<'a>(
+    script: &'a [u8],
+    image: &[u32],
+    text: &'a [u8],
+    library: &[u32],
+    slots: &mut [u32],
+    functions: &mut [u32],
+    types: &mut [u32],
+    diagnostics: &mut [u32],
+    messages: &mut [u8],
+    scratch: &mut [u32],
+) -> Checked
+    ensures { λ r. ⌜ checkOf (inputsOf (now (script .entry)) (now (image .entry)) (now (text .entry)) (now (library .entry))) (buffersOf (now (slots .entry)) (now (functions .entry)) (now (types .entry)) (now (diagnostics .entry)) (now (messages .entry)) (now (scratch .entry))) ≡ endedOf r (buffersOf (now (slots .exit)) (now (functions .exit)) (now (types .exit)) (now (diagnostics .exit)) (now (messages .exit)) (now (scratch .exit))) ⌝ }
+{
+    let before = refuse::refuse(
+        script,
+        image,
+        text,
+        library,
+        &slots[..],
+        &functions[..],
+        &types[..],
+        &diagnostics[..],
+        &messages[..],
+        &scratch[..],
+    );
+    let Before::Passed = before else {
+        return refused_before(before);
+    };
+    check_accepted(
+        slots,
+        functions,
+        types,
+        diagnostics,
+        messages,
+        scratch,
+        script,
+        text,
+        image,
+        library,
+    )
+}

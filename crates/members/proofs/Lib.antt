@@ -1,0 +1,3 @@
+-- The returns of the functions, and what a test of a turn shows.
+mod Returns
+pub mod Tested

@@ -1,0 +1,3 @@
+-- Node::Array, its members one after the other.
+pub mod Turns
+pub mod ArrayVisits

@@ -1,0 +1,1 @@
+// Theorems: the rules of one and two operands, put together of visits; no code.

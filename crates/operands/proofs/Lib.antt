@@ -1,0 +1,2 @@
+-- The returns of the functions.
+mod Returns

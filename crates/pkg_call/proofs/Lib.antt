@@ -1,0 +1,4 @@
+-- Laws that the proofs of the functions share.
+pub mod Ready
+pub mod Returns
+pub mod Gathered

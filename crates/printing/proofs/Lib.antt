@@ -1,0 +1,2 @@
+-- The last row.
+mod Ways

@@ -1,0 +1,47 @@
+-- The ways out of `is_done`, and a turn of the loop. Assumes nothing.
+use Prim.Native.Nat.{ℕ, _≤_, _<_}
+use mathlib.Core.Path.{_≡_, refl, sym, _∙_}
+use mathlib.Core.Bool.{Bool, true, false, not}
+use mathlib.Core.List.{[], _∷_}
+use mathlib.Core.Logic.{⊎-elim}
+use types.Run.{OneOf}
+use denote.Enum.Declared.{tagOf}
+use borrow.Author.Tests.{eqb-false, not-true}
+use Rattle.rows_part.specs.declared.Row.{Row}
+use Rattle.rows_part.specs.declared.Row.the-variants.{Slot, Fn, Diag, End, Refused, Input, Done}
+use Rattle.rows_part.specs.declared.Part.{Part}
+use Rattle.rows_part.specs.Printing.{Answer, partOf}
+use Rattle.rows_part.specs.PrintingLaws.{part-bytes}
+use Rattle.rows_part.proofs.Row.{the-type}
+use Rattle.printing.specs.Loop.{isDone, left, turn-nearer}
+
+pub done-is : {row : Row} → row ≡ Done → true ≡ isDone row
+unfolding isDone
+done-is e = rw e
+
+-- the tag of Done is none of the others
+done-not : OneOf (0 ∷ 1 ∷ 2 ∷ 3 ∷ 4 ∷ 5 ∷ []) 6 → ⊥
+done-not t =
+    ⊎-elim (λ z. eqb-false 6 0 refl z)
+    (λ t. ⊎-elim (λ z. eqb-false 6 1 refl z)
+    (λ t. ⊎-elim (λ z. eqb-false 6 2 refl z)
+    (λ t. ⊎-elim (λ z. eqb-false 6 3 refl z)
+    (λ t. ⊎-elim (λ z. eqb-false 6 4 refl z) (λ z. eqb-false 6 5 refl z) t) t) t) t) t
+
+pub more-rows : (row : Row) → OneOf (0 ∷ 1 ∷ 2 ∷ 3 ∷ 4 ∷ 5 ∷ []) (tagOf the-type row) → false ≡ isDone row
+unfolding isDone
+more-rows (Slot i) t = refl
+more-rows (Fn at) t = refl
+more-rows (Diag k) t = refl
+more-rows End t = refl
+more-rows (Refused number place) t = refl
+more-rows Input t = refl
+more-rows Done t = absurd (done-not t)
+
+-- a turn of the loop
+pub turn : (a : Answer) (row : Row) (skip : ℕ) {done : Bool} {p : Part} → done ≡ isDone row → not done ≡ true → p ≡ partOf 4096 a row skip → left a (p .row) (p .skip) < left a row skip
+turn a row skip {done} e h q = turn-nearer a row skip q (sym e ∙ not-true done h)
+
+-- a part has no more bytes than the buffer
+pub part-room : (a : Answer) (row : Row) (skip : ℕ) {p : Part} → p ≡ partOf 4096 a row skip → p .bytes ≤ 4096
+part-room a row skip q = rw q (part-bytes 4096 a row skip)

@@ -1,0 +1,2 @@
+-- The loop over the rows.
+pub mod Loop

@@ -1,0 +1,29 @@
+-- `rows_begin::run` meets its contract, by the check's. Assumes nothing.
+use Rattle.rows_begin.proofs.Ways.{runs}
+use borrow.Author.Needs.{needs}
+use Rattle.rows_begin.proofs.run.Statement.{statement}
+use Rattle.rows_begin.proofs.run.Tie as tie
+use Rattle.rows_begin.proofs.run.Reads as reads
+use Rattle.rows_begin.proofs.run.Lts as lts
+use Rattle.checker.proofs.check.Reads as check-reads
+use Rattle.rows_begin.proofs.rows_of.Reads as rows-of-reads
+use Rattle.tok.proofs.word_at.Reads as word-at-reads
+
+-- src/lib.rt:108:9
+check-requires : tie.Need-check-requires
+check-requires c κs = search needs
+
+-- src/lib.rt:120:22
+word-at-requires : tie.Need-word-at-requires
+word-at-requires c κs = search needs
+
+-- src/lib.rt:120:5
+rows-of-requires : tie.Need-rows-of-requires
+rows-of-requires c κs = search needs
+
+-- src/lib.rt:94:1
+returns : tie.Need-returns
+returns c = runs _ _ _ (c .before .before .check .result) (c .before .before .check .ensures) (c .before .before .before .before .before .before .before .check-arg2 .given .0 .1) (c .rows-of .ensures) (c .before .word-at .ensures)
+
+pub run-spec : {M : Type 1} → statement M
+run-spec = tie.close (tie.spec check-requires word-at-requires rows-of-requires returns)

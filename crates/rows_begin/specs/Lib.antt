@@ -1,0 +1,3 @@
+-- The rows of an input.
+pub mod Beginning
+pub mod BeginningLaws

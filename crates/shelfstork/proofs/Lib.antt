@@ -1,0 +1,2 @@
+-- The way out of the exported function.
+mod Returns

@@ -1,0 +1,2 @@
+-- What the exported function tells.
+pub mod Told

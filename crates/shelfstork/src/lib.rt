@@ -1,0 +1,63 @@
+// The check as a static library's one function (bindings/shelfstork.h): the contract is `checker::check`'s own.
+ghost use mathlib.Core.Path.{_≡_};
+ghost use Rattle.refuse.specs.Answer.{inputsOf, buffersOf};
+ghost use Rattle.shelfstork.specs.Told.{numbersOf, Tells};
+use checker::Checked;
+
+// What the check answers as six numbers: number, place, function words, type words, diagnostics, message bytes.
+fn numbers(checked: Checked) -> [u64; 6]
+    ensures { λ r. ⌜ r ≡ numbersOf checked ⌝ }
+{
+    match checked {
+        Checked::Done {
+            function_words,
+            type_words,
+            diagnostics,
+            message_bytes,
+        } => {
+            return [
+                0,
+                0,
+                function_words as u64,
+                type_words as u64,
+                diagnostics as u64,
+                message_bytes as u64,
+            ];
+        }
+        Checked::Refused { number, place } => {
+            return [number as u64, place as u64, 0, 0, 0, 0];
+        }
+    }
+}
+
+// Typechecker::check, of whatever is given; `text` is the library text.
+#[no_mangle]
+pub extern "C" fn shelfstork_check<'a>(
+    script: &'a [u8],
+    image: &[u32],
+    text: &'a [u8],
+    library: &[u32],
+    slots: &mut [u32],
+    functions: &mut [u32],
+    types: &mut [u32],
+    diagnostics: &mut [u32],
+    messages: &mut [u8],
+    scratch: &mut [u32],
+    answer: &mut [u64; 6],
+)
+    ensures { λ _. ⌜ Tells (inputsOf (now (script .entry)) (now (image .entry)) (now (text .entry)) (now (library .entry))) (buffersOf (now (slots .entry)) (now (functions .entry)) (now (types .entry)) (now (diagnostics .entry)) (now (messages .entry)) (now (scratch .entry))) (buffersOf (now (slots .exit)) (now (functions .exit)) (now (types .exit)) (now (diagnostics .exit)) (now (messages .exit)) (now (scratch .exit))) (now (answer .exit)) ⌝ }
+{
+    let checked = checker::check(
+        script,
+        image,
+        text,
+        library,
+        slots,
+        functions,
+        types,
+        diagnostics,
+        messages,
+        scratch,
+    );
+    *answer = numbers(checked);
+}

@@ -1,0 +1,2 @@
+-- The ways out of `begin`.
+mod Begins

@@ -1,0 +1,1 @@
+// Laws only: what the functions that visit are put together of.

@@ -1,0 +1,2 @@
+-- Zeros over the front of a buffer.
+pub mod Zero
