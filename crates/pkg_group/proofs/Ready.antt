@@ -12,7 +12,7 @@ use Rattle.signatures.specs.declared.Entry.the-variants.{One}
 use Rattle.signatures.specs.Entries.{Finds}
 use Rattle.selection.specs.Candidates.{group}
 use Rattle.selection.proofs.Ways.{one-is}
-use Rattle.call_check.specs.Ready.{CallReady}
+use Rattle.slotted_call.specs.Bindable.{SlottedReady}
 use Rattle.pkg_group.specs.Ready.{noPairs, SlotsReady, OneReady, GroupReady}
 
 -- ── From the group to its one candidate ──
@@ -29,19 +29,16 @@ pairs-long : length noPairs ≡ 8192
 unfolding noPairs
 pairs-long = length-replicate {A = ℕ} 8192 0
 
-pub call-ready : {texts : Texts} {image places : List ℕ} {n args count : ℕ} {slots types : List ℕ} {used : ℕ} {words : List ℕ} {at : ℕ} {slotted : Bool}
-    → OneReady texts image places n args count slots types used (signatureAt words at slotted) → {pairs : List ℕ} → pairs ≡ noPairs
-    → CallReady texts slotted image places n args count slots types used words at pairs
+pub slotted-ready : {texts : Texts} {image places : List ℕ} {n args count : ℕ} {slots types : List ℕ} {used : ℕ} {words : List ℕ} {at : ℕ} {slotted : Bool}
+    → OneReady texts image places n args count slots types used (signatureAt words at slotted) → slotted ≡ true → {pairs : List ℕ} → pairs ≡ noPairs
+    → SlottedReady texts image places n args count slots types used words at pairs
 unfolding signatureAt
-call-ready {words = words} {at} {slotted} h {pairs} e = record {
-  nodes = h .given .nodes;
-  bindings = λ y.
-      let b : SlotsReady _ _ _ (signatureAt words at true) = rw y at (h .binds) refl in
-      record {
-        nodes = h .given .nodes;
-        params = b .params;
-        given = h .given .meant;
-        ret = b .ret;
-        room = λ bs g. subst (λ (l : ℕ). length bs ≤ l / 2) (sym (ap length e ∙ pairs-long)) (b .room bs g);
-      };
-}
+slotted-ready {words = words} {at} {slotted} h y {pairs} e =
+    let b : SlotsReady _ _ _ (signatureAt words at true) = rw y at (h .binds) refl in
+    record {
+      nodes = h .given .nodes;
+      params = b .params;
+      given = h .given .meant;
+      ret = b .ret;
+      room = λ bs g. subst (λ (l : ℕ). length bs ≤ l / 2) (sym (ap length e ∙ pairs-long)) (b .room bs g);
+    }

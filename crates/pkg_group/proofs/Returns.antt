@@ -56,3 +56,9 @@ module _ (texts : Texts) (n slot pkg name : ℕ) (given : List Provided) (poison
             let e = one-is texts (nameBytes texts name) words flags here o ∙ ap (λ fs. signatureAt words at slotted ∷ fs) (one-is texts (nameBytes texts name) words flags there o₂) in
             rw e (c .of _ _ (ap (λ w. group texts w words flags from k) ew ∙ e) given g library void .step rest);
       }
+
+-- the function's flag is what was found
+pub flagged : (texts : Texts) (n slot token : ℕ) (callName words : List ℕ) (at : ℕ) (given : List Provided) (s t d m : List ℕ) (u : Used) {s′ t′ d′ m′ : List ℕ} {r : Step} {f : Bool} (g : Bool) → f ≡ g
+    → ((library : List Package) (void : ℕ) → Steps (checkCallArgs (ctx texts library void) n slot token callName (signatureAt words at g) given) s t d m u s′ t′ d′ m′ r)
+    → (library : List Package) (void : ℕ) → Steps (checkCallArgs (ctx texts library void) n slot token callName (signatureAt words at f) given) s t d m u s′ t′ d′ m′ r
+flagged texts n slot token callName words at given s t d m u g e h library void = rw e (h library void)

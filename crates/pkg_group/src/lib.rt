@@ -27,8 +27,8 @@ fn no_pairs() -> [u32; 8192]
     [0u32; 8192]
 }
 
-// A group of one, whose signature stands at a place of `words`.
-fn check_one<'a>(
+// Typechecker::check_call_args, of the function whose signature stands at a place of `words`; room for bindings is made only where it has slots.
+fn check_call_args<'a>(
     slots: &mut [u32],
     types: &mut [u32],
     diagnostics: &mut [u32],
@@ -53,8 +53,29 @@ fn check_one<'a>(
     ensures { λ r. let T : Texts = textsOf (now (script .entry)) (now (library .entry)) in
         ⌜ ((ls : List Package) (v : ℕ) → Steps (checkCallArgs (ctx T ls v) n slot token (callName T callee) (signatureAt (now (words .entry)) at slotted) (givenFrom (now (image .entry)) args count)) (now (slots .entry)) (now (types .entry)) (now (diagnostics .entry)) (now (messages .entry)) used (now (slots .exit)) (now (types .exit)) (now (diagnostics .exit)) (now (messages .exit)) r) ⌝ }
 {
+    if !slotted {
+        return call_args::check_plain(
+            slots,
+            &types[..],
+            diagnostics,
+            messages,
+            script,
+            library,
+            image,
+            places,
+            used,
+            n,
+            slot,
+            token,
+            callee,
+            words,
+            at,
+            args,
+            count,
+        );
+    }
     let mut pairs = no_pairs();
-    call_check::check_call_args(
+    slotted_call::check_slotted(
         slots,
         types,
         diagnostics,
@@ -69,7 +90,6 @@ fn check_one<'a>(
         slot,
         token,
         callee,
-        slotted,
         words,
         at,
         args,
@@ -129,7 +149,7 @@ pub fn in_group<'a>(
     let second = signatures::find_entry(script, library, words, flagged, next, left, wanted);
     match second {
         Entry::Over => {
-            return check_one(
+            return check_call_args(
                 slots,
                 types,
                 diagnostics,

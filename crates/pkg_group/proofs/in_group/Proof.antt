@@ -38,8 +38,8 @@ find-entry-requires-2 c κs = search needs
 enum-told-2 : tie.Need-enum-told-2
 enum-told-2 c = search needs
 
-check-one-requires : tie.Need-check-one-requires
-check-one-requires c κs = first-ready (c .before .before .before .before .before .before .before .before .before .before .before .before .before .before .before .before .before .before .before .before .before .before .pre) (c .before .before .before .before .before .before .before .before .before .before .before .name-bytes .ensures) (c .before .before .before .before .before .before .before .before .before .before .find-entry .ensures) (c .before .before .before .before .before .before .before .before .first .given .1)
+check-call-args-requires : tie.Need-check-call-args-requires
+check-call-args-requires c κs = first-ready (c .before .before .before .before .before .before .before .before .before .before .before .before .before .before .before .before .before .before .before .before .before .before .pre) (c .before .before .before .before .before .before .before .before .before .before .before .name-bytes .ensures) (c .before .before .before .before .before .before .before .before .before .before .find-entry .ensures) (c .before .before .before .before .before .before .before .before .first .given .1)
 
 same-length-3 : tie.Need-same-length-3
 same-length-3 c = search needs
@@ -54,7 +54,7 @@ same-length-6 : tie.Need-same-length-6
 same-length-6 c = search needs
 
 returns-2 : tie.Need-returns-2
-returns-2 c = group-one _ _ _ _ _ _ _ _ _ _ _ _ _ _ _ _ (c .before .before .before .before .before .before .before .before .before .before .before .before .before .before .before .before .before .before .before .before .name-bytes .ensures) (c .before .before .before .before .before .before .before .before .before .before .before .before .before .before .before .before .before .before .before .find-entry .ensures) (c .before .before .before .before .before .before .before .before .before .before .before .before .before .before .before .before .before .first .given .1) (c .before .before .before .before .before .before .before .before .before .before .before .before .before .before .before .find-entry2 .ensures) (c .before .before .before .before .before .before .before .before .before .before .before .before .before .enum-told2 .given .1) (c .before .before .before .before .before .before .before .before .check-one .ensures)
+returns-2 c = group-one _ _ _ _ _ _ _ _ _ _ _ _ _ _ _ _ (c .before .before .before .before .before .before .before .before .before .before .before .before .before .before .before .before .before .before .before .before .name-bytes .ensures) (c .before .before .before .before .before .before .before .before .before .before .before .before .before .before .before .before .before .before .before .find-entry .ensures) (c .before .before .before .before .before .before .before .before .before .before .before .before .before .before .before .before .before .first .given .1) (c .before .before .before .before .before .before .before .before .before .before .before .before .before .before .before .find-entry2 .ensures) (c .before .before .before .before .before .before .before .before .before .before .before .before .before .enum-told2 .given .1) (c .before .before .before .before .before .before .before .before .check-call-args .ensures)
 
 enum-told-3 : tie.Need-enum-told-3
 enum-told-3 c = search needs
@@ -92,7 +92,7 @@ in-group-spec =
     returns
     find-entry-requires-2
     enum-told-2
-    check-one-requires
+    check-call-args-requires
     same-length-3
     same-length-4
     same-length-5

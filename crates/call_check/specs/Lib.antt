@@ -1,2 +1,0 @@
--- What the contract of the crate cites.
-pub mod Ready
