@@ -196,6 +196,9 @@ fn show_within<'a>(
     ensures { λ r. let T : Texts = textsOf (now (script .entry)) (now (library .entry)) in
         ⌜ Writes (now (out .entry)) at (now (out .exit)) r (show (unfolded T (now (types .entry)) depth w)) ⌝ }
 {
+    let Wrote::All(_) = at else {
+        return Wrote::Full;
+    };
     if depth == 0 {
         return put_plain(out, at, ptype::UNKNOWN);
     }

@@ -1,5 +1,6 @@
 -- What the code's functions return, over what their calls gave; and examples.
 mod SameReturns
 mod StandsReturns
+mod SizeReturns
 mod DepthReturns
 mod Examples

@@ -12,7 +12,7 @@ use Rattle.ptype.specs.Ty.{Ty, kindOfTy, sameTy, sameFields}
 use Rattle.ptype.specs.Words.{innerWord, fieldCount, fieldsFrom, fieldsOf, unfolded}
 use Rattle.ptype.specs.Kinds.{wraps, names, Plain}
 use Rattle.ptype.specs.UnfoldLaws.{one-less, unfolded-none, unfolded-plain, unfolded-wrap, unfolded-record, unfolded-named, kind-unfolded, fields-none, fields-more}
-use Rattle.ptype.specs.SameLaws.{ne-sameTy}
+use Rattle.ptype.specs.SameLaws.{ne-sameTy, eq-sameTy}
 
 -- two lists of different lengths differ
 differ-length : (t : Texts) (types : List ℕ) (go : ℕ → Ty) (i j n m : ℕ) → (n ≡ m → ⊥) → sameFields (fieldsFrom go t types i n) (fieldsFrom go t types j m) ≡ false
@@ -21,6 +21,10 @@ differ-length t types go i j zero zero d = absurd (d refl)
 differ-length t types go i j zero (suc m) d = refl
 differ-length t types go i j (suc n) zero d = refl
 differ-length t types go i j (suc n) (suc m) d = simp (differ-length t types go (i + 2) (j + 2) n m (λ e. d (ap suc e)), and-false)
+
+-- one word has one tree
+pub same-word : (t : Texts) (types : List ℕ) (a b deep : ℕ) → a ≡ b → true ≡ sameTy (unfolded t types deep a) (unfolded t types deep b)
+same-word t types a b deep e = sym (eq-sameTy (unfolded t types deep a) (unfolded t types deep b) (ap (unfolded t types deep) e))
 
 -- ka, kb, ia, ib, .. are what the calls gave, each with what its contract says of it; r is the result
 module _ (t : Texts) (types : List ℕ) (a b : ℕ) {deep : ℕ} where

@@ -6,9 +6,12 @@ pub mod Add
 pub mod Slots
 pub mod Kinds
 pub mod Stands
+pub mod Size
+pub mod Marks
 pub mod Inside
 pub mod SameLaws
 pub mod UnfoldLaws
 pub mod DepthLaws
 pub mod InsideLaws
 pub mod GrowLaws
+pub mod MarkLaws

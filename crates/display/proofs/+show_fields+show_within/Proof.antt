@@ -10,7 +10,7 @@ use Rattle.tok.specs.Text.{Texts, textsOf, text}
 use Rattle.ptype.specs.Ty.{Fields}
 use Rattle.ptype.specs.Words.{fieldsFrom, unfolded}
 use Rattle.ptype.specs.Show.{showFields}
-use Rattle.display.specs.WritingLaws.{Owes, owes-all, owes-less, writes-as, _and-then_}
+use Rattle.display.specs.WritingLaws.{Owes, owes-all, owes-less, writes-as, writes-full, _and-then_}
 use Rattle.display.proofs.ShownLaws.{is-leaf, shown-none, shown-wrap, shown-record, shown-leaf, fields-end, fields-turn}
 use borrow.Author.Needs.{needs}
 use Prim.Native.Nat.{ℕ, _+_, _*_, _^_, _<_}
@@ -67,7 +67,18 @@ abbrev show-fields-μ-loop : show-fields-lts.MeasureT-loop
 show-fields-μ-loop out₀ types script library words i n depth after at₀ i₀ left₀ t14 t15 out at i' left = left
 
 abbrev show-fields-claims : ℕ → show-fields-lts.Claims
-show-fields-claims t = (field-name-reads.Asked, field-name-reads.Learnt, put-at-reads.Asked, put-at-reads.Learnt, field-type-reads.Asked, field-type-reads.Learnt, show-within-below t, show-within.Post, put-separator-reads.Asked, put-separator-reads.Learnt)
+show-fields-claims t = (
+  field-name-reads.Asked,
+  field-name-reads.Learnt,
+  put-at-reads.Asked,
+  put-at-reads.Learnt,
+  field-type-reads.Asked,
+  field-type-reads.Learnt,
+  show-within-below t,
+  show-within.Post,
+  put-separator-reads.Asked,
+  put-separator-reads.Learnt,
+)
 
 show-fields-loop-holds : (t : ℕ) → show-fields-lts.Need-loop-holds (show-fields-claims t) (show-fields-at t) show-fields.Post show-fields-Inv-loop show-fields-μ-loop
 show-fields-loop-holds t c = (owes-all refl, search needs, search needs)
@@ -88,12 +99,15 @@ show-fields-field-type-requires : (t : ℕ) → show-fields-lts.Need-field-type-
 show-fields-field-type-requires t c κs = search needs
 
 show-fields-show-within-requires : (t : ℕ) → show-fields-lts.Need-show-within-requires (show-fields-claims t) (show-fields-at t) show-fields.Post show-fields-Inv-loop show-fields-μ-loop
-show-fields-show-within-requires t c κs = (omega (arith, c .before .before .before .before .before .before .before .before .before .before .before .before .before .before .before .before .before .before .before .before .pre .0), tt)
+show-fields-show-within-requires t c κs =
+    let c1 = c .before .before .before .before .before .before .before .before .before .before .before .before .before .before .before .before .before .before .before .before in
+    (omega (arith, c1 .pre .0), tt)
 
 show-fields-sub-left : (t : ℕ) → show-fields-lts.Need-sub-left (show-fields-claims t) (show-fields-at t) show-fields.Post show-fields-Inv-loop show-fields-μ-loop
 show-fields-sub-left t c = search needs
 
-show-fields-slice-aggregate-put-separator : (t : ℕ) → show-fields-lts.Need-slice-aggregate-put-separator (show-fields-claims t) (show-fields-at t) show-fields.Post show-fields-Inv-loop show-fields-μ-loop
+show-fields-slice-aggregate-put-separator : (t : ℕ)
+    → show-fields-lts.Need-slice-aggregate-put-separator (show-fields-claims t) (show-fields-at t) show-fields.Post show-fields-Inv-loop show-fields-μ-loop
 show-fields-slice-aggregate-put-separator t c = search needs
 
 show-fields-put-separator-requires : (t : ℕ) → show-fields-lts.Need-put-separator-requires (show-fields-claims t) (show-fields-at t) show-fields.Post show-fields-Inv-loop show-fields-μ-loop
@@ -107,7 +121,19 @@ show-fields-loop-less t c = search needs
 
 show-fields-loop-again : (t : ℕ) → show-fields-lts.Need-loop-again (show-fields-claims t) (show-fields-at t) show-fields.Post show-fields-Inv-loop show-fields-μ-loop
 unfolding text
-show-fields-loop-again t c = (owes-less (c .before .before .before .before .before .before .before .before .before .before .before .before .before .before .before .before .before .before .before .before .before .loop .inv .0) (fields-turn _ _ _ _ _ (omega arith) (c .before .before .before .before .before .before .before .before .before .before .before .before .before .before .before .before .before .before .field-name .ensures) (c .before .before .before .before .before .before .before .before .field-type .ensures)) ((c .before .before .before .before .before .before .before .before .before .before .before .before .before .before .before .before .before .put-at .ensures) and-then (c .before .before .before .before .before .before .before .before .before .before .before .before .put-at2 .ensures) and-then (c .before .before .before .before .before .before .before .show-within .ensures) and-then (c .before .before .put-separator .ensures)), omega arith, search needs)
+show-fields-loop-again t c =
+    let c1 = c .before .before in
+    let c2 = c1 .before .before .before .before .before in
+    let c3 = c2 .before in
+    let c4 = c3 .before .before .before .before in
+    let c5 = c4 .before .before .before .before .before in
+    let c6 = c5 .before in
+    let c7 = c6 .before .before .before in (
+      owes-less (c7 .loop .inv .0) (fields-turn _ _ _ _ _ (omega arith) (c6 .field-name .ensures) (c3 .field-type .ensures)) ((c5 .put-at .ensures) and-then
+          (c4 .put-at2 .ensures) and-then (c2 .show-within .ensures) and-then (c1 .put-separator .ensures)),
+      omega arith,
+      search needs,
+    )
 
 show-fields-put-at-requires-3 : (t : ℕ) → show-fields-lts.Need-put-at-requires-3 (show-fields-claims t) (show-fields-at t) show-fields.Post show-fields-Inv-loop show-fields-μ-loop
 show-fields-put-at-requires-3 t c κs = search needs
@@ -119,7 +145,39 @@ show-fields-returns : (t : ℕ) → show-fields-lts.Need-returns (show-fields-cl
 show-fields-returns t c = c .before .before .before .before .before .loop .inv .0 .ends (writes-as (fields-end _ _ _ _ _ (omega arith)) (c .before .before .put-at3 .ensures))
 
 abbrev show-within-claims : ℕ → show-within-lts.Claims
-show-within-claims t = (put-plain-reads.Asked, put-plain-reads.Learnt, kind-reads.Asked, kind-reads.Learnt, wraps-reads.Asked, wraps-reads.Learnt, put-opening-reads.Asked, put-opening-reads.Learnt, inner-reads.Asked, inner-reads.Learnt, show-within-below t, show-within.Post, put-at-reads.Asked, put-at-reads.Learnt, payload-reads.Asked, payload-reads.Learnt, field-count-reads.Asked, field-count-reads.Learnt, show-fields-below t, show-fields.Post, show-leaf-reads.Asked, show-leaf-reads.Learnt)
+show-within-claims t = (
+  put-plain-reads.Asked,
+  put-plain-reads.Learnt,
+  kind-reads.Asked,
+  kind-reads.Learnt,
+  wraps-reads.Asked,
+  wraps-reads.Learnt,
+  put-opening-reads.Asked,
+  put-opening-reads.Learnt,
+  inner-reads.Asked,
+  inner-reads.Learnt,
+  show-within-below t,
+  show-within.Post,
+  put-at-reads.Asked,
+  put-at-reads.Learnt,
+  payload-reads.Asked,
+  payload-reads.Learnt,
+  field-count-reads.Asked,
+  field-count-reads.Learnt,
+  show-fields-below t,
+  show-fields.Post,
+  show-leaf-reads.Asked,
+  show-leaf-reads.Learnt,
+)
+
+show-within-enum-told-2 : (t : ℕ) → show-within-lts.Need-enum-told-2 (show-within-claims t) (show-within-at t) show-within.Post
+show-within-enum-told-2 t c = search needs
+
+show-within-returns : (t : ℕ) → show-within-lts.Need-returns (show-within-claims t) (show-within-at t) show-within.Post
+show-within-returns t c = rw (c .enum-told2 .given .1) (writes-full _ _)
+
+show-within-enum-told : (t : ℕ) → show-within-lts.Need-enum-told (show-within-claims t) (show-within-at t) show-within.Post
+show-within-enum-told t c = search needs
 
 show-within-put-plain-requires : (t : ℕ) → show-within-lts.Need-put-plain-requires (show-within-claims t) (show-within-at t) show-within.Post
 show-within-put-plain-requires t c κs = search needs
@@ -127,8 +185,8 @@ show-within-put-plain-requires t c κs = search needs
 show-within-same-length : (t : ℕ) → show-within-lts.Need-same-length (show-within-claims t) (show-within-at t) show-within.Post
 show-within-same-length t c = search needs
 
-show-within-returns : (t : ℕ) → show-within-lts.Need-returns (show-within-claims t) (show-within-at t) show-within.Post
-show-within-returns t c = writes-as (shown-none _ _ _ (c .before .before .before .before .if1 .taken)) (c .before .before .put-plain .ensures)
+show-within-returns-2 : (t : ℕ) → show-within-lts.Need-returns-2 (show-within-claims t) (show-within-at t) show-within.Post
+show-within-returns-2 t c = writes-as (shown-none _ _ _ (c .before .before .before .before .if1 .taken)) (c .before .before .put-plain .ensures)
 
 show-within-kind-requires : (t : ℕ) → show-within-lts.Need-kind-requires (show-within-claims t) (show-within-at t) show-within.Post
 show-within-kind-requires t c κs = search needs
@@ -146,7 +204,10 @@ show-within-sub-show-within : (t : ℕ) → show-within-lts.Need-sub-show-within
 show-within-sub-show-within t c = search needs
 
 show-within-show-within-requires : (t : ℕ) → show-within-lts.Need-show-within-requires (show-within-claims t) (show-within-at t) show-within.Post
-show-within-show-within-requires t c κs = (omega (arith, c .before .before .before .before .before .before .before .before .before .before .before .before .before .before .pre .0, c .before .before .before .before .before .before .before .before .before .if1 .left), tt)
+show-within-show-within-requires t c κs =
+    let c1 = c .before .before .before .before .before .before .before .before .before in
+    let c2 = c1 .before .before .before .before .before .before .before in
+    (omega (arith, c2 .pre .0, c1 .if1 .left), tt)
 
 show-within-slice-aggregate-put-at : (t : ℕ) → show-within-lts.Need-slice-aggregate-put-at (show-within-claims t) (show-within-at t) show-within.Post
 show-within-slice-aggregate-put-at t c = search needs
@@ -157,9 +218,19 @@ show-within-put-at-requires t c κs = search needs
 show-within-same-length-2 : (t : ℕ) → show-within-lts.Need-same-length-2 (show-within-claims t) (show-within-at t) show-within.Post
 show-within-same-length-2 t c = search needs
 
-show-within-returns-2 : (t : ℕ) → show-within-lts.Need-returns-2 (show-within-claims t) (show-within-at t) show-within.Post
+show-within-returns-3 : (t : ℕ) → show-within-lts.Need-returns-3 (show-within-claims t) (show-within-at t) show-within.Post
 unfolding text
-show-within-returns-2 t c = writes-as (shown-wrap _ _ _ (c .before .before .before .before .before .before .before .before .before .before .before .before .before .before .before .before .before .if1 .left) (c .before .before .before .before .before .before .before .before .before .before .before .before .before .before .before .before .kind .ensures) (sym (c .before .before .before .before .before .before .before .before .before .before .before .before .before .before .before .wraps .ensures) ∙ c .before .before .before .before .before .before .before .before .before .before .before .before .before .before .if2 .taken) (c .before .before .before .before .before .before .before .before .inner .ensures)) ((c .before .before .before .before .before .before .before .before .before .before .before .before .put-opening .ensures) and-then (c .before .before .before .before .before .before .before .show-within .ensures) and-then (c .before .before .put-at .ensures))
+show-within-returns-3 t c =
+    let c1 = c .before .before in
+    let c2 = c1 .before .before .before .before .before in
+    let c3 = c2 .before in
+    let c4 = c3 .before .before .before .before in
+    let c5 = c4 .before .before in
+    let c6 = c5 .before in
+    let c7 = c6 .before in
+    let c8 = c7 .before in
+    writes-as (shown-wrap _ _ _ (c8 .if1 .left) (c7 .kind .ensures) (sym (c6 .wraps .ensures) ∙ c5 .if2 .taken) (c3 .inner .ensures))
+    ((c4 .put-opening .ensures) and-then (c2 .show-within .ensures) and-then (c1 .put-at .ensures))
 
 show-within-put-opening-requires-2 : (t : ℕ) → show-within-lts.Need-put-opening-requires-2 (show-within-claims t) (show-within-at t) show-within.Post
 show-within-put-opening-requires-2 t c κs = search needs
@@ -180,23 +251,52 @@ show-within-slice-aggregate-show-fields : (t : ℕ) → show-within-lts.Need-sli
 show-within-slice-aggregate-show-fields t c = search needs
 
 show-within-show-fields-requires : (t : ℕ) → show-within-lts.Need-show-fields-requires (show-within-claims t) (show-within-at t) show-within.Post
-show-within-show-fields-requires t c κs = (omega (arith, c .before .before .before .before .before .before .before .before .before .before .before .before .before .before .before .before .before .pre .0, c .before .before .before .before .before .before .before .before .before .before .before .before .if1 .left), omega (arith, c .before .before .before .payload .ensures, c .before .before .field-count .ensures))
+show-within-show-fields-requires t c κs =
+    let c1 = c .before .before in
+    let c2 = c1 .before in
+    let c3 = c2 .before .before .before .before .before .before .before .before .before in
+    let c4 = c3 .before .before .before .before .before .before .before in
+    (omega (arith, c4 .pre .0, c3 .if1 .left), omega (arith, c2 .payload .ensures, c1 .field-count .ensures))
 
 show-within-same-length-3 : (t : ℕ) → show-within-lts.Need-same-length-3 (show-within-claims t) (show-within-at t) show-within.Post
 show-within-same-length-3 t c = search needs
 
-show-within-returns-3 : (t : ℕ) → show-within-lts.Need-returns-3 (show-within-claims t) (show-within-at t) show-within.Post
+show-within-returns-4 : (t : ℕ) → show-within-lts.Need-returns-4 (show-within-claims t) (show-within-at t) show-within.Post
 unfolding text
-show-within-returns-3 t c = writes-as (shown-record _ _ _ (c .before .before .before .before .before .before .before .before .before .before .before .before .before .before .before .if1 .left) (c .before .before .before .before .before .before .before .before .before .before .before .before .before .before .kind .ensures) (c .before .before .before .before .before .before .before .before .before .before .before .if3 .taken) (c .before .before .before .before .before .before .payload .ensures) (c .before .before .before .before .before .field-count .ensures)) ((c .before .before .before .before .before .before .before .before .before .put-opening2 .ensures) and-then (c .before .before .show-fields .ensures))
+show-within-returns-4 t c =
+    let c1 = c .before .before in
+    let c2 = c1 .before .before .before in
+    let c3 = c2 .before in
+    let c4 = c3 .before .before .before in
+    let c5 = c4 .before .before in
+    let c6 = c5 .before .before .before in
+    let c7 = c6 .before in
+    writes-as (shown-record _ _ _ (c7 .if1 .left) (c6 .kind .ensures) (c5 .if3 .taken) (c3 .payload .ensures) (c2 .field-count .ensures))
+    ((c4 .put-opening2 .ensures) and-then (c1 .show-fields .ensures))
 
 show-within-show-leaf-requires : (t : ℕ) → show-within-lts.Need-show-leaf-requires (show-within-claims t) (show-within-at t) show-within.Post
-show-within-show-leaf-requires t c κs = is-leaf (c .before .before .before .before .before .before .before .before .before .before .args .w) (c .before .before .before .before .kind .ensures) (sym (c .before .before .before .wraps .ensures) ∙ c .before .before .if2 .left) (c .before .if3 .left)
+show-within-show-leaf-requires t c κs =
+    let c1 = c .before in
+    let c2 = c1 .before in
+    let c3 = c2 .before in
+    let c4 = c3 .before in
+    let c5 = c4 .before .before .before .before .before .before .before .before in
+    is-leaf (c5 .args .w) (c4 .kind .ensures) (sym (c3 .wraps .ensures) ∙ c2 .if2 .left) (c1 .if3 .left)
 
 show-within-same-length-4 : (t : ℕ) → show-within-lts.Need-same-length-4 (show-within-claims t) (show-within-at t) show-within.Post
 show-within-same-length-4 t c = search needs
 
-show-within-returns-4 : (t : ℕ) → show-within-lts.Need-returns-4 (show-within-claims t) (show-within-at t) show-within.Post
-show-within-returns-4 t c = writes-as (shown-leaf _ _ _ (c .before .before .before .before .before .before .before .before .if1 .left) (c .before .before .before .before .before .before .before .kind .ensures) (is-leaf (c .before .before .before .before .before .before .before .before .before .before .before .before .before .args .w) (c .before .before .before .before .before .before .before .kind .ensures) (sym (c .before .before .before .before .before .before .wraps .ensures) ∙ c .before .before .before .before .before .if2 .left) (c .before .before .before .before .if3 .left))) (c .before .before .show-leaf .ensures)
+show-within-returns-5 : (t : ℕ) → show-within-lts.Need-returns-5 (show-within-claims t) (show-within-at t) show-within.Post
+show-within-returns-5 t c =
+    let c1 = c .before .before in
+    let c2 = c1 .before .before in
+    let c3 = c2 .before in
+    let c4 = c3 .before in
+    let c5 = c4 .before in
+    let c6 = c5 .before in
+    let c7 = c6 .before .before .before .before .before .before .before in
+    writes-as (shown-leaf _ _ _ (c6 .if1 .left) (c5 .kind .ensures) (is-leaf (c7 .args .w) (c5 .kind .ensures) (sym (c4 .wraps .ensures) ∙ c3 .if2 .left)
+    (c2 .if3 .left))) (c1 .show-leaf .ensures)
 
 pub +show-fields+show-within-spec : {M : Type 1} → statement M
 +show-fields+show-within-spec = close μ-show-fields μ-show-within (λ t. show-fields-lts.spec (show-fields-claims t)
@@ -223,9 +323,12 @@ pub +show-fields+show-within-spec : {M : Type 1} → statement M
     λ t. show-within-lts.spec (show-within-claims t)
     (show-within-at t)
     show-within.Post
+    (show-within-enum-told t)
+    (show-within-enum-told-2 t)
+    (show-within-returns t)
     (show-within-put-plain-requires t)
     (show-within-same-length t)
-    (show-within-returns t)
+    (show-within-returns-2 t)
     (show-within-kind-requires t)
     (show-within-wraps-requires t)
     (show-within-put-opening-requires t)
@@ -235,7 +338,7 @@ pub +show-fields+show-within-spec : {M : Type 1} → statement M
     (show-within-slice-aggregate-put-at t)
     (show-within-put-at-requires t)
     (show-within-same-length-2 t)
-    (show-within-returns-2 t)
+    (show-within-returns-3 t)
     (show-within-put-opening-requires-2 t)
     (show-within-payload-requires t)
     (show-within-add-i t)
@@ -244,7 +347,7 @@ pub +show-fields+show-within-spec : {M : Type 1} → statement M
     (show-within-slice-aggregate-show-fields t)
     (show-within-show-fields-requires t)
     (show-within-same-length-3 t)
-    (show-within-returns-3 t)
+    (show-within-returns-4 t)
     (show-within-show-leaf-requires t)
     (show-within-same-length-4 t)
-    (show-within-returns-4 t)
+    (show-within-returns-5 t)

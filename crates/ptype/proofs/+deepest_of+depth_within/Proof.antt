@@ -1,6 +1,7 @@
 -- `depth_within` and `deepest_of` meet their contracts: each return is a law of `DepthReturns`, over what the calls gave.
 -- The levels fall; the loop's invariant is the greatest so far beside the fields left. Assumes nothing.
-use mathlib.Core.Path.{_≡_, sym, _∙_}
+use mathlib.Core.Path.{_≡_, refl, sym, _∙_}
+use lib.ListN.{length}
 use native.Mathlib.Omega.{arith}
 use Rattle.tok.specs.Text.{Texts}
 use Rattle.ptype.specs.Ty.{deepest}
@@ -16,6 +17,10 @@ use Rattle.ptype.proofs.+deepest_of+depth_within.Lts-deepest_of as deep
 use Rattle.ptype.proofs.depth_within.Reads as depth-within
 use Rattle.ptype.proofs.depth_within.Kinds as depth-within-kinds
 use Rattle.ptype.proofs.+deepest_of+depth_within.Lts-depth_within as depth-within-lts
+use Rattle.ptype.specs.Marks.{Depths}
+use Rattle.ptype.specs.MarkLaws.{hit, made}
+use Rattle.ptype.proofs.least.Reads as least-reads
+use Rattle.ptype.proofs.mark_at.Reads as mark-at-reads
 use Rattle.ptype.proofs.field_count.Reads as field-count-reads
 use Rattle.ptype.proofs.field_type.Reads as field-type-reads
 use Rattle.ptype.proofs.greater.Reads as greater-reads
@@ -26,42 +31,57 @@ use Rattle.tok.proofs.payload.Reads as payload-reads
 use Rattle.ptype.proofs.+deepest_of+depth_within.{statement}
 use Rattle.ptype.proofs.+deepest_of+depth_within.Tie.{close}
 
-abbrev μ-deepest-of : Measures 1 deepest-of-kinds.ps ℕ
+abbrev μ-deepest-of : Measures 2 deepest-of-kinds.ps ℕ
 μ-deepest-of κs a = 2 * a .1 .1 .0 + 1
 
-abbrev μ-depth-within : Measures 1 depth-within-kinds.ps ℕ
+abbrev μ-depth-within : Measures 2 depth-within-kinds.ps ℕ
 μ-depth-within κs a = 2 * a .1 .1 .0
 
-abbrev deepest-of-at : ℕ → In 1 deepest-of-kinds.ps
+abbrev deepest-of-at : ℕ → In 2 deepest-of-kinds.ps
 deepest-of-at t =
-    and 1 deepest-of-kinds.ps (is 1 deepest-of-kinds.ps μ-deepest-of t) deepest-of.Pre
+    and 2 deepest-of-kinds.ps (is 2 deepest-of-kinds.ps μ-deepest-of t) deepest-of.Pre
 
-abbrev deepest-of-below : ℕ → In 1 deepest-of-kinds.ps
+abbrev deepest-of-below : ℕ → In 2 deepest-of-kinds.ps
 deepest-of-below t =
-    and 1 deepest-of-kinds.ps (falls 1 deepest-of-kinds.ps _<_ μ-deepest-of t) deepest-of.Pre
+    and 2 deepest-of-kinds.ps (falls 2 deepest-of-kinds.ps _<_ μ-deepest-of t) deepest-of.Pre
 
-abbrev depth-within-at : ℕ → In 1 depth-within-kinds.ps
+abbrev depth-within-at : ℕ → In 2 depth-within-kinds.ps
 depth-within-at t =
-    and 1 depth-within-kinds.ps (is 1 depth-within-kinds.ps μ-depth-within t) depth-within.Pre
+    and 2 depth-within-kinds.ps (is 2 depth-within-kinds.ps μ-depth-within t) depth-within.Pre
 
-abbrev depth-within-below : ℕ → In 1 depth-within-kinds.ps
+abbrev depth-within-below : ℕ → In 2 depth-within-kinds.ps
 depth-within-below t =
     and
-    1
+    2
     depth-within-kinds.ps
-    (falls 1 depth-within-kinds.ps _<_ μ-depth-within t)
+    (falls 2 depth-within-kinds.ps _<_ μ-depth-within t)
     depth-within.Pre
 
 abbrev deepest-of-Inv-loop : deepest-of-lts.InvT-loop
-deepest-of-Inv-loop types w levels most₀ left₀ i₀ most left i =
+deepest-of-Inv-loop types w levels known₀ at k most₀ left₀ i₀ known most left i =
     ((t : Texts) → deepest (fieldsOf (unfolded t types levels) t types w) ≡ max most (deepest (fieldsFrom (unfolded t types levels) t types i left)))
-    × (i + 2 * left < 2 ^ 40)
+    × (i + 2 * left < 2 ^ 40) × Depths types known × (length known ≡ length known₀)
 
 abbrev deepest-of-μ-loop : deepest-of-lts.MeasureT-loop
-deepest-of-μ-loop types w levels most₀ left₀ i₀ most left i = left
+deepest-of-μ-loop types w levels known₀ at k most₀ left₀ i₀ known most left i = left
 
 abbrev deepest-of-claims : ℕ → deepest-of-lts.Claims
-deepest-of-claims t = (field-count-reads.Asked, field-count-reads.Learnt, payload-reads.Asked, payload-reads.Learnt, field-type-reads.Asked, field-type-reads.Learnt, depth-within-below t, depth-within.Post, greater-reads.Asked, greater-reads.Learnt)
+deepest-of-claims t = (
+  payload-reads.Asked,
+  payload-reads.Learnt,
+  mark-at-reads.Asked,
+  mark-at-reads.Learnt,
+  least-reads.Asked,
+  least-reads.Learnt,
+  field-count-reads.Asked,
+  field-count-reads.Learnt,
+  field-type-reads.Asked,
+  field-type-reads.Learnt,
+  depth-within-below t,
+  depth-within.Post,
+  greater-reads.Asked,
+  greater-reads.Learnt,
+)
 
 deepest-of-field-count-requires : (t : ℕ) → deepest-of-lts.Need-field-count-requires (deepest-of-claims t) (deepest-of-at t) deepest-of.Post deepest-of-Inv-loop deepest-of-μ-loop
 deepest-of-field-count-requires t c κs = search needs
@@ -69,17 +89,49 @@ deepest-of-field-count-requires t c κs = search needs
 deepest-of-payload-requires : (t : ℕ) → deepest-of-lts.Need-payload-requires (deepest-of-claims t) (deepest-of-at t) deepest-of.Post deepest-of-Inv-loop deepest-of-μ-loop
 deepest-of-payload-requires t c κs = search needs
 
+deepest-of-mark-at-requires : (t : ℕ) → deepest-of-lts.Need-mark-at-requires (deepest-of-claims t) (deepest-of-at t) deepest-of.Post deepest-of-Inv-loop deepest-of-μ-loop
+deepest-of-mark-at-requires t c κs = search needs
+
+deepest-of-add-least : (t : ℕ) → deepest-of-lts.Need-add-least (deepest-of-claims t) (deepest-of-at t) deepest-of.Post deepest-of-Inv-loop deepest-of-μ-loop
+deepest-of-add-least t c = search needs
+
+deepest-of-sub-least : (t : ℕ) → deepest-of-lts.Need-sub-least (deepest-of-claims t) (deepest-of-at t) deepest-of.Post deepest-of-Inv-loop deepest-of-μ-loop
+deepest-of-sub-least t c = search needs
+
+deepest-of-least-requires : (t : ℕ) → deepest-of-lts.Need-least-requires (deepest-of-claims t) (deepest-of-at t) deepest-of.Post deepest-of-Inv-loop deepest-of-μ-loop
+deepest-of-least-requires t c κs = search needs
+
+deepest-of-returns : (t : ℕ) → deepest-of-lts.Need-returns (deepest-of-claims t) (deepest-of-at t) deepest-of.Post deepest-of-Inv-loop deepest-of-μ-loop
+deepest-of-returns t c =
+    let c1 = c .before in
+    let c2 = c1 .before in
+    let c3 = c2 .before .before in
+    let c4 = c3 .before .before .before in (
+      hit (c4 .args .types .now) (c4 .args .known .now) (c4 .args .w) (c4 .args .levels) (c4 .pre .1 .1) (c3 .payload .ensures) (c2 .mark-at .ensures)
+          (c1 .if1 .taken) (c .least .ensures),
+      c4 .pre .1 .1,
+    )
+
+deepest-of-same-length : (t : ℕ) → deepest-of-lts.Need-same-length (deepest-of-claims t) (deepest-of-at t) deepest-of.Post deepest-of-Inv-loop deepest-of-μ-loop
+deepest-of-same-length t c = search needs
+
 deepest-of-add-i : (t : ℕ) → deepest-of-lts.Need-add-i (deepest-of-claims t) (deepest-of-at t) deepest-of.Post deepest-of-Inv-loop deepest-of-μ-loop
 deepest-of-add-i t c = search needs
 
 deepest-of-loop-holds : (t : ℕ) → deepest-of-lts.Need-loop-holds (deepest-of-claims t) (deepest-of-at t) deepest-of.Post deepest-of-Inv-loop deepest-of-μ-loop
-deepest-of-loop-holds t c = ((λ x. deepest-all x _ _ _ (c .payload .ensures) (c .before .field-count .ensures)), omega arith)
+deepest-of-loop-holds t c =
+    let c1 = c .before .before .before .before in
+    let c2 = c1 .before .before .before in
+    ((λ x. deepest-all x _ _ _ (c1 .payload .ensures) (c .field-count .ensures)), omega arith, c2 .pre .1 .1, refl)
 
 deepest-of-field-type-requires : (t : ℕ) → deepest-of-lts.Need-field-type-requires (deepest-of-claims t) (deepest-of-at t) deepest-of.Post deepest-of-Inv-loop deepest-of-μ-loop
 deepest-of-field-type-requires t c κs = search needs
 
 deepest-of-depth-within-requires : (t : ℕ) → deepest-of-lts.Need-depth-within-requires (deepest-of-claims t) (deepest-of-at t) deepest-of.Post deepest-of-Inv-loop deepest-of-μ-loop
-deepest-of-depth-within-requires t c κs = search needs
+deepest-of-depth-within-requires t c κs =
+    let c1 = c .before .before .before in
+    let c2 = c1 .before .before .before .before .before .before .before .before in
+    (search needs, (c2 .pre .1 .0, c1 .loop .inv .2))
 
 deepest-of-greater-requires : (t : ℕ) → deepest-of-lts.Need-greater-requires (deepest-of-claims t) (deepest-of-at t) deepest-of.Post deepest-of-Inv-loop deepest-of-μ-loop
 deepest-of-greater-requires t c κs = search needs
@@ -94,16 +146,68 @@ deepest-of-loop-less : (t : ℕ) → deepest-of-lts.Need-loop-less (deepest-of-c
 deepest-of-loop-less t c = search needs
 
 deepest-of-loop-again : (t : ℕ) → deepest-of-lts.Need-loop-again (deepest-of-claims t) (deepest-of-at t) deepest-of.Post deepest-of-Inv-loop deepest-of-μ-loop
-deepest-of-loop-again t c = ((λ x. deepest-more x _ _ _ _ (c .before .before .before .before .loop .inv .0 x) (omega arith) (c .before .before .field-type .ensures) (c .before .depth-within .ensures x) (c .greater .ensures)), omega arith)
+deepest-of-loop-again t c =
+    let c1 = c .before .before .before in
+    let c2 = c1 .before .before in
+    let c3 = c2 .before .before in (
+      (λ x. deepest-more x _ _ _ _ (c3 .loop .inv .0 x) (omega arith) (c2 .field-type .ensures) (c1 .depth-within .ensures .0 x)
+          (c .greater .ensures)),
+      omega arith,
+      c1 .depth-within .ensures .1,
+      c1 .depth-within .kept .1 .1 .1 .0 ∙ c3 .loop .inv .3,
+    )
 
-deepest-of-returns : (t : ℕ) → deepest-of-lts.Need-returns (deepest-of-claims t) (deepest-of-at t) deepest-of.Post deepest-of-Inv-loop deepest-of-μ-loop
-deepest-of-returns t c = λ x. deepest-none x _ _ _ _ (c .before .loop .inv .0 x) (omega arith)
+deepest-of-same-length-2 : (t : ℕ) → deepest-of-lts.Need-same-length-2 (deepest-of-claims t) (deepest-of-at t) deepest-of.Post deepest-of-Inv-loop deepest-of-μ-loop
+deepest-of-same-length-2 t c = search needs
+
+deepest-of-slice-write-known : (t : ℕ) → deepest-of-lts.Need-slice-write-known (deepest-of-claims t) (deepest-of-at t) deepest-of.Post deepest-of-Inv-loop deepest-of-μ-loop
+deepest-of-slice-write-known t c = search needs
+
+deepest-of-cast-known : (t : ℕ) → deepest-of-lts.Need-cast-known (deepest-of-claims t) (deepest-of-at t) deepest-of.Post deepest-of-Inv-loop deepest-of-μ-loop
+deepest-of-cast-known t c = search needs
+
+deepest-of-add-known : (t : ℕ) → deepest-of-lts.Need-add-known (deepest-of-claims t) (deepest-of-at t) deepest-of.Post deepest-of-Inv-loop deepest-of-μ-loop
+deepest-of-add-known t c = search needs
+
+deepest-of-returns-2 : (t : ℕ) → deepest-of-lts.Need-returns-2 (deepest-of-claims t) (deepest-of-at t) deepest-of.Post deepest-of-Inv-loop deepest-of-μ-loop
+deepest-of-returns-2 t c =
+    let c1 = c .before in
+    let c2 = c1 .before .before in
+    let c3 = c2 .before .before .before .before .before in
+    let c4 = c3 .before .before .before in (
+      (λ x. deepest-none x _ _ _ _ (c2 .loop .inv .0 x) (omega arith)),
+      made (c4 .args .types .now) (c2 .loop .known) (c4 .args .w) (c4 .args .levels)
+          (c2 .loop .inv .2) (c3 .payload .ensures) (c1 .if2 .taken) (c .if3 .taken) (λ x. deepest-none x _ _ _ _ (c2 .loop .inv .0 x) (omega arith)),
+    )
+
+deepest-of-returns-3 : (t : ℕ) → deepest-of-lts.Need-returns-3 (deepest-of-claims t) (deepest-of-at t) deepest-of.Post deepest-of-Inv-loop deepest-of-μ-loop
+deepest-of-returns-3 t c = ((λ x. deepest-none x _ _ _ _ (c .before .before .before .loop .inv .0 x) (omega arith)), c .before .before .before .loop .inv .2)
+
+deepest-of-returns-4 : (t : ℕ) → deepest-of-lts.Need-returns-4 (deepest-of-claims t) (deepest-of-at t) deepest-of.Post deepest-of-Inv-loop deepest-of-μ-loop
+deepest-of-returns-4 t c = ((λ x. deepest-none x _ _ _ _ (c .before .before .loop .inv .0 x) (omega arith)), c .before .before .loop .inv .2)
+
+deepest-of-same-length-3 : (t : ℕ) → deepest-of-lts.Need-same-length-3 (deepest-of-claims t) (deepest-of-at t) deepest-of.Post deepest-of-Inv-loop deepest-of-μ-loop
+deepest-of-same-length-3 t c = search needs
+
+deepest-of-same-length-4 : (t : ℕ) → deepest-of-lts.Need-same-length-4 (deepest-of-claims t) (deepest-of-at t) deepest-of.Post deepest-of-Inv-loop deepest-of-μ-loop
+deepest-of-same-length-4 t c = search needs
 
 abbrev depth-within-claims : ℕ → depth-within-lts.Claims
-depth-within-claims t = (kind-reads.Asked, kind-reads.Learnt, wraps-reads.Asked, wraps-reads.Learnt, inner-reads.Asked, inner-reads.Learnt, depth-within-below t, depth-within.Post, deepest-of-below t, deepest-of.Post)
+depth-within-claims t = (
+  kind-reads.Asked,
+  kind-reads.Learnt,
+  wraps-reads.Asked,
+  wraps-reads.Learnt,
+  inner-reads.Asked,
+  inner-reads.Learnt,
+  depth-within-below t,
+  depth-within.Post,
+  deepest-of-below t,
+  deepest-of.Post,
+)
 
 depth-within-returns : (t : ℕ) → depth-within-lts.Need-returns (depth-within-claims t) (depth-within-at t) depth-within.Post
-depth-within-returns t c = λ x. depth-none x _ _ (c .if1 .taken)
+depth-within-returns t c = ((λ x. depth-none x _ _ (c .if1 .taken)), c .before .before .before .pre .1 .1)
 
 depth-within-kind-requires : (t : ℕ) → depth-within-lts.Need-kind-requires (depth-within-claims t) (depth-within-at t) depth-within.Post
 depth-within-kind-requires t c κs = search needs
@@ -118,28 +222,59 @@ depth-within-sub-depth-within : (t : ℕ) → depth-within-lts.Need-sub-depth-wi
 depth-within-sub-depth-within t c = search needs
 
 depth-within-depth-within-requires : (t : ℕ) → depth-within-lts.Need-depth-within-requires (depth-within-claims t) (depth-within-at t) depth-within.Post
-depth-within-depth-within-requires t c κs = search needs
+depth-within-depth-within-requires t c κs = (search needs, (omega arith, c .before .before .before .before .before .before .before .before .pre .1 .1))
 
 depth-within-add-result : (t : ℕ) → depth-within-lts.Need-add-result (depth-within-claims t) (depth-within-at t) depth-within.Post
-depth-within-add-result t c = record { fits = omega (arith, depth-fits (c .before .before .before .before .before .before .before .args .types .now) (c .before .before .before .before .before .before .before .args .levels - 1) (c .before .inner .result) (c .depth-within .ensures)) }
+depth-within-add-result t c =
+    let c1 = c .before .before in
+    let c2 = c1 .before .before in
+    let c3 = c2 .before .before .before .before .before .before .before in
+    record { fits = omega (arith, depth-fits (c3 .args .types .now) (c3 .args .levels - 1) (c2 .inner .result) (c1 .depth-within .ensures .0)) }
+
+depth-within-same-length : (t : ℕ) → depth-within-lts.Need-same-length (depth-within-claims t) (depth-within-at t) depth-within.Post
+depth-within-same-length t c = search needs
 
 depth-within-returns-2 : (t : ℕ) → depth-within-lts.Need-returns-2 (depth-within-claims t) (depth-within-at t) depth-within.Post
-depth-within-returns-2 t c = λ x. depth-wrap x _ _ (c .before .before .before .before .before .if1 .left) (c .before .before .before .before .kind .ensures) (sym (c .before .before .before .wraps .ensures) ∙ c .before .before .if2 .taken) (c .before .inner .ensures) (c .depth-within .ensures x)
+depth-within-returns-2 t c =
+    let c1 = c .before .before in
+    let c2 = c1 .before .before in
+    let c3 = c2 .before in
+    let c4 = c3 .before in
+    let c5 = c4 .before in
+    let c6 = c5 .before in
+    ((λ x. depth-wrap x _ _ (c6 .if1 .left) (c5 .kind .ensures) (sym (c4 .wraps .ensures) ∙ c3 .if2 .taken) (c2 .inner .ensures) (c1 .depth-within .ensures .0 x)), c1 .depth-within .ensures .1)
 
 depth-within-sub-deepest-of : (t : ℕ) → depth-within-lts.Need-sub-deepest-of (depth-within-claims t) (depth-within-at t) depth-within.Post
 depth-within-sub-deepest-of t c = search needs
 
 depth-within-deepest-of-requires : (t : ℕ) → depth-within-lts.Need-deepest-of-requires (depth-within-claims t) (depth-within-at t) depth-within.Post
-depth-within-deepest-of-requires t c κs = search needs
+depth-within-deepest-of-requires t c κs = (search needs, (omega arith, c .before .before .before .before .before .before .before .before .pre .1 .1))
 
 depth-within-add-result-2 : (t : ℕ) → depth-within-lts.Need-add-result-2 (depth-within-claims t) (depth-within-at t) depth-within.Post
-depth-within-add-result-2 t c = record { fits = omega (arith, deepest-fits (c .before .before .before .before .before .before .before .args .types .now) (c .before .before .before .before .before .before .before .args .levels - 1) (c .before .before .before .before .before .before .before .args .w) (c .deepest-of .ensures)) }
+depth-within-add-result-2 t c =
+    let c1 = c .before .before in
+    let c2 = c1 .before .before .before .before .before .before .before .before .before in
+    record { fits = omega (arith, deepest-fits (c2 .args .types .now) (c2 .args .levels - 1) (c2 .args .w) (c1 .deepest-of .ensures .0)) }
+
+depth-within-same-length-2 : (t : ℕ) → depth-within-lts.Need-same-length-2 (depth-within-claims t) (depth-within-at t) depth-within.Post
+depth-within-same-length-2 t c = search needs
 
 depth-within-returns-3 : (t : ℕ) → depth-within-lts.Need-returns-3 (depth-within-claims t) (depth-within-at t) depth-within.Post
-depth-within-returns-3 t c = λ x. depth-record x _ _ (c .before .before .before .before .before .if1 .left) (c .before .before .before .before .kind .ensures) (c .before .if3 .taken) (c .deepest-of .ensures x)
+depth-within-returns-3 t c =
+    let c1 = c .before .before in
+    let c2 = c1 .before .before in
+    let c3 = c2 .before .before .before in
+    let c4 = c3 .before in
+    ((λ x. depth-record x _ _ (c4 .if1 .left) (c3 .kind .ensures) (c2 .if3 .taken) (c1 .deepest-of .ensures .0 x)), c1 .deepest-of .ensures .1)
 
 depth-within-returns-4 : (t : ℕ) → depth-within-lts.Need-returns-4 (depth-within-claims t) (depth-within-at t) depth-within.Post
-depth-within-returns-4 t c = λ x. depth-flat x _ _ (c .before .before .before .before .if1 .left) (c .before .before .before .kind .ensures) (sym (c .before .before .wraps .ensures) ∙ c .before .if2 .left) (c .if3 .left)
+depth-within-returns-4 t c =
+    let c1 = c .before in
+    let c2 = c1 .before in
+    let c3 = c2 .before in
+    let c4 = c3 .before in
+    let c5 = c4 .before .before .before in
+    ((λ x. depth-flat x _ _ (c4 .if1 .left) (c3 .kind .ensures) (sym (c2 .wraps .ensures) ∙ c1 .if2 .left) (c .if3 .left)), c5 .pre .1 .1)
 
 pub +deepest-of+depth-within-spec : {M : Type 1} → statement M
 +deepest-of+depth-within-spec = close μ-deepest-of μ-depth-within (λ t. deepest-of-lts.spec (deepest-of-claims t)
@@ -147,8 +282,14 @@ pub +deepest-of+depth-within-spec : {M : Type 1} → statement M
     deepest-of.Post
     deepest-of-Inv-loop
     deepest-of-μ-loop
-    (deepest-of-field-count-requires t)
     (deepest-of-payload-requires t)
+    (deepest-of-mark-at-requires t)
+    (deepest-of-add-least t)
+    (deepest-of-sub-least t)
+    (deepest-of-least-requires t)
+    (deepest-of-same-length t)
+    (deepest-of-returns t)
+    (deepest-of-field-count-requires t)
     (deepest-of-add-i t)
     (deepest-of-loop-holds t)
     (deepest-of-field-type-requires t)
@@ -158,7 +299,15 @@ pub +deepest-of+depth-within-spec : {M : Type 1} → statement M
     (deepest-of-sub-left t)
     (deepest-of-loop-less t)
     (deepest-of-loop-again t)
-    (deepest-of-returns t))
+    (deepest-of-add-known t)
+    (deepest-of-cast-known t)
+    (deepest-of-slice-write-known t)
+    (deepest-of-same-length-2 t)
+    (deepest-of-returns-2 t)
+    (deepest-of-same-length-3 t)
+    (deepest-of-returns-3 t)
+    (deepest-of-same-length-4 t)
+    (deepest-of-returns-4 t))
     λ t. depth-within-lts.spec (depth-within-claims t)
     (depth-within-at t)
     depth-within.Post
@@ -169,9 +318,11 @@ pub +deepest-of+depth-within-spec : {M : Type 1} → statement M
     (depth-within-sub-depth-within t)
     (depth-within-depth-within-requires t)
     (depth-within-add-result t)
+    (depth-within-same-length t)
     (depth-within-returns-2 t)
     (depth-within-sub-deepest-of t)
     (depth-within-deepest-of-requires t)
     (depth-within-add-result-2 t)
+    (depth-within-same-length-2 t)
     (depth-within-returns-3 t)
     (depth-within-returns-4 t)

@@ -6,7 +6,7 @@ use borrow.Author.Tests.{not-true, not-false}
 use Rattle.tok.specs.Text.{textsOf}
 use Rattle.ptype.specs.Ty.{sameFields}
 use Rattle.ptype.specs.Words.{fieldsFrom, fieldsOf, unfolded}
-use Rattle.ptype.proofs.SameReturns.{same-none, differ-kind, same-wrap, same-named, same-plain, same-record, differ-count, same-all, same-end, differ-name, differ-type, same-rest}
+use Rattle.ptype.proofs.SameReturns.{same-none, same-word, differ-kind, same-wrap, same-named, same-plain, same-record, differ-count, same-all, same-end, differ-name, differ-type, same-rest}
 use borrow.Author.Needs.{needs}
 use Prim.Native.Nat.{ℕ, _+_, _*_, _^_, _<_}
 use borrow.Fn.Kinds.{In}
@@ -71,7 +71,20 @@ abbrev same-fields-μ-loop : same-fields-lts.MeasureT-loop
 same-fields-μ-loop types script library a b depth left₀ i₀ j₀ left i j = left
 
 abbrev same-fields-claims : ℕ → same-fields-lts.Claims
-same-fields-claims t = (field-count-reads.Asked, field-count-reads.Learnt, payload-reads.Asked, payload-reads.Learnt, word-at-reads.Asked, word-at-reads.Learnt, same-name-reads.Asked, same-name-reads.Learnt, field-type-reads.Asked, field-type-reads.Learnt, same-type-within-below t, same-type-within.Post)
+same-fields-claims t = (
+  field-count-reads.Asked,
+  field-count-reads.Learnt,
+  payload-reads.Asked,
+  payload-reads.Learnt,
+  word-at-reads.Asked,
+  word-at-reads.Learnt,
+  same-name-reads.Asked,
+  same-name-reads.Learnt,
+  field-type-reads.Asked,
+  field-type-reads.Learnt,
+  same-type-within-below t,
+  same-type-within.Post,
+)
 
 same-fields-field-count-requires : (t : ℕ) → same-fields-lts.Need-field-count-requires (same-fields-claims t) (same-fields-at t) same-fields.Post same-fields-Inv-loop same-fields-μ-loop
 same-fields-field-count-requires t c κs = search needs
@@ -95,7 +108,12 @@ same-fields-add-j : (t : ℕ) → same-fields-lts.Need-add-j (same-fields-claims
 same-fields-add-j t c = search needs
 
 same-fields-loop-holds : (t : ℕ) → same-fields-lts.Need-loop-holds (same-fields-claims t) (same-fields-at t) same-fields.Post same-fields-Inv-loop same-fields-μ-loop
-same-fields-loop-holds t c = (same-all _ _ _ _ _ (c .before .before .before .before .field-count .ensures) (c .before .before .before .field-count2 .ensures) (c .before .before .if1 .left) (c .before .payload .ensures) (c .payload2 .ensures), omega arith, omega arith)
+same-fields-loop-holds t c =
+    let c1 = c .before in
+    let c2 = c1 .before in
+    let c3 = c2 .before in
+    let c4 = c3 .before in
+    (same-all _ _ _ _ _ (c4 .field-count .ensures) (c3 .field-count2 .ensures) (c2 .if1 .left) (c1 .payload .ensures) (c .payload2 .ensures), omega arith, omega arith)
 
 same-fields-word-at-requires : (t : ℕ) → same-fields-lts.Need-word-at-requires (same-fields-claims t) (same-fields-at t) same-fields.Post same-fields-Inv-loop same-fields-μ-loop
 same-fields-word-at-requires t c κs = search needs
@@ -107,7 +125,12 @@ same-fields-same-name-requires : (t : ℕ) → same-fields-lts.Need-same-name-re
 same-fields-same-name-requires t c κs = search needs
 
 same-fields-returns-2 : (t : ℕ) → same-fields-lts.Need-returns-2 (same-fields-claims t) (same-fields-at t) same-fields.Post same-fields-Inv-loop same-fields-μ-loop
-same-fields-returns-2 t c = differ-name _ _ _ _ _ (c .before .before .before .before .before .loop .inv .0) (omega arith) (c .before .before .before .word-at .ensures) (c .before .before .word-at2 .ensures) (c .before .same-name .ensures) (not-true _ (c .if2 .taken))
+same-fields-returns-2 t c =
+    let c1 = c .before in
+    let c2 = c1 .before in
+    let c3 = c2 .before in
+    let c4 = c3 .before .before in
+    differ-name _ _ _ _ _ (c4 .loop .inv .0) (omega arith) (c3 .word-at .ensures) (c2 .word-at2 .ensures) (c1 .same-name .ensures) (not-true _ (c .if2 .taken))
 
 same-fields-field-type-requires : (t : ℕ) → same-fields-lts.Need-field-type-requires (same-fields-claims t) (same-fields-at t) same-fields.Post same-fields-Inv-loop same-fields-μ-loop
 same-fields-field-type-requires t c κs = search needs
@@ -119,7 +142,17 @@ same-fields-same-type-within-requires : (t : ℕ) → same-fields-lts.Need-same-
 same-fields-same-type-within-requires t c κs = search needs
 
 same-fields-returns-3 : (t : ℕ) → same-fields-lts.Need-returns-3 (same-fields-claims t) (same-fields-at t) same-fields.Post same-fields-Inv-loop same-fields-μ-loop
-same-fields-returns-3 t c = differ-type _ _ _ _ _ (c .before .before .before .before .before .before .before .before .before .loop .inv .0) (omega arith) (c .before .before .before .before .before .before .before .word-at .ensures) (c .before .before .before .before .before .before .word-at2 .ensures) (c .before .before .before .before .before .same-name .ensures) (not-false _ (c .before .before .before .before .if2 .left)) (c .before .before .before .field-type .ensures) (c .before .before .field-type2 .ensures) (c .before .same-type-within .ensures) (not-true _ (c .if3 .taken))
+same-fields-returns-3 t c =
+    let c1 = c .before in
+    let c2 = c1 .before in
+    let c3 = c2 .before in
+    let c4 = c3 .before in
+    let c5 = c4 .before in
+    let c6 = c5 .before in
+    let c7 = c6 .before in
+    let c8 = c7 .before .before in
+    differ-type _ _ _ _ _ (c8 .loop .inv .0) (omega arith) (c7 .word-at .ensures) (c6 .word-at2 .ensures) (c5 .same-name .ensures) (not-false _
+    (c4 .if2 .left)) (c3 .field-type .ensures) (c2 .field-type2 .ensures) (c1 .same-type-within .ensures) (not-true _ (c .if3 .taken))
 
 same-fields-add-i-2 : (t : ℕ) → same-fields-lts.Need-add-i-2 (same-fields-claims t) (same-fields-at t) same-fields.Post same-fields-Inv-loop same-fields-μ-loop
 same-fields-add-i-2 t c = search needs
@@ -134,16 +167,47 @@ same-fields-loop-less : (t : ℕ) → same-fields-lts.Need-loop-less (same-field
 same-fields-loop-less t c = search needs
 
 same-fields-loop-again : (t : ℕ) → same-fields-lts.Need-loop-again (same-fields-claims t) (same-fields-at t) same-fields.Post same-fields-Inv-loop same-fields-μ-loop
-same-fields-loop-again t c = (same-rest _ _ _ _ _ (c .before .before .before .before .before .before .before .before .before .loop .inv .0) (omega arith) (c .before .before .before .before .before .before .before .word-at .ensures) (c .before .before .before .before .before .before .word-at2 .ensures) (c .before .before .before .before .before .same-name .ensures) (not-false _ (c .before .before .before .before .if2 .left)) (c .before .before .before .field-type .ensures) (c .before .before .field-type2 .ensures) (c .before .same-type-within .ensures) (not-false _ (c .if3 .left)), omega arith, omega arith)
+same-fields-loop-again t c =
+    let c1 = c .before in
+    let c2 = c1 .before in
+    let c3 = c2 .before in
+    let c4 = c3 .before in
+    let c5 = c4 .before in
+    let c6 = c5 .before in
+    let c7 = c6 .before in
+    let c8 = c7 .before .before in (
+      same-rest _ _ _ _ _ (c8 .loop .inv .0) (omega arith) (c7 .word-at .ensures) (c6 .word-at2 .ensures) (c5 .same-name .ensures) (not-false _
+          (c4 .if2 .left)) (c3 .field-type .ensures) (c2 .field-type2 .ensures) (c1 .same-type-within .ensures) (not-false _ (c .if3 .left)),
+      omega arith,
+      omega arith,
+    )
 
 same-fields-returns-4 : (t : ℕ) → same-fields-lts.Need-returns-4 (same-fields-claims t) (same-fields-at t) same-fields.Post same-fields-Inv-loop same-fields-μ-loop
 same-fields-returns-4 t c = same-end _ _ _ _ _ (c .before .loop .inv .0) (omega arith)
 
 abbrev same-type-within-claims : ℕ → same-type-within-lts.Claims
-same-type-within-claims t = (kind-reads.Asked, kind-reads.Learnt, wraps-reads.Asked, wraps-reads.Learnt, inner-reads.Asked, inner-reads.Learnt, same-type-within-below t, same-type-within.Post, same-fields-below t, same-fields.Post, names-reads.Asked, names-reads.Learnt, same-name-reads.Asked, same-name-reads.Learnt)
+same-type-within-claims t = (
+  kind-reads.Asked,
+  kind-reads.Learnt,
+  wraps-reads.Asked,
+  wraps-reads.Learnt,
+  inner-reads.Asked,
+  inner-reads.Learnt,
+  same-type-within-below t,
+  same-type-within.Post,
+  same-fields-below t,
+  same-fields.Post,
+  names-reads.Asked,
+  names-reads.Learnt,
+  same-name-reads.Asked,
+  same-name-reads.Learnt,
+)
 
 same-type-within-returns : (t : ℕ) → same-type-within-lts.Need-returns (same-type-within-claims t) (same-type-within-at t) same-type-within.Post
 same-type-within-returns t c = same-none _ _ _ _ (c .if1 .taken)
+
+same-type-within-returns-2 : (t : ℕ) → same-type-within-lts.Need-returns-2 (same-type-within-claims t) (same-type-within-at t) same-type-within.Post
+same-type-within-returns-2 t c = same-word _ _ _ _ _ (c .if2 .taken)
 
 same-type-within-kind-requires : (t : ℕ) → same-type-within-lts.Need-kind-requires (same-type-within-claims t) (same-type-within-at t) same-type-within.Post
 same-type-within-kind-requires t c κs = search needs
@@ -151,8 +215,8 @@ same-type-within-kind-requires t c κs = search needs
 same-type-within-kind-requires-2 : (t : ℕ) → same-type-within-lts.Need-kind-requires-2 (same-type-within-claims t) (same-type-within-at t) same-type-within.Post
 same-type-within-kind-requires-2 t c κs = search needs
 
-same-type-within-returns-2 : (t : ℕ) → same-type-within-lts.Need-returns-2 (same-type-within-claims t) (same-type-within-at t) same-type-within.Post
-same-type-within-returns-2 t c = differ-kind _ _ _ _ (c .before .before .before .if1 .left) (c .before .before .kind .ensures) (c .before .kind2 .ensures) (c .if2 .taken)
+same-type-within-returns-3 : (t : ℕ) → same-type-within-lts.Need-returns-3 (same-type-within-claims t) (same-type-within-at t) same-type-within.Post
+same-type-within-returns-3 t c = differ-kind _ _ _ _ (c .before .before .before .before .if1 .left) (c .before .before .kind .ensures) (c .before .kind2 .ensures) (c .if3 .taken)
 
 same-type-within-wraps-requires : (t : ℕ) → same-type-within-lts.Need-wraps-requires (same-type-within-claims t) (same-type-within-at t) same-type-within.Post
 same-type-within-wraps-requires t c κs = search needs
@@ -169,8 +233,18 @@ same-type-within-sub-same-type-within t c = search needs
 same-type-within-same-type-within-requires : (t : ℕ) → same-type-within-lts.Need-same-type-within-requires (same-type-within-claims t) (same-type-within-at t) same-type-within.Post
 same-type-within-same-type-within-requires t c κs = search needs
 
-same-type-within-returns-3 : (t : ℕ) → same-type-within-lts.Need-returns-3 (same-type-within-claims t) (same-type-within-at t) same-type-within.Post
-same-type-within-returns-3 t c = same-wrap _ _ _ _ (c .before .before .before .before .before .before .before .before .if1 .left) (c .before .before .before .before .before .before .before .kind .ensures) (c .before .before .before .before .before .before .kind2 .ensures) (c .before .before .before .before .before .if2 .left) (sym (c .before .before .before .before .wraps .ensures) ∙ c .before .before .before .if3 .taken) (c .before .before .inner .ensures) (c .before .inner2 .ensures) (c .same-type-within .ensures)
+same-type-within-returns-4 : (t : ℕ) → same-type-within-lts.Need-returns-4 (same-type-within-claims t) (same-type-within-at t) same-type-within.Post
+same-type-within-returns-4 t c =
+    let c1 = c .before in
+    let c2 = c1 .before in
+    let c3 = c2 .before in
+    let c4 = c3 .before in
+    let c5 = c4 .before in
+    let c6 = c5 .before in
+    let c7 = c6 .before in
+    let c8 = c7 .before .before in
+    same-wrap _ _ _ _ (c8 .if1 .left) (c7 .kind .ensures) (c6 .kind2 .ensures) (c5 .if3 .left) (sym (c4 .wraps .ensures) ∙ c3 .if4 .taken)
+    (c2 .inner .ensures) (c1 .inner2 .ensures) (c .same-type-within .ensures)
 
 same-type-within-sub-same-fields : (t : ℕ) → same-type-within-lts.Need-sub-same-fields (same-type-within-claims t) (same-type-within-at t) same-type-within.Post
 same-type-within-sub-same-fields t c = search needs
@@ -178,8 +252,14 @@ same-type-within-sub-same-fields t c = search needs
 same-type-within-same-fields-requires : (t : ℕ) → same-type-within-lts.Need-same-fields-requires (same-type-within-claims t) (same-type-within-at t) same-type-within.Post
 same-type-within-same-fields-requires t c κs = search needs
 
-same-type-within-returns-4 : (t : ℕ) → same-type-within-lts.Need-returns-4 (same-type-within-claims t) (same-type-within-at t) same-type-within.Post
-same-type-within-returns-4 t c = same-record _ _ _ _ (c .before .before .before .before .before .before .before .if1 .left) (c .before .before .before .before .before .before .kind .ensures) (c .before .before .before .before .before .kind2 .ensures) (c .before .before .before .before .if2 .left) (c .before .if4 .taken) (c .same-fields .ensures)
+same-type-within-returns-5 : (t : ℕ) → same-type-within-lts.Need-returns-5 (same-type-within-claims t) (same-type-within-at t) same-type-within.Post
+same-type-within-returns-5 t c =
+    let c1 = c .before in
+    let c2 = c1 .before .before .before in
+    let c3 = c2 .before in
+    let c4 = c3 .before in
+    let c5 = c4 .before .before in
+    same-record _ _ _ _ (c5 .if1 .left) (c4 .kind .ensures) (c3 .kind2 .ensures) (c2 .if3 .left) (c1 .if5 .taken) (c .same-fields .ensures)
 
 same-type-within-names-requires : (t : ℕ) → same-type-within-lts.Need-names-requires (same-type-within-claims t) (same-type-within-at t) same-type-within.Post
 same-type-within-names-requires t c κs = search needs
@@ -187,11 +267,32 @@ same-type-within-names-requires t c κs = search needs
 same-type-within-same-name-requires : (t : ℕ) → same-type-within-lts.Need-same-name-requires (same-type-within-claims t) (same-type-within-at t) same-type-within.Post
 same-type-within-same-name-requires t c κs = search needs
 
-same-type-within-returns-5 : (t : ℕ) → same-type-within-lts.Need-returns-5 (same-type-within-claims t) (same-type-within-at t) same-type-within.Post
-same-type-within-returns-5 t c = same-named _ _ _ _ (c .before .before .before .before .before .before .before .before .before .if1 .left) (c .before .before .before .before .before .before .before .before .kind .ensures) (c .before .before .before .before .before .before .before .kind2 .ensures) (c .before .before .before .before .before .before .if2 .left) (sym (c .before .before .names .ensures) ∙ c .before .if5 .taken) (c .same-name .ensures)
-
 same-type-within-returns-6 : (t : ℕ) → same-type-within-lts.Need-returns-6 (same-type-within-claims t) (same-type-within-at t) same-type-within.Post
-same-type-within-returns-6 t c = same-plain _ _ _ _ (c .before .before .before .before .before .before .before .before .if1 .left) (c .before .before .before .before .before .before .before .kind .ensures) (c .before .before .before .before .before .before .kind2 .ensures) (c .before .before .before .before .before .if2 .left) (record { noWrap = sym (c .before .before .before .before .wraps .ensures) ∙ c .before .before .before .if3 .left; noRecord = c .before .before .if4 .left; noName = sym (c .before .names .ensures) ∙ c .if5 .left })
+same-type-within-returns-6 t c =
+    let c1 = c .before in
+    let c2 = c1 .before in
+    let c3 = c2 .before .before .before .before in
+    let c4 = c3 .before in
+    let c5 = c4 .before in
+    let c6 = c5 .before .before in
+    same-named _ _ _ _ (c6 .if1 .left) (c5 .kind .ensures) (c4 .kind2 .ensures) (c3 .if3 .left) (sym (c2 .names .ensures) ∙ c1 .if6 .taken) (c .same-name .ensures)
+
+same-type-within-returns-7 : (t : ℕ) → same-type-within-lts.Need-returns-7 (same-type-within-claims t) (same-type-within-at t) same-type-within.Post
+same-type-within-returns-7 t c =
+    let c1 = c .before in
+    let c2 = c1 .before in
+    let c3 = c2 .before in
+    let c4 = c3 .before in
+    let c5 = c4 .before in
+    let c6 = c5 .before in
+    let c7 = c6 .before in
+    let c8 = c7 .before .before in
+    same-plain _ _ _ _ (c8 .if1 .left) (c7 .kind .ensures) (c6 .kind2 .ensures) (c5 .if3 .left) (record {
+      noWrap = sym
+          (c4 .wraps .ensures) ∙ c3 .if4 .left;
+      noRecord = c2 .if5 .left;
+      noName = sym (c1 .names .ensures) ∙ c .if6 .left;
+    })
 
 pub +same-fields+same-type-within-spec : {M : Type 1} → statement M
 +same-fields+same-type-within-spec =
@@ -226,19 +327,20 @@ pub +same-fields+same-type-within-spec : {M : Type 1} → statement M
     (same-type-within-at t)
     same-type-within.Post
     (same-type-within-returns t)
+    (same-type-within-returns-2 t)
     (same-type-within-kind-requires t)
     (same-type-within-kind-requires-2 t)
-    (same-type-within-returns-2 t)
+    (same-type-within-returns-3 t)
     (same-type-within-wraps-requires t)
     (same-type-within-inner-requires t)
     (same-type-within-inner-requires-2 t)
     (same-type-within-sub-same-type-within t)
     (same-type-within-same-type-within-requires t)
-    (same-type-within-returns-3 t)
+    (same-type-within-returns-4 t)
     (same-type-within-sub-same-fields t)
     (same-type-within-same-fields-requires t)
-    (same-type-within-returns-4 t)
+    (same-type-within-returns-5 t)
     (same-type-within-names-requires t)
     (same-type-within-same-name-requires t)
-    (same-type-within-returns-5 t)
     (same-type-within-returns-6 t)
+    (same-type-within-returns-7 t)

@@ -7,12 +7,12 @@ use borrow.Author.Needs.{needs}
 use Rattle.ptype.proofs.contains_slot.Statement.{statement}
 use Rattle.ptype.proofs.contains_slot.Tie as tie
 
-stands-in-requires : tie.Need-stands-in-requires
-stands-in-requires c κs = search needs
+contains-requires : tie.Need-contains-requires
+contains-requires c κs = search needs
 
 returns : tie.Need-returns
 unfolding tyOf
-returns c = λ x. c .stands-in .ensures x ∙ stands-slot x (now (c .before .before .args .types)) 33 (c .before .before .args .w)
+returns c = λ x. c .contains .ensures x ∙ stands-slot x (now (c .before .before .args .types)) 33 (c .before .before .args .w)
 
 pub contains-slot-spec : {M : Type 1} → statement M
-contains-slot-spec = tie.close (tie.spec stands-in-requires returns)
+contains-slot-spec = tie.close (tie.spec contains-requires returns)

@@ -4,12 +4,12 @@ use borrow.Author.Needs.{needs}
 use Rattle.ptype.proofs.depth.Statement.{statement}
 use Rattle.ptype.proofs.depth.Tie as tie
 
-depth-within-requires : tie.Need-depth-within-requires
-depth-within-requires c κs = search needs
+depth-of-requires : tie.Need-depth-of-requires
+depth-of-requires c κs = search needs
 
 returns : tie.Need-returns
 unfolding tyOf
-returns c = c .depth-within .ensures
+returns c = c .depth-of .ensures
 
 pub depth-spec : {M : Type 1} → statement M
-depth-spec = tie.close (tie.spec depth-within-requires returns)
+depth-spec = tie.close (tie.spec depth-of-requires returns)
