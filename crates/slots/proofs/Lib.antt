@@ -2,3 +2,4 @@
 mod PairReturns
 mod BindReturns
 mod HasReturns
+mod MarkReturns

@@ -13,12 +13,14 @@ use tok::payload;
 use tok::same_name;
 use tok::word_at;
 ghost use mathlib.Core.Path.{_≡_};
-ghost use mathlib.Core.List.{_∷_};
+ghost use mathlib.Core.List.{List, _∷_};
 ghost use Prim.Native.Nat.{ℕ, _+_, _*_, _<_, _^_, min};
 ghost use Rattle.tok.specs.Text.{Texts, textsOf, nameBytes};
 ghost use Rattle.ptype.specs.Kinds.{wraps};
-ghost use Rattle.ptype.specs.Words.{fieldsFrom, unfolded, tyOf};
-ghost use Rattle.ptype.specs.Slots.{binding, boundTo, isSome, allBound, bindOne, bindSlots, bindFields, hasBoundSlot, anyBoundSlot};
+ghost use Rattle.ptype.specs.Ty.{Fields};
+ghost use Rattle.ptype.specs.Words.{fieldsFrom, fieldsOf, unfolded, tyOf};
+ghost use Rattle.ptype.specs.Marks.{Free};
+ghost use Rattle.ptype.specs.Slots.{Binding, binding, boundTo, isSome, allBound, bindOne, bindSlots, bindFields, hasBoundSlot, anyBoundSlot};
 ghost use Rattle.slots.specs.Bindings.{bindingsIn, foundOf, Binds};
 
 const VOID: u32 = 1;
@@ -286,16 +288,7 @@ pub fn has_bound_slot_within<'a>(
         );
     }
     if k == RECORD {
-        return any_bound_slot(
-            types,
-            script,
-            library,
-            pairs,
-            count,
-            payload(w) + 1,
-            field_count(types, w),
-            depth - 1,
-        );
+        return record_has_bound(types, script, library, pairs, count, w, depth - 1);
     }
     if k == SLOT {
         return is_bound(script, library, pairs, count, w);
@@ -303,25 +296,110 @@ pub fn has_bound_slot_within<'a>(
     false
 }
 
-// Whether one stands in n fields from an index on.
+// Whether one stands in the fields of a Record. The marks (crate `ptype`) are in this frame, called by a function that calls itself; a Record of
+// few words needs none.
+fn record_has_bound<'a>(
+    types: &[u32],
+    script: &'a [u8],
+    library: &'a [u8],
+    pairs: &[u32],
+    count: usize,
+    w: u32,
+    depth: usize,
+) -> bool
+    ensures { λ r. let T : Texts = textsOf (now (script .entry)) (now (library .entry)) in
+        ⌜ r ≡ anyBoundSlot (bindingsIn T (now (pairs .entry)) count) (fieldsOf (unfolded T (now (types .entry)) depth) T (now (types .entry)) w) ⌝ }
+{
+    if ptype::is_small(types, w) {
+        return any_bound_slot(
+            types,
+            script,
+            library,
+            pairs,
+            count,
+            w,
+            depth,
+            &mut [0u8; 1],
+        );
+    }
+    any_bound_slot(
+        types,
+        script,
+        library,
+        pairs,
+        count,
+        w,
+        depth,
+        &mut [0u8; 8192],
+    )
+}
+
+// Whether one stands in a type; `free` has the levels, and 1, in which none stands in the list at an index.
+fn bound_slot_in<'a>(
+    types: &[u32],
+    script: &'a [u8],
+    library: &'a [u8],
+    pairs: &[u32],
+    count: usize,
+    w: u32,
+    depth: usize,
+    free: &mut [u8],
+) -> bool
+    requires { let T : Texts = textsOf (now script) (now library) in ⌜ Free (anyBoundSlot (bindingsIn T (now pairs) count)) T (now types) (now free) ⌝ }
+    ensures { λ r. let T : Texts = textsOf (now (script .entry)) (now (library .entry)) in
+        let B : List Binding = bindingsIn T (now (pairs .entry)) count in
+        ⌜ (r ≡ hasBoundSlot B (unfolded T (now (types .entry)) depth w)) × Free (anyBoundSlot B) T (now (types .entry)) (now (free .exit)) ⌝ }
+{
+    if depth == 0 {
+        return false;
+    }
+    let k = kind(w);
+    if wraps(k) {
+        return bound_slot_in(
+            types,
+            script,
+            library,
+            pairs,
+            count,
+            inner(types, w),
+            depth - 1,
+            free,
+        );
+    }
+    if k == RECORD {
+        return any_bound_slot(types, script, library, pairs, count, w, depth - 1, free);
+    }
+    if k == SLOT {
+        return is_bound(script, library, pairs, count, w);
+    }
+    false
+}
+
+// Whether one stands in the fields of a Record: in fewer levels than a mark tells of, none either.
 fn any_bound_slot<'a>(
     types: &[u32],
     script: &'a [u8],
     library: &'a [u8],
     pairs: &[u32],
     count: usize,
-    at: usize,
-    n: usize,
+    w: u32,
     depth: usize,
+    free: &mut [u8],
 ) -> bool
-    requires { ⌜ at + 2 * n < 2 ^ 40 ⌝ }
+    requires { let T : Texts = textsOf (now script) (now library) in ⌜ Free (anyBoundSlot (bindingsIn T (now pairs) count)) T (now types) (now free) ⌝ }
     ensures { λ r. let T : Texts = textsOf (now (script .entry)) (now (library .entry)) in
-        ⌜ r ≡ anyBoundSlot (bindingsIn T (now (pairs .entry)) count) (fieldsFrom (unfolded T (now (types .entry)) depth) T (now (types .entry)) at n) ⌝ }
+        let B : List Binding = bindingsIn T (now (pairs .entry)) count in
+        let F : Fields = fieldsOf (unfolded T (now (types .entry)) depth) T (now (types .entry)) w in
+        ⌜ (r ≡ anyBoundSlot B F) × Free (anyBoundSlot B) T (now (types .entry)) (now (free .exit)) ⌝ }
 {
-    let mut i = at;
-    let mut left = n;
+    let at = payload(w);
+    if depth < ptype::mark_at(&free[..], at) {
+        return false;
+    }
+    let mut i = at + 1;
+    let mut left = field_count(types, w);
     while left > 0 {
-        if has_bound_slot_within(
+        if bound_slot_in(
             types,
             script,
             library,
@@ -329,11 +407,17 @@ fn any_bound_slot<'a>(
             count,
             field_type(types, i),
             depth,
+            free,
         ) {
             return true;
         }
         i += 2;
         left -= 1;
+    }
+    if at < free.len() {
+        if depth < 255 {
+            free[at] = (depth + 1) as u8;
+        }
     }
     false
 }
