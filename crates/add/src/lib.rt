@@ -12,6 +12,7 @@ ghost use Rattle.tok.specs.Word.{wordOf};
 ghost use Rattle.tok.specs.Text.{Texts};
 ghost use Rattle.tok.specs.Step.{next};
 ghost use Rattle.ptype.specs.Add.{addWrap, write};
+ghost use Rattle.ptype.specs.Marks.{Depths};
 ghost use Rattle.add.specs.Answer.{resultOf, Adds};
 ghost use Rattle.add.specs.Parts.{opened, shallow, measured};
 ghost use Rattle.add.specs.Pool.{isType, poolTypes, allShallow, Copies};
@@ -160,23 +161,33 @@ fn is_type(w: u32) -> bool
     k <= 11
 }
 
+// Whether a type is at most 32 deep, by the depths that are known of field lists (`ptype::depth_known`).
+pub fn is_shallow_known(types: &[u32], w: u32, known: &mut [u8]) -> bool
+    requires { ⌜ Depths (now types) (now known) ⌝ }
+    ensures { λ r. ⌜ ((t : Texts) → r ≡ shallow t (now (types .entry)) w) × Depths (now (types .entry)) (now (known .exit)) ⌝ }
+{
+    ptype::depth_known(types, w, known) <= 32
+}
+
 // Whether a word of the pool is a type at most 32 deep, or no type.
-fn word_is_shallow(types: &[u32], w: u32) -> bool
-    ensures { λ r. ⌜ ((t : Texts) → r ≡ allShallow t (now (types .entry)) (poolTypes (w ∷ []))) ⌝ }
+fn word_is_shallow(types: &[u32], w: u32, known: &mut [u8]) -> bool
+    requires { ⌜ Depths (now types) (now known) ⌝ }
+    ensures { λ r. ⌜ ((t : Texts) → r ≡ allShallow t (now (types .entry)) (poolTypes (w ∷ []))) × Depths (now (types .entry)) (now (known .exit)) ⌝ }
 {
     if !is_type(w) {
         return true;
     }
-    is_shallow(types, w)
+    is_shallow_known(types, w, known)
 }
 
-// Whether every type of the pool is at most 32 deep.
-pub fn pool_is_shallow(types: &[u32], pool: &[u32]) -> bool
-    ensures { λ r. ⌜ ((t : Texts) → r ≡ allShallow t (now (types .entry)) (poolTypes (now (pool .entry)))) ⌝ }
+// Whether every type of the pool is at most 32 deep. A word refers to smaller indices, so that what it holds is known when its turn comes.
+pub fn pool_is_shallow(types: &[u32], pool: &[u32], known: &mut [u8]) -> bool
+    requires { ⌜ Depths (now types) (now known) ⌝ }
+    ensures { λ r. ⌜ ((t : Texts) → r ≡ allShallow t (now (types .entry)) (poolTypes (now (pool .entry)))) × Depths (now (types .entry)) (now (known .exit)) ⌝ }
 {
     let mut i = 0;
     while i < pool.len() {
-        if !word_is_shallow(types, pool[i]) {
+        if !word_is_shallow(types, pool[i], known) {
             return false;
         }
         i += 1;

@@ -5,6 +5,7 @@ ghost use mathlib.Core.List.{[], _∷_};
 ghost use Prim.Native.Nat.{_≤_};
 ghost use Rattle.tok.specs.Text.{Texts};
 ghost use Rattle.library.specs.Package.{functionAt, functionsFrom, packagesOf};
+ghost use Rattle.ptype.specs.Marks.{Depths};
 ghost use Rattle.add.specs.Pool.{allShallow};
 ghost use Rattle.rules.specs.Walk.{emptySlots, paramTypes, functionTypes, packageTypes};
 ghost use Rattle.tworuns.specs.Accepted.{libraryTypes};
@@ -25,14 +26,16 @@ pub fn empty_slots(slots: &mut [u32], void: usize)
     operators::store(slots, void, VOID_WORD);
 }
 
-// Whether the types of the arguments of the function at a word are at most 32 deep.
-fn arguments_are_shallow(types: &[u32], words: &[u32], at: usize) -> bool
-    ensures { λ r. ⌜ ((t : Texts) → r ≡ allShallow t (now (types .entry)) (paramTypes (functionAt (now (words .entry)) at .sig .params))) ⌝ }
+// Whether the types of the arguments of the function at a word are at most 32 deep; `known` has what was found of field lists (crate `ptype`).
+fn arguments_are_shallow(types: &[u32], words: &[u32], at: usize, known: &mut [u8]) -> bool
+    requires { ⌜ Depths (now types) (now known) ⌝ }
+    ensures { λ r. let D : Type 0 = Depths (now (types .entry)) (now (known .exit)) in
+        ⌜ ((t : Texts) → r ≡ allShallow t (now (types .entry)) (paramTypes (functionAt (now (words .entry)) at .sig .params))) × D ⌝ }
 {
     let count = library::argument_count(words, at);
     let mut i = 0;
     while i < count {
-        if !add::is_shallow(types, library::argument_type(words, at, i)) {
+        if !add::is_shallow_known(types, library::argument_type(words, at, i), known) {
             return false;
         }
         i += 1;
@@ -41,23 +44,31 @@ fn arguments_are_shallow(types: &[u32], words: &[u32], at: usize) -> bool
 }
 
 // The same, of all types of that function.
-fn function_is_shallow(types: &[u32], words: &[u32], at: usize) -> bool
-    ensures { λ r. ⌜ ((t : Texts) → r ≡ allShallow t (now (types .entry)) (functionTypes (functionAt (now (words .entry)) at ∷ []))) ⌝ }
+fn function_is_shallow(types: &[u32], words: &[u32], at: usize, known: &mut [u8]) -> bool
+    requires { ⌜ Depths (now types) (now known) ⌝ }
+    ensures { λ r. ⌜ ((t : Texts) → r ≡ allShallow t (now (types .entry)) (functionTypes (functionAt (now (words .entry)) at ∷ []))) × Depths (now (types .entry)) (now (known .exit)) ⌝ }
 {
-    if !arguments_are_shallow(types, words, at) {
+    if !arguments_are_shallow(types, words, at, known) {
         return false;
     }
-    add::is_shallow(types, library::return_type(words, at))
+    add::is_shallow_known(types, library::return_type(words, at), known)
 }
 
 // The same, of k functions from a word on.
-fn functions_are_shallow(types: &[u32], words: &[u32], from: usize, k: usize) -> bool
-    ensures { λ r. ⌜ ((t : Texts) → r ≡ allShallow t (now (types .entry)) (functionTypes (functionsFrom (now (words .entry)) from k))) ⌝ }
+fn functions_are_shallow(
+    types: &[u32],
+    words: &[u32],
+    from: usize,
+    k: usize,
+    known: &mut [u8],
+) -> bool
+    requires { ⌜ Depths (now types) (now known) ⌝ }
+    ensures { λ r. ⌜ ((t : Texts) → r ≡ allShallow t (now (types .entry)) (functionTypes (functionsFrom (now (words .entry)) from k))) × Depths (now (types .entry)) (now (known .exit)) ⌝ }
 {
     let mut at = from;
     let mut left = k;
     while left > 0 {
-        if !function_is_shallow(types, words, at) {
+        if !function_is_shallow(types, words, at, known) {
             return false;
         }
         at = library::function_end(words, at);
@@ -67,14 +78,15 @@ fn functions_are_shallow(types: &[u32], words: &[u32], from: usize, k: usize) ->
 }
 
 // The same, of all packages.
-fn packages_are_shallow(types: &[u32], words: &[u32]) -> bool
-    ensures { λ r. ⌜ ((t : Texts) → r ≡ allShallow t (now (types .entry)) (packageTypes (packagesOf (now (words .entry))))) ⌝ }
+fn packages_are_shallow(types: &[u32], words: &[u32], known: &mut [u8]) -> bool
+    requires { ⌜ Depths (now types) (now known) ⌝ }
+    ensures { λ r. ⌜ ((t : Texts) → r ≡ allShallow t (now (types .entry)) (packageTypes (packagesOf (now (words .entry))))) × Depths (now (types .entry)) (now (known .exit)) ⌝ }
 {
     let mut at = library::packages_place(words);
     let mut left = library::package_count(words);
     while left > 0 {
         let k = library::function_count(words, at);
-        if !functions_are_shallow(types, words, at + 2, k) {
+        if !functions_are_shallow(types, words, at + 2, k, known) {
             return false;
         }
         at = library::package_end(words, at);
@@ -87,10 +99,11 @@ fn packages_are_shallow(types: &[u32], words: &[u32]) -> bool
 pub fn library_is_shallow(types: &[u32], words: &[u32]) -> bool
     ensures { λ r. ⌜ ((t : Texts) → r ≡ allShallow t (now (types .entry)) (libraryTypes (now (words .entry)))) ⌝ }
 {
-    if !add::pool_is_shallow(types, library::pool(words)) {
+    let mut known = [0u8; 8192];
+    if !add::pool_is_shallow(types, library::pool(words), &mut known) {
         return false;
     }
-    packages_are_shallow(types, words)
+    packages_are_shallow(types, words, &mut known)
 }
 
 // The state before the first root: the pool is used; nothing is in scope, no package is held, no own function is met.

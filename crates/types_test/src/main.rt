@@ -616,7 +616,7 @@ fn pool_row(types: &mut [u32], words: &[u32]) {
     print(b"pool");
     number(wide(words.len()));
     flag(add::copy_pool(types, words));
-    flag(add::pool_is_shallow(&types[..], words));
+    flag(add::pool_is_shallow(&types[..], words, &mut [0u8; 8192]));
     print(b"\n");
 }
 

@@ -9,13 +9,21 @@ is-type-requires : tie.Need-is-type-requires
 is-type-requires c κs = search needs
 
 returns : tie.Need-returns
-returns c = λ t. word-none _ _ (c .before .is-type .ensures) t (not-true _ (c .if1 .taken))
+returns c = ((λ t. word-none _ _ (c .before .is-type .ensures) t (not-true _ (c .if1 .taken))), c .before .before .before .before .pre)
 
-is-shallow-requires : tie.Need-is-shallow-requires
-is-shallow-requires c κs = search needs
+is-shallow-known-requires : tie.Need-is-shallow-known-requires
+is-shallow-known-requires c κs = c .before .before .before .before .before .pre
+
+same-length : tie.Need-same-length
+same-length c = search needs
 
 returns-2 : tie.Need-returns-2
-returns-2 c = λ t. word-measured _ _ (c .before .before .is-type .ensures) t (not-false _ (c .before .if1 .left)) (c .is-shallow .ensures t)
+returns-2 c =
+    let c1 = c .before .before in
+    let c2 = c1 .before .before in
+    let c3 = c2 .before in
+    ((λ t. word-measured _ _ (c3 .is-type .ensures) t (not-false _ (c2 .if1 .left)) (c1 .is-shallow-known .ensures .0 t)), c1 .is-shallow-known .ensures .1)
 
 pub word-is-shallow-spec : {M : Type 1} → statement M
-word-is-shallow-spec = tie.close (tie.spec is-type-requires returns is-shallow-requires returns-2)
+word-is-shallow-spec =
+    tie.close (tie.spec is-type-requires returns is-shallow-known-requires same-length returns-2)
