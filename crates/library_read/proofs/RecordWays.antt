@@ -15,7 +15,7 @@ use Rattle.tok.specs.Reader.{Cursor, Read, word, owing, many}
 use Rattle.reader.specs.declared.Reading.{Reading}
 use Rattle.reader.specs.declared.Reading.the-variants.{At, Fault}
 use Rattle.reader.specs.Reading.{standing, placeOf, nextWord, onward, gave}
-use Rattle.reader.specs.Laws.{by-rule, by-rule-at, onward-return, onward-then, came-from}
+use Rattle.reader.specs.Laws.{by-rule, by-rule-at, onward-fault, onward-return, onward-then, came-from}
 use Rattle.reader.specs.Reads.{Within, Reads, reads-word, reads-onward, onward-place, onward-shown, onward-within, gave-there}
 use Rattle.reader.specs.Many.{onward-more, onward-stops}
 use Rattle.library.specs.Pool.{Pool}
@@ -93,6 +93,21 @@ module _ (p : Pool) (words : List ℕ) where
 
     types-fine : Each (TypeWord p (p .size)) (typesIn (take (2 * count) (drop (placeOf e) words)))
     types-fine = rw types-are (fine-types p (eqb flag 1) _ (onward-shown words e _ _ at least all-reads read))
+
+  -- a fault up to the arguments ends the function
+  pub function-ended : (before : List Function) (from c d e f : Reading) (group flag count : ℕ) (g₁ g₂ : Bool) (n place : ℕ)
+      → group ≡ nextWord words from → g₁ ≡ goodGroup p before group → onward words from (word (λ _. g₁)) ≡ gave words (nextWord words from) c
+      → flag ≡ nextWord words c → g₂ ≡ goodFlag p before group flag → onward words c (word (λ _. g₂)) ≡ gave words (nextWord words c) d
+      → count ≡ nextWord words d → n ≡ count → onward words d (owing (λ _. true) (λ _. 2 * n)) ≡ gave words (nextWord words d) e
+      → onward words e (many count (argument p flag)) ≡ gave words (paramsFrom words (placeOf e) count) f → f ≡ Fault place
+      → onward words from (functionRecord p before) ≡ gave words (functionAt words (placeOf from)) f
+  unfolding functionRecord
+  function-ended before from c d e f group flag count g₁ g₂ n place e1 h1 k1 e2 h2 k2 e3 en k3 k4 ef =
+      onward-then words from c _ _ group (word-by (goodGroup p before) words from c group g₁ e1 h1 k1 ∙ ap (λ w. gave words w c) (sym e1))
+      ∙ onward-then words c d _ _ flag (word-by (goodFlag p before group) words c d flag g₂ e2 h2 k2 ∙ ap (λ w. gave words w d) (sym e2))
+      ∙ onward-then words d e _ _ count (count-by d e 2 count n e3 en k3 ∙ ap (λ w. gave words w e) (sym e3))
+      ∙ onward-then words e f _ _ (paramsFrom words (placeOf e) count) k4
+      ∙ rw ef (onward-fault words _ place _)
 
   pub function-by : (before : List Function) (from c d e f r : Reading) (group flag count ret : ℕ) (g₁ g₂ g₃ : Bool) (n at : ℕ) (pairs : List ℕ)
       → group ≡ nextWord words from → g₁ ≡ goodGroup p before group → onward words from (word (λ _. g₁)) ≡ gave words (nextWord words from) c

@@ -242,6 +242,9 @@ fn function_record<'a>(
     let count = reader::next_word(words, d);
     let e = reader::owing(words, d, true, 2 * tok::wide(count));
     let f = arguments(library, words, pool, sums, flag, count, e);
+    let Reading::At(_, _) = f else {
+        return f;
+    };
     let ret = reader::next_word(words, f);
     let pairs = pairs_at(words, reader::place(e), count);
     reader::word(

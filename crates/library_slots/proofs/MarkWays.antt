@@ -1,5 +1,5 @@
 -- Marking as the code does it, one law for each way out. Assumes nothing.
-use Prim.Native.Nat.{ℕ, suc, _+_, _*_, _-_, _≤_, _<_}
+use Prim.Native.Nat.{ℕ, zero, suc, _+_, _*_, _-_, _≤_, _<_}
 use mathlib.Core.Path.{_≡_, refl, sym, ap, _∙_}
 use mathlib.Core.Bool.{Bool, true, false, cond}
 use mathlib.Core.List.{List, [], _∷_}
@@ -7,7 +7,7 @@ use native.Mathlib.Omega.{arith}
 use native.Mathlib.Numerals.{add-one, add-two}
 use native.Mathlib.Decide.{decLt}
 use lib.ListN.{length, getD, set, drop, length-set, drop-of-length-le}
-use lib.Seq.{drop-cons}
+use lib.Seq.{drop-cons, set-out}
 use lib.Dec.{eqb}
 use borrow.Author.Tests.{eq-eqb, ne-eqb}
 use Rattle.tok.specs.Word.{kindOf, payloadOf}
@@ -29,6 +29,11 @@ marked-next : (marks : List ℕ) (i n : ℕ) → markFields marks i (suc n) ≡ 
 unfolding markFields
 marked-next marks i n = refl
 
+nothing-past : (n : ℕ) (marks : List ℕ) (i : ℕ) → length marks ≤ i → markFields marks i n ≡ marks
+unfolding markFields
+nothing-past zero marks i l = refl
+nothing-past (suc n) marks i l = rw (set-out marks i 1 l) (nothing-past n marks (i + 2) (omega arith))
+
 module _ {before marks : List ℕ} {at n i left : ℕ} (h : FieldsToMark before marks at n i left) where
   pub to-mark-less : {marks′ : List ℕ} → 0 < left → marks′ ≡ set marks i 1 → FieldsToMark before marks′ at n (i + 2) (left - 1)
   to-mark-less l e =
@@ -38,6 +43,10 @@ module _ {before marks : List ℕ} {at n i left : ℕ} (h : FieldsToMark before 
         long = ap length e ∙ length-set marks i 1 ∙ h .long;
         rest = h .rest ∙ ap (markFields marks i) s ∙ marked-next marks i (left - 1) ∙ ap (λ m. markFields m (i + 2) (left - 1)) (sym e);
       }
+
+  -- past the end of the marks nothing is set
+  pub marked-past : length marks ≤ i → marks ≡ markFields before at n
+  marked-past l = sym (h .rest ∙ nothing-past left marks i l)
 
   pub all-marked : left ≤ 0 → marks ≡ markFields before at n
   unfolding markFields

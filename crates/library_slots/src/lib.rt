@@ -104,7 +104,7 @@ fn mark_at(marks: &[u8], i: usize) -> u8
     if i < marks.len() { marks[i] } else { 0 }
 }
 
-// The type words of a list of n fields.
+// The type words of a list of n fields, as far as there are marks.
 fn mark_fields(marks: &mut [u8], at: usize, n: usize)
     requires { ⌜ at + 2 * n < 2 ^ 40 ⌝ }
     ensures { λ _. ⌜ now (marks .exit) ≡ markFields (now (marks .entry)) at n ⌝ }
@@ -112,6 +112,9 @@ fn mark_fields(marks: &mut [u8], at: usize, n: usize)
     let mut i = at;
     let mut left = n;
     while left > 0 {
+        if i >= marks.len() {
+            return;
+        }
         mark(marks, i);
         i += 2;
         left -= 1;
