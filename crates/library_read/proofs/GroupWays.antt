@@ -100,6 +100,11 @@ module _ (p : Pool) (before : List Function) (group : ℕ) where
   unfolding goodGroup
   group-unnamed e n = rw (sym e ∙ not-true _ n) refl
 
+  pub group-kept : {r k : Bool} → r ≡ goodName inLibrary (p .texts .library) group → not r ≡ false → k ≡ true
+      → (k ≡ true → some (λ f. sameGroup (p .texts) group f && f .sig .withSlots) before ≡ false) → true ≡ goodGroup p before group
+  unfolding goodGroup
+  group-kept e n y h = rw (sym e ∙ not-false _ n, h y) refl
+
   pub group-is : {r s : Bool} → r ≡ goodName inLibrary (p .texts .library) group → not r ≡ false
       → s ≡ some (λ f. sameGroup (p .texts) group f && f .sig .withSlots) before → not s ≡ goodGroup p before group
   unfolding goodGroup
@@ -116,3 +121,8 @@ module _ (p : Pool) (before : List Function) (group : ℕ) where
   pub flag-is : (flag : ℕ) {s : Bool} → flag < 2 → (flag ≡ 0 → ⊥) → s ≡ some (sameGroup (p .texts) group) before → not s ≡ goodFlag p before group flag
   unfolding goodFlag
   flag-is flag l d e = rw (lt-ltb flag 2 l, ne-eqb flag 0 d, ← e) refl
+
+  pub flag-kept : (flag : ℕ) {k : Bool} → flag < 2 → (flag ≡ 0 → ⊥) → k ≡ true → (k ≡ true → flag ≡ 1 → some (sameGroup (p .texts) group) before ≡ false)
+      → true ≡ goodFlag p before group flag
+  unfolding goodFlag
+  flag-kept flag l d y h = rw (lt-ltb flag 2 l, ne-eqb flag 0 d, h y (omega arith)) refl

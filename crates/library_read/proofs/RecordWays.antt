@@ -1,14 +1,15 @@
 -- Reading arguments, functions and packages as the code does: one rule after another, and one more in each turn of a loop. What was read
 -- is said by place, as the decoders have it. Assumes nothing.
-use Prim.Native.Nat.{ℕ, zero, suc, _+_, _*_, _≤_}
+use Prim.Native.Nat.{ℕ, zero, suc, _+_, _*_, _≤_, _<_}
 use mathlib.Core.Path.{_≡_, refl, sym, ap, ap₂, subst, _∙_}
-use mathlib.Core.Bool.{Bool, true, _&&_}
+use mathlib.Core.Bool.{Bool, true, false, _&&_}
 use mathlib.Core.List.{List, [], _∷_, _++_, map}
 use native.Mathlib.Omega.{arith}
 use native.Mathlib.Nat.{le-of-suc-le-suc, not-suc-le-zero}
 use native.Mathlib.Numerals.{add-one}
 use lib.ListN.{getD, take, drop}
 use lib.Dec.{eqb}
+use borrow.Author.Tests.{eq-eqb}
 use Rattle.tok.specs.Name.{goodName, inLibrary}
 use Rattle.tok.specs.Step.{Result, ok, refused, next, _>>=_, return}
 use Rattle.tok.specs.Reader.{Cursor, Read, word, owing, many}
@@ -18,15 +19,17 @@ use Rattle.reader.specs.Reading.{standing, placeOf, nextWord, onward, gave}
 use Rattle.reader.specs.Laws.{by-rule, by-rule-at, onward-fault, onward-return, onward-then, came-from}
 use Rattle.reader.specs.Reads.{Within, Reads, reads-word, reads-onward, onward-place, onward-shown, onward-within, gave-there}
 use Rattle.reader.specs.Many.{onward-more, onward-stops}
-use Rattle.library.specs.Pool.{Pool}
+use Rattle.tok.specs.Text.{Texts}
+use Rattle.library.specs.Pool.{Pool, poolIn}
 use Rattle.library.specs.Slots.{returnStands}
 use Rattle.library.specs.Each.{Each}
 use Rattle.library.specs.TypeWords.{TypeWord}
 use Rattle.library.specs.SlotMarks.{typesIn}
-use Rattle.library.specs.Package.{Param, param, Function, Package, paramsFrom, functionAt, functionEnd, functionsFrom, packagesFrom}
-use Rattle.library.specs.PackageRecords.{goodGroup, goodFlag, goodSignatureType, argument, goodReturn, functionRecord, functionRecords, packageRecord}
-use Rattle.library.specs.PackagesRead.{ParamFine, argument-reads, arguments-reads, function-reads, functions-reads, packageAt, packageEnd, package-reads, packages-reads}
+use Rattle.library.specs.Package.{Param, param, Function, Package, paramsFrom, functionAt, functionEnd, functionsFrom, functionsEnd, packagesFrom}
+use Rattle.library.specs.PackageRecords.{some, sameGroup, goodGroup, goodFlag, goodSignatureType, argument, goodReturn, functionRecord, functionRecords, packageRecord}
+use Rattle.library.specs.PackagesRead.{ParamFine, GroupFine, FunctionsShown, argument-reads, arguments-reads, function-reads, functions-reads, packageAt, packageEnd, package-reads, packages-reads}
 use Rattle.library_pool.proofs.PoolWays.{word-by}
+use Rattle.library_read.specs.Kept.{GroupsKept}
 use Rattle.library_read.proofs.SignatureWays.{types-of-pairs, fine-types}
 
 -- ── Arguments ──
@@ -94,24 +97,46 @@ module _ (p : Pool) (words : List ℕ) where
     types-fine : Each (TypeWord p (p .size)) (typesIn (take (2 * count) (drop (placeOf e) words)))
     types-fine = rw types-are (fine-types p (eqb flag 1) _ (onward-shown words e _ _ at least all-reads read))
 
+  -- what the rule on groups says of a function's first two words, where it is known to hold
+  module _ (before : List Function) (from : Reading) {kept : Bool} (fine : kept ≡ true → GroupFine p before (functionAt words (placeOf from))) (group : ℕ)
+      (eg : group ≡ nextWord words from) where
+    pub others-kept : kept ≡ true → some (λ f. sameGroup (p .texts) group f && f .sig .withSlots) before ≡ false
+    unfolding functionAt
+    others-kept y = rw eg (fine y .others)
+
+    pub own-kept : (c : Reading) (flag : ℕ) (g₁ : Bool) → onward words from (word (λ _. g₁)) ≡ gave words (nextWord words from) c → flag ≡ nextWord words c
+        → (a l : ℕ) → c ≡ At a l → kept ≡ true → flag ≡ 1 → some (sameGroup (p .texts) group) before ≡ false
+    unfolding functionAt
+    own-kept c flag g₁ k1 ef a l q y f =
+        let there : a ≡ placeOf from + 1 =
+        onward-place words from _ _ a l (reads-onward words from _ (λ m. reads-word (λ _. g₁) (λ _. 0) words (placeOf from) m)) (k1 ∙ ap (gave words (nextWord words from)) q) in
+        let w : getD words (placeOf from + 1) 0 ≡ 1 = ap (λ n. getD words n 0) (sym there) ∙ ap (nextWord words) (sym q) ∙ sym ef ∙ f in
+        rw eg (fine y .own (eq-eqb _ 1 w))
+
+  flag-by : (before : List Function) (group flag : ℕ) (g₂ : Bool) (c d : Reading) → flag ≡ nextWord words c → ((a l : ℕ) → c ≡ At a l → g₂ ≡ goodFlag p before group flag)
+      → onward words c (word (λ _. g₂)) ≡ gave words (nextWord words c) d → onward words c (word (goodFlag p before group)) ≡ gave words flag d
+  flag-by before group flag g₂ c d e h k =
+      by-rule-at (goodFlag p before group) (λ _. 0) words c g₂ 0 (λ a l q. (ap (goodFlag p before group) (sym e) ∙ sym (h a l q), refl))
+      ∙ k ∙ ap (λ w. gave words w d) (sym e)
+
   -- a fault up to the arguments ends the function
   pub function-ended : (before : List Function) (from c d e f : Reading) (group flag count : ℕ) (g₁ g₂ : Bool) (n place : ℕ)
       → group ≡ nextWord words from → g₁ ≡ goodGroup p before group → onward words from (word (λ _. g₁)) ≡ gave words (nextWord words from) c
-      → flag ≡ nextWord words c → g₂ ≡ goodFlag p before group flag → onward words c (word (λ _. g₂)) ≡ gave words (nextWord words c) d
+      → flag ≡ nextWord words c → ((a l : ℕ) → c ≡ At a l → g₂ ≡ goodFlag p before group flag) → onward words c (word (λ _. g₂)) ≡ gave words (nextWord words c) d
       → count ≡ nextWord words d → n ≡ count → onward words d (owing (λ _. true) (λ _. 2 * n)) ≡ gave words (nextWord words d) e
       → onward words e (many count (argument p flag)) ≡ gave words (paramsFrom words (placeOf e) count) f → f ≡ Fault place
       → onward words from (functionRecord p before) ≡ gave words (functionAt words (placeOf from)) f
   unfolding functionRecord
   function-ended before from c d e f group flag count g₁ g₂ n place e1 h1 k1 e2 h2 k2 e3 en k3 k4 ef =
       onward-then words from c _ _ group (word-by (goodGroup p before) words from c group g₁ e1 h1 k1 ∙ ap (λ w. gave words w c) (sym e1))
-      ∙ onward-then words c d _ _ flag (word-by (goodFlag p before group) words c d flag g₂ e2 h2 k2 ∙ ap (λ w. gave words w d) (sym e2))
+      ∙ onward-then words c d _ _ flag (flag-by before group flag g₂ c d e2 h2 k2)
       ∙ onward-then words d e _ _ count (count-by d e 2 count n e3 en k3 ∙ ap (λ w. gave words w e) (sym e3))
       ∙ onward-then words e f _ _ (paramsFrom words (placeOf e) count) k4
       ∙ rw ef (onward-fault words _ place _)
 
   pub function-by : (before : List Function) (from c d e f r : Reading) (group flag count ret : ℕ) (g₁ g₂ g₃ : Bool) (n at : ℕ) (pairs : List ℕ)
       → group ≡ nextWord words from → g₁ ≡ goodGroup p before group → onward words from (word (λ _. g₁)) ≡ gave words (nextWord words from) c
-      → flag ≡ nextWord words c → g₂ ≡ goodFlag p before group flag → onward words c (word (λ _. g₂)) ≡ gave words (nextWord words c) d
+      → flag ≡ nextWord words c → ((a l : ℕ) → c ≡ At a l → g₂ ≡ goodFlag p before group flag) → onward words c (word (λ _. g₂)) ≡ gave words (nextWord words c) d
       → count ≡ nextWord words d → n ≡ count → onward words d (owing (λ _. true) (λ _. 2 * n)) ≡ gave words (nextWord words d) e
       → onward words e (many count (argument p flag)) ≡ gave words (paramsFrom words (placeOf e) count) f
       → ret ≡ nextWord words f → at ≡ placeOf e → pairs ≡ take (2 * count) (drop at words)
@@ -123,7 +148,7 @@ module _ (p : Pool) (words : List ℕ) where
       gave-there words from r (functionRecord p before) _ _ (functionEnd words (placeOf from))
       (reads-onward words from (functionRecord p before) (function-reads p words before (placeOf from)))
       (onward-then words from c _ _ group (word-by (goodGroup p before) words from c group g₁ e1 h1 k1 ∙ ap (λ w. gave words w c) (sym e1))
-      ∙ onward-then words c d _ _ flag (word-by (goodFlag p before group) words c d flag g₂ e2 h2 k2 ∙ ap (λ w. gave words w d) (sym e2))
+      ∙ onward-then words c d _ _ flag (flag-by before group flag g₂ c d e2 h2 k2)
       ∙ onward-then words d e _ _ count counted
       ∙ onward-then words e f _ _ (paramsFrom words (placeOf e) count) k4
       ∙ onward-then words f r _ _ (nextWord words f) (by-rule-at (goodReturn p flag (paramsFrom words (placeOf e) count)) (λ _. 0) words f g₃ 0 (λ a l q. (good a l q, refl)) ∙ k5)
@@ -184,27 +209,41 @@ module _ (p : Pool) where
   onward-functions-stop words (At at least) j n place before xs ys l e = functions-stop j n l before place (standing words at least) e
   onward-functions-stop words (Fault q) j n place before xs ys l e = e
 
--- The loop over the functions: k of them are read.
+-- The loop over the functions: k of them are read, and the next stands where they end.
 pub record FunctionsRead (p : Pool) (words : List ℕ) (from c : Reading) (k : ℕ) : Type 0 where
   pub so-far : onward words from (functionRecords p k []) ≡ gave words (functionsFrom words (placeOf from) k) c
+  pub place : (at least : ℕ) → c ≡ At at least → at ≡ functionsEnd words (placeOf from) k
 
 module _ {p : Pool} {words : List ℕ} {from : Reading} where
   pub functions-begin : FunctionsRead p words from from 0
-  unfolding functionRecords functionsFrom
-  functions-begin = record { so-far = onward-return words from [] }
+  unfolding functionRecords functionsFrom functionsEnd
+  functions-begin = record { so-far = onward-return words from []; place = λ at least e. ap placeOf (sym e) }
 
   module _ {c : Reading} {k : ℕ} (h : FunctionsRead p words from c k) where
     pub functions-turn : (d : Reading) (f : Function) (start : ℕ) → start ≡ placeOf from
         → onward words c (functionRecord p (functionsFrom words start k)) ≡ gave words f d → FunctionsRead p words from d (k + 1)
-    functions-turn d f start es e = record {
-      so-far = rw (add-one k)
-          (gave-there words from d (functionRecords p (suc k) []) _ _ _
-          (reads-onward words from (functionRecords p (suc k) []) (λ least. functions-reads p words (suc k) [] (placeOf from) least (λ z. absurd (omega arith))))
-          (onward-functions p words from k []
-          ∙ onward-then words from c _ _ (functionsFrom words (placeOf from) k) (h .so-far)
-          ∙ onward-then words c d _ _ f (ap (λ n. onward words c (functionRecord p (functionsFrom words n k))) (sym es) ∙ e)
-          ∙ onward-return words d _));
-    }
+    functions-turn d f start es e = record { so-far = rw (add-one k) read; place = λ at least q. rw (add-one k) (there at least q) }
+      where
+        reads-all : Reads words (functionsFrom words (placeOf from) (suc k)) (functionsEnd words (placeOf from) (suc k)) (FunctionsShown p [] (functionsFrom words (placeOf from) (suc k))) (onward words from (functionRecords p (suc k) []))
+        reads-all = reads-onward words from (functionRecords p (suc k) []) (λ least. functions-reads p words (suc k) [] (placeOf from) least (λ z. absurd (omega arith)))
+
+        read : onward words from (functionRecords p (suc k) []) ≡ gave words (functionsFrom words (placeOf from) (suc k)) d
+        read =
+            gave-there words from d (functionRecords p (suc k) []) _ _ _ reads-all
+            (onward-functions p words from k []
+            ∙ onward-then words from c _ _ (functionsFrom words (placeOf from) k) (h .so-far)
+            ∙ onward-then words c d _ _ f (ap (λ n. onward words c (functionRecord p (functionsFrom words n k))) (sym es) ∙ e)
+            ∙ onward-return words d _)
+
+        there : (at least : ℕ) → d ≡ At at least → at ≡ functionsEnd words (placeOf from) (suc k)
+        there at least q = onward-place words from _ _ at least reads-all (read ∙ ap (gave words _) q)
+
+    -- what is known of the rule on groups, as the next function is asked
+    pub functions-kept : (t : Texts) (types : List ℕ) (start r : ℕ) (at least : ℕ) → p ≡ poolIn t types → start ≡ placeOf from → c ≡ At at least → GroupsKept t words start r
+        → k < r → GroupFine p (functionsFrom words start k) (functionAt words (placeOf c))
+    functions-kept t types start r at least ep es q g l =
+        let there : placeOf c ≡ functionsEnd words start k = ap placeOf q ∙ h .place at least q ∙ ap (λ n. functionsEnd words n k) (sym es) in
+        rw (there, ep) (g .each types k l)
 
     pub functions-ended : (count place : ℕ) → k ≤ count → c ≡ Fault place → onward words from (functionRecords p count []) ≡ gave words (functionsFrom words (placeOf from) count) c
     functions-ended count place l e =
@@ -212,6 +251,12 @@ module _ {p : Pool} {words : List ℕ} {from : Reading} where
 
     pub functions-done : (count : ℕ) → k ≡ count → onward words from (functionRecords p count []) ≡ gave words (functionsFrom words (placeOf from) count) c
     functions-done count e = rw (← e) (h .so-far)
+
+-- where the reading stood is known
+pub functions-from : (p : Pool) (words : List ℕ) (from c : Reading) (count : ℕ) (start : Reading) → start ≡ from
+    → onward words from (functionRecords p count []) ≡ gave words (functionsFrom words (placeOf from) count) c
+    → onward words start (functionRecords p count []) ≡ gave words (functionsFrom words (placeOf start) count) c
+functions-from p words from c count start e h = rw e h
 
 -- ── Packages ──
 

@@ -1,2 +1,3 @@
 -- What the contracts of reading packages cite besides the library's definitions.
 pub mod Ready
+pub mod Kept

@@ -4,7 +4,7 @@ use library::Candidate;
 use reader::Reading;
 use reader::Verdict;
 ghost use mathlib.Core.Path.{_≡_};
-ghost use mathlib.Core.Bool.{_&&_};
+ghost use mathlib.Core.Bool.{true, false, _&&_};
 ghost use mathlib.Core.List.{List, [], map};
 ghost use Prim.Native.Nat.{ℕ, _+_, _*_, min};
 ghost use lib.ListN.{length, getD, take, drop};
@@ -17,10 +17,11 @@ ghost use Rattle.library.specs.SlotMarks.{typesIn};
 ghost use Rattle.library.specs.Each.{Each};
 ghost use Rattle.library.specs.TypeWords.{TypeWord};
 ghost use Rattle.library.specs.Package.{param, paramsFrom, functionAt, functionsFrom, packagesFrom};
-ghost use Rattle.library.specs.PackagesRead.{packageAt};
+ghost use Rattle.library.specs.PackagesRead.{GroupFine, packageAt};
 ghost use Rattle.library.specs.PackageRecords.{some, sameGroup, goodGroup, goodFlag, goodSignatureType, argument, functionRecord, functionRecords, packageRecord};
 ghost use Rattle.library.specs.LibraryFault.{libraryFault};
 ghost use Rattle.library_read.specs.Ready.{Ready};
+ghost use Rattle.library_read.specs.Kept.{GroupsKept};
 
 // Groups and flags.
 
@@ -71,20 +72,41 @@ fn group_slotted<'a>(
     }
 }
 
-// The group name of a function after k functions of its package: none of its group has flag 1.
+// How many functions of a package come before the first that has slots: the rule on groups cannot fail for these.
+fn before_slots(words: &[u32], from: usize, count: usize) -> usize
+    ensures { λ r. ⌜ ((t : Texts) → GroupsKept t (now (words .entry)) from r) ⌝ }
+{
+    let mut at = least(from, words.len());
+    let mut k = 0;
+    while k < count {
+        if library::with_slots(words, at) {
+            return k;
+        }
+        at = library::function_end(words, at);
+        k += 1;
+    }
+    k
+}
+
+// The group name of a function after k functions of its package: none of its group has flag 1. `kept`: the rule is known to hold.
 fn good_group<'a>(
     script: &'a [u8],
     library: &'a [u8],
     words: &[u32],
     from: usize,
     k: usize,
+    kept: bool,
     group: u32,
 ) -> bool
     ensures { λ r. let T : Texts = textsOf (now (script .entry)) (now (library .entry)) in
-        ⌜ ((size : ℕ) (types : List ℕ) → r ≡ goodGroup (poolAt T size types) (functionsFrom (now (words .entry)) from k) group) ⌝ }
+        ⌜ ((size : ℕ) (types : List ℕ) → (kept ≡ true → some (λ f. sameGroup T group f && f .sig .withSlots) (functionsFrom (now (words .entry)) from k) ≡ false)
+        → r ≡ goodGroup (poolAt T size types) (functionsFrom (now (words .entry)) from k) group) ⌝ }
 {
     if !tok::good_name(tok::IN_LIBRARY, library, group) {
         return false;
+    }
+    if kept {
+        return true;
     }
     !group_slotted(script, library, words, from, k, group)
 }
@@ -96,16 +118,21 @@ fn good_flag<'a>(
     words: &[u32],
     from: usize,
     k: usize,
+    kept: bool,
     group: u32,
     flag: u32,
 ) -> bool
     ensures { λ r. let T : Texts = textsOf (now (script .entry)) (now (library .entry)) in
-        ⌜ ((size : ℕ) (types : List ℕ) → r ≡ goodFlag (poolAt T size types) (functionsFrom (now (words .entry)) from k) group flag) ⌝ }
+        ⌜ ((size : ℕ) (types : List ℕ) → (kept ≡ true → flag ≡ 1 → some (sameGroup T group) (functionsFrom (now (words .entry)) from k) ≡ false)
+        → r ≡ goodFlag (poolAt T size types) (functionsFrom (now (words .entry)) from k) group flag) ⌝ }
 {
     if flag >= 2 {
         return false;
     }
     if flag == 0 {
+        return true;
+    }
+    if kept {
         return true;
     }
     !group_met(script, library, words, from, k, group)
@@ -211,7 +238,7 @@ fn good_return<'a>(
 
 // Records.
 
-// A function after k functions of its package, the first of which stands at `start`.
+// A function after k functions of its package, the first of which stands at `start`. `kept`: the rule on groups is known to hold of it.
 fn function_record<'a>(
     script: &'a [u8],
     library: &'a [u8],
@@ -220,10 +247,12 @@ fn function_record<'a>(
     sums: &[u16],
     start: usize,
     k: usize,
+    kept: bool,
     from: Reading,
 ) -> Reading
     ensures { λ r. let T : Texts = textsOf (now (script .entry)) (now (library .entry)) in
         ⌜ (Ready T (now (pool .entry)) (now (sums .entry))
+        → (kept ≡ true → GroupFine (poolIn T (now (pool .entry))) (functionsFrom (now (words .entry)) start k) (functionAt (now (words .entry)) (placeOf from)))
         → onward (now (words .entry)) from (functionRecord (poolIn T (now (pool .entry))) (functionsFrom (now (words .entry)) start k))
         ≡ gave (now (words .entry)) (functionAt (now (words .entry)) (placeOf from)) r) ⌝ }
 {
@@ -231,13 +260,13 @@ fn function_record<'a>(
     let c = reader::word(
         words,
         from,
-        good_group(script, library, words, start, k, group),
+        good_group(script, library, words, start, k, kept, group),
     );
     let flag = reader::next_word(words, c);
     let d = reader::word(
         words,
         c,
-        good_flag(script, library, words, start, k, group, flag),
+        good_flag(script, library, words, start, k, kept, group, flag),
     );
     let count = reader::next_word(words, d);
     let e = reader::owing(words, d, true, 2 * tok::wide(count));
@@ -269,15 +298,18 @@ fn function_records<'a>(
         → onward (now (words .entry)) from (functionRecords (poolIn T (now (pool .entry))) count [])
         ≡ gave (now (words .entry)) (functionsFrom (now (words .entry)) (placeOf from) count) r) ⌝ }
 {
-    let start = reader::place(from);
+    let Reading::At(start, _) = from else {
+        return from;
+    };
     let end = tok::wide(count);
+    let kept = before_slots(words, start, end);
     let mut c = from;
     let mut k = 0;
     while k < end {
         let Reading::At(_, _) = c else {
             return c;
         };
-        c = function_record(script, library, words, pool, sums, start, k, c);
+        c = function_record(script, library, words, pool, sums, start, k, k < kept, c);
         k += 1;
     }
     c

@@ -1,5 +1,5 @@
 -- `library_read::function_record` meets its contract: five rules, one after another; a fault before the fifth ends it. Assumes nothing.
-use Rattle.library_read.proofs.RecordWays.{function-ended, function-by}
+use Rattle.library_read.proofs.RecordWays.{others-kept, own-kept, function-ended, function-by}
 use borrow.Author.Needs.{needs}
 use Rattle.library_read.proofs.function_record.Statement.{statement}
 use Rattle.library_read.proofs.function_record.Tie as tie
@@ -44,8 +44,8 @@ enum-told-2 : tie.Need-enum-told-2
 enum-told-2 c = search needs
 
 returns : tie.Need-returns
-returns c = λ r.
-    function-ended _ _ _ _ _ _ _ _ _ _ _ _ _ _ _ (c .before .before .before .before .before .before .before .before .before .before .before .next-word .ensures) (c .before .before .before .before .before .before .before .before .before .before .good-group .ensures _ _) (c .before .before .before .before .before .before .before .before .before .word .ensures) (c .before .before .before .before .before .before .before .before .next-word2 .ensures) (c .before .before .before .before .before .before .before .good-flag .ensures _ _) (c .before .before .before .before .before .before .word2 .ensures)
+returns c = λ r h.
+    function-ended _ _ _ _ _ _ _ _ _ _ _ _ _ _ _ (c .before .before .before .before .before .before .before .before .before .before .before .next-word .ensures) (c .before .before .before .before .before .before .before .before .before .before .good-group .ensures _ _ (others-kept _ _ _ (c .before .before .before .before .before .before .before .before .before .before .before .before .before .before .before .before .before .args .from) h _ (c .before .before .before .before .before .before .before .before .before .before .before .next-word .ensures))) (c .before .before .before .before .before .before .before .before .before .word .ensures) (c .before .before .before .before .before .before .before .before .next-word2 .ensures) (λ a l q. c .before .before .before .before .before .before .before .good-flag .ensures _ _ (own-kept _ _ _ (c .before .before .before .before .before .before .before .before .before .before .before .before .before .before .before .before .before .args .from) h _ (c .before .before .before .before .before .before .before .before .before .before .before .next-word .ensures) _ _ _ (c .before .before .before .before .before .before .before .before .before .word .ensures) (c .before .before .before .before .before .before .before .before .next-word2 .ensures) a l q)) (c .before .before .before .before .before .before .word2 .ensures)
     (c .before .before .before .before .before .next-word3 .ensures) (c .before .before .before .before .wide .ensures) (c .before .before .before .owing .ensures) (c .before .before .arguments .ensures _ r) (c .enum-told2 .given .1)
 
 next-word-requires-4 : tie.Need-next-word-requires-4
@@ -64,8 +64,8 @@ word-requires-3 : tie.Need-word-requires-3
 word-requires-3 c κs = search needs
 
 returns-2 : tie.Need-returns-2
-returns-2 c = λ r.
-    function-by _ _ _ _ _ _ _ _ _ _ _ _ _ _ _ _ _ _ _ (c .before .before .before .before .before .before .before .before .before .before .before .before .before .before .before .before .next-word .ensures) (c .before .before .before .before .before .before .before .before .before .before .before .before .before .before .before .good-group .ensures _ _) (c .before .before .before .before .before .before .before .before .before .before .before .before .before .before .word .ensures) (c .before .before .before .before .before .before .before .before .before .before .before .before .before .next-word2 .ensures) (c .before .before .before .before .before .before .before .before .before .before .before .before .good-flag .ensures _ _) (c .before .before .before .before .before .before .before .before .before .before .before .word2 .ensures)
+returns-2 c = λ r h.
+    function-by _ _ _ _ _ _ _ _ _ _ _ _ _ _ _ _ _ _ _ (c .before .before .before .before .before .before .before .before .before .before .before .before .before .before .before .before .next-word .ensures) (c .before .before .before .before .before .before .before .before .before .before .before .before .before .before .before .good-group .ensures _ _ (others-kept _ _ _ (c .before .before .before .before .before .before .before .before .before .before .before .before .before .before .before .before .before .before .before .before .before .before .args .from) h _ (c .before .before .before .before .before .before .before .before .before .before .before .before .before .before .before .before .next-word .ensures))) (c .before .before .before .before .before .before .before .before .before .before .before .before .before .before .word .ensures) (c .before .before .before .before .before .before .before .before .before .before .before .before .before .next-word2 .ensures) (λ a l q. c .before .before .before .before .before .before .before .before .before .before .before .before .good-flag .ensures _ _ (own-kept _ _ _ (c .before .before .before .before .before .before .before .before .before .before .before .before .before .before .before .before .before .before .before .before .before .before .args .from) h _ (c .before .before .before .before .before .before .before .before .before .before .before .before .before .before .before .before .next-word .ensures) _ _ _ (c .before .before .before .before .before .before .before .before .before .before .before .before .before .before .word .ensures) (c .before .before .before .before .before .before .before .before .before .before .before .before .before .next-word2 .ensures) a l q)) (c .before .before .before .before .before .before .before .before .before .before .before .word2 .ensures)
     (c .before .before .before .before .before .before .before .before .before .before .next-word3 .ensures) (c .before .before .before .before .before .before .before .before .before .wide .ensures) (c .before .before .before .before .before .before .before .before .owing .ensures) (c .before .before .before .before .before .before .before .arguments .ensures _ r) (c .before .before .before .before .next-word4 .ensures) (c .before .before .before .place .ensures) (c .before .before .pairs-at .ensures)
     (c .before .good-return .ensures r) (c .word3 .ensures)
 
