@@ -5,6 +5,7 @@ use mathlib.Core.Bool.{Bool, true, false, cond}
 use mathlib.Core.List.{List, []}
 use native.Mathlib.Omega.{arith}
 use lib.ListN.{length, getD, take, drop, length-take, length-drop}
+use lib.Seq.{getD-take, getD-drop}
 use lib.Dec.{ltb}
 use Rattle.tok.specs.Text.{Texts}
 use Rattle.tok.specs.Step.{next, _>>=_, _>>_, return}
@@ -21,6 +22,7 @@ use Rattle.library.specs.Package.{Package}
 use Rattle.library.specs.PackageRecords.{packageRecord}
 use Rattle.library.specs.LibraryFault.{poolOf, library, libraryRead, libraryFault}
 use Rattle.library.specs.Accepted.{pool-in}
+use Rattle.library_slots.specs.NamedLaws.{PoolAt}
 use Rattle.library_read.specs.Ready.{Ready}
 use Rattle.library_read.proofs.RecordWays.{count-by}
 
@@ -122,6 +124,15 @@ module _ (t : Texts) (words : List ℕ) (c d e f : Reading) (size count n₁ n�
 
     same-pool : poolOf t words size ≡ poolIn t pool
     same-pool = ap₂ (λ n ws. poolAt t n ws) (sym pool-long) (sym pool-is)
+
+    pub pool-at : PoolAt words pool
+    pool-at = record {
+      there = λ i l.
+          let q : 2 + i ≡ i + 2 = omega arith in
+          ap (λ ws. getD ws i 0) pool-is ∙ getD-take size (drop 2 words) i 0 (omega (arith, pool-long)) ∙ getD-drop 2 words i 0 ∙ ap (λ x. getD words x 0) q;
+      within = omega (arith, pool-long, within .inList);
+      room = omega (arith, pool-long, within .inMost);
+    }
 
     pub pool-ready : (sums : List ℕ) → sums ≡ sumsTo pool (min (length pool) 8192) → Ready t pool sums
     pool-ready sums h =

@@ -29,6 +29,7 @@ use Rattle.library.specs.Package.{Param, param, Function, Package, paramsFrom, 
 use Rattle.library.specs.PackageRecords.{some, sameGroup, goodGroup, goodFlag, goodSignatureType, argument, goodReturn, functionRecord, functionRecords, packageRecord}
 use Rattle.library.specs.PackagesRead.{ParamFine, GroupFine, FunctionsShown, argument-reads, arguments-reads, function-reads, functions-reads, packageAt, packageEnd, package-reads, packages-reads}
 use Rattle.library_pool.proofs.PoolWays.{word-by}
+use Rattle.library_read.specs.Ready.{Placed}
 use Rattle.library_read.specs.Kept.{GroupsKept}
 use Rattle.library_read.proofs.SignatureWays.{types-of-pairs, fine-types}
 
@@ -91,6 +92,25 @@ module _ (p : Pool) (words : List ℕ) where
     all-reads : Reads words (paramsFrom words (placeOf e) count) (placeOf e + 2 * count) (Each (ParamFine p (eqb flag 1)) (paramsFrom words (placeOf e) count)) (onward words e (many count (argument p flag)))
     all-reads = reads-onward words e (many count (argument p flag)) (λ l. arguments-reads p words flag count (placeOf e) l _ refl (λ _. start-within))
 
+    -- where they end
+    types-end : at ≡ placeOf e + 2 * count
+    types-end = onward-place words e _ _ at least all-reads read
+
+    types-within : Within words (placeOf e + 2 * count)
+    types-within = onward-within words e _ _ at least all-reads read
+
+    -- they stand after two words and more: the group and the flag
+    types-low : (c : Reading) (g : Bool) → onward words c (word (λ _. g)) ≡ gave words (nextWord words c) d → 2 ≤ placeOf e
+    types-low c g k =
+        let f = came-from words e (many count (argument p flag)) _ at least read in
+        let counts : onward words d (owing (λ _. true) (λ k. m * k)) ≡ gave words a (At (placeOf e) (f .0)) = counted ∙ ap (gave words a) (f .1) in
+        let r = reads-onward words d (owing (λ _. true) (λ k. m * k)) (λ l. reads-word (λ _. true) (λ k. m * k) words (placeOf d) l) in
+        let there : placeOf e ≡ placeOf d + 1 = onward-place words d _ a (placeOf e) (f .0) r counts in
+        let h = came-from words d (owing (λ _. true) (λ k. m * k)) a (placeOf e) (f .0) counts in
+        let flagged : placeOf d ≡ placeOf c + 1 =
+        onward-place words c _ _ (placeOf d) (h .0) (reads-onward words c _ (λ l. reads-word (λ _. g) (λ _. 0) words (placeOf c) l)) (k ∙ ap (gave words (nextWord words c)) (h .1)) in
+        omega arith
+
     types-are : typesIn (take (2 * count) (drop (placeOf e) words)) ≡ map (λ a. a .type) (paramsFrom words (placeOf e) count)
     types-are = types-of-pairs words count (placeOf e) (onward-within words e _ _ at least all-reads read .inList)
 
@@ -134,17 +154,17 @@ module _ (p : Pool) (words : List ℕ) where
       ∙ onward-then words e f _ _ (paramsFrom words (placeOf e) count) k4
       ∙ rw ef (onward-fault words _ place _)
 
-  pub function-by : (before : List Function) (from c d e f r : Reading) (group flag count ret : ℕ) (g₁ g₂ g₃ : Bool) (n at : ℕ) (pairs : List ℕ)
+  pub function-by : (before : List Function) (from c d e f r : Reading) (group flag count ret : ℕ) (g₁ g₂ g₃ : Bool) (n at end : ℕ) (pairs : List ℕ)
       → group ≡ nextWord words from → g₁ ≡ goodGroup p before group → onward words from (word (λ _. g₁)) ≡ gave words (nextWord words from) c
       → flag ≡ nextWord words c → ((a l : ℕ) → c ≡ At a l → g₂ ≡ goodFlag p before group flag) → onward words c (word (λ _. g₂)) ≡ gave words (nextWord words c) d
       → count ≡ nextWord words d → n ≡ count → onward words d (owing (λ _. true) (λ _. 2 * n)) ≡ gave words (nextWord words d) e
       → onward words e (many count (argument p flag)) ≡ gave words (paramsFrom words (placeOf e) count) f
-      → ret ≡ nextWord words f → at ≡ placeOf e → pairs ≡ take (2 * count) (drop at words)
-      → (Each (TypeWord p (p .size)) (typesIn pairs) → g₃ ≡ (goodSignatureType p flag ret && returnStands p (typesIn pairs) ret))
+      → ret ≡ nextWord words f → at ≡ placeOf e → pairs ≡ take (2 * count) (drop at words) → end ≡ placeOf f
+      → (Each (TypeWord p (p .size)) (typesIn pairs) → Placed words (typesIn pairs) ret at end → g₃ ≡ (goodSignatureType p flag ret && returnStands p (typesIn pairs) ret))
       → onward words f (word (λ _. g₃)) ≡ gave words (nextWord words f) r
       → onward words from (functionRecord p before) ≡ gave words (functionAt words (placeOf from)) r
   unfolding functionRecord goodReturn
-  function-by before from c d e f r group flag count ret g₁ g₂ g₃ n at pairs e1 h1 k1 e2 h2 k2 e3 en k3 k4 e5 ea ep h5 k5 =
+  function-by before from c d e f r group flag count ret g₁ g₂ g₃ n at end pairs e1 h1 k1 e2 h2 k2 e3 en k3 k4 e5 ea ep ee h5 k5 =
       gave-there words from r (functionRecord p before) _ _ (functionEnd words (placeOf from))
       (reads-onward words from (functionRecord p before) (function-reads p words before (placeOf from)))
       (onward-then words from c _ _ group (word-by (goodGroup p before) words from c group g₁ e1 h1 k1 ∙ ap (λ w. gave words w c) (sym e1))
@@ -160,11 +180,26 @@ module _ (p : Pool) (words : List ℕ) where
       pairs-are : pairs ≡ take (2 * count) (drop (placeOf e) words)
       pairs-are = ep ∙ ap (λ x. take (2 * count) (drop x words)) ea
 
+      placed : (a l : ℕ) → f ≡ At a l → onward words e (many count (argument p flag)) ≡ gave words (paramsFrom words (placeOf e) count) (At a l)
+          → Placed words (typesIn pairs) ret at end
+      placed a l q read =
+          let ends : end ≡ placeOf e + 2 * count = ee ∙ ap placeOf q ∙ types-end flag count d e count 2 counted a l read in
+          let w = types-within flag count d e count 2 counted a l read in
+          record {
+            count = count;
+            types-are = ap typesIn pairs-are ∙ types-are flag count d e count 2 counted a l read ∙ ap (λ x. map (λ b. b .type) (paramsFrom words x count)) (sym ea);
+            ret-is = e5 ∙ ap (λ x. getD words x 0) (sym ee);
+            ends = ends ∙ ap (λ x. x + 2 * count) (sym ea);
+            low = omega (arith, types-low flag count d e count 2 counted a l read c g₂ k2);
+            high = omega (arith, w .inMost);
+            within = omega (arith, w .inList);
+          }
+
       good : (a l : ℕ) → f ≡ At a l → goodReturn p flag (paramsFrom words (placeOf e) count) (nextWord words f) ≡ g₃
       good a l q =
           let read : onward words e (many count (argument p flag)) ≡ gave words (paramsFrom words (placeOf e) count) (At a l) = k4 ∙ ap (gave words (paramsFrom words (placeOf e) count)) q in
           sym (
-          h5 (subst (λ x. Each (TypeWord p (p .size)) (typesIn x)) (sym pairs-are) (types-fine flag count d e count 2 counted a l read))
+          h5 (subst (λ x. Each (TypeWord p (p .size)) (typesIn x)) (sym pairs-are) (types-fine flag count d e count 2 counted a l read)) (placed a l q read)
           ∙ ap₂ (λ w ts. goodSignatureType p flag w && returnStands p ts w) e5 (ap typesIn pairs-are ∙ types-are flag count d e count 2 counted a l read)
           )
 

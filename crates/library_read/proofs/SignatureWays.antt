@@ -1,12 +1,13 @@
 -- Types of a signature as the code tries them: slots by the counts, a return type's by the marks. Assumes nothing.
-use Prim.Native.Nat.{ℕ, zero, suc, _+_, _*_, _≤_}
-use mathlib.Core.Path.{_≡_, refl, sym, ap, ap₂, _∙_}
+use Prim.Native.Nat.{ℕ, zero, suc, _+_, _*_, _≤_, _<_}
+use mathlib.Core.Path.{_≡_, refl, sym, ap, ap₂, subst, _∙_}
 use mathlib.Core.Bool.{Bool, true, false, not, _&&_, and-eq-true-iff}
 use mathlib.Core.List.{List, [], _∷_, map}
 use native.Mathlib.Omega.{arith}
 use native.Mathlib.Numerals.{add-one, add-two}
 use lib.ListN.{length, getD, take, drop}
 use lib.Seq.{drop-cons}
+use lib.Dec.{eqb}
 use borrow.Author.Tests.{eq-eqb, ne-eqb, not-true, not-false}
 use Rattle.tok.specs.Text.{Texts}
 use Rattle.ptype.specs.Ty.{containsSlot}
@@ -16,11 +17,13 @@ use Rattle.library.specs.Each.{Each}
 use Rattle.library.specs.TypeWords.{TypeWord, goodType-true}
 use Rattle.library.specs.SlotSums.{slotBy, slotBy-is}
 use Rattle.library.specs.SlotMarks.{typesIn}
-use Rattle.library.specs.ReturnSlots.{standsBy, stands-none, standsBy-is}
+use Rattle.library.specs.ReturnSlots.{reachedFrom, standsBy, stands-none, standsBy-is}
 use Rattle.library.specs.Package.{Param, paramsFrom}
 use Rattle.library.specs.PackageRecords.{goodSignatureType}
 use Rattle.library.specs.PackagesRead.{ParamFine}
-use Rattle.library_read.specs.Ready.{Ready}
+use Rattle.library_slots.specs.Named.{ofPairs, argued, wanted, NamesStand}
+use Rattle.library_slots.specs.NamedLaws.{Selves, names-stand, pairs-selves, ret-selves}
+use Rattle.library_read.specs.Ready.{Ready, Ordered, Placed}
 
 module _ (t : Texts) (types sums : List ℕ) (ready : Ready t types sums) (flag w : ℕ) where
   abbrev p : Pool
@@ -69,6 +72,17 @@ module _ (t : Texts) (types sums : List ℕ) (ready : Ready t types sums) (flag 
       pub return-stands : {u : Bool} → u ≡ standsBy t types args w → u ≡ (goodSignatureType p flag w && returnStands p args w)
       return-stands e =
           rw signature-good (e ∙ standsBy-is t types (ready .fine) (ready .room) args w fine (goodType-true p _ w type-good))
+
+      pub return-named : (words order : List ℕ) (n first end : ℕ) → Ordered t words types order n → Placed words args w first end → 0 < n → {u : Bool}
+          → NamesStand t words order n (argued (length types) (reachedFrom types args) first end) (wanted (length types) (reachedFrom types (w ∷ [])) end) u
+          → u ≡ (goodSignatureType p flag w && returnStands p args w)
+      unfolding argued wanted
+      return-named words order n first end o q l {u} h =
+          rw signature-good
+          (names-stand t words types order n (o .named l .listed) (o .there) (ready .fine) (ofPairs first end) (λ x. eqb x end) args w fine (goodType-true p _ w type-good)
+          (subst (Selves t words (ofPairs first end)) (sym (q .types-are)) (pairs-selves t words first (q .count) end (q .ends) (q .low) (q .high) (q .within)))
+          (ret-selves t words w end (q .ret-is) (omega (arith, q .low, q .ends)) (q .high))
+          u h)
 
 -- ── The types of the arguments ──
 

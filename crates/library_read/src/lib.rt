@@ -20,7 +20,7 @@ ghost use Rattle.library.specs.Package.{param, paramsFrom, functionAt, function
 ghost use Rattle.library.specs.PackagesRead.{GroupFine, packageAt};
 ghost use Rattle.library.specs.PackageRecords.{some, sameGroup, goodGroup, goodFlag, goodSignatureType, argument, functionRecord, functionRecords, packageRecord};
 ghost use Rattle.library.specs.LibraryFault.{libraryFault};
-ghost use Rattle.library_read.specs.Ready.{Ready};
+ghost use Rattle.library_read.specs.Ready.{Ready, Ordered, Placed};
 ghost use Rattle.library_read.specs.Kept.{GroupsKept};
 
 // Groups and flags.
@@ -213,18 +213,23 @@ fn pairs_at(words: &[u32], at: usize, count: u32) -> &[u32]
     &words[start..end]
 }
 
-// A return type: a type of the signature, whose slots stand in the arguments.
+// A return type: a type of the signature, whose slots stand in the arguments. The arguments' pairs stand from place `first` on, it at `end`.
 fn good_return<'a>(
     script: &'a [u8],
     library: &'a [u8],
     pool: &[u32],
     sums: &[u16],
+    order: &[u16],
+    n: usize,
     flag: u32,
     pairs: &[u32],
     w: u32,
+    first: usize,
+    end: usize,
 ) -> bool
     ensures { λ r. let T : Texts = textsOf (now (script .entry)) (now (library .entry)) in
-        ⌜ (Ready T (now (pool .entry)) (now (sums .entry)) → Each (TypeWord (poolIn T (now (pool .entry))) (length (now (pool .entry)))) (typesIn (now (pairs .entry)))
+        ⌜ ((words : List ℕ) → Ready T (now (pool .entry)) (now (sums .entry)) → Ordered T words (now (pool .entry)) (now (order .entry)) n
+        → Each (TypeWord (poolIn T (now (pool .entry))) (length (now (pool .entry)))) (typesIn (now (pairs .entry))) → Placed words (typesIn (now (pairs .entry))) w first end
         → r ≡ (goodSignatureType (poolIn T (now (pool .entry))) flag w && returnStands (poolIn T (now (pool .entry))) (typesIn (now (pairs .entry))) w)) ⌝ }
 {
     if !good_signature_type(library, pool, sums, flag, w) {
@@ -232,6 +237,9 @@ fn good_return<'a>(
     }
     if !library_slots::has_slot(pool, sums, w) {
         return true;
+    }
+    if n > 0 {
+        return library_slots::return_named(pool, pairs, w, order, n, first, end);
     }
     library_slots::return_stands(script, library, pool, pairs, w)
 }
@@ -245,13 +253,15 @@ fn function_record<'a>(
     words: &[u32],
     pool: &[u32],
     sums: &[u16],
+    order: &[u16],
+    n: usize,
     start: usize,
     k: usize,
     kept: bool,
     from: Reading,
 ) -> Reading
     ensures { λ r. let T : Texts = textsOf (now (script .entry)) (now (library .entry)) in
-        ⌜ (Ready T (now (pool .entry)) (now (sums .entry))
+        ⌜ (Ready T (now (pool .entry)) (now (sums .entry)) → Ordered T (now (words .entry)) (now (pool .entry)) (now (order .entry)) n
         → (kept ≡ true → GroupFine (poolIn T (now (pool .entry))) (functionsFrom (now (words .entry)) start k) (functionAt (now (words .entry)) (placeOf from)))
         → onward (now (words .entry)) from (functionRecord (poolIn T (now (pool .entry))) (functionsFrom (now (words .entry)) start k))
         ≡ gave (now (words .entry)) (functionAt (now (words .entry)) (placeOf from)) r) ⌝ }
@@ -275,11 +285,25 @@ fn function_record<'a>(
         return f;
     };
     let ret = reader::next_word(words, f);
-    let pairs = pairs_at(words, reader::place(e), count);
+    let first = reader::place(e);
+    let pairs = pairs_at(words, first, count);
+    let end = reader::place(f);
     reader::word(
         words,
         f,
-        good_return(script, library, pool, sums, flag, pairs, ret),
+        good_return(
+            script,
+            library,
+            pool,
+            sums,
+            order,
+            n,
+            flag,
+            pairs,
+            ret,
+            first,
+            end,
+        ),
     )
 }
 
@@ -290,11 +314,13 @@ fn function_records<'a>(
     words: &[u32],
     pool: &[u32],
     sums: &[u16],
+    order: &[u16],
+    n: usize,
     count: u32,
     from: Reading,
 ) -> Reading
     ensures { λ r. let T : Texts = textsOf (now (script .entry)) (now (library .entry)) in
-        ⌜ (Ready T (now (pool .entry)) (now (sums .entry))
+        ⌜ (Ready T (now (pool .entry)) (now (sums .entry)) → Ordered T (now (words .entry)) (now (pool .entry)) (now (order .entry)) n
         → onward (now (words .entry)) from (functionRecords (poolIn T (now (pool .entry))) count [])
         ≡ gave (now (words .entry)) (functionsFrom (now (words .entry)) (placeOf from) count) r) ⌝ }
 {
@@ -309,7 +335,19 @@ fn function_records<'a>(
         let Reading::At(_, _) = c else {
             return c;
         };
-        c = function_record(script, library, words, pool, sums, start, k, k < kept, c);
+        c = function_record(
+            script,
+            library,
+            words,
+            pool,
+            sums,
+            order,
+            n,
+            start,
+            k,
+            k < kept,
+            c,
+        );
         k += 1;
     }
     c
@@ -322,17 +360,19 @@ fn package_record<'a>(
     words: &[u32],
     pool: &[u32],
     sums: &[u16],
+    order: &[u16],
+    n: usize,
     from: Reading,
 ) -> Reading
     ensures { λ r. let T : Texts = textsOf (now (script .entry)) (now (library .entry)) in
-        ⌜ (Ready T (now (pool .entry)) (now (sums .entry))
+        ⌜ (Ready T (now (pool .entry)) (now (sums .entry)) → Ordered T (now (words .entry)) (now (pool .entry)) (now (order .entry)) n
         → onward (now (words .entry)) from (packageRecord (poolIn T (now (pool .entry))))
         ≡ gave (now (words .entry)) (packageAt (now (words .entry)) (placeOf from)) r) ⌝ }
 {
     let c = library_pool::name(library, words, from);
     let count = reader::next_word(words, c);
     let d = reader::owing(words, c, true, 4 * tok::wide(count));
-    function_records(script, library, words, pool, sums, count, d)
+    function_records(script, library, words, pool, sums, order, n, count, d)
 }
 
 // All packages.
@@ -342,11 +382,13 @@ fn packages<'a>(
     words: &[u32],
     pool: &[u32],
     sums: &[u16],
+    order: &[u16],
+    n: usize,
     count: u32,
     from: Reading,
 ) -> Reading
     ensures { λ r. let T : Texts = textsOf (now (script .entry)) (now (library .entry)) in
-        ⌜ (Ready T (now (pool .entry)) (now (sums .entry))
+        ⌜ (Ready T (now (pool .entry)) (now (sums .entry)) → Ordered T (now (words .entry)) (now (pool .entry)) (now (order .entry)) n
         → onward (now (words .entry)) from (many count (packageRecord (poolIn T (now (pool .entry)))))
         ≡ gave (now (words .entry)) (packagesFrom (now (words .entry)) (placeOf from) count) r) ⌝ }
 {
@@ -356,7 +398,7 @@ fn packages<'a>(
         let Reading::At(_, _) = c else {
             return c;
         };
-        c = package_record(script, library, words, pool, sums, c);
+        c = package_record(script, library, words, pool, sums, order, n, c);
         i += 1;
     }
     c
@@ -377,6 +419,8 @@ pub fn library_fault<'a>(script: &'a [u8], library: &'a [u8], words: &[u32]) -> 
         return reader::conclude(f);
     };
     let sums = library_slots::slot_sums(pool);
-    let g = packages(script, library, words, pool, &sums, count, f);
+    let mut order = [0u16; 8192];
+    let n = library_slots::named_slots(script, library, words, pool, &sums, &mut order);
+    let g = packages(script, library, words, pool, &sums, &order, n, count, f);
     reader::conclude(reader::ends(words, g))
 }

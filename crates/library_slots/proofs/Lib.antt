@@ -1,3 +1,4 @@
 pub mod SumWays
 pub mod MarkWays
 pub mod NameWays
+pub mod NamedWays

@@ -3,14 +3,17 @@
 // with every level.
 ghost use mathlib.Core.Path.{_≡_};
 ghost use mathlib.Core.Bool.{cond};
-ghost use Prim.Native.Nat.{ℕ, _+_, _*_, _<_, _^_, min};
+ghost use mathlib.Core.List.{List, [], _∷_};
+ghost use Prim.Native.Nat.{ℕ, _+_, _*_, _≤_, _<_, _^_, min};
 ghost use lib.ListN.{length, getD, set};
 ghost use lib.Dec.{eqb};
 ghost use Rattle.tok.specs.Text.{Texts, textsOf, nameBytes};
 ghost use Rattle.ptype.specs.Kinds.{wraps};
 ghost use Rattle.library.specs.SlotSums.{slotBy, zeros, sumsTo};
 ghost use Rattle.library.specs.SlotMarks.{markFields, markInside, markAll, spread, anyMarked, isSlot, anySlotOf, typesIn};
-ghost use Rattle.library.specs.ReturnSlots.{amongMarked, missing, standsBy};
+ghost use Rattle.library.specs.ReturnSlots.{amongMarked, missing, reachedFrom, standsBy};
+ghost use Rattle.name_order.specs.Order.{Grouped};
+ghost use Rattle.library_slots.specs.Named.{ofPairs, inPool, argued, wanted, Told, NamesStand, SlotsListed, SlotsNamed};
 
 // Option and Array.
 fn wraps(k: u32) -> bool
@@ -288,4 +291,176 @@ pub fn return_stands<'a>(
     mark_inside(pool, ret, &mut marks);
     spread(pool, &mut marks);
     !any_missing(script, library, pool, pairs, &args, &marks)
+}
+
+// The same by names in order: each slot's name once for a library, and not for each function.
+
+// Whether the word at a place is the type of a pair, where pairs stand from `first` up to `end`.
+fn of_pairs(first: usize, end: usize, p: usize) -> bool
+    ensures { λ r. ⌜ r ≡ ofPairs first end p ⌝ }
+{
+    if p <= first {
+        return false;
+    }
+    if p >= end {
+        return false;
+    }
+    (p - first) % 2 == 1
+}
+
+// Whether it is a marked word of a pool of some size, which stands from place 2 on.
+fn in_pool(size: usize, marks: &[u8], p: usize) -> bool
+    ensures { λ r. ⌜ r ≡ inPool size (now (marks .entry)) p ⌝ }
+{
+    if p < 2 {
+        return false;
+    }
+    if p - 2 >= size {
+        return false;
+    }
+    mark_at(marks, p - 2) == 1
+}
+
+// Whether an argument reaches it.
+fn argued(size: usize, args: &[u8], first: usize, end: usize, p: usize) -> bool
+    ensures { λ r. ⌜ r ≡ argued size (now (args .entry)) first end p ⌝ }
+{
+    if of_pairs(first, end, p) {
+        return true;
+    }
+    in_pool(size, args, p)
+}
+
+// Whether the return type does, which stands at `end`.
+fn wanted(size: usize, marks: &[u8], end: usize, p: usize) -> bool
+    ensures { λ r. ⌜ r ≡ wanted size (now (marks .entry)) end p ⌝ }
+{
+    if p == end {
+        return true;
+    }
+    in_pool(size, marks, p)
+}
+
+// Whether an argument reaches one of the ranks from `from` up to `to`.
+fn any_argued(
+    order: &[u16],
+    size: usize,
+    args: &[u8],
+    first: usize,
+    end: usize,
+    from: usize,
+    to: usize,
+) -> bool
+    ensures { λ r. ⌜ Told (argued size (now (args .entry)) first end) (now (order .entry)) from to r ⌝ }
+{
+    let mut i = from;
+    while i < to {
+        if argued(size, args, first, end, name_order::place_at(order, i)) {
+            return true;
+        }
+        i += 1;
+    }
+    false
+}
+
+// Whether the return type does.
+fn any_wanted(order: &[u16], size: usize, marks: &[u8], end: usize, from: usize, to: usize) -> bool
+    ensures { λ r. ⌜ Told (wanted size (now (marks .entry)) end) (now (order .entry)) from to r ⌝ }
+{
+    let mut i = from;
+    while i < to {
+        if wanted(size, marks, end, name_order::place_at(order, i)) {
+            return true;
+        }
+        i += 1;
+    }
+    false
+}
+
+// Whether each name that the return type reaches is one that an argument reaches: group by group.
+fn names_stand(
+    order: &[u16],
+    n: usize,
+    size: usize,
+    args: &[u8],
+    marks: &[u8],
+    first: usize,
+    end: usize,
+) -> bool
+    ensures { λ r. ⌜ ((t : Texts) (words : List ℕ) → Grouped t words (now (order .entry)) n
+        → NamesStand t words (now (order .entry)) n (argued size (now (args .entry)) first end) (wanted size (now (marks .entry)) end) r) ⌝ }
+{
+    let mut at = 0;
+    while at < n {
+        let next = name_order::group_end(order, at, n);
+        if any_wanted(order, size, marks, end, at, next) {
+            if !any_argued(order, size, args, first, end, at, next) {
+                return false;
+            }
+        }
+        at = next;
+    }
+    true
+}
+
+// Whether each slot of the return type stands in an argument, where the arguments' pairs stand from place `first` on and the return type at `end`.
+pub fn return_named(
+    pool: &[u32],
+    pairs: &[u32],
+    ret: u32,
+    order: &[u16],
+    n: usize,
+    first: usize,
+    end: usize,
+) -> bool
+    ensures { λ r. let P : List ℕ = now (pool .entry) in
+        ⌜ ((t : Texts) (words : List ℕ) → Grouped t words (now (order .entry)) n
+        → NamesStand t words (now (order .entry)) n (argued (length P) (reachedFrom P (typesIn (now (pairs .entry)))) first end) (wanted (length P) (reachedFrom P (ret ∷ [])) end) r) ⌝ }
+{
+    let mut args = no_marks();
+    mark_types(pool, pairs, &mut args);
+    spread(pool, &mut args);
+    let mut marks = no_marks();
+    mark_inside(pool, ret, &mut marks);
+    spread(pool, &mut marks);
+    names_stand(order, n, pool.len(), &args, &marks, first, end)
+}
+
+// The places of the slots in a library, from the pool on, and how many there are.
+fn slot_places(words: &[u32], order: &mut [u16]) -> usize
+    ensures { λ r. ⌜ (8192 ≤ length (now (order .entry)) → SlotsListed (now (words .entry)) (now (order .exit)) r) ⌝ }
+{
+    let end = least(words.len(), 8193);
+    let mut n = 0;
+    let mut i = 2;
+    while i < end {
+        if tok::kind(tok::word_at(words, i)) == ptype::SLOT {
+            name_order::enter(order, n, i);
+            n += 1;
+        }
+        i += 1;
+    }
+    n
+}
+
+// These in the order of their names, and how many there are; none where no slot stands in the pool.
+pub fn named_slots<'a>(
+    script: &'a [u8],
+    library: &'a [u8],
+    words: &[u32],
+    pool: &[u32],
+    sums: &[u16],
+    order: &mut [u16],
+) -> usize
+    ensures { λ r. let T : Texts = textsOf (now (script .entry)) (now (library .entry)) in
+        ⌜ (8192 ≤ length (now (order .entry)) → 0 < r → SlotsNamed T (now (words .entry)) (now (order .exit)) r) ⌝ }
+{
+    if sum_at(sums, pool.len()) == 0 {
+        return 0;
+    }
+    let n = slot_places(words, order);
+    if name_order::group_names(script, library, words, order, n) {
+        return n;
+    }
+    0
 }

@@ -44,8 +44,9 @@ enum-told-2 : tie.Need-enum-told-2
 enum-told-2 c = search needs
 
 returns : tie.Need-returns
-returns c = λ r h.
-    function-ended _ _ _ _ _ _ _ _ _ _ _ _ _ _ _ (c .before .before .before .before .before .before .before .before .before .before .before .next-word .ensures) (c .before .before .before .before .before .before .before .before .before .before .good-group .ensures _ _ (others-kept _ _ _ (c .before .before .before .before .before .before .before .before .before .before .before .before .before .before .before .before .before .args .from) h _ (c .before .before .before .before .before .before .before .before .before .before .before .next-word .ensures))) (c .before .before .before .before .before .before .before .before .before .word .ensures) (c .before .before .before .before .before .before .before .before .next-word2 .ensures) (λ a l q. c .before .before .before .before .before .before .before .good-flag .ensures _ _ (own-kept _ _ _ (c .before .before .before .before .before .before .before .before .before .before .before .before .before .before .before .before .before .args .from) h _ (c .before .before .before .before .before .before .before .before .before .before .before .next-word .ensures) _ _ _ (c .before .before .before .before .before .before .before .before .before .word .ensures) (c .before .before .before .before .before .before .before .before .next-word2 .ensures) a l q)) (c .before .before .before .before .before .before .word2 .ensures)
+returns c = λ r o h.
+    function-ended _ _ _ _ _ _ _ _ _ _ _ _ _ _ _ (c .before .before .before .before .before .before .before .before .before .before .before .next-word .ensures) (c .before .before .before .before .before .before .before .before .before .before .good-group .ensures _ _ (others-kept _ _ _ (c .before .before .before .before .before .before .before .before .before .before .before .before .before .before .before .before .before .before .args .from) h _ (c .before .before .before .before .before .before .before .before .before .before .before .next-word .ensures))) (c .before .before .before .before .before .before .before .before .before .word .ensures) (c .before .before .before .before .before .before .before .before .next-word2 .ensures)
+    (λ a l q. c .before .before .before .before .before .before .before .good-flag .ensures _ _ (own-kept _ _ _ (c .before .before .before .before .before .before .before .before .before .before .before .before .before .before .before .before .before .before .args .from) h _ (c .before .before .before .before .before .before .before .before .before .before .before .next-word .ensures) _ _ _ (c .before .before .before .before .before .before .before .before .before .word .ensures) (c .before .before .before .before .before .before .before .before .next-word2 .ensures) a l q)) (c .before .before .before .before .before .before .word2 .ensures)
     (c .before .before .before .before .before .next-word3 .ensures) (c .before .before .before .before .wide .ensures) (c .before .before .before .owing .ensures) (c .before .before .arguments .ensures _ r) (c .enum-told2 .given .1)
 
 next-word-requires-4 : tie.Need-next-word-requires-4
@@ -57,6 +58,9 @@ place-requires c κs = search needs
 pairs-at-requires : tie.Need-pairs-at-requires
 pairs-at-requires c κs = search needs
 
+place-requires-2 : tie.Need-place-requires-2
+place-requires-2 c κs = search needs
+
 good-return-requires : tie.Need-good-return-requires
 good-return-requires c κs = search needs
 
@@ -64,10 +68,11 @@ word-requires-3 : tie.Need-word-requires-3
 word-requires-3 c κs = search needs
 
 returns-2 : tie.Need-returns-2
-returns-2 c = λ r h.
-    function-by _ _ _ _ _ _ _ _ _ _ _ _ _ _ _ _ _ _ _ (c .before .before .before .before .before .before .before .before .before .before .before .before .before .before .before .before .next-word .ensures) (c .before .before .before .before .before .before .before .before .before .before .before .before .before .before .before .good-group .ensures _ _ (others-kept _ _ _ (c .before .before .before .before .before .before .before .before .before .before .before .before .before .before .before .before .before .before .before .before .before .before .args .from) h _ (c .before .before .before .before .before .before .before .before .before .before .before .before .before .before .before .before .next-word .ensures))) (c .before .before .before .before .before .before .before .before .before .before .before .before .before .before .word .ensures) (c .before .before .before .before .before .before .before .before .before .before .before .before .before .next-word2 .ensures) (λ a l q. c .before .before .before .before .before .before .before .before .before .before .before .before .good-flag .ensures _ _ (own-kept _ _ _ (c .before .before .before .before .before .before .before .before .before .before .before .before .before .before .before .before .before .before .before .before .before .before .args .from) h _ (c .before .before .before .before .before .before .before .before .before .before .before .before .before .before .before .before .next-word .ensures) _ _ _ (c .before .before .before .before .before .before .before .before .before .before .before .before .before .before .word .ensures) (c .before .before .before .before .before .before .before .before .before .before .before .before .before .next-word2 .ensures) a l q)) (c .before .before .before .before .before .before .before .before .before .before .before .word2 .ensures)
-    (c .before .before .before .before .before .before .before .before .before .before .next-word3 .ensures) (c .before .before .before .before .before .before .before .before .before .wide .ensures) (c .before .before .before .before .before .before .before .before .owing .ensures) (c .before .before .before .before .before .before .before .arguments .ensures _ r) (c .before .before .before .before .next-word4 .ensures) (c .before .before .before .place .ensures) (c .before .before .pairs-at .ensures)
-    (c .before .good-return .ensures r) (c .word3 .ensures)
+returns-2 c = λ r o h.
+    function-by _ _ _ _ _ _ _ _ _ _ _ _ _ _ _ _ _ _ _ _ (c .before .before .before .before .before .before .before .before .before .before .before .before .before .before .before .before .before .next-word .ensures) (c .before .before .before .before .before .before .before .before .before .before .before .before .before .before .before .before .good-group .ensures _ _ (others-kept _ _ _ (c .before .before .before .before .before .before .before .before .before .before .before .before .before .before .before .before .before .before .before .before .before .before .before .before .args .from) h _ (c .before .before .before .before .before .before .before .before .before .before .before .before .before .before .before .before .before .next-word .ensures))) (c .before .before .before .before .before .before .before .before .before .before .before .before .before .before .before .word .ensures) (c .before .before .before .before .before .before .before .before .before .before .before .before .before .before .next-word2 .ensures)
+    (λ a l q. c .before .before .before .before .before .before .before .before .before .before .before .before .before .good-flag .ensures _ _ (own-kept _ _ _ (c .before .before .before .before .before .before .before .before .before .before .before .before .before .before .before .before .before .before .before .before .before .before .before .before .args .from) h _ (c .before .before .before .before .before .before .before .before .before .before .before .before .before .before .before .before .before .next-word .ensures) _ _ _ (c .before .before .before .before .before .before .before .before .before .before .before .before .before .before .before .word .ensures) (c .before .before .before .before .before .before .before .before .before .before .before .before .before .before .next-word2 .ensures) a l q)) (c .before .before .before .before .before .before .before .before .before .before .before .before .word2 .ensures)
+    (c .before .before .before .before .before .before .before .before .before .before .before .next-word3 .ensures) (c .before .before .before .before .before .before .before .before .before .before .wide .ensures) (c .before .before .before .before .before .before .before .before .before .owing .ensures) (c .before .before .before .before .before .before .before .before .arguments .ensures _ r) (c .before .before .before .before .before .next-word4 .ensures) (c .before .before .before .before .place .ensures) (c .before .before .before .pairs-at .ensures) (c .before .before .place2 .ensures)
+    (λ f q. c .before .good-return .ensures _ r o f q) (c .word3 .ensures)
 
 pub function-record-spec : {M : Type 1} → statement M
 function-record-spec =
@@ -90,6 +95,7 @@ function-record-spec =
     next-word-requires-4
     place-requires
     pairs-at-requires
+    place-requires-2
     good-return-requires
     word-requires-3
     returns-2)

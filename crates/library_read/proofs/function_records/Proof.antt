@@ -6,18 +6,18 @@ use native.Mathlib.Omega.{arith}
 use borrow.Author.Tests.{ltb-true}
 use Rattle.tok.specs.Text.{textsOf}
 use Rattle.library.specs.Pool.{poolIn}
-use Rattle.library_read.specs.Ready.{Ready}
+use Rattle.library_read.specs.Ready.{Ready, Ordered}
 use Rattle.library_read.proofs.RecordWays.{FunctionsRead, functions-begin, functions-turn, functions-kept, functions-ended, functions-done, functions-from}
 use borrow.Author.Needs.{needs}
 use Rattle.library_read.proofs.function_records.Statement.{statement}
 use Rattle.library_read.proofs.function_records.Tie as tie
 
 abbrev Inv-loop : tie.InvT-loop
-Inv-loop script library words pool sums count start end kept c₀ k₀ c k =
-    (k ≤ end) × (Ready (textsOf script library) pool sums → FunctionsRead (poolIn (textsOf script library) pool) words c₀ c k)
+Inv-loop script library words pool sums order n count start end kept c₀ k₀ c k =
+    (k ≤ end) × (Ready (textsOf script library) pool sums → Ordered (textsOf script library) words pool order n → FunctionsRead (poolIn (textsOf script library) pool) words c₀ c k)
 
 abbrev μ-loop : tie.MeasureT-loop
-μ-loop script library words pool sums count start end kept c₀ k₀ c k = end - k
+μ-loop script library words pool sums order n count start end kept c₀ k₀ c k = end - k
 
 enum-known-from : tie.Need-enum-known-from Inv-loop μ-loop
 enum-known-from c = search needs
@@ -26,7 +26,7 @@ enum-told : tie.Need-enum-told Inv-loop μ-loop
 enum-told c = search needs
 
 returns : tie.Need-returns Inv-loop μ-loop
-returns c = λ r. functions-ended functions-begin _ _ (omega arith) (c .enum-told .given .1)
+returns c = λ r o. functions-ended functions-begin _ _ (omega arith) (c .enum-told .given .1)
 
 wide-requires : tie.Need-wide-requires Inv-loop μ-loop
 wide-requires c κs = search needs
@@ -35,7 +35,7 @@ before-slots-requires : tie.Need-before-slots-requires Inv-loop μ-loop
 before-slots-requires c κs = search needs
 
 loop-holds : tie.Need-loop-holds Inv-loop μ-loop
-loop-holds c = (omega arith, λ r. functions-begin)
+loop-holds c = (omega arith, λ r o. functions-begin)
 
 enum-told-2 : tie.Need-enum-told-2 Inv-loop μ-loop
 enum-told-2 c = search needs
@@ -44,7 +44,7 @@ enum-told-3 : tie.Need-enum-told-3 Inv-loop μ-loop
 enum-told-3 c = search needs
 
 returns-2 : tie.Need-returns-2 Inv-loop μ-loop
-returns-2 c = λ r. functions-from _ _ _ _ _ _ (c .before .before .before .before .before .before .before .from .given .1) (functions-ended (c .before .before .before .loop .inv .1 r) _ _ (omega (arith, c .before .before .before .before .before .wide .ensures)) (c .enum-told3 .given .1))
+returns-2 c = λ r o. functions-from _ _ _ _ _ _ (c .before .before .before .before .before .before .before .from .given .1) (functions-ended (c .before .before .before .loop .inv .1 r o) _ _ (omega (arith, c .before .before .before .before .before .wide .ensures)) (c .enum-told3 .given .1))
 
 function-record-requires : tie.Need-function-record-requires Inv-loop μ-loop
 function-record-requires c κs = search needs
@@ -58,13 +58,13 @@ loop-less c = omega arith
 loop-again : tie.Need-loop-again Inv-loop μ-loop
 loop-again c = (
   omega arith,
-  λ r.
-      functions-turn (c .before .before .before .before .loop .inv .1 r) _ _ _ refl
-      (c .function-record .ensures r (λ y. functions-kept (c .before .before .before .before .loop .inv .1 r) _ _ _ _ _ _ refl refl (c .before .enum-told2 .given .1) (c .before .before .before .before .before .before-slots .ensures _) (ltb-true _ _ y))),
+  λ r o.
+      functions-turn (c .before .before .before .before .loop .inv .1 r o) _ _ _ refl
+      (c .function-record .ensures r o (λ y. functions-kept (c .before .before .before .before .loop .inv .1 r o) _ _ _ _ _ _ refl refl (c .before .enum-told2 .given .1) (c .before .before .before .before .before .before-slots .ensures _) (ltb-true _ _ y))),
 )
 
 returns-3 : tie.Need-returns-3 Inv-loop μ-loop
-returns-3 c = λ r. functions-from _ _ _ _ _ _ (c .before .before .before .before .before .from .given .1) (functions-done (c .before .loop .inv .1 r) _ (omega (arith, c .before .before .before .wide .ensures)))
+returns-3 c = λ r o. functions-from _ _ _ _ _ _ (c .before .before .before .before .before .from .given .1) (functions-done (c .before .loop .inv .1 r o) _ (omega (arith, c .before .before .before .wide .ensures)))
 
 pub function-records-spec : {M : Type 1} → statement M
 function-records-spec =

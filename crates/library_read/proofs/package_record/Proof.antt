@@ -23,7 +23,7 @@ function-records-requires : tie.Need-function-records-requires
 function-records-requires c κs = search needs
 
 returns : tie.Need-returns
-returns c = λ r. package-by _ _ _ _ _ _ _ _ (c .before .before .before .before .name .ensures) (c .before .before .before .next-word .ensures) (c .before .before .wide .ensures) (c .before .owing .ensures) (c .function-records .ensures r)
+returns c = λ r o. package-by _ _ _ _ _ _ _ _ (c .before .before .before .before .name .ensures) (c .before .before .before .next-word .ensures) (c .before .before .wide .ensures) (c .before .owing .ensures) (c .function-records .ensures r o)
 
 pub package-record-spec : {M : Type 1} → statement M
 package-record-spec =

@@ -1,0 +1,58 @@
+-- `library_slots::any_argued` meets its contract. The loop's invariant: the test fails at the ranks before i. The measure is how many are left.
+-- Assumes nothing.
+use Prim.Native.Nat.{ℕ, _-_, _≤_, _<_}
+use mathlib.Core.Path.{_≡_}
+use mathlib.Core.Bool.{false}
+use native.Mathlib.Omega.{arith}
+use lib.ListN.{getD}
+use Rattle.name_order.specs.Order.{placeIn}
+use Rattle.library_slots.specs.Named.{argued}
+use Rattle.library_slots.proofs.NamedWays.{told-yes, told-past, told-no}
+use borrow.Author.Needs.{needs}
+use Rattle.library_slots.proofs.any_argued.Statement.{statement}
+use Rattle.library_slots.proofs.any_argued.Tie as tie
+
+abbrev Inv-loop : tie.InvT-loop
+Inv-loop order size args first end from to i₀ i = (from ≤ i) × ((j : ℕ) → from ≤ j → j < i → argued size args first end (placeIn (getD order j 0)) ≡ false)
+
+abbrev μ-loop : tie.MeasureT-loop
+μ-loop order size args first end from to i₀ i = to - i
+
+loop-holds : tie.Need-loop-holds Inv-loop μ-loop
+loop-holds c = (omega arith, λ j l m. absurd (omega arith))
+
+place-at-requires : tie.Need-place-at-requires Inv-loop μ-loop
+place-at-requires c κs = search needs
+
+argued-requires : tie.Need-argued-requires Inv-loop μ-loop
+argued-requires c κs = search needs
+
+returns : tie.Need-returns Inv-loop μ-loop
+returns c = told-yes _ _ _ _ _ (c .before .before .before .before .loop .inv .0) (c .before .before .before .loop-test .taken) (c .before .before .place-at .ensures) (c .before .argued .ensures) (c .if1 .taken)
+
+add-i : tie.Need-add-i Inv-loop μ-loop
+add-i c = search needs
+
+loop-less : tie.Need-loop-less Inv-loop μ-loop
+loop-less c = search needs
+
+loop-again : tie.Need-loop-again Inv-loop μ-loop
+loop-again c = (omega arith, told-past (argued (c .before .before .before .before .before .before .before .args .size) (c .before .before .before .before .before .before .before .args .args .now) (c .before .before .before .before .before .before .before .args .first) (c .before .before .before .before .before .before .before .args .end)) (c .before .before .before .before .before .before .before .args .order .now) _ _ (c .before .before .before .before .loop .inv .1) (c .before .before .place-at .ensures) (c .before .argued .ensures) (c .if1 .left))
+
+returns-2 : tie.Need-returns-2 Inv-loop μ-loop
+returns-2 c = told-no _ _ _ _ _ (c .loop-test .left) (c .before .loop .inv .1)
+
+pub any-argued-spec : {M : Type 1} → statement M
+any-argued-spec =
+    tie.close
+    (tie.spec
+    Inv-loop
+    μ-loop
+    loop-holds
+    place-at-requires
+    argued-requires
+    returns
+    add-i
+    loop-less
+    loop-again
+    returns-2)

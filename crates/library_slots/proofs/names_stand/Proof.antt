@@ -1,0 +1,63 @@
+-- `library_slots::names_stand` meets its contract. The loop's invariant, `StandsTo`: each name wanted before rank `at` is had.
+-- The measure is how many ranks are left. Assumes nothing.
+use Prim.Native.Nat.{_-_}
+use native.Mathlib.Omega.{arith}
+use borrow.Author.Tests.{not-true, not-false}
+use Rattle.library_slots.specs.Named.{argued, wanted}
+use Rattle.library_slots.proofs.NamedWays.{StandsTo, stands-begin, stands-lacks, stands-had, stands-past, stands-done}
+use borrow.Author.Needs.{needs}
+use Rattle.library_slots.proofs.names_stand.Statement.{statement}
+use Rattle.library_slots.proofs.names_stand.Tie as tie
+
+abbrev Inv-loop : tie.InvT-loop
+Inv-loop order n size args marks first end at₀ at = StandsTo order n (argued size args first end) (wanted size marks end) at
+
+abbrev μ-loop : tie.MeasureT-loop
+μ-loop order n size args marks first end at₀ at = n - at
+
+loop-holds : tie.Need-loop-holds Inv-loop μ-loop
+loop-holds c = stands-begin
+
+group-end-requires : tie.Need-group-end-requires Inv-loop μ-loop
+group-end-requires c κs = c .loop-test .taken
+
+any-wanted-requires : tie.Need-any-wanted-requires Inv-loop μ-loop
+any-wanted-requires c κs = search needs
+
+any-argued-requires : tie.Need-any-argued-requires Inv-loop μ-loop
+any-argued-requires c κs = search needs
+
+returns : tie.Need-returns Inv-loop μ-loop
+returns c = λ t w g. stands-lacks (c .before .before .before .before .before .before .loop .inv) t w g (c .before .before .before .before .group-end .ensures) (c .before .before .before .any-wanted .ensures) (c .before .before .if1 .taken) (c .before .any-argued .ensures) (not-true _ (c .if2 .taken))
+
+loop-less : tie.Need-loop-less Inv-loop μ-loop
+loop-less c = omega (arith, c .before .before .before .before .group-end .ensures .after, c .before .before .before .before .group-end .ensures .within)
+
+loop-again : tie.Need-loop-again Inv-loop μ-loop
+loop-again c = stands-had (c .before .before .before .before .before .before .loop .inv) (c .before .before .before .before .group-end .ensures) (c .before .any-argued .ensures) (not-false _ (c .if2 .left))
+
+loop-less-2 : tie.Need-loop-less-2 Inv-loop μ-loop
+loop-less-2 c = omega (arith, c .before .before .group-end .ensures .after, c .before .before .group-end .ensures .within)
+
+loop-again-2 : tie.Need-loop-again-2 Inv-loop μ-loop
+loop-again-2 c = stands-past (c .before .before .before .before .loop .inv) (c .before .before .group-end .ensures) (c .before .any-wanted .ensures) (c .if1 .left)
+
+returns-2 : tie.Need-returns-2 Inv-loop μ-loop
+returns-2 c = λ t w g. stands-done (c .before .loop .inv) (c .loop-test .left) t w g
+
+pub names-stand-spec : {M : Type 1} → statement M
+names-stand-spec =
+    tie.close
+    (tie.spec
+    Inv-loop
+    μ-loop
+    loop-holds
+    group-end-requires
+    any-wanted-requires
+    any-argued-requires
+    returns
+    loop-less
+    loop-again
+    loop-less-2
+    loop-again-2
+    returns-2)

@@ -1,0 +1,3 @@
+-- Slots by the order of their names: definitions, and what they say of a return type.
+pub mod Named
+pub mod NamedLaws

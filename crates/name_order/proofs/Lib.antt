@@ -1,0 +1,4 @@
+pub mod SwapWays
+pub mod SplitWays
+pub mod BytesWays
+pub mod EndWays
