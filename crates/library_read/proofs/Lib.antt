@@ -1,5 +1,4 @@
 pub mod GroupWays
-pub mod KeptWays
 pub mod SignatureWays
 pub mod RecordWays
 pub mod LibraryWays

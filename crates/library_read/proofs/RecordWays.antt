@@ -30,7 +30,7 @@ use Rattle.library.specs.PackageRecords.{some, sameGroup, goodGroup, goodFlag, 
 use Rattle.library.specs.PackagesRead.{ParamFine, GroupFine, FunctionsShown, argument-reads, arguments-reads, function-reads, functions-reads, packageAt, packageEnd, package-reads, packages-reads}
 use Rattle.library_pool.proofs.PoolWays.{word-by}
 use Rattle.library_read.specs.Ready.{Placed}
-use Rattle.library_read.specs.Kept.{GroupsKept}
+use Rattle.library_groups.specs.Kept.{GroupsKept}
 use Rattle.library_read.proofs.SignatureWays.{types-of-pairs, fine-types}
 
 -- ── Arguments ──
@@ -275,10 +275,10 @@ module _ {p : Pool} {words : List ℕ} {from : Reading} where
 
     -- what is known of the rule on groups, as the next function is asked
     pub functions-kept : (t : Texts) (types : List ℕ) (start r : ℕ) (at least : ℕ) → p ≡ poolIn t types → start ≡ placeOf from → c ≡ At at least → GroupsKept t words start r
-        → k < r → GroupFine p (functionsFrom words start k) (functionAt words (placeOf c))
+        → at < r → GroupFine p (functionsFrom words start k) (functionAt words (placeOf c))
     functions-kept t types start r at least ep es q g l =
         let there : placeOf c ≡ functionsEnd words start k = ap placeOf q ∙ h .place at least q ∙ ap (λ n. functionsEnd words n k) (sym es) in
-        rw (there, ep) (g .each types k l)
+        rw (there, ep) (g .each types k (omega (arith, ap placeOf q)))
 
     pub functions-ended : (count place : ℕ) → k ≤ count → c ≡ Fault place → onward words from (functionRecords p count []) ≡ gave words (functionsFrom words (placeOf from) count) c
     functions-ended count place l e =
@@ -287,7 +287,11 @@ module _ {p : Pool} {words : List ℕ} {from : Reading} where
     pub functions-done : (count : ℕ) → k ≡ count → onward words from (functionRecords p count []) ≡ gave words (functionsFrom words (placeOf from) count) c
     functions-done count e = rw (← e) (h .so-far)
 
--- where the reading stood is known
+-- where the reading stands is known
+pub functions-at : {p : Pool} {words : List ℕ} {from c d : Reading} {k : ℕ} → c ≡ d → FunctionsRead p words from c k → FunctionsRead p words from d k
+functions-at {p} {words} {from} {c} {d} {k} e h = subst (λ x. FunctionsRead p words from x k) e h
+
+-- where it stood is known
 pub functions-from : (p : Pool) (words : List ℕ) (from c : Reading) (count : ℕ) (start : Reading) → start ≡ from
     → onward words from (functionRecords p count []) ≡ gave words (functionsFrom words (placeOf from) count) c
     → onward words start (functionRecords p count []) ≡ gave words (functionsFrom words (placeOf start) count) c

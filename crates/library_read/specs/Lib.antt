@@ -1,3 +1,2 @@
 -- What the contracts of reading packages cite besides the library's definitions.
 pub mod Ready
-pub mod Kept

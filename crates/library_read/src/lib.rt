@@ -21,7 +21,6 @@ ghost use Rattle.library.specs.PackagesRead.{GroupFine, packageAt};
 ghost use Rattle.library.specs.PackageRecords.{some, sameGroup, goodGroup, goodFlag, goodSignatureType, argument, functionRecord, functionRecords, packageRecord};
 ghost use Rattle.library.specs.LibraryFault.{libraryFault};
 ghost use Rattle.library_read.specs.Ready.{Ready, Ordered, Placed};
-ghost use Rattle.library_read.specs.Kept.{GroupsKept};
 
 // Groups and flags.
 
@@ -70,22 +69,6 @@ fn group_slotted<'a>(
         at = next;
         left = more;
     }
-}
-
-// How many functions of a package come before the first that has slots: the rule on groups cannot fail for these.
-fn before_slots(words: &[u32], from: usize, count: usize) -> usize
-    ensures { λ r. ⌜ ((t : Texts) → GroupsKept t (now (words .entry)) from r) ⌝ }
-{
-    let mut at = least(from, words.len());
-    let mut k = 0;
-    while k < count {
-        if library::with_slots(words, at) {
-            return k;
-        }
-        at = library::function_end(words, at);
-        k += 1;
-    }
-    k
 }
 
 // The group name of a function after k functions of its package: none of its group has flag 1. `kept`: the rule is known to hold.
@@ -328,11 +311,11 @@ fn function_records<'a>(
         return from;
     };
     let end = tok::wide(count);
-    let kept = before_slots(words, start, end);
+    let kept = library_groups::kept_up_to(script, library, words, start, end);
     let mut c = from;
     let mut k = 0;
     while k < end {
-        let Reading::At(_, _) = c else {
+        let Reading::At(at, _) = c else {
             return c;
         };
         c = function_record(
@@ -345,7 +328,7 @@ fn function_records<'a>(
             n,
             start,
             k,
-            k < kept,
+            at < kept,
             c,
         );
         k += 1;

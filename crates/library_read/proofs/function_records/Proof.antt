@@ -7,7 +7,7 @@ use borrow.Author.Tests.{ltb-true}
 use Rattle.tok.specs.Text.{textsOf}
 use Rattle.library.specs.Pool.{poolIn}
 use Rattle.library_read.specs.Ready.{Ready, Ordered}
-use Rattle.library_read.proofs.RecordWays.{FunctionsRead, functions-begin, functions-turn, functions-kept, functions-ended, functions-done, functions-from}
+use Rattle.library_read.proofs.RecordWays.{FunctionsRead, functions-begin, functions-turn, functions-kept, functions-ended, functions-done, functions-at, functions-from}
 use borrow.Author.Needs.{needs}
 use Rattle.library_read.proofs.function_records.Statement.{statement}
 use Rattle.library_read.proofs.function_records.Tie as tie
@@ -31,20 +31,20 @@ returns c = λ r o. functions-ended functions-begin _ _ (omega arith) (c .enum-t
 wide-requires : tie.Need-wide-requires Inv-loop μ-loop
 wide-requires c κs = search needs
 
-before-slots-requires : tie.Need-before-slots-requires Inv-loop μ-loop
-before-slots-requires c κs = search needs
+kept-up-to-requires : tie.Need-kept-up-to-requires Inv-loop μ-loop
+kept-up-to-requires c κs = search needs
 
 loop-holds : tie.Need-loop-holds Inv-loop μ-loop
 loop-holds c = (omega arith, λ r o. functions-begin)
 
+enum-known-c : tie.Need-enum-known-c Inv-loop μ-loop
+enum-known-c c = search needs
+
 enum-told-2 : tie.Need-enum-told-2 Inv-loop μ-loop
 enum-told-2 c = search needs
 
-enum-told-3 : tie.Need-enum-told-3 Inv-loop μ-loop
-enum-told-3 c = search needs
-
 returns-2 : tie.Need-returns-2 Inv-loop μ-loop
-returns-2 c = λ r o. functions-from _ _ _ _ _ _ (c .before .before .before .before .before .before .before .from .given .1) (functions-ended (c .before .before .before .loop .inv .1 r o) _ _ (omega (arith, c .before .before .before .before .before .wide .ensures)) (c .enum-told3 .given .1))
+returns-2 c = λ r o. functions-from _ _ _ _ _ _ (c .before .before .before .before .before .before .before .from .given .1) (functions-ended (c .before .before .before .loop .inv .1 r o) _ _ (omega (arith, c .before .before .before .before .before .wide .ensures)) (c .enum-told2 .given .1))
 
 function-record-requires : tie.Need-function-record-requires Inv-loop μ-loop
 function-record-requires c κs = search needs
@@ -59,8 +59,8 @@ loop-again : tie.Need-loop-again Inv-loop μ-loop
 loop-again c = (
   omega arith,
   λ r o.
-      functions-turn (c .before .before .before .before .loop .inv .1 r o) _ _ _ refl
-      (c .function-record .ensures r o (λ y. functions-kept (c .before .before .before .before .loop .inv .1 r o) _ _ _ _ _ _ refl refl (c .before .enum-told2 .given .1) (c .before .before .before .before .before .before-slots .ensures _) (ltb-true _ _ y))),
+      functions-turn (functions-at (c .before .before .c .given .1) (c .before .before .before .before .before .loop .inv .1 r o)) _ _ _ refl
+      (c .function-record .ensures r o (λ y. functions-kept (functions-at (c .before .before .c .given .1) (c .before .before .before .before .before .loop .inv .1 r o)) _ _ _ _ _ _ refl refl refl (c .before .before .before .before .before .before .kept-up-to .ensures) (ltb-true _ _ y))),
 )
 
 returns-3 : tie.Need-returns-3 Inv-loop μ-loop
@@ -76,10 +76,10 @@ function-records-spec =
     enum-told
     returns
     wide-requires
-    before-slots-requires
+    kept-up-to-requires
     loop-holds
+    enum-known-c
     enum-told-2
-    enum-told-3
     returns-2
     function-record-requires
     add-k

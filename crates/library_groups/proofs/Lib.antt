@@ -1,0 +1,3 @@
+pub mod PlaceWays
+pub mod FaultWays
+pub mod KeptWays
