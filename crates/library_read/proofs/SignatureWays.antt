@@ -4,6 +4,7 @@ use mathlib.Core.Path.{_≡_, refl, sym, ap, ap₂, subst, _∙_}
 use mathlib.Core.Bool.{Bool, true, false, not, _&&_, and-eq-true-iff}
 use mathlib.Core.List.{List, [], _∷_, map}
 use native.Mathlib.Omega.{arith}
+use native.Mathlib.Decide.{decLt}
 use native.Mathlib.Numerals.{add-one, add-two}
 use lib.ListN.{length, getD, take, drop}
 use lib.Seq.{drop-cons}
@@ -21,7 +22,7 @@ use Rattle.library.specs.ReturnSlots.{reachedFrom, standsBy, stands-none, stand
 use Rattle.library.specs.Package.{Param, paramsFrom}
 use Rattle.library.specs.PackageRecords.{goodSignatureType}
 use Rattle.library.specs.PackagesRead.{ParamFine}
-use Rattle.library_slots.specs.Named.{ofPairs, argued, wanted, NamesStand}
+use Rattle.library_slots.specs.Named.{ofPairs, argued, wanted, NamesStand, ReturnAsked}
 use Rattle.library_slots.specs.NamedLaws.{Selves, names-stand, pairs-selves, ret-selves}
 use Rattle.library_read.specs.Ready.{Ready, Ordered, Placed}
 
@@ -69,20 +70,27 @@ module _ (t : Texts) (types sums : List ℕ) (ready : Ready t types sums) (flag 
           rw signature-good
           (sym (stands-none t types (ready .fine) (ready .room) args w fine (goodType-true p _ w type-good) (sym (slot-told type-good es) ∙ not-true s n)))
 
-      pub return-stands : {u : Bool} → u ≡ standsBy t types args w → u ≡ (goodSignatureType p flag w && returnStands p args w)
-      return-stands e =
+      by-names : {u : Bool} → u ≡ standsBy t types args w → u ≡ (goodSignatureType p flag w && returnStands p args w)
+      by-names e =
           rw signature-good (e ∙ standsBy-is t types (ready .fine) (ready .room) args w fine (goodType-true p _ w type-good))
 
-      pub return-named : (words order : List ℕ) (n first end : ℕ) → Ordered t words types order n → Placed words args w first end → 0 < n → {u : Bool}
+      by-order : (words order : List ℕ) (n first end : ℕ) → Ordered t words types order n → Placed words args w first end → 0 < n → {u : Bool}
           → NamesStand t words order n (argued (length types) (reachedFrom types args) first end) (wanted (length types) (reachedFrom types (w ∷ [])) end) u
           → u ≡ (goodSignatureType p flag w && returnStands p args w)
       unfolding argued wanted
-      return-named words order n first end o q l {u} h =
+      by-order words order n first end o q l {u} h =
           rw signature-good
           (names-stand t words types order n (o .named l .listed) (o .there) (ready .fine) (ofPairs first end) (λ x. eqb x end) args w fine (goodType-true p _ w type-good)
           (subst (Selves t words (ofPairs first end)) (sym (q .types-are)) (pairs-selves t words first (q .count) end (q .ends) (q .low) (q .high) (q .within)))
           (ret-selves t words w end (q .ret-is) (omega (arith, q .low, q .ends)) (q .high))
           u h)
+
+      pub return-asked : (words order : List ℕ) (n first end : ℕ) → Ordered t words types order n → Placed words args w first end → {u : Bool}
+          → ReturnAsked t types args w order n first end u → u ≡ (goodSignatureType p flag w && returnStands p args w)
+      return-asked words order n first end o q {u} h = elim (decLt 0 n) [
+        | yes l ↦ by-order words order n first end o q l (h .named words l (o .named l .grouped))
+        | no l ↦ by-names (h .plain (omega arith))
+      ]
 
 -- ── The types of the arguments ──
 

@@ -221,10 +221,7 @@ fn good_return<'a>(
     if !library_slots::has_slot(pool, sums, w) {
         return true;
     }
-    if n > 0 {
-        return library_slots::return_named(pool, pairs, w, order, n, first, end);
-    }
-    library_slots::return_stands(script, library, pool, pairs, w)
+    library_slots::return_stands(script, library, pool, pairs, w, order, n, first, end)
 }
 
 // Records.
@@ -401,7 +398,8 @@ pub fn library_fault<'a>(script: &'a [u8], library: &'a [u8], words: &[u32]) -> 
     let Reading::At(_, _) = f else {
         return reader::conclude(f);
     };
-    let sums = library_slots::slot_sums(pool);
+    let mut sums = [0u16; 8193];
+    library_slots::slot_sums(pool, &mut sums);
     let mut order = [0u16; 8192];
     let n = library_slots::named_slots(script, library, words, pool, &sums, &mut order);
     let g = packages(script, library, words, pool, &sums, &order, n, count, f);

@@ -2,22 +2,23 @@
 use Prim.Native.Nat.{ℕ, _+_, _-_, _*_, _%_, _≤_, _<_, min}
 use mathlib.Core.Path.{_≡_, refl, sym, ap, ap₂, _∙_}
 use mathlib.Core.Logic.{_⊎_, inl, inr}
-use mathlib.Core.Bool.{Bool, true, false, true≢false}
+use mathlib.Core.Bool.{Bool, true, false, not, true≢false}
 use mathlib.Core.List.{List, [], _∷_}
 use native.Mathlib.Omega.{arith}
 use native.Mathlib.Decide.{ℕ-discrete, decLt}
-use lib.ListN.{length, getD, set, length-set}
+use lib.ListN.{length, getD, set, replicate, length-set}
 use lib.Seq.{getD-set-same, getD-set-other}
 use lib.Dec.{eqb}
 use borrow.Author.Tests.{lt-ltb, le-ltb, le-leb, lt-leb, eq-eqb, ne-eqb}
 use Rattle.tok.specs.Word.{kindOf}
-use Rattle.tok.specs.Text.{Texts}
+use Rattle.tok.specs.Text.{Texts, nameBytes}
 use Rattle.library.specs.SlotSums.{zeros}
-use Rattle.library.specs.SlotMarks.{markInside, markAll, spread}
-use Rattle.library.specs.ReturnSlots.{reachedFrom}
+use Rattle.library.specs.SlotMarks.{markInside, markAll, spread, anyMarked}
+use Rattle.library.specs.ReturnSlots.{amongMarked, missing, reachedFrom}
+use Rattle.library_slots.proofs.NameWays.{return-slot, return-other}
 use Rattle.name_order.specs.Order.{placeIn, nameOf, Listed, Grouped, Grouping, GroupEnd}
 use Rattle.name_order.specs.OrderLaws.{Begins, begins-first, begins-next, group-is}
-use Rattle.library_slots.specs.Named.{ofPairs, inPool, argued, wanted, Told, Had, Lacks, NamesStand, SlotsListed, SlotsNamed}
+use Rattle.library_slots.specs.Named.{ofPairs, inPool, argued, wanted, Told, Had, Lacks, NamesStand, ReturnAsked, SlotsListed, SlotsNamed}
 
 -- ── Tests of a place ──
 
@@ -151,17 +152,34 @@ module _ {order : List ℕ} {n : ℕ} {have want : ℕ → Bool} where
             };
           }
 
+-- ── The return type ──
+
+pub zeros-are : replicate 8192 0 ≡ zeros 8192
+unfolding zeros
+zeros-are = refl
+
 -- the marks as the code sets them
-pub named-marks : (t : Texts) (words order types args : List ℕ) (ret n first end : ℕ) (r : Bool) (none marked reached none′ marked′ reached′ : List ℕ)
-    → none ≡ zeros 8192 → marked ≡ markAll types args none → reached ≡ spread types (length types) marked
-    → none′ ≡ zeros 8192 → marked′ ≡ markInside types ret none′ → reached′ ≡ spread types (length types) marked′
-    → NamesStand t words order n (argued (length types) reached first end) (wanted (length types) reached′ end) r
-    → NamesStand t words order n (argued (length types) (reachedFrom types args) first end) (wanted (length types) (reachedFrom types (ret ∷ [])) end) r
-unfolding markAll
-named-marks t words order types args ret n first end r none marked reached none′ marked′ reached′ e0 e1 e2 f0 f1 f2 h =
-    let a : reached ≡ reachedFrom types args = e2 ∙ ap (spread types (length types)) (e1 ∙ ap (markAll types args) e0) in
-    let b : reached′ ≡ reachedFrom types (ret ∷ []) = f2 ∙ ap (spread types (length types)) (f1 ∙ ap (markInside types ret) f0) in
-    rw (← a, ← b) h
+module _ (t : Texts) (types args : List ℕ) (ret : ℕ) (order : List ℕ) (n first end : ℕ) (r : Bool) (none marked reached none′ marked′ reached′ : List ℕ)
+    (e0 : none ≡ zeros 8192) (e1 : marked ≡ markAll types args none) (e2 : reached ≡ spread types (length types) marked)
+    (f0 : none′ ≡ zeros 8192) (f1 : marked′ ≡ markInside types ret none′) (f2 : reached′ ≡ spread types (length types) marked′) where
+  reached-args : reached ≡ reachedFrom types args
+  reached-args = e2 ∙ ap (spread types (length types)) (e1 ∙ ap (markAll types args) e0)
+
+  reached-ret : reached′ ≡ reachedFrom types (ret ∷ [])
+  unfolding markAll
+  reached-ret = f2 ∙ ap (spread types (length types)) (f1 ∙ ap (markInside types ret) f0)
+
+  pub asked-named : 0 < n → ((words : List ℕ) → Grouped t words order n
+      → NamesStand t words order n (argued (length types) reached first end) (wanted (length types) reached′ end) r) → ReturnAsked t types args ret order n first end r
+  asked-named l h = record { named = λ words z g. rw (← reached-args, ← reached-ret) (h words g); plain = λ z. absurd (omega arith) }
+
+  module _ (z : n ≤ 0) {k : ℕ} (ek : k ≡ kindOf ret) where
+    pub asked-slot : k ≡ 10 → r ≡ amongMarked t types args reached (nameBytes t ret) → ReturnAsked t types args ret order n first end r
+    asked-slot e er = record { named = λ words l. absurd (omega arith); plain = λ _. return-slot t types args ret ek e0 e1 e2 e er }
+
+    pub asked-other : (k ≡ 10 → ⊥) → {s : Bool} → s ≡ anyMarked reached′ (λ i. missing t types args reached (getD types i 0)) (length types) → r ≡ not s
+        → ReturnAsked t types args ret order n first end r
+    asked-other d es er = record { named = λ words l. absurd (omega arith); plain = λ _. er ∙ return-other t types args ret ek e0 e1 e2 d f0 f1 f2 es }
 
 -- ── The slots of a library ──
 

@@ -11,7 +11,7 @@ use borrow.Author.Tests.{ne-eqb}
 use Rattle.tok.specs.Word.{kindOf, payloadOf}
 use Rattle.ptype.specs.Words.{fieldCount}
 use Rattle.ptype.specs.Kinds.{wraps}
-use Rattle.library.specs.SlotSums.{slotBy, slotBy-wrap, slotBy-record, zeros, addSum, sumsTo, sums-small, length-sumsTo}
+use Rattle.library.specs.SlotSums.{slotBy, slotBy-wrap, slotBy-record, zeros, length-zeros, addSum, sumsTo, sums-small, length-sumsTo}
 
 pub wraps-first : (k : ℕ) → k ≡ 6 → eqb k 6 ≡ wraps k
 wraps-first k e = rw e refl
@@ -50,6 +50,9 @@ at-most false e = omega arith
 sumsTo-next : (types : List ℕ) (i : ℕ) → sumsTo types (i + 1) ≡ addSum types i (sumsTo types i)
 unfolding sumsTo
 sumsTo-next types i = rw (add-one i) refl
+
+pub sums-zero : {sums : List ℕ} → sums ≡ zeros 8193 → 8193 ≡ length sums
+sums-zero e = sym (ap length e ∙ length-zeros 8193)
 
 module _ {types : List ℕ} where
   pub summed-none : {sums : List ℕ} {end : ℕ} (n : ℕ) → sums ≡ zeros 8193 → end ≡ min n 8192 → Summed types sums end 0

@@ -3,11 +3,12 @@
 use Prim.Native.Nat.{ℕ, _+_, _-_, _%_, _≤_, _<_}
 use mathlib.Core.Path.{_≡_}
 use mathlib.Core.Bool.{Bool, true, false, _&&_, _||_}
-use mathlib.Core.List.{List}
+use mathlib.Core.List.{List, [], _∷_}
 use lib.ListN.{length, getD}
 use lib.Dec.{eqb, leb, ltb}
 use Rattle.tok.specs.Word.{kindOf}
 use Rattle.tok.specs.Text.{Texts}
+use Rattle.library.specs.ReturnSlots.{reachedFrom, standsBy}
 use Rattle.name_order.specs.Order.{placeIn, nameOf, Listed, Grouped}
 
 -- "name and type for each argument": the word at p is a type of the pairs from `first` up to `end`
@@ -66,3 +67,9 @@ pub record SlotsListed (words order : List ℕ) (n : ℕ) : Type 0 where
 pub record SlotsNamed (t : Texts) (words order : List ℕ) (n : ℕ) : Type 0 where
   pub listed : SlotsListed words order n
   pub grouped : Grouped t words order n
+
+-- "a slot of the return type stands in some argument": `r` says so, by the order of names, or by the names themselves where there is none
+pub record ReturnAsked (t : Texts) (types args : List ℕ) (ret : ℕ) (order : List ℕ) (n first end : ℕ) (r : Bool) : Type 0 where
+  pub named : (words : List ℕ) → 0 < n → Grouped t words order n
+      → NamesStand t words order n (argued (length types) (reachedFrom types args) first end) (wanted (length types) (reachedFrom types (ret ∷ [])) end) r
+  pub plain : n ≡ 0 → r ≡ standsBy t types args ret

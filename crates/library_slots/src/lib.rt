@@ -3,7 +3,7 @@
 // with every level.
 ghost use mathlib.Core.Path.{_≡_};
 ghost use mathlib.Core.Bool.{cond};
-ghost use mathlib.Core.List.{List, [], _∷_};
+ghost use mathlib.Core.List.{List};
 ghost use Prim.Native.Nat.{ℕ, _+_, _*_, _≤_, _<_, _^_, min};
 ghost use lib.ListN.{length, getD, set};
 ghost use lib.Dec.{eqb};
@@ -11,9 +11,9 @@ ghost use Rattle.tok.specs.Text.{Texts, textsOf, nameBytes};
 ghost use Rattle.ptype.specs.Kinds.{wraps};
 ghost use Rattle.library.specs.SlotSums.{slotBy, zeros, sumsTo};
 ghost use Rattle.library.specs.SlotMarks.{markFields, markInside, markAll, spread, anyMarked, isSlot, anySlotOf, typesIn};
-ghost use Rattle.library.specs.ReturnSlots.{amongMarked, missing, reachedFrom, standsBy};
+ghost use Rattle.library.specs.ReturnSlots.{amongMarked, missing};
 ghost use Rattle.name_order.specs.Order.{Grouped};
-ghost use Rattle.library_slots.specs.Named.{ofPairs, inPool, argued, wanted, Told, NamesStand, SlotsListed, SlotsNamed};
+ghost use Rattle.library_slots.specs.Named.{ofPairs, inPool, argued, wanted, Told, NamesStand, ReturnAsked, SlotsListed, SlotsNamed};
 
 // Option and Array.
 fn wraps(k: u32) -> bool
@@ -62,36 +62,21 @@ fn least(a: usize, b: usize) -> usize
     if a <= b { a } else { b }
 }
 
-// A count for each pool index and one for the end.
-fn no_sums() -> [u16; 8193]
-    ensures { λ r. ⌜ r ≡ zeros 8193 ⌝ }
-{
-    [0u16; 8193]
-}
-
-// The counts of a pool of at most 8,192 words: one pass, since a word refers to smaller indices.
-pub fn slot_sums(pool: &[u32]) -> [u16; 8193]
-    ensures { λ r. ⌜ r ≡ sumsTo (now (pool .entry)) (min (length (now (pool .entry))) 8192) ⌝ }
+// The counts of a pool of at most 8,192 words, one for each index and one for the end: one pass, since a word refers to smaller indices.
+pub fn slot_sums(pool: &[u32], sums: &mut [u16])
+    requires { ⌜ now sums ≡ zeros 8193 ⌝ }
+    ensures { λ _. ⌜ now (sums .exit) ≡ sumsTo (now (pool .entry)) (min (length (now (pool .entry))) 8192) ⌝ }
 {
     let end = least(pool.len(), 8192);
-    let mut sums = no_sums();
     let mut i = 0;
     while i < end {
-        let more = one_if(has_slot(pool, &sums, tok::word_at(pool, i)));
+        let more = one_if(has_slot(pool, sums, tok::word_at(pool, i)));
         sums[i + 1] = sums[i] + more;
         i += 1;
     }
-    sums
 }
 
 // Marks.
-
-// A mark for each pool index.
-fn no_marks() -> [u8; 8192]
-    ensures { λ r. ⌜ r ≡ zeros 8192 ⌝ }
-{
-    [0u8; 8192]
-}
 
 fn mark(marks: &mut [u8], i: usize)
     ensures { λ _. ⌜ now (marks .exit) ≡ set (now (marks .entry)) i 1 ⌝ }
@@ -271,29 +256,7 @@ fn any_missing<'a>(
     false
 }
 
-// Whether each slot of the return type stands in an argument.
-pub fn return_stands<'a>(
-    script: &'a [u8],
-    library: &'a [u8],
-    pool: &[u32],
-    pairs: &[u32],
-    ret: u32,
-) -> bool
-    ensures { λ r. let T : Texts = textsOf (now (script .entry)) (now (library .entry)) in ⌜ r ≡ standsBy T (now (pool .entry)) (typesIn (now (pairs .entry))) ret ⌝ }
-{
-    let mut args = no_marks();
-    mark_types(pool, pairs, &mut args);
-    spread(pool, &mut args);
-    if tok::kind(ret) == ptype::SLOT {
-        return among(script, library, pool, pairs, &args, ret);
-    }
-    let mut marks = no_marks();
-    mark_inside(pool, ret, &mut marks);
-    spread(pool, &mut marks);
-    !any_missing(script, library, pool, pairs, &args, &marks)
-}
-
-// The same by names in order: each slot's name once for a library, and not for each function.
+// Names in order: slots are compared once for a library, and not for each function.
 
 // Whether the word at a place is the type of a pair, where pairs stand from `first` up to `end`.
 fn of_pairs(first: usize, end: usize, p: usize) -> bool
@@ -403,8 +366,11 @@ fn names_stand(
     true
 }
 
-// Whether each slot of the return type stands in an argument, where the arguments' pairs stand from place `first` on and the return type at `end`.
-pub fn return_named(
+// Whether each slot of the return type stands in an argument, where the arguments' pairs stand from place `first` on and the return type at `end`:
+// by the library's n slots in order, or by name where there are none.
+pub fn return_stands<'a>(
+    script: &'a [u8],
+    library: &'a [u8],
     pool: &[u32],
     pairs: &[u32],
     ret: u32,
@@ -413,17 +379,22 @@ pub fn return_named(
     first: usize,
     end: usize,
 ) -> bool
-    ensures { λ r. let P : List ℕ = now (pool .entry) in
-        ⌜ ((t : Texts) (words : List ℕ) → Grouped t words (now (order .entry)) n
-        → NamesStand t words (now (order .entry)) n (argued (length P) (reachedFrom P (typesIn (now (pairs .entry)))) first end) (wanted (length P) (reachedFrom P (ret ∷ [])) end) r) ⌝ }
+    ensures { λ r. let T : Texts = textsOf (now (script .entry)) (now (library .entry)) in let P : List ℕ = now (pool .entry) in
+        ⌜ ReturnAsked T P (typesIn (now (pairs .entry))) ret (now (order .entry)) n first end r ⌝ }
 {
-    let mut args = no_marks();
+    let mut args = [0u8; 8192];
     mark_types(pool, pairs, &mut args);
     spread(pool, &mut args);
-    let mut marks = no_marks();
+    let mut marks = [0u8; 8192];
     mark_inside(pool, ret, &mut marks);
     spread(pool, &mut marks);
-    names_stand(order, n, pool.len(), &args, &marks, first, end)
+    if n > 0 {
+        return names_stand(order, n, pool.len(), &args, &marks, first, end);
+    }
+    if tok::kind(ret) == ptype::SLOT {
+        return among(script, library, pool, pairs, &args, ret);
+    }
+    !any_missing(script, library, pool, pairs, &args, &marks)
 }
 
 // The places of the slots in a library, from the pool on, and how many there are.

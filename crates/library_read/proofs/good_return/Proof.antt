@@ -1,5 +1,5 @@
 -- `library_read::good_return` meets its contract: a law for each way out; the counts tell whether there are slots, the marks which. Assumes nothing.
-use Rattle.library_read.proofs.SignatureWays.{return-bad, return-none, return-named, return-stands}
+use Rattle.library_read.proofs.SignatureWays.{return-bad, return-none, return-asked}
 use borrow.Author.Needs.{needs}
 use Rattle.library_read.proofs.good_return.Statement.{statement}
 use Rattle.library_read.proofs.good_return.Tie as tie
@@ -16,17 +16,11 @@ has-slot-requires c κs = search needs
 returns-2 : tie.Need-returns-2
 returns-2 c = λ ws r o f q. return-none _ _ _ r _ _ _ (c .before .before .before .good-signature-type .ensures _ r) (c .before .before .if1 .left) (c .before .has-slot .ensures) f (c .if2 .taken)
 
-return-named-requires : tie.Need-return-named-requires
-return-named-requires c κs = search needs
-
-returns-3 : tie.Need-returns-3
-returns-3 c = λ ws r o f q. return-named _ _ _ r _ _ _ (c .before .before .before .before .before .good-signature-type .ensures _ r) (c .before .before .before .before .if1 .left) (c .before .before .before .has-slot .ensures) f ws _ _ _ _ o q (c .before .if3 .taken) (c .return-named .ensures _ ws (o .named (c .before .if3 .taken) .grouped))
-
 return-stands-requires : tie.Need-return-stands-requires
 return-stands-requires c κs = search needs
 
-returns-4 : tie.Need-returns-4
-returns-4 c = λ ws r o f q. return-stands _ _ _ r _ _ _ (c .before .before .before .before .before .good-signature-type .ensures _ r) (c .before .before .before .before .if1 .left) (c .before .before .before .has-slot .ensures) f (c .return-stands .ensures)
+returns-3 : tie.Need-returns-3
+returns-3 c = λ ws r o f q. return-asked _ _ _ r _ _ _ (c .before .before .before .before .good-signature-type .ensures _ r) (c .before .before .before .if1 .left) (c .before .before .has-slot .ensures) f ws _ _ _ _ o q (c .return-stands .ensures)
 
 pub good-return-spec : {M : Type 1} → statement M
 good-return-spec =
@@ -36,7 +30,5 @@ good-return-spec =
     returns
     has-slot-requires
     returns-2
-    return-named-requires
-    returns-3
     return-stands-requires
-    returns-4)
+    returns-3)

@@ -1,7 +1,7 @@
 -- `library_read::library_fault` meets its contract: a fault of the pool ends all; else the pool is ready, and the packages are read. Assumes nothing.
 use mathlib.Core.Path.{sym, _∙_}
 use native.Mathlib.Omega.{arith}
-use Rattle.library_read.proofs.LibraryWays.{sums-long, pool-faults, pool-at, pool-ready, library-is}
+use Rattle.library_read.proofs.LibraryWays.{zeros-are, sums-long, pool-faults, pool-at, pool-ready, library-is}
 use borrow.Author.Needs.{needs}
 use Rattle.library_read.proofs.library_fault.Statement.{statement}
 use Rattle.library_read.proofs.library_fault.Tie as tie
@@ -48,11 +48,14 @@ conclude-requires c κs = search needs
 returns : tie.Need-returns
 returns c = pool-faults _ _ _ _ _ _ _ _ _ _ _ (c .before .before .before .before .before .before .before .before .before .before .before .begin .ensures) (c .before .before .before .before .before .before .before .before .before .before .next-word .ensures) (c .before .before .before .before .before .before .before .before .before .wide .ensures) (c .before .before .before .before .before .before .before .before .owing .ensures) (c .before .before .before .before .before .before .before .next-word2 .ensures) (c .before .before .before .before .before .before .wide2 .ensures) (c .before .before .before .before .before .owing2 .ensures) (c .before .before .before .before .pool .ensures) (c .before .before .before .pool-words .ensures _) _ (c .before .enum-told2 .given .1) ∙ sym (c .conclude .ensures)
 
+slice-aggregate-slot-sums : tie.Need-slice-aggregate-slot-sums
+slice-aggregate-slot-sums c = search needs
+
 slot-sums-requires : tie.Need-slot-sums-requires
-slot-sums-requires c κs = search needs
+slot-sums-requires c κs = zeros-are
 
 slice-aggregate-named-slots : tie.Need-slice-aggregate-named-slots
-slice-aggregate-named-slots c = sums-long _ _ (c .before .slot-sums .ensures)
+slice-aggregate-named-slots c = sums-long _ _ (c .before .before .slot-sums .ensures)
 
 slice-aggregate-named-slots-2 : tie.Need-slice-aggregate-named-slots-2
 slice-aggregate-named-slots-2 c = search needs
@@ -61,7 +64,7 @@ named-slots-requires : tie.Need-named-slots-requires
 named-slots-requires c κs = search needs
 
 slice-aggregate-packages : tie.Need-slice-aggregate-packages
-slice-aggregate-packages c = sums-long _ _ (c .before .before .before .before .before .slot-sums .ensures)
+slice-aggregate-packages c = sums-long _ _ (c .before .before .before .before .before .before .slot-sums .ensures)
 
 slice-aggregate-packages-2 : tie.Need-slice-aggregate-packages-2
 slice-aggregate-packages-2 c = sym (c .before .before .before .named-slots .kept .1 .1 .1 .1 .1 .0)
@@ -76,8 +79,8 @@ conclude-requires-2 : tie.Need-conclude-requires-2
 conclude-requires-2 c κs = search needs
 
 returns-2 : tie.Need-returns-2
-returns-2 c = library-is _ _ _ _ _ _ _ _ _ _ _ (c .before .before .before .before .before .before .before .before .before .before .before .before .before .before .before .before .before .before .before .before .begin .ensures) (c .before .before .before .before .before .before .before .before .before .before .before .before .before .before .before .before .before .before .before .next-word .ensures) (c .before .before .before .before .before .before .before .before .before .before .before .before .before .before .before .before .before .before .wide .ensures) (c .before .before .before .before .before .before .before .before .before .before .before .before .before .before .before .before .before .owing .ensures) (c .before .before .before .before .before .before .before .before .before .before .before .before .before .before .before .before .next-word2 .ensures) (c .before .before .before .before .before .before .before .before .before .before .before .before .before .before .before .wide2 .ensures) (c .before .before .before .before .before .before .before .before .before .before .before .before .before .before .owing2 .ensures) (c .before .before .before .before .before .before .before .before .before .before .before .before .before .pool .ensures) (c .before .before .before .before .before .before .before .before .before .before .before .before .pool-words .ensures _) _ _ (c .before .before .before .before .before .before .before .before .before .before .enum-told .given .1) _ _ _
-    (c .before .before .packages .ensures (pool-ready _ _ _ _ _ _ _ _ _ _ _ (c .before .before .before .before .before .before .before .before .before .before .before .before .before .before .before .before .before .before .before .before .begin .ensures) (c .before .before .before .before .before .before .before .before .before .before .before .before .before .before .before .before .before .before .before .next-word .ensures) (c .before .before .before .before .before .before .before .before .before .before .before .before .before .before .before .before .before .before .wide .ensures) (c .before .before .before .before .before .before .before .before .before .before .before .before .before .before .before .before .before .owing .ensures) (c .before .before .before .before .before .before .before .before .before .before .before .before .before .before .before .before .next-word2 .ensures) (c .before .before .before .before .before .before .before .before .before .before .before .before .before .before .before .wide2 .ensures) (c .before .before .before .before .before .before .before .before .before .before .before .before .before .before .owing2 .ensures) (c .before .before .before .before .before .before .before .before .before .before .before .before .before .pool .ensures) (c .before .before .before .before .before .before .before .before .before .before .before .before .pool-words .ensures _) _ _ (c .before .before .before .before .before .before .before .before .before .before .enum-told .given .1) _ (c .before .before .before .before .before .before .before .before .before .slot-sums .ensures)) (record { there = pool-at _ _ _ _ _ _ _ _ _ _ _ (c .before .before .before .before .before .before .before .before .before .before .before .before .before .before .before .before .before .before .before .before .begin .ensures) (c .before .before .before .before .before .before .before .before .before .before .before .before .before .before .before .before .before .before .before .next-word .ensures) (c .before .before .before .before .before .before .before .before .before .before .before .before .before .before .before .before .before .before .wide .ensures) (c .before .before .before .before .before .before .before .before .before .before .before .before .before .before .before .before .before .owing .ensures) (c .before .before .before .before .before .before .before .before .before .before .before .before .before .before .before .before .next-word2 .ensures) (c .before .before .before .before .before .before .before .before .before .before .before .before .before .before .before .wide2 .ensures) (c .before .before .before .before .before .before .before .before .before .before .before .before .before .before .owing2 .ensures) (c .before .before .before .before .before .before .before .before .before .before .before .before .before .pool .ensures) (c .before .before .before .before .before .before .before .before .before .before .before .before .pool-words .ensures (c .before .before .before .before .before .before .before .before .before .before .before .before .before .before .before .before .before .before .before .before .before .before .before .before .args .script .now)) _ _ (c .before .before .before .before .before .before .before .before .before .before .enum-told .given .1); named = λ z. c .before .before .before .before .before .before .named-slots .ensures (omega arith) z })) (c .before .ends .ensures)
+returns-2 c = library-is _ _ _ _ _ _ _ _ _ _ _ (c .before .before .before .before .before .before .before .before .before .before .before .before .before .before .before .before .before .before .before .before .before .before .begin .ensures) (c .before .before .before .before .before .before .before .before .before .before .before .before .before .before .before .before .before .before .before .before .before .next-word .ensures) (c .before .before .before .before .before .before .before .before .before .before .before .before .before .before .before .before .before .before .before .before .wide .ensures) (c .before .before .before .before .before .before .before .before .before .before .before .before .before .before .before .before .before .before .before .owing .ensures) (c .before .before .before .before .before .before .before .before .before .before .before .before .before .before .before .before .before .before .next-word2 .ensures) (c .before .before .before .before .before .before .before .before .before .before .before .before .before .before .before .before .before .wide2 .ensures) (c .before .before .before .before .before .before .before .before .before .before .before .before .before .before .before .before .owing2 .ensures) (c .before .before .before .before .before .before .before .before .before .before .before .before .before .before .before .pool .ensures) (c .before .before .before .before .before .before .before .before .before .before .before .before .before .before .pool-words .ensures _) _ _ (c .before .before .before .before .before .before .before .before .before .before .before .before .enum-told .given .1) _ _ _
+    (c .before .before .packages .ensures (pool-ready _ _ _ _ _ _ _ _ _ _ _ (c .before .before .before .before .before .before .before .before .before .before .before .before .before .before .before .before .before .before .before .before .before .before .begin .ensures) (c .before .before .before .before .before .before .before .before .before .before .before .before .before .before .before .before .before .before .before .before .before .next-word .ensures) (c .before .before .before .before .before .before .before .before .before .before .before .before .before .before .before .before .before .before .before .before .wide .ensures) (c .before .before .before .before .before .before .before .before .before .before .before .before .before .before .before .before .before .before .before .owing .ensures) (c .before .before .before .before .before .before .before .before .before .before .before .before .before .before .before .before .before .before .next-word2 .ensures) (c .before .before .before .before .before .before .before .before .before .before .before .before .before .before .before .before .before .wide2 .ensures) (c .before .before .before .before .before .before .before .before .before .before .before .before .before .before .before .before .owing2 .ensures) (c .before .before .before .before .before .before .before .before .before .before .before .before .before .before .before .pool .ensures) (c .before .before .before .before .before .before .before .before .before .before .before .before .before .before .pool-words .ensures _) _ _ (c .before .before .before .before .before .before .before .before .before .before .before .before .enum-told .given .1) _ (c .before .before .before .before .before .before .before .before .before .before .slot-sums .ensures)) (record { there = pool-at _ _ _ _ _ _ _ _ _ _ _ (c .before .before .before .before .before .before .before .before .before .before .before .before .before .before .before .before .before .before .before .before .before .before .begin .ensures) (c .before .before .before .before .before .before .before .before .before .before .before .before .before .before .before .before .before .before .before .before .before .next-word .ensures) (c .before .before .before .before .before .before .before .before .before .before .before .before .before .before .before .before .before .before .before .before .wide .ensures) (c .before .before .before .before .before .before .before .before .before .before .before .before .before .before .before .before .before .before .before .owing .ensures) (c .before .before .before .before .before .before .before .before .before .before .before .before .before .before .before .before .before .before .next-word2 .ensures) (c .before .before .before .before .before .before .before .before .before .before .before .before .before .before .before .before .before .wide2 .ensures) (c .before .before .before .before .before .before .before .before .before .before .before .before .before .before .before .before .owing2 .ensures) (c .before .before .before .before .before .before .before .before .before .before .before .before .before .before .before .pool .ensures) (c .before .before .before .before .before .before .before .before .before .before .before .before .before .before .pool-words .ensures (c .before .before .before .before .before .before .before .before .before .before .before .before .before .before .before .before .before .before .before .before .before .before .before .before .before .before .args .script .now)) _ _ (c .before .before .before .before .before .before .before .before .before .before .before .before .enum-told .given .1); named = λ z. c .before .before .before .before .before .before .named-slots .ensures (omega arith) z })) (c .before .ends .ensures)
     ∙ sym (c .conclude2 .ensures)
 
 pub library-fault-spec : {M : Type 1} → statement M
@@ -98,6 +101,7 @@ library-fault-spec =
     enum-told-2
     conclude-requires
     returns
+    slice-aggregate-slot-sums
     slot-sums-requires
     slice-aggregate-named-slots
     slice-aggregate-named-slots-2

@@ -1,12 +1,10 @@
--- `library_slots::return_stands` meets its contract: the marks of the arguments, and then those of the return type if it is no slot itself.
--- Assumes nothing.
-use Rattle.library_slots.proofs.NameWays.{return-slot, return-other}
+-- `library_slots::return_stands` meets its contract: the marks of the arguments and of the return type, and then their names, in order or one by
+-- one. Assumes nothing.
+use mathlib.Core.Path.{refl}
+use Rattle.library_slots.proofs.NamedWays.{zeros-are, asked-named, asked-slot, asked-other}
 use borrow.Author.Needs.{needs}
 use Rattle.library_slots.proofs.return_stands.Statement.{statement}
 use Rattle.library_slots.proofs.return_stands.Tie as tie
-
-no-marks-requires : tie.Need-no-marks-requires
-no-marks-requires c κs = search needs
 
 slice-aggregate-mark-types : tie.Need-slice-aggregate-mark-types
 slice-aggregate-mark-types c = search needs
@@ -20,21 +18,6 @@ slice-aggregate-spread c = search needs
 spread-requires : tie.Need-spread-requires
 spread-requires c κs = search needs
 
-kind-requires : tie.Need-kind-requires
-kind-requires c κs = search needs
-
-slice-aggregate-among : tie.Need-slice-aggregate-among
-slice-aggregate-among c = search needs
-
-among-requires : tie.Need-among-requires
-among-requires c κs = search needs
-
-returns : tie.Need-returns
-returns c = return-slot _ _ _ _ (c .before .before .before .kind .ensures) (c .before .before .before .before .before .before .before .before .before .before .no-marks .ensures) (c .before .before .before .before .before .before .before .before .mark-types .ensures) (c .before .before .before .before .before .spread .ensures) (c .before .before .if1 .taken) (c .among .ensures)
-
-no-marks-requires-2 : tie.Need-no-marks-requires-2
-no-marks-requires-2 c κs = search needs
-
 slice-aggregate-mark-inside : tie.Need-slice-aggregate-mark-inside
 slice-aggregate-mark-inside c = search needs
 
@@ -47,6 +30,30 @@ slice-aggregate-spread-2 c = search needs
 spread-requires-2 : tie.Need-spread-requires-2
 spread-requires-2 c κs = search needs
 
+slice-aggregate-names-stand : tie.Need-slice-aggregate-names-stand
+slice-aggregate-names-stand c = search needs
+
+slice-aggregate-names-stand-2 : tie.Need-slice-aggregate-names-stand-2
+slice-aggregate-names-stand-2 c = search needs
+
+names-stand-requires : tie.Need-names-stand-requires
+names-stand-requires c κs = search needs
+
+returns : tie.Need-returns
+returns c = asked-named _ _ _ _ _ _ _ _ _ _ _ _ _ _ _ zeros-are (c .before .before .before .before .before .before .before .before .before .before .before .before .before .before .mark-types .ensures) (c .before .before .before .before .before .before .before .before .before .before .before .spread .ensures) zeros-are (c .before .before .before .before .before .before .before .before .mark-inside .ensures) (c .before .before .before .before .before .spread2 .ensures) (c .before .before .before .if1 .taken) (c .names-stand .ensures _)
+
+kind-requires : tie.Need-kind-requires
+kind-requires c κs = search needs
+
+slice-aggregate-among : tie.Need-slice-aggregate-among
+slice-aggregate-among c = search needs
+
+among-requires : tie.Need-among-requires
+among-requires c κs = search needs
+
+returns-2 : tie.Need-returns-2
+returns-2 c = asked-slot _ _ _ _ _ _ _ _ _ _ _ _ _ _ _ zeros-are (c .before .before .before .before .before .before .before .before .before .before .before .before .before .before .before .mark-types .ensures) (c .before .before .before .before .before .before .before .before .before .before .before .before .spread .ensures) zeros-are (c .before .before .before .before .before .before .before .before .before .mark-inside .ensures) (c .before .before .before .before .before .before .spread2 .ensures) (c .before .before .before .before .if1 .left) (c .before .before .before .kind .ensures) (c .before .before .if2 .taken) (c .among .ensures)
+
 slice-aggregate-any-missing : tie.Need-slice-aggregate-any-missing
 slice-aggregate-any-missing c = search needs
 
@@ -56,28 +63,30 @@ slice-aggregate-any-missing-2 c = search needs
 any-missing-requires : tie.Need-any-missing-requires
 any-missing-requires c κs = search needs
 
-returns-2 : tie.Need-returns-2
-returns-2 c = return-other _ _ _ _ (c .before .before .before .before .before .before .before .before .before .before .before .kind .ensures) (c .before .before .before .before .before .before .before .before .before .before .before .before .before .before .before .before .before .before .no-marks .ensures) (c .before .before .before .before .before .before .before .before .before .before .before .before .before .before .before .before .mark-types .ensures) (c .before .before .before .before .before .before .before .before .before .before .before .before .before .spread .ensures) (c .before .before .before .before .before .before .before .before .before .before .if1 .left) (c .before .before .before .before .before .before .before .before .before .no-marks2 .ensures) (c .before .before .before .before .before .before .before .mark-inside .ensures) (c .before .before .before .before .spread2 .ensures) (c .any-missing .ensures)
+returns-3 : tie.Need-returns-3
+returns-3 c = asked-other _ _ _ _ _ _ _ _ _ _ _ _ _ _ _ zeros-are (c .before .before .before .before .before .before .before .before .before .before .before .before .before .before .before .before .mark-types .ensures) (c .before .before .before .before .before .before .before .before .before .before .before .before .before .spread .ensures) zeros-are (c .before .before .before .before .before .before .before .before .before .before .mark-inside .ensures) (c .before .before .before .before .before .before .before .spread2 .ensures) (c .before .before .before .before .before .if1 .left) (c .before .before .before .before .kind .ensures) (c .before .before .before .if2 .left) (c .any-missing .ensures) refl
 
 pub return-stands-spec : {M : Type 1} → statement M
 return-stands-spec =
     tie.close
     (tie.spec
-    no-marks-requires
     slice-aggregate-mark-types
     mark-types-requires
     slice-aggregate-spread
     spread-requires
-    kind-requires
-    slice-aggregate-among
-    among-requires
-    returns
-    no-marks-requires-2
     slice-aggregate-mark-inside
     mark-inside-requires
     slice-aggregate-spread-2
     spread-requires-2
+    slice-aggregate-names-stand
+    slice-aggregate-names-stand-2
+    names-stand-requires
+    returns
+    kind-requires
+    slice-aggregate-among
+    among-requires
+    returns-2
     slice-aggregate-any-missing
     slice-aggregate-any-missing-2
     any-missing-requires
-    returns-2)
+    returns-3)
