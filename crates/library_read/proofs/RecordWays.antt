@@ -259,7 +259,8 @@ module _ {p : Pool} {words : List ℕ} {from : Reading} where
         → onward words c (functionRecord p (functionsFrom words start k)) ≡ gave words f d → FunctionsRead p words from d (k + 1)
     functions-turn d f start es e = record { so-far = rw (add-one k) read; place = λ at least q. rw (add-one k) (there at least q) }
       where
-        reads-all : Reads words (functionsFrom words (placeOf from) (suc k)) (functionsEnd words (placeOf from) (suc k)) (FunctionsShown p [] (functionsFrom words (placeOf from) (suc k))) (onward words from (functionRecords p (suc k) []))
+        reads-all : Reads words (functionsFrom words (placeOf from) (suc k)) (functionsEnd words (placeOf from) (suc k))
+            (FunctionsShown p [] (functionsFrom words (placeOf from) (suc k))) (onward words from (functionRecords p (suc k) []))
         reads-all = reads-onward words from (functionRecords p (suc k) []) (λ least. functions-reads p words (suc k) [] (placeOf from) least (λ z. absurd (omega arith)))
 
         read : onward words from (functionRecords p (suc k) []) ≡ gave words (functionsFrom words (placeOf from) (suc k)) d

@@ -41,7 +41,12 @@ loop-less : tie.Need-loop-less Inv-loop μ-loop
 loop-less c = search needs
 
 loop-again : tie.Need-loop-again Inv-loop μ-loop
-loop-again c = placing-more (c .before .before .before .before .before .before .before .loop .inv) (omega (arith, c .before .before .before .before .before .before .before .before .least2 .ensures)) (omega (arith, c .before .before .before .before .before .before .before .before .before .least .ensures)) (c .before .before .before .enter .ensures) (c .function-end .ensures)
+loop-again c =
+    let c1 = c .before .before .before in
+    let c2 = c1 .before .before .before .before in
+    let c3 = c2 .before in
+    let c4 = c3 .before in
+    placing-more (c2 .loop .inv) (omega (arith, c3 .least2 .ensures)) (omega (arith, c4 .least .ensures)) (c1 .enter .ensures) (c .function-end .ensures)
 
 same-length-2 : tie.Need-same-length-2 Inv-loop μ-loop
 same-length-2 c = c .before .loop .inv .long

@@ -24,7 +24,11 @@ none-slotted-requires : tie.Need-none-slotted-requires
 none-slotted-requires c κs = search needs
 
 returns : tie.Need-returns
-returns c = kept-unslotted _ _ _ _ _ _ (c .before .before .before .before .before .before .function-places .ensures) (c .before .before .before .listed-end .ensures (c .before .before .before .before .before .before .function-places .ensures)) (c .before .none-slotted .ensures) (c .if1 .taken)
+returns c =
+    let c1 = c .before in
+    let c2 = c1 .before .before in
+    let c3 = c2 .before .before .before in
+    kept-unslotted _ _ _ _ _ _ (c3 .function-places .ensures) (c2 .listed-end .ensures (c3 .function-places .ensures)) (c1 .none-slotted .ensures) (c .if1 .taken)
 
 slice-aggregate-group-names : tie.Need-slice-aggregate-group-names
 slice-aggregate-group-names c = sym (c .before .before .before .before .before .before .before .function-places .kept .1 .1 .1 .0)
@@ -33,13 +37,22 @@ group-names-requires : tie.Need-group-names-requires
 group-names-requires c κs = search needs
 
 slice-aggregate-first-fault : tie.Need-slice-aggregate-first-fault
-slice-aggregate-first-fault c = sym (c .before .before .before .group-names .kept .1 .1 .1 .0 ∙ c .before .before .before .before .before .before .before .before .before .before .before .function-places .kept .1 .1 .1 .0)
+slice-aggregate-first-fault c =
+    let c1 = c .before .before .before in
+    let c2 = c1 .before .before .before .before .before .before .before .before in
+    sym (c1 .group-names .kept .1 .1 .1 .0 ∙ c2 .function-places .kept .1 .1 .1 .0)
 
 first-fault-requires : tie.Need-first-fault-requires
 first-fault-requires c κs = search needs
 
 returns-2 : tie.Need-returns-2
-returns-2 c = kept-grouped _ _ _ _ _ _ (c .before .before .before .before .before .before .before .before .before .before .before .before .function-places .ensures) (c .before .before .before .before .before .before .before .before .before .listed-end .ensures (c .before .before .before .before .before .before .before .before .before .before .before .before .function-places .ensures)) (c .before .before .before .before .group-names .ensures (c .before .before .before .before .before .before .before .before .before .before .before .before .function-places .ensures .few)) (c .first-fault .ensures _ (c .before .before .before .before .group-names .ensures (c .before .before .before .before .before .before .before .before .before .before .before .before .function-places .ensures .few) .grouped (c .before .before .if2 .taken)))
+returns-2 c =
+    let c1 = c .before .before in
+    let c2 = c1 .before .before in
+    let c3 = c2 .before .before .before .before .before in
+    let c4 = c3 .before .before .before in
+    kept-grouped _ _ _ _ _ _ (c4 .function-places .ensures) (c3 .listed-end .ensures (c4 .function-places .ensures)) (c2 .group-names .ensures (c4 .function-places .ensures .few))
+    (c .first-fault .ensures _ (c2 .group-names .ensures (c4 .function-places .ensures .few) .grouped (c1 .if2 .taken)))
 
 returns-3 : tie.Need-returns-3
 returns-3 c = kept-none _ _ _

@@ -37,7 +37,12 @@ loop-less : tie.Need-loop-less Inv-loop μ-loop
 loop-less c = search needs
 
 loop-again : tie.Need-loop-again Inv-loop μ-loop
-loop-again c = none-past (c .before .before .before .before .before .before .before .args .words .now) (c .before .before .before .before .before .before .before .args .order .now) (c .before .before .before .before .before .before .before .args .n) _ (c .before .before .before .before .loop .inv) (c .before .before .place-at .ensures) (c .before .with-slots .ensures) (c .if1 .left)
+loop-again c =
+    let c1 = c .before in
+    let c2 = c1 .before in
+    let c3 = c2 .before .before in
+    let c4 = c3 .before .before .before in
+    none-past (c4 .args .words .now) (c4 .args .order .now) (c4 .args .n) _ (c3 .loop .inv) (c2 .place-at .ensures) (c1 .with-slots .ensures) (c .if1 .left)
 
 returns-2 : tie.Need-returns-2 Inv-loop μ-loop
 returns-2 c = none-yes _ _ _ _ (c .loop-test .left) (c .before .loop .inv)

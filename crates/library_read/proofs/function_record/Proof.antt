@@ -44,10 +44,22 @@ enum-told-2 : tie.Need-enum-told-2
 enum-told-2 c = search needs
 
 returns : tie.Need-returns
-returns c = λ r o h.
-    function-ended _ _ _ _ _ _ _ _ _ _ _ _ _ _ _ (c .before .before .before .before .before .before .before .before .before .before .before .next-word .ensures) (c .before .before .before .before .before .before .before .before .before .before .good-group .ensures _ _ (others-kept _ _ _ (c .before .before .before .before .before .before .before .before .before .before .before .before .before .before .before .before .before .before .args .from) h _ (c .before .before .before .before .before .before .before .before .before .before .before .next-word .ensures))) (c .before .before .before .before .before .before .before .before .before .word .ensures) (c .before .before .before .before .before .before .before .before .next-word2 .ensures)
-    (λ a l q. c .before .before .before .before .before .before .before .good-flag .ensures _ _ (own-kept _ _ _ (c .before .before .before .before .before .before .before .before .before .before .before .before .before .before .before .before .before .before .args .from) h _ (c .before .before .before .before .before .before .before .before .before .before .before .next-word .ensures) _ _ _ (c .before .before .before .before .before .before .before .before .before .word .ensures) (c .before .before .before .before .before .before .before .before .next-word2 .ensures) a l q)) (c .before .before .before .before .before .before .word2 .ensures)
-    (c .before .before .before .before .before .next-word3 .ensures) (c .before .before .before .before .wide .ensures) (c .before .before .before .owing .ensures) (c .before .before .arguments .ensures _ r) (c .enum-told2 .given .1)
+returns c =
+    let c1 = c .before .before in
+    let c2 = c1 .before in
+    let c3 = c2 .before in
+    let c4 = c3 .before in
+    let c5 = c4 .before in
+    let c6 = c5 .before in
+    let c7 = c6 .before in
+    let c8 = c7 .before in
+    let c9 = c8 .before in
+    let c10 = c9 .before in
+    let c11 = c10 .before .before .before .before .before .before .before in
+    λ r o h. function-ended _ _ _ _ _ _ _ _ _ _ _ _ _ _ _ (c10 .next-word .ensures) (c9 .good-group .ensures _ _ (others-kept _ _ _ (c11 .args .from) h _ (c10 .next-word .ensures)))
+    (c8 .word .ensures) (c7 .next-word2 .ensures) (λ a l q. c6 .good-flag .ensures _ _
+    (own-kept _ _ _ (c11 .args .from) h _ (c10 .next-word .ensures) _ _ _ (c8 .word .ensures) (c7 .next-word2 .ensures) a l q)) (c5 .word2 .ensures) (c4 .next-word3 .ensures) (c3 .wide .ensures)
+    (c2 .owing .ensures) (c1 .arguments .ensures _ r) (c .enum-told2 .given .1)
 
 next-word-requires-4 : tie.Need-next-word-requires-4
 next-word-requires-4 c κs = search needs
@@ -68,11 +80,28 @@ word-requires-3 : tie.Need-word-requires-3
 word-requires-3 c κs = search needs
 
 returns-2 : tie.Need-returns-2
-returns-2 c = λ r o h.
-    function-by _ _ _ _ _ _ _ _ _ _ _ _ _ _ _ _ _ _ _ _ (c .before .before .before .before .before .before .before .before .before .before .before .before .before .before .before .before .before .next-word .ensures) (c .before .before .before .before .before .before .before .before .before .before .before .before .before .before .before .before .good-group .ensures _ _ (others-kept _ _ _ (c .before .before .before .before .before .before .before .before .before .before .before .before .before .before .before .before .before .before .before .before .before .before .before .before .args .from) h _ (c .before .before .before .before .before .before .before .before .before .before .before .before .before .before .before .before .before .next-word .ensures))) (c .before .before .before .before .before .before .before .before .before .before .before .before .before .before .before .word .ensures) (c .before .before .before .before .before .before .before .before .before .before .before .before .before .before .next-word2 .ensures)
-    (λ a l q. c .before .before .before .before .before .before .before .before .before .before .before .before .before .good-flag .ensures _ _ (own-kept _ _ _ (c .before .before .before .before .before .before .before .before .before .before .before .before .before .before .before .before .before .before .before .before .before .before .before .before .args .from) h _ (c .before .before .before .before .before .before .before .before .before .before .before .before .before .before .before .before .before .next-word .ensures) _ _ _ (c .before .before .before .before .before .before .before .before .before .before .before .before .before .before .before .word .ensures) (c .before .before .before .before .before .before .before .before .before .before .before .before .before .before .next-word2 .ensures) a l q)) (c .before .before .before .before .before .before .before .before .before .before .before .before .word2 .ensures)
-    (c .before .before .before .before .before .before .before .before .before .before .before .next-word3 .ensures) (c .before .before .before .before .before .before .before .before .before .before .wide .ensures) (c .before .before .before .before .before .before .before .before .before .owing .ensures) (c .before .before .before .before .before .before .before .before .arguments .ensures _ r) (c .before .before .before .before .before .next-word4 .ensures) (c .before .before .before .before .place .ensures) (c .before .before .before .pairs-at .ensures) (c .before .before .place2 .ensures)
-    (λ f q. c .before .good-return .ensures _ r o f q) (c .word3 .ensures)
+returns-2 c =
+    let c1 = c .before in
+    let c2 = c1 .before in
+    let c3 = c2 .before in
+    let c4 = c3 .before in
+    let c5 = c4 .before in
+    let c6 = c5 .before .before .before in
+    let c7 = c6 .before in
+    let c8 = c7 .before in
+    let c9 = c8 .before in
+    let c10 = c9 .before in
+    let c11 = c10 .before in
+    let c12 = c11 .before in
+    let c13 = c12 .before in
+    let c14 = c13 .before in
+    let c15 = c14 .before in
+    let c16 = c15 .before .before .before .before .before .before .before in
+    λ r o h. function-by _ _ _ _ _ _ _ _ _ _ _ _ _ _ _ _ _ _ _ _ (c15 .next-word .ensures) (c14 .good-group .ensures _ _ (others-kept _ _ _ (c16 .args .from) h _ (c15 .next-word .ensures)))
+    (c13 .word .ensures) (c12 .next-word2 .ensures) (λ a l q. c11 .good-flag .ensures _ _
+    (own-kept _ _ _ (c16 .args .from) h _ (c15 .next-word .ensures) _ _ _ (c13 .word .ensures) (c12 .next-word2 .ensures) a l q)) (c10 .word2 .ensures) (c9 .next-word3 .ensures)
+    (c8 .wide .ensures) (c7 .owing .ensures) (c6 .arguments .ensures _ r) (c5 .next-word4 .ensures) (c4 .place .ensures) (c3 .pairs-at .ensures) (c2 .place2 .ensures)
+    (λ f q. c1 .good-return .ensures _ r o f q) (c .word3 .ensures)
 
 pub function-record-spec : {M : Type 1} → statement M
 function-record-spec =

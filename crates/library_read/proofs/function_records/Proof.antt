@@ -44,7 +44,11 @@ enum-told-2 : tie.Need-enum-told-2 Inv-loop μ-loop
 enum-told-2 c = search needs
 
 returns-2 : tie.Need-returns-2 Inv-loop μ-loop
-returns-2 c = λ r o. functions-from _ _ _ _ _ _ (c .before .before .before .before .before .before .before .from .given .1) (functions-ended (c .before .before .before .loop .inv .1 r o) _ _ (omega (arith, c .before .before .before .before .before .wide .ensures)) (c .enum-told2 .given .1))
+returns-2 c =
+    let c1 = c .before .before .before in
+    let c2 = c1 .before .before in
+    let c3 = c2 .before .before in
+    λ r o. functions-from _ _ _ _ _ _ (c3 .from .given .1) (functions-ended (c1 .loop .inv .1 r o) _ _ (omega (arith, c2 .wide .ensures)) (c .enum-told2 .given .1))
 
 function-record-requires : tie.Need-function-record-requires Inv-loop μ-loop
 function-record-requires c κs = search needs
@@ -56,15 +60,21 @@ loop-less : tie.Need-loop-less Inv-loop μ-loop
 loop-less c = omega arith
 
 loop-again : tie.Need-loop-again Inv-loop μ-loop
-loop-again c = (
-  omega arith,
-  λ r o.
-      functions-turn (functions-at (c .before .before .c .given .1) (c .before .before .before .before .before .loop .inv .1 r o)) _ _ _ refl
-      (c .function-record .ensures r o (λ y. functions-kept (functions-at (c .before .before .c .given .1) (c .before .before .before .before .before .loop .inv .1 r o)) _ _ _ _ _ _ refl refl refl (c .before .before .before .before .before .before .kept-up-to .ensures) (ltb-true _ _ y))),
-)
+loop-again c =
+    let c1 = c .before .before in
+    let c2 = c1 .before .before .before in
+    let c3 = c2 .before in (
+      omega arith,
+      λ r o. functions-turn (functions-at (c1 .c .given .1) (c2 .loop .inv .1 r o)) _ _ _ refl
+          (c .function-record .ensures r o (λ y. functions-kept (functions-at (c1 .c .given .1) (c2 .loop .inv .1 r o)) _ _ _ _ _ _ refl refl refl (c3 .kept-up-to .ensures) (ltb-true _ _ y))),
+    )
 
 returns-3 : tie.Need-returns-3 Inv-loop μ-loop
-returns-3 c = λ r o. functions-from _ _ _ _ _ _ (c .before .before .before .before .before .from .given .1) (functions-done (c .before .loop .inv .1 r o) _ (omega (arith, c .before .before .before .wide .ensures)))
+returns-3 c =
+    let c1 = c .before in
+    let c2 = c1 .before .before in
+    let c3 = c2 .before .before in
+    λ r o. functions-from _ _ _ _ _ _ (c3 .from .given .1) (functions-done (c1 .loop .inv .1 r o) _ (omega (arith, c2 .wide .ensures)))
 
 pub function-records-spec : {M : Type 1} → statement M
 function-records-spec =

@@ -20,7 +20,11 @@ return-stands-requires : tie.Need-return-stands-requires
 return-stands-requires c κs = search needs
 
 returns-3 : tie.Need-returns-3
-returns-3 c = λ ws r o f q. return-asked _ _ _ r _ _ _ (c .before .before .before .before .good-signature-type .ensures _ r) (c .before .before .before .if1 .left) (c .before .before .has-slot .ensures) f ws _ _ _ _ o q (c .return-stands .ensures)
+returns-3 c =
+    let c1 = c .before .before in
+    let c2 = c1 .before in
+    let c3 = c2 .before in
+    λ ws r o f q. return-asked _ _ _ r _ _ _ (c3 .good-signature-type .ensures _ r) (c2 .if1 .left) (c1 .has-slot .ensures) f ws _ _ _ _ o q (c .return-stands .ensures)
 
 pub good-return-spec : {M : Type 1} → statement M
 good-return-spec =

@@ -46,7 +46,19 @@ conclude-requires : tie.Need-conclude-requires
 conclude-requires c κs = search needs
 
 returns : tie.Need-returns
-returns c = pool-faults _ _ _ _ _ _ _ _ _ _ _ (c .before .before .before .before .before .before .before .before .before .before .before .begin .ensures) (c .before .before .before .before .before .before .before .before .before .before .next-word .ensures) (c .before .before .before .before .before .before .before .before .before .wide .ensures) (c .before .before .before .before .before .before .before .before .owing .ensures) (c .before .before .before .before .before .before .before .next-word2 .ensures) (c .before .before .before .before .before .before .wide2 .ensures) (c .before .before .before .before .before .owing2 .ensures) (c .before .before .before .before .pool .ensures) (c .before .before .before .pool-words .ensures _) _ (c .before .enum-told2 .given .1) ∙ sym (c .conclude .ensures)
+returns c =
+    let c1 = c .before in
+    let c2 = c1 .before .before in
+    let c3 = c2 .before in
+    let c4 = c3 .before in
+    let c5 = c4 .before in
+    let c6 = c5 .before in
+    let c7 = c6 .before in
+    let c8 = c7 .before in
+    let c9 = c8 .before in
+    let c10 = c9 .before in
+    pool-faults _ _ _ _ _ _ _ _ _ _ _ (c10 .begin .ensures) (c9 .next-word .ensures) (c8 .wide .ensures) (c7 .owing .ensures) (c6 .next-word2 .ensures) (c5 .wide2 .ensures) (c4 .owing2 .ensures)
+    (c3 .pool .ensures) (c2 .pool-words .ensures _) _ (c1 .enum-told2 .given .1) ∙ sym (c .conclude .ensures)
 
 slice-aggregate-slot-sums : tie.Need-slice-aggregate-slot-sums
 slice-aggregate-slot-sums c = search needs
@@ -79,9 +91,32 @@ conclude-requires-2 : tie.Need-conclude-requires-2
 conclude-requires-2 c κs = search needs
 
 returns-2 : tie.Need-returns-2
-returns-2 c = library-is _ _ _ _ _ _ _ _ _ _ _ (c .before .before .before .before .before .before .before .before .before .before .before .before .before .before .before .before .before .before .before .before .before .before .begin .ensures) (c .before .before .before .before .before .before .before .before .before .before .before .before .before .before .before .before .before .before .before .before .before .next-word .ensures) (c .before .before .before .before .before .before .before .before .before .before .before .before .before .before .before .before .before .before .before .before .wide .ensures) (c .before .before .before .before .before .before .before .before .before .before .before .before .before .before .before .before .before .before .before .owing .ensures) (c .before .before .before .before .before .before .before .before .before .before .before .before .before .before .before .before .before .before .next-word2 .ensures) (c .before .before .before .before .before .before .before .before .before .before .before .before .before .before .before .before .before .wide2 .ensures) (c .before .before .before .before .before .before .before .before .before .before .before .before .before .before .before .before .owing2 .ensures) (c .before .before .before .before .before .before .before .before .before .before .before .before .before .before .before .pool .ensures) (c .before .before .before .before .before .before .before .before .before .before .before .before .before .before .pool-words .ensures _) _ _ (c .before .before .before .before .before .before .before .before .before .before .before .before .enum-told .given .1) _ _ _
-    (c .before .before .packages .ensures (pool-ready _ _ _ _ _ _ _ _ _ _ _ (c .before .before .before .before .before .before .before .before .before .before .before .before .before .before .before .before .before .before .before .before .before .before .begin .ensures) (c .before .before .before .before .before .before .before .before .before .before .before .before .before .before .before .before .before .before .before .before .before .next-word .ensures) (c .before .before .before .before .before .before .before .before .before .before .before .before .before .before .before .before .before .before .before .before .wide .ensures) (c .before .before .before .before .before .before .before .before .before .before .before .before .before .before .before .before .before .before .before .owing .ensures) (c .before .before .before .before .before .before .before .before .before .before .before .before .before .before .before .before .before .before .next-word2 .ensures) (c .before .before .before .before .before .before .before .before .before .before .before .before .before .before .before .before .before .wide2 .ensures) (c .before .before .before .before .before .before .before .before .before .before .before .before .before .before .before .before .owing2 .ensures) (c .before .before .before .before .before .before .before .before .before .before .before .before .before .before .before .pool .ensures) (c .before .before .before .before .before .before .before .before .before .before .before .before .before .before .pool-words .ensures _) _ _ (c .before .before .before .before .before .before .before .before .before .before .before .before .enum-told .given .1) _ (c .before .before .before .before .before .before .before .before .before .before .slot-sums .ensures)) (record { there = pool-at _ _ _ _ _ _ _ _ _ _ _ (c .before .before .before .before .before .before .before .before .before .before .before .before .before .before .before .before .before .before .before .before .before .before .begin .ensures) (c .before .before .before .before .before .before .before .before .before .before .before .before .before .before .before .before .before .before .before .before .before .next-word .ensures) (c .before .before .before .before .before .before .before .before .before .before .before .before .before .before .before .before .before .before .before .before .wide .ensures) (c .before .before .before .before .before .before .before .before .before .before .before .before .before .before .before .before .before .before .before .owing .ensures) (c .before .before .before .before .before .before .before .before .before .before .before .before .before .before .before .before .before .before .next-word2 .ensures) (c .before .before .before .before .before .before .before .before .before .before .before .before .before .before .before .before .before .wide2 .ensures) (c .before .before .before .before .before .before .before .before .before .before .before .before .before .before .before .before .owing2 .ensures) (c .before .before .before .before .before .before .before .before .before .before .before .before .before .before .before .pool .ensures) (c .before .before .before .before .before .before .before .before .before .before .before .before .before .before .pool-words .ensures (c .before .before .before .before .before .before .before .before .before .before .before .before .before .before .before .before .before .before .before .before .before .before .before .before .before .before .args .script .now)) _ _ (c .before .before .before .before .before .before .before .before .before .before .before .before .enum-told .given .1); named = λ z. c .before .before .before .before .before .before .named-slots .ensures (omega arith) z })) (c .before .ends .ensures)
-    ∙ sym (c .conclude2 .ensures)
+returns-2 c =
+    let c1 = c .before in
+    let c2 = c1 .before in
+    let c3 = c2 .before .before .before .before in
+    let c4 = c3 .before .before .before .before in
+    let c5 = c4 .before .before in
+    let c6 = c5 .before .before in
+    let c7 = c6 .before in
+    let c8 = c7 .before in
+    let c9 = c8 .before in
+    let c10 = c9 .before in
+    let c11 = c10 .before in
+    let c12 = c11 .before in
+    let c13 = c12 .before in
+    let c14 = c13 .before in
+    let c15 = c14 .before .before .before .before in
+    library-is _ _ _ _ _ _ _ _ _ _ _ (c14 .begin .ensures) (c13 .next-word .ensures) (c12 .wide .ensures) (c11 .owing .ensures) (c10 .next-word2 .ensures) (c9 .wide2 .ensures)
+    (c8 .owing2 .ensures) (c7 .pool .ensures) (c6 .pool-words .ensures _) _ _ (c5 .enum-told .given .1) _ _ _ (c2 .packages .ensures
+    (pool-ready _ _ _ _ _ _ _ _ _ _ _ (c14 .begin .ensures) (c13 .next-word .ensures) (c12 .wide .ensures) (c11 .owing .ensures)
+    (c10 .next-word2 .ensures) (c9 .wide2 .ensures) (c8 .owing2 .ensures) (c7 .pool .ensures) (c6 .pool-words .ensures _) _ _ (c5 .enum-told .given .1) _ (c4 .slot-sums .ensures))
+    (record {
+      there = pool-at _ _ _ _ _ _ _ _ _ _ _ (c14 .begin .ensures) (c13 .next-word .ensures) (c12 .wide .ensures) (c11 .owing .ensures)
+          (c10 .next-word2 .ensures) (c9 .wide2 .ensures) (c8 .owing2 .ensures) (c7 .pool .ensures) (c6 .pool-words .ensures (c15 .args .script .now)) _ _ (c5 .enum-told .given .1);
+      named = λ z. c3 .named-slots .ensures (omega arith) z;
+    }))
+    (c1 .ends .ensures) ∙ sym (c .conclude2 .ensures)
 
 pub library-fault-spec : {M : Type 1} → statement M
 library-fault-spec =

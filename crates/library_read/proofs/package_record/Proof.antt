@@ -23,7 +23,12 @@ function-records-requires : tie.Need-function-records-requires
 function-records-requires c κs = search needs
 
 returns : tie.Need-returns
-returns c = λ r o. package-by _ _ _ _ _ _ _ _ (c .before .before .before .before .name .ensures) (c .before .before .before .next-word .ensures) (c .before .before .wide .ensures) (c .before .owing .ensures) (c .function-records .ensures r o)
+returns c =
+    let c1 = c .before in
+    let c2 = c1 .before in
+    let c3 = c2 .before in
+    let c4 = c3 .before in
+    λ r o. package-by _ _ _ _ _ _ _ _ (c4 .name .ensures) (c3 .next-word .ensures) (c2 .wide .ensures) (c1 .owing .ensures) (c .function-records .ensures r o)
 
 pub package-record-spec : {M : Type 1} → statement M
 package-record-spec =

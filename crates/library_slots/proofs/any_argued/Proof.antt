@@ -28,7 +28,12 @@ argued-requires : tie.Need-argued-requires Inv-loop μ-loop
 argued-requires c κs = search needs
 
 returns : tie.Need-returns Inv-loop μ-loop
-returns c = told-yes _ _ _ _ _ (c .before .before .before .before .loop .inv .0) (c .before .before .before .loop-test .taken) (c .before .before .place-at .ensures) (c .before .argued .ensures) (c .if1 .taken)
+returns c =
+    let c1 = c .before in
+    let c2 = c1 .before in
+    let c3 = c2 .before in
+    let c4 = c3 .before in
+    told-yes _ _ _ _ _ (c4 .loop .inv .0) (c3 .loop-test .taken) (c2 .place-at .ensures) (c1 .argued .ensures) (c .if1 .taken)
 
 add-i : tie.Need-add-i Inv-loop μ-loop
 add-i c = search needs
@@ -37,7 +42,15 @@ loop-less : tie.Need-loop-less Inv-loop μ-loop
 loop-less c = search needs
 
 loop-again : tie.Need-loop-again Inv-loop μ-loop
-loop-again c = (omega arith, told-past (argued (c .before .before .before .before .before .before .before .args .size) (c .before .before .before .before .before .before .before .args .args .now) (c .before .before .before .before .before .before .before .args .first) (c .before .before .before .before .before .before .before .args .end)) (c .before .before .before .before .before .before .before .args .order .now) _ _ (c .before .before .before .before .loop .inv .1) (c .before .before .place-at .ensures) (c .before .argued .ensures) (c .if1 .left))
+loop-again c =
+    let c1 = c .before in
+    let c2 = c1 .before in
+    let c3 = c2 .before .before in
+    let c4 = c3 .before .before .before in (
+      omega arith,
+      told-past (argued (c4 .args .size) (c4 .args .args .now) (c4 .args .first) (c4 .args .end)) (c4 .args .order .now) _ _ (c3 .loop .inv .1) (c2 .place-at .ensures)
+          (c1 .argued .ensures) (c .if1 .left),
+    )
 
 returns-2 : tie.Need-returns-2 Inv-loop μ-loop
 returns-2 c = told-no _ _ _ _ _ (c .loop-test .left) (c .before .loop .inv .1)

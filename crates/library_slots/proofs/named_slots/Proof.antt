@@ -22,7 +22,11 @@ same-length : tie.Need-same-length
 same-length c = c .before .before .before .group-names .kept .1 .1 .1 .0 ∙ c .before .before .before .before .before .before .before .slot-places .kept .1 .0
 
 returns-2 : tie.Need-returns-2
-returns-2 c = λ l z. slots-named _ _ (c .before .before .before .before .before .before .before .before .before .before .before .before .before .before .before .before .before .args .order .now) _ _ _ _ (c .before .before .before .before .before .before .before .slot-places .ensures l) (λ b. c .before .before .before .group-names .ensures b) (c .before .before .before .before .before .before .before .slot-places .kept .1 .0) l (c .if2 .taken)
+returns-2 c =
+    let c1 = c .before .before .before in
+    let c2 = c1 .before .before .before .before in
+    let c3 = c2 .before .before .before .before .before .before .before .before .before .before in
+    λ l z. slots-named _ _ (c3 .args .order .now) _ _ _ _ (c2 .slot-places .ensures l) (λ b. c1 .group-names .ensures b) (c2 .slot-places .kept .1 .0) l (c .if2 .taken)
 
 same-length-2 : tie.Need-same-length-2
 same-length-2 c = c .before .before .before .group-names .kept .1 .1 .1 .0 ∙ c .before .before .before .before .before .before .before .slot-places .kept .1 .0

@@ -28,13 +28,23 @@ any-argued-requires : tie.Need-any-argued-requires Inv-loop μ-loop
 any-argued-requires c κs = search needs
 
 returns : tie.Need-returns Inv-loop μ-loop
-returns c = λ t w g. stands-lacks (c .before .before .before .before .before .before .loop .inv) t w g (c .before .before .before .before .group-end .ensures) (c .before .before .before .any-wanted .ensures) (c .before .before .if1 .taken) (c .before .any-argued .ensures) (not-true _ (c .if2 .taken))
+returns c =
+    let c1 = c .before in
+    let c2 = c1 .before in
+    let c3 = c2 .before in
+    let c4 = c3 .before in
+    let c5 = c4 .before .before in
+    λ t w g. stands-lacks (c5 .loop .inv) t w g (c4 .group-end .ensures) (c3 .any-wanted .ensures) (c2 .if1 .taken) (c1 .any-argued .ensures) (not-true _ (c .if2 .taken))
 
 loop-less : tie.Need-loop-less Inv-loop μ-loop
 loop-less c = omega (arith, c .before .before .before .before .group-end .ensures .after, c .before .before .before .before .group-end .ensures .within)
 
 loop-again : tie.Need-loop-again Inv-loop μ-loop
-loop-again c = stands-had (c .before .before .before .before .before .before .loop .inv) (c .before .before .before .before .group-end .ensures) (c .before .any-argued .ensures) (not-false _ (c .if2 .left))
+loop-again c =
+    let c1 = c .before in
+    let c2 = c1 .before .before .before in
+    let c3 = c2 .before .before in
+    stands-had (c3 .loop .inv) (c2 .group-end .ensures) (c1 .any-argued .ensures) (not-false _ (c .if2 .left))
 
 loop-less-2 : tie.Need-loop-less-2 Inv-loop μ-loop
 loop-less-2 c = omega (arith, c .before .before .group-end .ensures .after, c .before .before .group-end .ensures .within)

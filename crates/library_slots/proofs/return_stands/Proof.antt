@@ -40,7 +40,14 @@ names-stand-requires : tie.Need-names-stand-requires
 names-stand-requires c κs = search needs
 
 returns : tie.Need-returns
-returns c = asked-named _ _ _ _ _ _ _ _ _ _ _ _ _ _ _ zeros-are (c .before .before .before .before .before .before .before .before .before .before .before .before .before .before .mark-types .ensures) (c .before .before .before .before .before .before .before .before .before .before .before .spread .ensures) zeros-are (c .before .before .before .before .before .before .before .before .mark-inside .ensures) (c .before .before .before .before .before .spread2 .ensures) (c .before .before .before .if1 .taken) (c .names-stand .ensures _)
+returns c =
+    let c1 = c .before .before .before in
+    let c2 = c1 .before .before in
+    let c3 = c2 .before .before .before in
+    let c4 = c3 .before .before .before in
+    let c5 = c4 .before .before .before in
+    asked-named _ _ _ _ _ _ _ _ _ _ _ _ _ _ _ zeros-are (c5 .mark-types .ensures) (c4 .spread .ensures) zeros-are (c3 .mark-inside .ensures) (c2 .spread2 .ensures) (c1 .if1 .taken)
+    (c .names-stand .ensures _)
 
 kind-requires : tie.Need-kind-requires
 kind-requires c κs = search needs
@@ -52,7 +59,16 @@ among-requires : tie.Need-among-requires
 among-requires c κs = search needs
 
 returns-2 : tie.Need-returns-2
-returns-2 c = asked-slot _ _ _ _ _ _ _ _ _ _ _ _ _ _ _ zeros-are (c .before .before .before .before .before .before .before .before .before .before .before .before .before .before .before .mark-types .ensures) (c .before .before .before .before .before .before .before .before .before .before .before .before .spread .ensures) zeros-are (c .before .before .before .before .before .before .before .before .before .mark-inside .ensures) (c .before .before .before .before .before .before .spread2 .ensures) (c .before .before .before .before .if1 .left) (c .before .before .before .kind .ensures) (c .before .before .if2 .taken) (c .among .ensures)
+returns-2 c =
+    let c1 = c .before .before in
+    let c2 = c1 .before in
+    let c3 = c2 .before in
+    let c4 = c3 .before .before in
+    let c5 = c4 .before .before .before in
+    let c6 = c5 .before .before .before in
+    let c7 = c6 .before .before .before in
+    asked-slot _ _ _ _ _ _ _ _ _ _ _ _ _ _ _ zeros-are (c7 .mark-types .ensures) (c6 .spread .ensures) zeros-are (c5 .mark-inside .ensures) (c4 .spread2 .ensures) (c3 .if1 .left)
+    (c2 .kind .ensures) (c1 .if2 .taken) (c .among .ensures)
 
 slice-aggregate-any-missing : tie.Need-slice-aggregate-any-missing
 slice-aggregate-any-missing c = search needs
@@ -64,7 +80,16 @@ any-missing-requires : tie.Need-any-missing-requires
 any-missing-requires c κs = search needs
 
 returns-3 : tie.Need-returns-3
-returns-3 c = asked-other _ _ _ _ _ _ _ _ _ _ _ _ _ _ _ zeros-are (c .before .before .before .before .before .before .before .before .before .before .before .before .before .before .before .before .mark-types .ensures) (c .before .before .before .before .before .before .before .before .before .before .before .before .before .spread .ensures) zeros-are (c .before .before .before .before .before .before .before .before .before .before .mark-inside .ensures) (c .before .before .before .before .before .before .before .spread2 .ensures) (c .before .before .before .before .before .if1 .left) (c .before .before .before .before .kind .ensures) (c .before .before .before .if2 .left) (c .any-missing .ensures) refl
+returns-3 c =
+    let c1 = c .before .before .before in
+    let c2 = c1 .before in
+    let c3 = c2 .before in
+    let c4 = c3 .before .before in
+    let c5 = c4 .before .before .before in
+    let c6 = c5 .before .before .before in
+    let c7 = c6 .before .before .before in
+    asked-other _ _ _ _ _ _ _ _ _ _ _ _ _ _ _ zeros-are (c7 .mark-types .ensures) (c6 .spread .ensures) zeros-are (c5 .mark-inside .ensures) (c4 .spread2 .ensures) (c3 .if1 .left)
+    (c2 .kind .ensures) (c1 .if2 .left) (c .any-missing .ensures) refl
 
 pub return-stands-spec : {M : Type 1} → statement M
 return-stands-spec =

@@ -41,7 +41,14 @@ loop-less : tie.Need-loop-less Inv-loop μ-loop
 loop-less c = search needs
 
 loop-again : tie.Need-loop-again Inv-loop μ-loop
-loop-again c = listing-next (c .before .before .before .before .loop .inv) (c .before .before .before .loop-test .taken) (c .before .before .before .before .before .least .ensures) (c .before .kind .ensures ∙ ap kindOf (c .before .before .word-at .ensures)) (elim (c .if1 .came) [ inl h ↦ inl (h .0 .taken, h .5 ∙ h .2 .ensures, h .6) | inr h ↦ inr (h .0 .left, h .1, h .2) ])
+loop-again c =
+    let c1 = c .before in
+    let c2 = c1 .before in
+    let c3 = c2 .before in
+    let c4 = c3 .before in
+    let c5 = c4 .before in
+    listing-next (c4 .loop .inv) (c3 .loop-test .taken) (c5 .least .ensures) (c1 .kind .ensures ∙ ap kindOf (c2 .word-at .ensures)) (elim
+    (c .if1 .came) [ inl h ↦ inl (h .0 .taken, h .5 ∙ h .2 .ensures, h .6) | inr h ↦ inr (h .0 .left, h .1, h .2) ])
 
 same-length : tie.Need-same-length Inv-loop μ-loop
 same-length c = c .before .loop .inv .long

@@ -54,7 +54,13 @@ loop-less : tie.Need-loop-less Inv-loop μ-loop
 loop-less c = omega arith
 
 loop-again : tie.Need-loop-again Inv-loop μ-loop
-loop-again c = summed-more (c .before .before .before .before .before .before .loop .inv) (c .before .before .before .before .before .loop-test .taken) (c .before .before .before .word-at .ensures) (c .before .before .has-slot .ensures) (c .before .one-if .ensures)
+loop-again c =
+    let c1 = c .before in
+    let c2 = c1 .before in
+    let c3 = c2 .before in
+    let c4 = c3 .before .before in
+    let c5 = c4 .before in
+    summed-more (c5 .loop .inv) (c4 .loop-test .taken) (c3 .word-at .ensures) (c2 .has-slot .ensures) (c1 .one-if .ensures)
 
 same-length : tie.Need-same-length Inv-loop μ-loop
 same-length c = sym (summed-length (c .before .loop .inv)) ∙ sums-zero (c .before .before .before .before .before .pre)

@@ -41,7 +41,11 @@ shared-slice-read-result-2 : tie.Need-shared-slice-read-result-2 Inv-loop μ-loo
 shared-slice-read-result-2 c = search needs
 
 returns-2 : tie.Need-returns-2 Inv-loop μ-loop
-returns-2 c = bytes-differ _ _ _ (c .before .before .before .before .before .before .loop .inv .1) (omega (arith, c .before .before .before .before .before .before .before .before .before .least .ensures)) (omega (arith, c .before .before .before .before .before .before .before .before .before .least .ensures)) (c .before .before .if2 .taken)
+returns-2 c =
+    let c1 = c .before .before in
+    let c2 = c1 .before .before .before .before in
+    let c3 = c2 .before .before .before in
+    bytes-differ _ _ _ (c2 .loop .inv .1) (omega (arith, c3 .least .ensures)) (omega (arith, c3 .least .ensures)) (c1 .if2 .taken)
 
 add-i : tie.Need-add-i Inv-loop μ-loop
 add-i c = search needs
@@ -50,7 +54,10 @@ loop-less : tie.Need-loop-less Inv-loop μ-loop
 loop-less c = search needs
 
 loop-again : tie.Need-loop-again Inv-loop μ-loop
-loop-again c = (omega arith, bytes-same _ _ _ (c .before .before .before .before .loop .inv .1) (omega (arith, c .before .before .before .before .before .before .before .least .ensures)) (omega (arith, c .before .before .before .before .before .before .before .least .ensures)) (c .if2 .left))
+loop-again c =
+    let c1 = c .before .before .before .before in
+    let c2 = c1 .before .before .before in
+    (omega arith, bytes-same _ _ _ (c1 .loop .inv .1) (omega (arith, c2 .least .ensures)) (omega (arith, c2 .least .ensures)) (c .if2 .left))
 
 returns-3 : tie.Need-returns-3 Inv-loop μ-loop
 returns-3 c = bytes-over _ _ _ (c .before .loop .inv .1) _ (c .before .before .before .before .least .ensures) (c .loop-test .left) (c .before .loop .inv .0)

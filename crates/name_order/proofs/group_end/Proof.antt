@@ -36,7 +36,11 @@ loop-less : tie.Need-loop-less Inv-loop μ-loop
 loop-less c = search needs
 
 loop-again : tie.Need-loop-again Inv-loop μ-loop
-loop-again c = (omega arith, omega arith, end-past (c .before .before .before .before .before .args .order .now) _ _ (c .before .before .before .loop .inv .2) _ (c .before .entry-at .ensures) (c .if1 .left))
+loop-again c =
+    let c1 = c .before in
+    let c2 = c1 .before .before in
+    let c3 = c2 .before .before in
+    (omega arith, omega arith, end-past (c3 .args .order .now) _ _ (c2 .loop .inv .2) _ (c1 .entry-at .ensures) (c .if1 .left))
 
 returns-2 : tie.Need-returns-2 Inv-loop μ-loop
 returns-2 c = end-last _ _ _ _ (c .before .loop .inv .0) (c .before .loop .inv .1) (omega arith) (c .before .loop .inv .2)

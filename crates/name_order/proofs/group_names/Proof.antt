@@ -16,10 +16,19 @@ split-requires : tie.Need-split-requires
 split-requires c κs = search needs
 
 same-length : tie.Need-same-length
-same-length c = c .before .before .split .kept .1 .1 .1 .0 ∙ c .before .before .before .before .before .before .take-heap .kept .1 .1 .1 .0 ∙ c .before .before .before .before .before .before .before .before .before .before .make-heap .kept .1 .1 .1 .0
+same-length c =
+    let c1 = c .before .before in
+    let c2 = c1 .before .before .before .before in
+    let c3 = c2 .before .before .before .before in
+    c1 .split .kept .1 .1 .1 .0 ∙ c2 .take-heap .kept .1 .1 .1 .0 ∙ c3 .make-heap .kept .1 .1 .1 .0
 
 returns : tie.Need-returns
-returns c = λ l. grouping-is (c .before .before .before .before .before .before .before .before .before .before .make-heap .ensures _ (omega arith) l) (c .before .before .before .before .before .before .take-heap .ensures _ (omega arith) (omega (arith, c .before .before .before .before .before .before .before .before .before .before .make-heap .kept .1 .1 .1 .0))) (c .before .before .split .ensures (omega (arith, c .before .before .before .before .before .before .before .before .before .before .make-heap .kept .1 .1 .1 .0, c .before .before .before .before .before .before .take-heap .kept .1 .1 .1 .0)))
+returns c =
+    let c1 = c .before .before in
+    let c2 = c1 .before .before .before .before in
+    let c3 = c2 .before .before .before .before in
+    λ l. grouping-is (c3 .make-heap .ensures _ (omega arith) l) (c2 .take-heap .ensures _ (omega arith) (omega (arith, c3 .make-heap .kept .1 .1 .1 .0))) (c1 .split .ensures
+    (omega (arith, c3 .make-heap .kept .1 .1 .1 .0, c2 .take-heap .kept .1 .1 .1 .0)))
 
 pub group-names-spec : {M : Type 1} → statement M
 group-names-spec =

@@ -28,7 +28,10 @@ loop-less : tie.Need-loop-less Inv-loop μ-loop
 loop-less c = search needs
 
 loop-again : tie.Need-loop-again Inv-loop μ-loop
-loop-again c = (c .before .before .sift .kept .1 .1 .1 .0 ∙ c .before .before .before .before .before .loop .inv .0, λ n l m. rearranged-then (c .before .before .before .before .before .loop .inv .1 n l m) (c .before .before .sift .ensures n l (omega (arith, c .before .before .before .before .before .loop .inv .0))))
+loop-again c =
+    let c1 = c .before .before in
+    let c2 = c1 .before .before .before in
+    (c1 .sift .kept .1 .1 .1 .0 ∙ c2 .loop .inv .0, λ n l m. rearranged-then (c2 .loop .inv .1 n l m) (c1 .sift .ensures n l (omega (arith, c2 .loop .inv .0))))
 
 same-length : tie.Need-same-length Inv-loop μ-loop
 same-length c = c .before .loop .inv .0

@@ -33,7 +33,9 @@ loop-less : tie.Need-loop-less Inv-loop μ-loop
 loop-less c = search needs
 
 loop-again : tie.Need-loop-again Inv-loop μ-loop
-loop-again c = (omega arith, λ s. elim (c .if1 .came) [ inl h ↦ absurd (true≢false (sym s ∙ h .1)) | inr h ↦ below-more _ _ (c .before .before .before .before .loop .inv .1 (sym (h .1) ∙ s)) (h .0 .left) ])
+loop-again c =
+    let c1 = c .before .before .before .before in
+    (omega arith, λ s. elim (c .if1 .came) [ inl h ↦ absurd (true≢false (sym s ∙ h .1)) | inr h ↦ below-more _ _ (c1 .loop .inv .1 (sym (h .1) ∙ s)) (h .0 .left) ])
 
 returns : tie.Need-returns Inv-loop μ-loop
 returns c = λ s j l. c .before .loop .inv .1 s j (omega arith)

@@ -41,10 +41,19 @@ swap-requires : tie.Need-swap-requires Inv-loop μ-loop
 swap-requires c κs = search needs
 
 loop-less : tie.Need-loop-less Inv-loop μ-loop
-loop-less c = omega (arith, c .before .before .before .before .before .before .before .before .before .before .later-child .ensures .0, c .before .before .before .before .before .before .before .before .before .before .later-child .ensures .1)
+loop-less c =
+    let c1 = c .before .before .before .before .before .before .before .before .before .before in
+    omega (arith, c1 .later-child .ensures .0, c1 .later-child .ensures .1)
 
 loop-again : tie.Need-loop-again Inv-loop μ-loop
-loop-again c = (c .before .before .swap .kept .0 ∙ c .before .before .before .before .before .before .before .before .before .before .before .before .before .loop .inv .0, λ n l m. rearranged-then (c .before .before .before .before .before .before .before .before .before .before .before .before .before .loop .inv .1 n l m) (c .before .before .swap .ensures n (omega (arith, c .before .before .before .before .before .before .before .before .before .before .later-child .ensures .0, c .before .before .before .before .before .before .before .before .before .before .later-child .ensures .1)) (omega (arith, c .before .before .before .before .before .before .before .before .before .before .later-child .ensures .1)) (omega (arith, c .before .before .before .before .before .before .before .before .before .before .before .before .before .loop .inv .0))))
+loop-again c =
+    let c1 = c .before .before in
+    let c2 = c1 .before .before .before .before .before .before .before .before in
+    let c3 = c2 .before .before .before in (
+      c1 .swap .kept .0 ∙ c3 .loop .inv .0,
+      λ n l m. rearranged-then (c3 .loop .inv .1 n l m)
+          (c1 .swap .ensures n (omega (arith, c2 .later-child .ensures .0, c2 .later-child .ensures .1)) (omega (arith, c2 .later-child .ensures .1)) (omega (arith, c3 .loop .inv .0))),
+    )
 
 same-length-2 : tie.Need-same-length-2 Inv-loop μ-loop
 same-length-2 c = c .before .loop .inv .0

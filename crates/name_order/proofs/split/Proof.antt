@@ -60,7 +60,21 @@ loop-less : tie.Need-loop-less Inv-loop μ-loop
 loop-less c = search needs
 
 loop-again : tie.Need-loop-again Inv-loop μ-loop
-loop-again c = (omega arith, c .before .before .put .kept .0 ∙ c .before .before .before .before .before .before .before .before .before .before .before .before .before .before .loop .inv .1, λ b. telling-more (c .before .before .before .before .before .before .before .before .before .before .before .before .before .before .loop .inv .2 b) (c .before .before .before .before .before .before .before .before .before .before .before .before .before .before .loop .inv .0) (omega arith) _ _ _ _ _ (c .before .before .before .before .before .before .before .before .before .before .before .word-of .ensures) (c .before .before .before .before .before .before .before .before .before .word-of2 .ensures) (c .before .before .before .before .before .before .before .before .name-before .ensures) (c .before .before .before .before .told .ensures .0 ∙ ap placeIn (c .before .before .before .before .before .entry-at .ensures)) (c .before .before .before .before .told .ensures .1) (c .before .before .put .ensures) (λ z. elim (c .before .before .before .before .before .before .before .if1 .came) [ inl h ↦ sym (h .1 .ensures) ∙ not-false _ (h .2 .left) | inr h ↦ absurd (true≢false (sym (not-false _ (h .left)) ∙ z)) ]))
+loop-again c =
+    let c1 = c .before .before in
+    let c2 = c1 .before .before in
+    let c3 = c2 .before in
+    let c4 = c3 .before .before in
+    let c5 = c4 .before in
+    let c6 = c5 .before in
+    let c7 = c6 .before .before in
+    let c8 = c7 .before .before .before in (
+      omega arith,
+      c1 .put .kept .0 ∙ c8 .loop .inv .1,
+      λ b. telling-more (c8 .loop .inv .2 b) (c8 .loop .inv .0) (omega arith) _ _ _ _ _ (c7 .word-of .ensures) (c6 .word-of2 .ensures)
+          (c5 .name-before .ensures) (c2 .told .ensures .0 ∙ ap placeIn (c3 .entry-at .ensures)) (c2 .told .ensures .1) (c1 .put .ensures)
+          (λ z. elim (c4 .if1 .came) [ inl h ↦ sym (h .1 .ensures) ∙ not-false _ (h .2 .left) | inr h ↦ absurd (true≢false (sym (not-false _ (h .left)) ∙ z)) ]),
+    )
 
 same-length-2 : tie.Need-same-length-2 Inv-loop μ-loop
 same-length-2 c = c .before .loop .inv .1

@@ -31,7 +31,15 @@ loop-less : tie.Need-loop-less Inv-loop μ-loop
 loop-less c = search needs
 
 loop-again : tie.Need-loop-again Inv-loop μ-loop
-loop-again c = (omega arith, c .before .before .sift .kept .1 .1 .1 .0 ∙ c .before .before .before .before .before .before .swap .kept .0 ∙ c .before .before .before .before .before .before .before .before .before .loop .inv .1, λ n l m. rearranged-then (c .before .before .before .before .before .before .before .before .before .loop .inv .2 n l m) (rearranged-then (c .before .before .before .before .before .before .swap .ensures n (omega arith) (omega arith) (omega (arith, c .before .before .before .before .before .before .before .before .before .loop .inv .1))) (c .before .before .sift .ensures n (omega arith) (omega (arith, c .before .before .before .before .before .before .before .before .before .loop .inv .1, c .before .before .before .before .before .before .swap .kept .0)))))
+loop-again c =
+    let c1 = c .before .before in
+    let c2 = c1 .before .before .before .before in
+    let c3 = c2 .before .before .before in (
+      omega arith,
+      c1 .sift .kept .1 .1 .1 .0 ∙ c2 .swap .kept .0 ∙ c3 .loop .inv .1,
+      λ n l m. rearranged-then (c3 .loop .inv .2 n l m)
+          (rearranged-then (c2 .swap .ensures n (omega arith) (omega arith) (omega (arith, c3 .loop .inv .1))) (c1 .sift .ensures n (omega arith) (omega (arith, c3 .loop .inv .1, c2 .swap .kept .0)))),
+    )
 
 same-length : tie.Need-same-length Inv-loop μ-loop
 same-length c = c .before .loop .inv .1
