@@ -5,6 +5,7 @@ ghost use mathlib.Core.Bool.{_&&_};
 ghost use Prim.Native.Nat.{_<_};
 ghost use lib.ListN.{length, getD};
 ghost use Rattle.utf8.specs.Rfc3629.{range, utf8-tail, utf8-1, utf8-2, utf8-3, utf8-4, wellFormed};
+ghost use Rattle.utf8.specs.Properties.{ascii};
 ghost use Rattle.utf8.specs.Front.{Front};
 
 // %xLO-HI
@@ -109,10 +110,26 @@ fn char_len(t: &[u8]) -> usize
     0
 }
 
+// Whether s is of octets 00 to 7F alone, as most names are. There is no way out of the loop, so that it is compiled to take many octets at a time.
+fn is_ascii(s: &[u8]) -> bool
+    ensures { λ r. ⌜ r ≡ ascii (now (s .entry)) ⌝ }
+{
+    let mut all = 0u8;
+    let mut i = 0;
+    while i < s.len() {
+        all = all | s[i];
+        i += 1;
+    }
+    utf8_1(all)
+}
+
 // Whether s is well formed: UTF8-octets, one character after another.
 pub fn well_formed(s: &[u8]) -> bool
     ensures { λ r. ⌜ r ≡ wellFormed (now (s .entry)) ⌝ }
 {
+    if is_ascii(s) {
+        return true;
+    }
     let mut i = 0;
     while i < s.len() {
         let n = char_len(&s[i..]);
