@@ -1,7 +1,7 @@
 // Words, names and tokens in the script text and the library text, and spans (lex/tok.rs, diagnostic.rs, ast.rs).
 ghost use mathlib.Core.Path.{_≡_};
 ghost use Prim.Native.Nat.{min, max};
-ghost use lib.ListN.{getD};
+ghost use lib.ListN.{length, getD};
 ghost use Rattle.tok.specs.Word.{kindOf, payloadOf, nameLength, nameStart, nameBit};
 ghost use Rattle.tok.specs.Text.{textsOf, bytesIn, nameBytes, sameBytes, sameName};
 ghost use Rattle.tok.specs.Token.{tokenBytes};
@@ -110,6 +110,38 @@ pub fn name_bytes<'a>(script: &'a [u8], library: &'a [u8], w: u32) -> &'a [u8]
     }
 }
 
+// Whether two byte strings of one length are equal: from the end, where names differ most.
+fn same_short(a: &[u8], b: &[u8]) -> bool
+    requires { ⌜ length (now a) ≡ length (now b) ⌝ }
+    ensures { λ r. ⌜ r ≡ sameBytes (now (a .entry)) (now (b .entry)) ⌝ }
+{
+    let mut i = a.len();
+    while i > 0 {
+        i -= 1;
+        if a[i] != b[i] {
+            return false;
+        }
+    }
+    true
+}
+
+// The same with no way out of the loop, so that it is compiled to take many bytes at a time.
+fn same_long(a: &[u8], b: &[u8]) -> bool
+    requires { ⌜ length (now a) ≡ length (now b) ⌝ }
+    ensures { λ r. ⌜ r ≡ sameBytes (now (a .entry)) (now (b .entry)) ⌝ }
+{
+    let mut differ = 0u8;
+    let mut i = 0;
+    while i < a.len() {
+        differ = differ | (a[i] ^ b[i]);
+        i += 1;
+    }
+    differ == 0
+}
+
+// From so many bytes on, many at a time are quicker.
+const LONG: usize = 24;
+
 // Whether two byte strings are equal.
 pub fn same_bytes(a: &[u8], b: &[u8]) -> bool
     ensures { λ r. ⌜ r ≡ sameBytes (now (a .entry)) (now (b .entry)) ⌝ }
@@ -117,14 +149,10 @@ pub fn same_bytes(a: &[u8], b: &[u8]) -> bool
     if a.len() != b.len() {
         return false;
     }
-    let mut i = 0;
-    while i < a.len() {
-        if a[i] != b[i] {
-            return false;
-        }
-        i += 1;
+    if a.len() < LONG {
+        return same_short(a, b);
     }
-    true
+    same_long(a, b)
 }
 
 // Whether two name words stand for one name.
@@ -135,6 +163,16 @@ pub fn same_name<'a>(script: &'a [u8], library: &'a [u8], a: u32, b: u32) -> boo
         name_bytes(script, library, a),
         name_bytes(script, library, b),
     )
+}
+
+// Whether a name word stands for a name: where it is too short for it, its bytes are not looked at.
+pub fn is_name<'a>(script: &'a [u8], library: &'a [u8], name: &[u8], w: u32) -> bool
+    ensures { λ r. ⌜ r ≡ sameBytes (now (name .entry)) (nameBytes (textsOf (now (script .entry)) (now (library .entry))) w) ⌝ }
+{
+    if name_length(w) < name.len() {
+        return false;
+    }
+    same_bytes(name, name_bytes(script, library, w))
 }
 
 // Whether a word carries the payload of a name that lies in a text and is well formed, with bit 24 as told.

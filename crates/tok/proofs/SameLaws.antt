@@ -1,0 +1,79 @@
+-- Comparing byte strings of one length: from the end, and many bytes at a time, by an or of exclusive ors, which is 0 exactly where no
+-- byte differs. Assumes nothing.
+use Prim.Native.Nat.{ℕ, suc, _+_, _-_, _≤_, _<_}
+use mathlib.Core.Path.{_≡_, refl, sym, ap, _∙_, subst}
+use mathlib.Core.Logic.{⊎-elim}
+use mathlib.Core.Bool.{Bool, true, false, _&&_, and-true, and-assoc, and-eq-true-iff}
+use mathlib.Core.List.{List, [], _∷_}
+use native.Mathlib.Nat.{eq-or-lt-of-le}
+use native.Mathlib.Numerals.{add-one}
+use native.Mathlib.Omega.{arith}
+use lib.Dec.{eqb}
+use lib.Bits.{bitOr, bitXor, or-add-and, xor-add-and, and-le-l, and-le-r, xor-self}
+use lib.ListN.{length, getD, take, drop, length-take, drop-of-length-le}
+use lib.Seq.{drop-cons}
+use borrow.Author.Tests.{eqb-true, eq-eqb}
+use Rattle.tok.specs.Word.{nameLength}
+use Rattle.tok.specs.Text.{Texts, sameBytes, nameBytes}
+use Rattle.tok.proofs.TextLaws.{ne-sameBytes}
+
+-- what holds from i on, and at the index before it, holds from there on
+pub from-more : {n : ℕ} (P : ℕ → Type 0) (i : ℕ) → ((k : ℕ) → i ≤ k → k < n → P k) → 0 < i → P (i - 1) → (k : ℕ) → i - 1 ≤ k → k < n → P k
+from-more P i all l here k h below = ⊎-elim (λ e. subst P e here) (λ lt. all k (omega arith) below) (eq-or-lt-of-le h)
+
+both-true : (p q : Bool) → (p ≡ true → q ≡ true) → (q ≡ true → p ≡ true) → p ≡ q
+both-true true q f g = sym (f refl)
+both-true false true f g = g refl
+both-true false false f g = refl
+
+differ-none : (d a b : ℕ) → bitOr d (bitXor a b) ≡ 0 → (d ≡ 0) × (a ≡ b)
+differ-none d a b e =
+    let o = or-add-and d (bitXor a b) in
+    let ol = and-le-l d (bitXor a b) in
+    let or = and-le-r d (bitXor a b) in
+    let x = xor-add-and a b in
+    let xl = and-le-l a b in
+    let xr = and-le-r a b in
+    (omega arith, omega arith)
+
+none-differ : (d a b : ℕ) → d ≡ 0 → a ≡ b → bitOr d (bitXor a b) ≡ 0
+none-differ d a b e f = rw (e, f, xor-self b)
+
+-- one more byte of each
+differs : (d a b : ℕ) → (eqb d 0 && eqb a b) ≡ eqb (bitOr d (bitXor a b)) 0
+differs d a b =
+    both-true (eqb d 0 && eqb a b) (eqb (bitOr d (bitXor a b)) 0)
+    (λ e.
+    let h = and-eq-true-iff (eqb d 0) (eqb a b) .0 e in
+    eq-eqb (bitOr d (bitXor a b)) 0 (none-differ d a b (eqb-true d 0 (h .0)) (eqb-true a b (h .1))))
+    (λ e.
+    let h = differ-none d a b (eqb-true (bitOr d (bitXor a b)) 0 e) in
+    and-eq-true-iff (eqb d 0) (eqb a b) .1 (eq-eqb d 0 (h .0), eq-eqb a b (h .1)))
+
+-- the bytes before i are told apart by `d`, and those from i on are left
+module _ (a b : List ℕ) (i d : ℕ) (long : length a ≡ length b) (so-far : sameBytes a b ≡ (eqb d 0 && sameBytes (drop i a) (drop i b))) where
+  next-both : i < length a → sameBytes (drop i a) (drop i b) ≡ (eqb (getD a i 0) (getD b i 0) && sameBytes (drop (suc i) a) (drop (suc i) b))
+  unfolding sameBytes
+  next-both h = rw (drop-cons a i 0 h, drop-cons b i 0 (omega arith))
+
+  pub same-more : i < length a → sameBytes a b ≡ (eqb (bitOr d (bitXor (getD a i 0) (getD b i 0))) 0 && sameBytes (drop (i + 1) a) (drop (i + 1) b))
+  same-more h =
+      so-far ∙ ap (λ r. eqb d 0 && r) (next-both h)
+      ∙ sym (and-assoc (eqb d 0) (eqb (getD a i 0) (getD b i 0)) (sameBytes (drop (suc i) a) (drop (suc i) b)))
+      ∙ ap (λ r. r && sameBytes (drop (suc i) a) (drop (suc i) b)) (differs d (getD a i 0) (getD b i 0))
+      ∙ ap (λ j. eqb (bitOr d (bitXor (getD a i 0) (getD b i 0))) 0 && sameBytes (drop j a) (drop j b)) (sym (add-one i))
+
+  pub same-over : length a ≤ i → eqb d 0 ≡ sameBytes a b
+  unfolding sameBytes
+  same-over h =
+      let k : length b ≤ i = omega arith in
+      sym (so-far ∙ rw (drop-of-length-le a h, drop-of-length-le b k) (and-true (eqb d 0)))
+
+-- a name that is too short
+short-bytes : (n : ℕ) (l : List ℕ) → length (take n l) ≤ n
+short-bytes n l = simp length-take (omega arith)
+
+pub short-name : (t : Texts) (w : ℕ) (name : List ℕ) {n : ℕ} → n ≡ nameLength w → n < length name → false ≡ sameBytes name (nameBytes t w)
+unfolding nameBytes
+short-name t w name e h =
+    sym (ne-sameBytes _ _ (λ q. let z : length name ≤ nameLength w = rw q (short-bytes (nameLength w) _) in absurd (omega arith)))
