@@ -1,9 +1,10 @@
 -- The ways of a reader of one word, one law for each, and the test of what is owed. Assumes nothing.
 use Prim.Native.Nat.{ℕ, _+_, _-_, _≤_, _<_}
 use mathlib.Core.Bool.{Bool, true, false, _&&_, and-eq-true-iff}
-use mathlib.Core.Path.{_≡_, refl, sym, _∙_}
+use mathlib.Core.Path.{_≡_, refl, sym, ap, _∙_}
 use mathlib.Core.List.{List}
 use native.Mathlib.Omega.{arith}
+use native.Mathlib.Nat.{add-zero}
 use lib.ListN.{length, getD}
 use lib.Dec.{leb, ltb}
 use borrow.Author.Tests.{lt-ltb, le-ltb, le-leb, lt-leb, leb-true}
@@ -46,6 +47,11 @@ module _ (words : List ℕ) (from : Reading) (good : Bool) (n at least : ℕ) (e
     owing-taken q = rw e (taken (λ _. good) (λ _. n) words at least h (sym p ∙ q))
 
 module _ (words : List ℕ) (from : Reading) (at least : ℕ) (e : from ≡ At at least) where
+  -- a word that owes none
+  pub word-taken : (good : Bool) → at < length words → (r : Bool) → r ≡ (ltb at mostWords && (good && leb (least + 0) mostWords)) → r ≡ true
+      → onward words from (owing (λ _. good) (λ _. 0)) ≡ gave words (nextWord words from) (At (at + 1) least)
+  word-taken good h r p q = owing-taken words from good 0 at least e h r p q ∙ ap (λ n. gave words (nextWord words from) (At (at + 1) n)) (add-zero least)
+
   pub from-ends-left : at < length words → onward words from ends ≡ gave words tt (Fault at)
   from-ends-left h = rw e (ends-left words at least h)
 

@@ -78,11 +78,20 @@ pub fn owing(words: &[u32], from: Reading, good: bool, owes: usize) -> Reading
     Reading::Fault(at)
 }
 
-// One word that owes none.
+// One word that owes none; as short as can be, since most words are read by it.
 pub fn word(words: &[u32], from: Reading, good: bool) -> Reading
     ensures { λ r. ⌜ onward (now (words .entry)) from (word (λ _. good)) ≡ gave (now (words .entry)) (nextWord (now (words .entry)) from) r ⌝ }
 {
-    owing(words, from, good, 0)
+    let Reading::At(at, least) = from else {
+        return from;
+    };
+    if words.len() <= at {
+        return Reading::Fault(at);
+    }
+    if !admits(at, least, good, 0) {
+        return Reading::Fault(at);
+    }
+    Reading::At(at + 1, least)
 }
 
 // One word below a number.
