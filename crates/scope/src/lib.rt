@@ -1,7 +1,6 @@
 // Names in scope, own functions and packages held: finding them (typecheck/lib.rs: `env_get`, `functions`, `packages`).
 use tok::kind;
 use tok::name_bytes;
-use tok::same_bytes;
 use tok::wide;
 use tok::word_at;
 ghost use mathlib.Core.Path.{_≡_};
@@ -72,7 +71,7 @@ pub fn env_get<'a>(
         k -= 1;
         let at = 2 * (base + k);
         let w = word_at(scratch, at);
-        if same_bytes(wanted, name_bytes(script, library, local_name(w))) {
+        if tok::is_name(script, library, wanted, local_name(w)) {
             if is_poisoned(w) {
                 return Binding::Poisoned;
             }
@@ -113,10 +112,7 @@ pub fn find_own<'a>(
     let mut entry = 0;
     let mut rest = k;
     while rest > 0 {
-        if same_bytes(
-            wanted,
-            name_bytes(script, library, word_at(functions, entry)),
-        ) {
+        if tok::is_name(script, library, wanted, word_at(functions, entry)) {
             found = Own::At(entry + 1);
         }
         entry += 3 + 2 * wide(word_at(functions, entry + 1));
@@ -178,7 +174,7 @@ pub fn find_held<'a>(
     let mut left = k;
     while left > 0 {
         let own = held_name(words, scratch, at);
-        if same_bytes(wanted, name_bytes(script, library, own)) {
+        if tok::is_name(script, library, wanted, own) {
             return held_at(scratch, at);
         }
         at += held_size(word_at(scratch, at));

@@ -126,7 +126,7 @@ pub fn find_entry<'a>(
     let mut left = k;
     while left > 0 {
         let w = tok::word_at(words, at);
-        if tok::same_bytes(name, tok::name_bytes(script, library, w)) {
+        if tok::is_name(script, library, name, w) {
             return Entry::One {
                 slotted: has_slots(words, flagged, at),
                 at: at + 1 + flag_words(flagged),

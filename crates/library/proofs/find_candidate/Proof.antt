@@ -1,6 +1,6 @@
 -- `library::find_candidate` meets its contract. The loop's invariant: the group is looked for among the functions that are left. The measure
 -- is how many are left. Assumes nothing.
-use mathlib.Core.Path.{_≡_}
+use mathlib.Core.Path.{_≡_, refl}
 use native.Mathlib.Omega.{arith}
 use Rattle.tok.specs.Text.{textsOf}
 use Rattle.library.specs.Package.{functionsFrom, groupOf}
@@ -25,20 +25,17 @@ loop-holds c = group-begin _ _ _ _ _ (c .least .ensures)
 word-at-requires : tie.Need-word-at-requires Inv-loop μ-loop
 word-at-requires c κs = search needs
 
-name-bytes-requires : tie.Need-name-bytes-requires Inv-loop μ-loop
-name-bytes-requires c κs = search needs
-
-same-bytes-requires : tie.Need-same-bytes-requires Inv-loop μ-loop
-same-bytes-requires c κs = search needs
+is-name-requires : tie.Need-is-name-requires Inv-loop μ-loop
+is-name-requires c κs = search needs
 
 function-end-requires : tie.Need-function-end-requires Inv-loop μ-loop
 function-end-requires c κs = search needs
 
-sub-t15 : tie.Need-sub-t15 Inv-loop μ-loop
-sub-t15 c = search needs
+sub-t14 : tie.Need-sub-t14 Inv-loop μ-loop
+sub-t14 c = search needs
 
 returns : tie.Need-returns Inv-loop μ-loop
-returns c = group-found _ _ _ _ _ _ _ (c .before .before .before .before .before .before .loop .inv) (c .before .before .before .before .before .loop-test .taken) (c .before .before .before .before .word-at .ensures) (c .before .before .before .name-bytes .ensures) (c .before .before .same-bytes .ensures) (c .function-end .ensures) (c .before .if1 .taken)
+returns c = group-found _ _ _ _ _ _ _ (c .before .before .before .before .before .loop .inv) (c .before .before .before .before .loop-test .taken) (c .before .before .before .word-at .ensures) refl (c .before .before .is-name .ensures) (c .function-end .ensures) (c .before .if1 .taken)
 
 function-end-requires-2 : tie.Need-function-end-requires-2 Inv-loop μ-loop
 function-end-requires-2 c κs = search needs
@@ -50,7 +47,7 @@ loop-less : tie.Need-loop-less Inv-loop μ-loop
 loop-less c = omega arith
 
 loop-again : tie.Need-loop-again Inv-loop μ-loop
-loop-again c = group-past _ _ _ _ _ _ _ (c .before .before .before .before .before .before .loop .inv) (c .before .before .before .before .before .loop-test .taken) (c .before .before .before .before .word-at .ensures) (c .before .before .before .name-bytes .ensures) (c .before .before .same-bytes .ensures) (c .function-end2 .ensures) (c .before .if1 .left)
+loop-again c = group-past _ _ _ _ _ _ _ (c .before .before .before .before .before .loop .inv) (c .before .before .before .before .loop-test .taken) (c .before .before .before .word-at .ensures) refl (c .before .before .is-name .ensures) (c .function-end2 .ensures) (c .before .if1 .left)
 
 returns-2 : tie.Need-returns-2 Inv-loop μ-loop
 returns-2 c = group-none _ _ _ _ _ _ _ (c .before .loop .inv) (c .loop-test .left)
@@ -64,10 +61,9 @@ find-candidate-spec =
     least-requires
     loop-holds
     word-at-requires
-    name-bytes-requires
-    same-bytes-requires
+    is-name-requires
     function-end-requires
-    sub-t15
+    sub-t14
     returns
     function-end-requires-2
     sub-left

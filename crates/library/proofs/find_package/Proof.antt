@@ -1,6 +1,6 @@
 -- `library::find_package` meets its contract. The loop's invariant: the name is looked for among the packages that are left. The measure is
 -- how many are left. Assumes nothing.
-use mathlib.Core.Path.{_≡_}
+use mathlib.Core.Path.{_≡_, refl}
 use native.Mathlib.Omega.{arith}
 use Rattle.tok.specs.Text.{textsOf}
 use Rattle.library.specs.Package.{packagesFrom, packagesOf, findPackage}
@@ -28,14 +28,11 @@ loop-holds c = packages-begin _ _ _ (c .before .packages-place .ensures) (c .pac
 word-at-requires : tie.Need-word-at-requires Inv-loop μ-loop
 word-at-requires c κs = search needs
 
-name-bytes-requires : tie.Need-name-bytes-requires Inv-loop μ-loop
-name-bytes-requires c κs = search needs
-
-same-bytes-requires : tie.Need-same-bytes-requires Inv-loop μ-loop
-same-bytes-requires c κs = search needs
+is-name-requires : tie.Need-is-name-requires Inv-loop μ-loop
+is-name-requires c κs = search needs
 
 returns : tie.Need-returns Inv-loop μ-loop
-returns c = package-found _ _ _ _ _ (c .before .before .before .before .before .loop .inv) (c .before .before .before .before .loop-test .taken) (c .before .before .before .word-at .ensures) (c .before .before .name-bytes .ensures) (c .before .same-bytes .ensures) (c .if1 .taken)
+returns c = package-found _ _ _ _ _ (c .before .before .before .before .loop .inv) (c .before .before .before .loop-test .taken) (c .before .before .word-at .ensures) refl (c .before .is-name .ensures) (c .if1 .taken)
 
 package-end-requires : tie.Need-package-end-requires Inv-loop μ-loop
 package-end-requires c κs = search needs
@@ -47,7 +44,7 @@ loop-less : tie.Need-loop-less Inv-loop μ-loop
 loop-less c = omega arith
 
 loop-again : tie.Need-loop-again Inv-loop μ-loop
-loop-again c = package-past _ _ _ _ _ (c .before .before .before .before .before .before .loop .inv) (c .before .before .before .before .before .loop-test .taken) (c .before .before .before .before .word-at .ensures) (c .before .before .before .name-bytes .ensures) (c .before .before .same-bytes .ensures) (c .before .if1 .left) (c .package-end .ensures)
+loop-again c = package-past _ _ _ _ _ (c .before .before .before .before .before .loop .inv) (c .before .before .before .before .loop-test .taken) (c .before .before .before .word-at .ensures) refl (c .before .before .is-name .ensures) (c .before .if1 .left) (c .package-end .ensures)
 
 returns-2 : tie.Need-returns-2 Inv-loop μ-loop
 returns-2 c = package-none _ _ _ _ _ (c .before .loop .inv) (c .loop-test .left)
@@ -62,8 +59,7 @@ find-package-spec =
     package-count-requires
     loop-holds
     word-at-requires
-    name-bytes-requires
-    same-bytes-requires
+    is-name-requires
     returns
     package-end-requires
     sub-left

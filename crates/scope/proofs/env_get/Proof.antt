@@ -1,5 +1,5 @@
 -- `scope::env_get` meets its contract. The loop's invariant: the name is looked for among the oldest k names. Assumes nothing.
-use mathlib.Core.Path.{_≡_}
+use mathlib.Core.Path.{_≡_, refl}
 use native.Mathlib.Omega.{arith}
 use Rattle.tok.specs.Text.{textsOf, nameBytes}
 use Rattle.scope.proofs.EnvWays.{EnvLeft, env-begin, env-poisoned, env-bound, env-past, env-none}
@@ -34,32 +34,29 @@ word-at-requires c κs = search needs
 local-name-requires : tie.Need-local-name-requires Inv-loop μ-loop
 local-name-requires c κs = search needs
 
-name-bytes-requires-2 : tie.Need-name-bytes-requires-2 Inv-loop μ-loop
-name-bytes-requires-2 c κs = search needs
-
-same-bytes-requires : tie.Need-same-bytes-requires Inv-loop μ-loop
-same-bytes-requires c κs = search needs
+is-name-requires : tie.Need-is-name-requires Inv-loop μ-loop
+is-name-requires c κs = search needs
 
 is-poisoned-requires : tie.Need-is-poisoned-requires Inv-loop μ-loop
 is-poisoned-requires c κs = search needs
 
 returns : tie.Need-returns Inv-loop μ-loop
-returns c = rw (← (c .before .before .before .before .before .before .before .before .loop .inv .0)) (env-poisoned (c .before .before .before .before .before .before .before .before .loop .inv .1) (c .before .before .before .before .before .before .before .loop-test .taken) (c .before .before .before .before .before .before .word-at .ensures) (c .before .before .before .before .before .local-name .ensures) (c .before .before .before .before .name-bytes2 .ensures) (c .before .before .before .same-bytes .ensures) (c .before .before .if1 .taken) (c .before .is-poisoned .ensures) (c .if2 .taken))
+returns c = rw (← (c .before .before .before .before .before .before .before .loop .inv .0)) (env-poisoned (c .before .before .before .before .before .before .before .loop .inv .1) (c .before .before .before .before .before .before .loop-test .taken) (c .before .before .before .before .before .word-at .ensures) (c .before .before .before .before .local-name .ensures) refl (c .before .before .before .is-name .ensures) (c .before .before .if1 .taken) (c .before .is-poisoned .ensures) (c .if2 .taken))
 
 add-word-at : tie.Need-add-word-at Inv-loop μ-loop
-add-word-at c = omega (arith, c .before .before .before .before .before .before .before .before .loop .inv .1 .within)
+add-word-at c = omega (arith, c .before .before .before .before .before .before .before .loop .inv .1 .within)
 
 word-at-requires-2 : tie.Need-word-at-requires-2 Inv-loop μ-loop
 word-at-requires-2 c κs = search needs
 
 returns-2 : tie.Need-returns-2 Inv-loop μ-loop
-returns-2 c = rw (← (c .before .before .before .before .before .before .before .before .before .loop .inv .0)) (env-bound (c .before .before .before .before .before .before .before .before .before .loop .inv .1) (c .before .before .before .before .before .before .before .before .loop-test .taken) (c .before .before .before .before .before .before .before .word-at .ensures) (c .before .before .before .before .before .before .local-name .ensures) (c .before .before .before .before .before .name-bytes2 .ensures) (c .before .before .before .before .same-bytes .ensures) (c .before .before .before .if1 .taken) (c .before .before .is-poisoned .ensures) (c .before .if2 .left) (c .word-at2 .ensures))
+returns-2 c = rw (← (c .before .before .before .before .before .before .before .before .loop .inv .0)) (env-bound (c .before .before .before .before .before .before .before .before .loop .inv .1) (c .before .before .before .before .before .before .before .loop-test .taken) (c .before .before .before .before .before .before .word-at .ensures) (c .before .before .before .before .before .local-name .ensures) refl (c .before .before .before .before .is-name .ensures) (c .before .before .before .if1 .taken) (c .before .before .is-poisoned .ensures) (c .before .if2 .left) (c .word-at2 .ensures))
 
 loop-less : tie.Need-loop-less Inv-loop μ-loop
 loop-less c = omega arith
 
 loop-again : tie.Need-loop-again Inv-loop μ-loop
-loop-again c = (c .before .before .before .before .before .before .loop .inv .0, env-past (c .before .before .before .before .before .before .loop .inv .1) (c .before .before .before .before .before .loop-test .taken) (c .before .before .before .before .word-at .ensures) (c .before .before .before .local-name .ensures) (c .before .before .name-bytes2 .ensures) (c .before .same-bytes .ensures) (c .if1 .left))
+loop-again c = (c .before .before .before .before .before .loop .inv .0, env-past (c .before .before .before .before .before .loop .inv .1) (c .before .before .before .before .loop-test .taken) (c .before .before .before .word-at .ensures) (c .before .before .local-name .ensures) refl (c .before .is-name .ensures) (c .if1 .left))
 
 returns-3 : tie.Need-returns-3 Inv-loop μ-loop
 returns-3 c = rw (← (c .before .loop .inv .0)) (env-none (c .before .loop .inv .1) (c .loop-test .left))
@@ -77,8 +74,7 @@ env-get-spec =
     mul-at
     word-at-requires
     local-name-requires
-    name-bytes-requires-2
-    same-bytes-requires
+    is-name-requires
     is-poisoned-requires
     returns
     add-word-at

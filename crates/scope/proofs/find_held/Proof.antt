@@ -1,5 +1,5 @@
 -- `scope::find_held` meets its contract. The loop's invariant: the name is looked for among the packages that are left. Assumes nothing.
-use mathlib.Core.Path.{_≡_}
+use mathlib.Core.Path.{_≡_, refl}
 use native.Mathlib.Omega.{arith}
 use Rattle.tok.specs.Text.{textsOf, nameBytes}
 use Rattle.scope.proofs.HeldWays.{Left, left-begin, left-place, left-over, held-found, held-past}
@@ -22,17 +22,14 @@ loop-holds c = (c .name-bytes .ensures, left-begin)
 held-name-requires : tie.Need-held-name-requires Inv-loop μ-loop
 held-name-requires c κs = omega (arith, left-place (c .before .loop .inv .1), c .before .before .before .before .before .before .before .pre)
 
-name-bytes-requires-2 : tie.Need-name-bytes-requires-2 Inv-loop μ-loop
-name-bytes-requires-2 c κs = search needs
-
-same-bytes-requires : tie.Need-same-bytes-requires Inv-loop μ-loop
-same-bytes-requires c κs = search needs
+is-name-requires : tie.Need-is-name-requires Inv-loop μ-loop
+is-name-requires c κs = search needs
 
 held-at-requires : tie.Need-held-at-requires Inv-loop μ-loop
-held-at-requires c κs = omega (arith, left-place (c .before .before .before .before .before .loop .inv .1), c .before .before .before .before .before .before .before .before .before .before .before .pre)
+held-at-requires c κs = omega (arith, left-place (c .before .before .before .before .loop .inv .1), c .before .before .before .before .before .before .before .before .before .before .pre)
 
 returns : tie.Need-returns Inv-loop μ-loop
-returns c = rw (← (c .before .before .before .before .before .before .loop .inv .0)) (held-found (c .before .before .before .before .before .before .loop .inv .1) (c .before .before .before .before .before .loop-test .taken) (c .before .before .before .before .held-name .ensures) (c .before .before .before .name-bytes2 .ensures) (c .before .before .same-bytes .ensures) (c .held-at .ensures _) (c .before .if1 .taken))
+returns c = rw (← (c .before .before .before .before .before .loop .inv .0)) (held-found (c .before .before .before .before .before .loop .inv .1) (c .before .before .before .before .loop-test .taken) (c .before .before .before .held-name .ensures) refl (c .before .before .is-name .ensures) (c .held-at .ensures _) (c .before .if1 .taken))
 
 word-at-requires : tie.Need-word-at-requires Inv-loop μ-loop
 word-at-requires c κs = search needs
@@ -41,7 +38,7 @@ held-size-requires : tie.Need-held-size-requires Inv-loop μ-loop
 held-size-requires c κs = search needs
 
 add-at : tie.Need-add-at Inv-loop μ-loop
-add-at c = omega (arith, left-place (held-past (c .before .before .before .before .before .before .before .loop .inv .1) (c .before .before .before .before .before .before .loop-test .taken) (c .before .before .before .before .before .held-name .ensures) (c .before .before .before .before .name-bytes2 .ensures) (c .before .before .before .same-bytes .ensures) (c .before .word-at .ensures) (c .held-size .ensures) (c .before .before .if1 .left)), c .before .before .before .before .before .before .before .before .before .before .before .before .before .pre)
+add-at c = omega (arith, left-place (held-past (c .before .before .before .before .before .before .loop .inv .1) (c .before .before .before .before .before .loop-test .taken) (c .before .before .before .before .held-name .ensures) refl (c .before .before .before .is-name .ensures) (c .before .word-at .ensures) (c .held-size .ensures) (c .before .before .if1 .left)), c .before .before .before .before .before .before .before .before .before .before .before .before .pre)
 
 sub-left : tie.Need-sub-left Inv-loop μ-loop
 sub-left c = search needs
@@ -50,7 +47,7 @@ loop-less : tie.Need-loop-less Inv-loop μ-loop
 loop-less c = omega arith
 
 loop-again : tie.Need-loop-again Inv-loop μ-loop
-loop-again c = (c .before .before .before .before .before .before .before .loop .inv .0, held-past (c .before .before .before .before .before .before .before .loop .inv .1) (c .before .before .before .before .before .before .loop-test .taken) (c .before .before .before .before .before .held-name .ensures) (c .before .before .before .before .name-bytes2 .ensures) (c .before .before .before .same-bytes .ensures) (c .before .word-at .ensures) (c .held-size .ensures) (c .before .before .if1 .left))
+loop-again c = (c .before .before .before .before .before .before .loop .inv .0, held-past (c .before .before .before .before .before .before .loop .inv .1) (c .before .before .before .before .before .loop-test .taken) (c .before .before .before .before .held-name .ensures) refl (c .before .before .before .is-name .ensures) (c .before .word-at .ensures) (c .held-size .ensures) (c .before .before .if1 .left))
 
 returns-2 : tie.Need-returns-2 Inv-loop μ-loop
 returns-2 c = rw (← (c .before .loop .inv .0)) (left-over (c .before .loop .inv .1) (c .loop-test .left))
@@ -64,8 +61,7 @@ find-held-spec =
     name-bytes-requires
     loop-holds
     held-name-requires
-    name-bytes-requires-2
-    same-bytes-requires
+    is-name-requires
     held-at-requires
     returns
     word-at-requires

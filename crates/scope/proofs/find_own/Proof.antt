@@ -23,17 +23,14 @@ loop-holds c = (c .name-bytes .ensures, (left-begin (c .before .before .before .
 word-at-requires : tie.Need-word-at-requires Inv-loop μ-loop
 word-at-requires c κs = search needs
 
-name-bytes-requires-2 : tie.Need-name-bytes-requires-2 Inv-loop μ-loop
-name-bytes-requires-2 c κs = search needs
+is-name-requires : tie.Need-is-name-requires Inv-loop μ-loop
+is-name-requires c κs = search needs
 
-same-bytes-requires : tie.Need-same-bytes-requires Inv-loop μ-loop
-same-bytes-requires c κs = search needs
-
-add-t14 : tie.Need-add-t14 Inv-loop μ-loop
-add-t14 c = omega (arith, left-room (c .before .before .before .before .before .loop .inv .1 .0) (c .before .before .before .before .loop-test .taken) refl)
+add-t13 : tie.Need-add-t13 Inv-loop μ-loop
+add-t13 c = omega (arith, left-room (c .before .before .before .before .loop .inv .1 .0) (c .before .before .before .loop-test .taken) refl)
 
 add-word-at : tie.Need-add-word-at Inv-loop μ-loop
-add-word-at c = omega (arith, left-room (c .before .before .before .before .before .loop .inv .1 .0) (c .before .before .before .before .loop-test .taken) refl)
+add-word-at c = omega (arith, left-room (c .before .before .before .before .loop .inv .1 .0) (c .before .before .before .loop-test .taken) refl)
 
 word-at-requires-2 : tie.Need-word-at-requires-2 Inv-loop μ-loop
 word-at-requires-2 c κs = search needs
@@ -48,7 +45,7 @@ mul-entry : tie.Need-mul-entry Inv-loop μ-loop
 mul-entry c = search needs
 
 add-entry-2 : tie.Need-add-entry-2 Inv-loop μ-loop
-add-entry-2 c = omega (arith, left-room (c .before .before .before .before .before .before .before .loop .inv .1 .0) (c .before .before .before .before .before .before .loop-test .taken) (c .wide .ensures ∙ c .before .word-at2 .ensures))
+add-entry-2 c = omega (arith, left-room (c .before .before .before .before .before .before .loop .inv .1 .0) (c .before .before .before .before .before .loop-test .taken) (c .wide .ensures ∙ c .before .word-at2 .ensures))
 
 sub-rest : tie.Need-sub-rest Inv-loop μ-loop
 sub-rest c = search needs
@@ -67,12 +64,12 @@ loop-less c = omega arith
 loop-again : tie.Need-loop-again Inv-loop μ-loop
 loop-again c =
     let c₂ = c .wide .ensures ∙ c .before .word-at2 .ensures in (
-      c .before .before .before .before .before .before .before .loop .inv .0,
+      c .before .before .before .before .before .before .loop .inv .0,
       (
-        left-more (c .before .before .before .before .before .before .before .loop .inv .1 .0) (c .before .before .before .before .before .before .loop-test .taken) c₂,
+        left-more (c .before .before .before .before .before .before .loop .inv .1 .0) (c .before .before .before .before .before .loop-test .taken) c₂,
         ⊎-elim
-            (λ x. subst (Seeks _ _ _ _ _ _) (sym (x .1)) (seek-hit _ _ _ _ (c .before .before .before .before .before .before .before .loop .inv .1 .1) (c .before .before .before .before .before .before .loop-test .taken) (c .before .before .before .before .before .word-at .ensures) (c .before .before .before .before .name-bytes2 .ensures) (c .before .before .before .same-bytes .ensures) c₂ (x .0 .taken)))
-            (λ x. subst (Seeks _ _ _ _ _ _) (sym (x .1)) (seek-past _ _ _ _ (c .before .before .before .before .before .before .before .loop .inv .1 .1) (c .before .before .before .before .before .before .loop-test .taken) (c .before .before .before .before .before .word-at .ensures) (c .before .before .before .before .name-bytes2 .ensures) (c .before .before .before .same-bytes .ensures) c₂ (x .0 .left)))
+            (λ x. subst (Seeks _ _ _ _ _ _) (sym (x .1)) (seek-hit _ _ _ _ (c .before .before .before .before .before .before .loop .inv .1 .1) (c .before .before .before .before .before .loop-test .taken) (c .before .before .before .before .word-at .ensures) refl (c .before .before .before .is-name .ensures) c₂ (x .0 .taken)))
+            (λ x. subst (Seeks _ _ _ _ _ _) (sym (x .1)) (seek-past _ _ _ _ (c .before .before .before .before .before .before .loop .inv .1 .1) (c .before .before .before .before .before .loop-test .taken) (c .before .before .before .before .word-at .ensures) refl (c .before .before .before .is-name .ensures) c₂ (x .0 .left)))
             (c .before .before .if1 .came),
       ),
     )
@@ -89,9 +86,8 @@ find-own-spec =
     name-bytes-requires
     loop-holds
     word-at-requires
-    name-bytes-requires-2
-    same-bytes-requires
-    add-t14
+    is-name-requires
+    add-t13
     add-word-at
     word-at-requires-2
     wide-requires

@@ -1,5 +1,6 @@
 -- `signatures::find_entry` meets its contract. The loop's invariant: the group is looked for among the entries that are left. The measure is
 -- how many are left. Assumes nothing.
+use mathlib.Core.Path.{refl}
 use native.Mathlib.Omega.{arith}
 use borrow.Author.Needs.{needs}
 use Rattle.signatures.proofs.Ways.{flag-low, Left, group-begin, group-found, group-past, group-none}
@@ -22,32 +23,29 @@ loop-holds c = group-begin _ _ _ _ _ _ (c .least .ensures)
 word-at-requires : tie.Need-word-at-requires Inv-loop μ-loop
 word-at-requires c κs = search needs
 
-name-bytes-requires : tie.Need-name-bytes-requires Inv-loop μ-loop
-name-bytes-requires c κs = search needs
-
-same-bytes-requires : tie.Need-same-bytes-requires Inv-loop μ-loop
-same-bytes-requires c κs = search needs
+is-name-requires : tie.Need-is-name-requires Inv-loop μ-loop
+is-name-requires c κs = search needs
 
 has-slots-requires : tie.Need-has-slots-requires Inv-loop μ-loop
 has-slots-requires c κs = search needs
 
-add-t16 : tie.Need-add-t16 Inv-loop μ-loop
-add-t16 c = search needs
+add-t15 : tie.Need-add-t15 Inv-loop μ-loop
+add-t15 c = search needs
 
 flag-words-requires : tie.Need-flag-words-requires Inv-loop μ-loop
 flag-words-requires c κs = search needs
 
-add-t18 : tie.Need-add-t18 Inv-loop μ-loop
-add-t18 c = omega (arith, flag-low (c .before .before .before .before .before .before .before .before .before .before .before .before .before .args .flagged), c .before .before .before .before .before .before .before .loop .inv .within)
+add-t17 : tie.Need-add-t17 Inv-loop μ-loop
+add-t17 c = omega (arith, flag-low (c .before .before .before .before .before .before .before .before .before .before .before .before .args .flagged), c .before .before .before .before .before .before .loop .inv .within)
 
 entry-end-requires : tie.Need-entry-end-requires Inv-loop μ-loop
 entry-end-requires c κs = search needs
 
-sub-t20 : tie.Need-sub-t20 Inv-loop μ-loop
-sub-t20 c = search needs
+sub-t19 : tie.Need-sub-t19 Inv-loop μ-loop
+sub-t19 c = search needs
 
 returns : tie.Need-returns Inv-loop μ-loop
-returns c = group-found _ _ _ _ _ _ (c .before .before .before .before .before .before .before .before .loop .inv) (c .before .before .before .before .before .before .before .loop-test .taken) (c .before .before .before .before .before .before .word-at .ensures) (c .before .before .before .before .before .name-bytes .ensures) (c .before .before .before .before .same-bytes .ensures) (c .before .before .before .if1 .taken) (c .before .before .has-slots .ensures) (c .before .flag-words .ensures) (c .entry-end .ensures)
+returns c = group-found _ _ _ _ _ _ (c .before .before .before .before .before .before .before .loop .inv) (c .before .before .before .before .before .before .loop-test .taken) (c .before .before .before .before .before .word-at .ensures) refl (c .before .before .before .before .is-name .ensures) (c .before .before .before .if1 .taken) (c .before .before .has-slots .ensures) (c .before .flag-words .ensures) (c .entry-end .ensures)
 
 entry-end-requires-2 : tie.Need-entry-end-requires-2 Inv-loop μ-loop
 entry-end-requires-2 c κs = search needs
@@ -59,7 +57,7 @@ loop-less : tie.Need-loop-less Inv-loop μ-loop
 loop-less c = search needs
 
 loop-again : tie.Need-loop-again Inv-loop μ-loop
-loop-again c = group-past _ _ _ _ _ _ (c .before .before .before .before .before .before .loop .inv) (c .before .before .before .before .before .loop-test .taken) (c .before .before .before .before .word-at .ensures) (c .before .before .before .name-bytes .ensures) (c .before .before .same-bytes .ensures) (c .before .if1 .left) (c .entry-end2 .ensures)
+loop-again c = group-past _ _ _ _ _ _ (c .before .before .before .before .before .loop .inv) (c .before .before .before .before .loop-test .taken) (c .before .before .before .word-at .ensures) refl (c .before .before .is-name .ensures) (c .before .if1 .left) (c .entry-end2 .ensures)
 
 returns-2 : tie.Need-returns-2 Inv-loop μ-loop
 returns-2 c = group-none _ _ _ _ _ _ (c .before .loop .inv) (c .loop-test .left)
@@ -73,14 +71,13 @@ find-entry-spec =
     least-requires
     loop-holds
     word-at-requires
-    name-bytes-requires
-    same-bytes-requires
+    is-name-requires
     has-slots-requires
-    add-t16
+    add-t15
     flag-words-requires
-    add-t18
+    add-t17
     entry-end-requires
-    sub-t20
+    sub-t19
     returns
     entry-end-requires-2
     sub-left
