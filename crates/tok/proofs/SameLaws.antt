@@ -1,5 +1,5 @@
--- Comparing byte strings of one length: from the end, and many bytes at a time, by an or of exclusive ors, which is 0 exactly where no
--- byte differs. Assumes nothing.
+-- Comparing byte strings of one length: from the end; many bytes at a time, by an or of exclusive ors, which is 0 exactly where no byte
+-- differs; and part by part. Assumes nothing.
 use Prim.Native.Nat.{ℕ, suc, _+_, _-_, _≤_, _<_}
 use mathlib.Core.Path.{_≡_, refl, sym, ap, _∙_, subst}
 use mathlib.Core.Logic.{⊎-elim}
@@ -8,14 +8,14 @@ use mathlib.Core.List.{List, [], _∷_}
 use native.Mathlib.Nat.{eq-or-lt-of-le}
 use native.Mathlib.Numerals.{add-one}
 use native.Mathlib.Omega.{arith}
-use lib.Dec.{eqb}
+use lib.Dec.{eqb, ltb}
 use lib.Bits.{bitOr, bitXor, or-add-and, xor-add-and, and-le-l, and-le-r, xor-self}
 use lib.ListN.{length, getD, take, drop, length-take, drop-of-length-le}
-use lib.Seq.{drop-cons}
-use borrow.Author.Tests.{eqb-true, eq-eqb}
+use lib.Seq.{drop-cons, getD-take, getD-drop, ext-getD}
+use borrow.Author.Tests.{eqb-true, eq-eqb, ltb-true, ltb-false}
 use Rattle.tok.specs.Word.{nameLength}
 use Rattle.tok.specs.Text.{Texts, sameBytes, nameBytes}
-use Rattle.tok.proofs.TextLaws.{ne-sameBytes}
+use Rattle.tok.proofs.TextLaws.{sameBytes-true, sameBytes-false, eq-sameBytes, ne-sameBytes}
 
 -- what holds from i on, and at the index before it, holds from there on
 pub from-more : {n : ℕ} (P : ℕ → Type 0) (i : ℕ) → ((k : ℕ) → i ≤ k → k < n → P k) → 0 < i → P (i - 1) → (k : ℕ) → i - 1 ≤ k → k < n → P k
@@ -68,6 +68,51 @@ module _ (a b : List ℕ) (i d : ℕ) (long : length a ≡ length b) (so-far : s
   same-over h =
       let k : length b ≤ i = omega arith in
       sym (so-far ∙ rw (drop-of-length-le a h, drop-of-length-le b k) (and-true (eqb d 0)))
+
+-- ── Part by part ──
+
+at-part : (l : List ℕ) (i m k : ℕ) → i ≤ k → k < i + m → getD (take m (drop i l)) (k - i) 0 ≡ getD l k 0
+at-part l i m k h below =
+    let e : i + (k - i) ≡ k = omega arith in
+    getD-take m (drop i l) (k - i) 0 (omega arith) ∙ getD-drop i l (k - i) 0 ∙ ap (λ j. getD l j 0) e
+
+module _ (a b : List ℕ) (i m : ℕ) where
+  part-equal : sameBytes (take m (drop i a)) (take m (drop i b)) ≡ true → (k : ℕ) → i ≤ k → k < i + m → getD a k 0 ≡ getD b k 0
+  part-equal e k h below =
+      sym (at-part a i m k h below) ∙ ap (λ s. getD s (k - i) 0) (sameBytes-true (take m (drop i a)) (take m (drop i b)) e) ∙ at-part b i m k h below
+
+  pub part-differs : {r : Bool} → r ≡ sameBytes (take m (drop i a)) (take m (drop i b)) → r ≡ false → false ≡ sameBytes a b
+  part-differs e f =
+      sym (ne-sameBytes a b (λ q. sameBytes-false (take m (drop i a)) (take m (drop i b)) (sym e ∙ f) (ap (λ s. take m (drop i s)) q)))
+
+  -- the bytes before i are equal
+  module _ (before : (k : ℕ) → k < i → getD a k 0 ≡ getD b k 0) where
+    pub parts-more : {r : Bool} {n : ℕ} → m ≡ n → r ≡ sameBytes (take m (drop i a)) (take m (drop i b)) → r ≡ true → (k : ℕ) → k < i + n → getD a k 0 ≡ getD b k 0
+    parts-more en e t k h = by (ltb k i) refl
+      where
+        by : (d : Bool) → ltb k i ≡ d → getD a k 0 ≡ getD b k 0
+        by true y = before k (ltb-true k i y)
+        by false y = part-equal (sym e ∙ t) k (ltb-false k i y) (omega arith)
+
+-- the last part begins no later than where the bytes before it end
+module _ (a b : List ℕ) (i : ℕ) (before : (k : ℕ) → k < i → getD a k 0 ≡ getD b k 0) (long : length a ≡ length b) where
+  pub parts-over : {r : Bool} (last m : ℕ) → last ≤ i → length a ≡ last + m → r ≡ sameBytes (take m (drop last a)) (take m (drop last b)) → r ≡ sameBytes a b
+  parts-over {r} last m h l e = by r refl
+    where
+      every : r ≡ true → (k : ℕ) → k < length a → getD a k 0 ≡ getD b k 0
+      every t k below = by-place (ltb k i) refl
+        where
+          by-place : (d : Bool) → ltb k i ≡ d → getD a k 0 ≡ getD b k 0
+          by-place true y = before k (ltb-true k i y)
+          by-place false y = part-equal a b last m (sym e ∙ t) k (omega (arith, ltb-false k i y)) (omega arith)
+
+      by : (d : Bool) → r ≡ d → r ≡ sameBytes a b
+      by true t = t ∙ sym (eq-sameBytes a b (ext-getD 0 a b long (every t)))
+      by false t = t ∙ part-differs a b last m e t
+
+-- equal words stand for one name
+pub same-word : (t : Texts) (a b : ℕ) → a ≡ b → true ≡ sameBytes (nameBytes t a) (nameBytes t b)
+same-word t a b e = sym (eq-sameBytes (nameBytes t a) (nameBytes t b) (ap (nameBytes t) e))
 
 -- a name that is too short
 short-bytes : (n : ℕ) (l : List ℕ) → length (take n l) ≤ n

@@ -1,6 +1,6 @@
 // Words, names and tokens in the script text and the library text, and spans (lex/tok.rs, diagnostic.rs, ast.rs).
 ghost use mathlib.Core.Path.{_≡_};
-ghost use Prim.Native.Nat.{min, max};
+ghost use Prim.Native.Nat.{_≤_, min, max};
 ghost use lib.ListN.{length, getD};
 ghost use Rattle.tok.specs.Word.{kindOf, payloadOf, nameLength, nameStart, nameBit};
 ghost use Rattle.tok.specs.Text.{textsOf, bytesIn, nameBytes, sameBytes, sameName};
@@ -110,7 +110,7 @@ pub fn name_bytes<'a>(script: &'a [u8], library: &'a [u8], w: u32) -> &'a [u8]
     }
 }
 
-// Whether two byte strings of one length are equal: from the end, where names differ most.
+// Whether two byte strings of one length are equal: from the end, where short names differ most.
 fn same_short(a: &[u8], b: &[u8]) -> bool
     requires { ⌜ length (now a) ≡ length (now b) ⌝ }
     ensures { λ r. ⌜ r ≡ sameBytes (now (a .entry)) (now (b .entry)) ⌝ }
@@ -125,8 +125,8 @@ fn same_short(a: &[u8], b: &[u8]) -> bool
     true
 }
 
-// The same with no way out of the loop, so that it is compiled to take many bytes at a time.
-fn same_long(a: &[u8], b: &[u8]) -> bool
+// The same with no way out of the loop, so that many bytes are compared at a time where the length is known.
+fn same_part(a: &[u8], b: &[u8]) -> bool
     requires { ⌜ length (now a) ≡ length (now b) ⌝ }
     ensures { λ r. ⌜ r ≡ sameBytes (now (a .entry)) (now (b .entry)) ⌝ }
 {
@@ -139,8 +139,37 @@ fn same_long(a: &[u8], b: &[u8]) -> bool
     differ == 0
 }
 
-// From so many bytes on, many at a time are quicker.
-const LONG: usize = 24;
+// The same in parts of 16 bytes; the last part may begin within the one before it.
+fn same_by_16(a: &[u8], b: &[u8]) -> bool
+    requires { ⌜ (length (now a) ≡ length (now b)) × (16 ≤ length (now a)) ⌝ }
+    ensures { λ r. ⌜ r ≡ sameBytes (now (a .entry)) (now (b .entry)) ⌝ }
+{
+    let mut i = 0;
+    while i + 16 < a.len() {
+        if !same_part(&a[i..i + 16], &b[i..i + 16]) {
+            return false;
+        }
+        i += 16;
+    }
+    let last = a.len() - 16;
+    same_part(&a[last..last + 16], &b[last..last + 16])
+}
+
+// The same in parts of 64 bytes.
+fn same_by_64(a: &[u8], b: &[u8]) -> bool
+    requires { ⌜ (length (now a) ≡ length (now b)) × (64 ≤ length (now a)) ⌝ }
+    ensures { λ r. ⌜ r ≡ sameBytes (now (a .entry)) (now (b .entry)) ⌝ }
+{
+    let mut i = 0;
+    while i + 64 < a.len() {
+        if !same_part(&a[i..i + 64], &b[i..i + 64]) {
+            return false;
+        }
+        i += 64;
+    }
+    let last = a.len() - 64;
+    same_part(&a[last..last + 64], &b[last..last + 64])
+}
 
 // Whether two byte strings are equal.
 pub fn same_bytes(a: &[u8], b: &[u8]) -> bool
@@ -149,16 +178,22 @@ pub fn same_bytes(a: &[u8], b: &[u8]) -> bool
     if a.len() != b.len() {
         return false;
     }
-    if a.len() < LONG {
+    if a.len() < 16 {
         return same_short(a, b);
     }
-    same_long(a, b)
+    if a.len() < 64 {
+        return same_by_16(a, b);
+    }
+    same_by_64(a, b)
 }
 
 // Whether two name words stand for one name.
 pub fn same_name<'a>(script: &'a [u8], library: &'a [u8], a: u32, b: u32) -> bool
     ensures { λ r. ⌜ r ≡ sameName (textsOf (now (script .entry)) (now (library .entry))) a b ⌝ }
 {
+    if a == b {
+        return true;
+    }
     same_bytes(
         name_bytes(script, library, a),
         name_bytes(script, library, b),

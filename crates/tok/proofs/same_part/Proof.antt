@@ -1,4 +1,4 @@
--- `tok::same_long` meets its contract. The loop's invariant: the strings are equal exactly where no byte passed differs and what is left is
+-- `tok::same_part` meets its contract. The loop's invariant: the strings are equal exactly where no byte passed differs and what is left is
 -- equal. The measure is what is left of the length. Assumes nothing.
 use mathlib.Core.Path.{_≡_, refl}
 use mathlib.Core.Bool.{_&&_}
@@ -9,8 +9,8 @@ use lib.ListN.{length, drop}
 use Rattle.tok.specs.Text.{sameBytes}
 use Rattle.tok.proofs.SameLaws.{same-more, same-over}
 use borrow.Author.Needs.{needs}
-use Rattle.tok.proofs.same_long.Statement.{statement}
-use Rattle.tok.proofs.same_long.Tie as tie
+use Rattle.tok.proofs.same_part.Statement.{statement}
+use Rattle.tok.proofs.same_part.Tie as tie
 
 abbrev Inv-loop : tie.InvT-loop
 Inv-loop a b differ₀ i₀ differ i = (i ≤ length a) × (sameBytes a b ≡ (eqb differ 0 && sameBytes (drop i a) (drop i b)))
@@ -39,8 +39,8 @@ loop-again c = (omega arith, same-more _ _ (c .before .before .before .loop .i) 
 returns : tie.Need-returns Inv-loop μ-loop
 returns c = same-over _ _ (c .before .loop .i) (c .before .loop .differ) (c .before .before .pre) (c .before .loop .inv .1) (c .loop-test .left)
 
-pub same-long-spec : {M : Type 1} → statement M
-same-long-spec =
+pub same-part-spec : {M : Type 1} → statement M
+same-part-spec =
     tie.close
     (tie.spec
     Inv-loop
