@@ -1,6 +1,6 @@
 -- Comparing byte strings of one length: from the end; many bytes at a time, by an or of exclusive ors, which is 0 exactly where no byte
 -- differs; and part by part. Assumes nothing.
-use Prim.Native.Nat.{ℕ, suc, _+_, _-_, _≤_, _<_}
+use Prim.Native.Nat.{ℕ, suc, _+_, _-_, _≤_, _<_, min}
 use mathlib.Core.Path.{_≡_, refl, sym, ap, _∙_, subst}
 use mathlib.Core.Logic.{⊎-elim}
 use mathlib.Core.Bool.{Bool, true, false, _&&_, and-true, and-assoc, and-eq-true-iff}
@@ -10,7 +10,7 @@ use native.Mathlib.Numerals.{add-one}
 use native.Mathlib.Omega.{arith}
 use lib.Dec.{eqb, ltb}
 use lib.Bits.{bitOr, bitXor, or-add-and, xor-add-and, and-le-l, and-le-r, xor-self}
-use lib.ListN.{length, getD, take, drop, length-take, drop-of-length-le}
+use lib.ListN.{length, getD, take, drop, length-take, length-drop, drop-of-length-le}
 use lib.Seq.{drop-cons, getD-take, getD-drop, ext-getD}
 use borrow.Author.Tests.{eqb-true, eq-eqb, ltb-true, ltb-false}
 use Rattle.tok.specs.Word.{nameLength}
@@ -77,6 +77,9 @@ at-part l i m k h below =
     getD-take m (drop i l) (k - i) 0 (omega arith) ∙ getD-drop i l (k - i) 0 ∙ ap (λ j. getD l j 0) e
 
 module _ (a b : List ℕ) (i m : ℕ) where
+  pub part-long : length a ≡ length b → length (take m (drop i a)) ≡ length (take m (drop i b))
+  part-long e = simp (length-take, length-drop) (ap (λ n. min m (n - i)) e)
+
   part-equal : sameBytes (take m (drop i a)) (take m (drop i b)) ≡ true → (k : ℕ) → i ≤ k → k < i + m → getD a k 0 ≡ getD b k 0
   part-equal e k h below =
       sym (at-part a i m k h below) ∙ ap (λ s. getD s (k - i) 0) (sameBytes-true (take m (drop i a)) (take m (drop i b)) e) ∙ at-part b i m k h below
@@ -96,19 +99,15 @@ module _ (a b : List ℕ) (i m : ℕ) where
 
 -- the last part begins no later than where the bytes before it end
 module _ (a b : List ℕ) (i : ℕ) (before : (k : ℕ) → k < i → getD a k 0 ≡ getD b k 0) (long : length a ≡ length b) where
-  pub parts-over : {r : Bool} (last m : ℕ) → last ≤ i → length a ≡ last + m → r ≡ sameBytes (take m (drop last a)) (take m (drop last b)) → r ≡ sameBytes a b
-  parts-over {r} last m h l e = by r refl
+  pub parts-over : {r : Bool} (last m : ℕ) → last ≤ i → length a ≡ last + m → r ≡ sameBytes (take m (drop last a)) (take m (drop last b)) → r ≡ true → true ≡ sameBytes a b
+  parts-over last m h l e t = sym (eq-sameBytes a b (ext-getD 0 a b long every))
     where
-      every : r ≡ true → (k : ℕ) → k < length a → getD a k 0 ≡ getD b k 0
-      every t k below = by-place (ltb k i) refl
+      every : (k : ℕ) → k < length a → getD a k 0 ≡ getD b k 0
+      every k below = by (ltb k i) refl
         where
-          by-place : (d : Bool) → ltb k i ≡ d → getD a k 0 ≡ getD b k 0
-          by-place true y = before k (ltb-true k i y)
-          by-place false y = part-equal a b last m (sym e ∙ t) k (omega (arith, ltb-false k i y)) (omega arith)
-
-      by : (d : Bool) → r ≡ d → r ≡ sameBytes a b
-      by true t = t ∙ sym (eq-sameBytes a b (ext-getD 0 a b long (every t)))
-      by false t = t ∙ part-differs a b last m e t
+          by : (d : Bool) → ltb k i ≡ d → getD a k 0 ≡ getD b k 0
+          by true y = before k (ltb-true k i y)
+          by false y = part-equal a b last m (sym e ∙ t) k (omega (arith, ltb-false k i y)) (omega arith)
 
 -- equal words stand for one name
 pub same-word : (t : Texts) (a b : ℕ) → a ≡ b → true ≡ sameBytes (nameBytes t a) (nameBytes t b)

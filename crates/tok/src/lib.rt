@@ -139,20 +139,23 @@ fn same_part(a: &[u8], b: &[u8]) -> bool
     differ == 0
 }
 
-// The same in parts of 16 bytes; the last part may begin within the one before it.
+// The same in parts of 16 bytes: the last first, where names differ most. The part before it may end within it.
 fn same_by_16(a: &[u8], b: &[u8]) -> bool
     requires { ⌜ (length (now a) ≡ length (now b)) × (16 ≤ length (now a)) ⌝ }
     ensures { λ r. ⌜ r ≡ sameBytes (now (a .entry)) (now (b .entry)) ⌝ }
 {
+    let last = a.len() - 16;
+    if !same_part(&a[last..last + 16], &b[last..last + 16]) {
+        return false;
+    }
     let mut i = 0;
-    while i + 16 < a.len() {
+    while i < last {
         if !same_part(&a[i..i + 16], &b[i..i + 16]) {
             return false;
         }
         i += 16;
     }
-    let last = a.len() - 16;
-    same_part(&a[last..last + 16], &b[last..last + 16])
+    true
 }
 
 // The same in parts of 64 bytes.
@@ -160,15 +163,18 @@ fn same_by_64(a: &[u8], b: &[u8]) -> bool
     requires { ⌜ (length (now a) ≡ length (now b)) × (64 ≤ length (now a)) ⌝ }
     ensures { λ r. ⌜ r ≡ sameBytes (now (a .entry)) (now (b .entry)) ⌝ }
 {
+    let last = a.len() - 64;
+    if !same_part(&a[last..last + 64], &b[last..last + 64]) {
+        return false;
+    }
     let mut i = 0;
-    while i + 64 < a.len() {
+    while i < last {
         if !same_part(&a[i..i + 64], &b[i..i + 64]) {
             return false;
         }
         i += 64;
     }
-    let last = a.len() - 64;
-    same_part(&a[last..last + 64], &b[last..last + 64])
+    true
 }
 
 // Whether two byte strings are equal.

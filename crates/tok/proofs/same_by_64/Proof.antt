@@ -1,26 +1,24 @@
--- `tok::same_by_64` meets its contract. The loop's invariant: each byte passed is equal. The measure is what is left of the length. Assumes nothing.
+-- `tok::same_by_64` meets its contract. The loop's invariant: each byte passed is equal; so is the last part. The measure is what is left of the
+-- length. Assumes nothing.
 use mathlib.Core.Path.{_≡_}
 use Prim.Native.Nat.{ℕ, _+_, _-_, _≤_, _<_}
 use native.Mathlib.Omega.{arith}
-use lib.ListN.{length, getD, length-take, length-drop}
+use lib.ListN.{length, getD}
 use borrow.Author.Count.{below-none}
 use borrow.Author.Tests.{not-true, not-false}
-use Rattle.tok.proofs.SameLaws.{part-differs, parts-more, parts-over}
+use Rattle.tok.proofs.SameLaws.{part-long, part-differs, parts-more, parts-over}
 use borrow.Author.Needs.{needs}
 use Rattle.tok.proofs.same_by_64.Statement.{statement}
 use Rattle.tok.proofs.same_by_64.Tie as tie
 
 abbrev Inv-loop : tie.InvT-loop
-Inv-loop a b i₀ i = (i ≤ length a) × ((k : ℕ) → k < i → getD a k 0 ≡ getD b k 0)
+Inv-loop a b last i₀ i = (i ≤ length a) × ((k : ℕ) → k < i → getD a k 0 ≡ getD b k 0)
 
 abbrev μ-loop : tie.MeasureT-loop
-μ-loop a b i₀ i = length a - i
+μ-loop a b last i₀ i = length a - i
 
-loop-holds : tie.Need-loop-holds Inv-loop μ-loop
-loop-holds c = (search needs, below-none _)
-
-add-loop : tie.Need-add-loop Inv-loop μ-loop
-add-loop c = search needs
+sub-last : tie.Need-sub-last Inv-loop μ-loop
+sub-last c = search needs
 
 add-same-part : tie.Need-add-same-part Inv-loop μ-loop
 add-same-part c = search needs
@@ -47,22 +45,13 @@ part-same-part-end-2 : tie.Need-part-same-part-end-2 Inv-loop μ-loop
 part-same-part-end-2 c = search needs
 
 same-part-requires : tie.Need-same-part-requires Inv-loop μ-loop
-same-part-requires c κs = simp (length-take, length-drop) (omega arith)
+same-part-requires c κs = part-long _ _ (length (c .before .before .before .before .args .a .now) - 64) (length (c .before .before .before .before .args .a .now) - 64 + 64 - (length (c .before .before .before .before .args .a .now) - 64)) (c .before .before .before .before .pre .0)
 
 returns : tie.Need-returns Inv-loop μ-loop
-returns c = part-differs _ _ (c .before .before .before .before .before .loop .i) (c .before .before .before .before .before .loop .i + 64 - c .before .before .before .before .before .loop .i) (c .before .same-part .ensures) (not-true _ (c .if1 .taken))
+returns c = part-differs _ _ (length (c .before .before .before .before .before .before .args .a .now) - 64) (length (c .before .before .before .before .before .before .args .a .now) - 64 + 64 - (length (c .before .before .before .before .before .before .args .a .now) - 64)) (c .before .same-part .ensures) (not-true _ (c .if1 .taken))
 
-add-i : tie.Need-add-i Inv-loop μ-loop
-add-i c = search needs
-
-loop-less : tie.Need-loop-less Inv-loop μ-loop
-loop-less c = search needs
-
-loop-again : tie.Need-loop-again Inv-loop μ-loop
-loop-again c = (omega arith, parts-more _ _ (c .before .before .before .before .before .loop .i) (c .before .before .before .before .before .loop .i + 64 - c .before .before .before .before .before .loop .i) (c .before .before .before .before .before .loop .inv .1) (omega arith) (c .before .same-part .ensures) (not-false _ (c .if1 .left)))
-
-sub-last : tie.Need-sub-last Inv-loop μ-loop
-sub-last c = search needs
+loop-holds : tie.Need-loop-holds Inv-loop μ-loop
+loop-holds c = (search needs, below-none _)
 
 add-same-part-3 : tie.Need-add-same-part-3 Inv-loop μ-loop
 add-same-part-3 c = search needs
@@ -89,10 +78,22 @@ part-same-part-end-4 : tie.Need-part-same-part-end-4 Inv-loop μ-loop
 part-same-part-end-4 c = search needs
 
 same-part-requires-2 : tie.Need-same-part-requires-2 Inv-loop μ-loop
-same-part-requires-2 c κs = simp (length-take, length-drop) (omega arith)
+same-part-requires-2 c κs = part-long _ _ (c .before .before .before .loop .i) (c .before .before .before .loop .i + 64 - c .before .before .before .loop .i) (c .before .before .before .before .before .before .before .before .before .before .pre .0)
 
 returns-2 : tie.Need-returns-2 Inv-loop μ-loop
-returns-2 c = parts-over _ _ (c .before .before .before .before .loop .i) (c .before .before .before .before .loop .inv .1) (c .before .before .before .before .before .before .before .pre .0) (length (c .before .before .before .before .before .before .before .args .a .now) - 64) (length (c .before .before .before .before .before .before .before .args .a .now) - 64 + 64 - (length (c .before .before .before .before .before .before .before .args .a .now) - 64)) (omega arith) (omega arith) (c .same-part2 .ensures)
+returns-2 c = part-differs _ _ (c .before .before .before .before .before .loop .i) (c .before .before .before .before .before .loop .i + 64 - c .before .before .before .before .before .loop .i) (c .before .same-part2 .ensures) (not-true _ (c .if2 .taken))
+
+add-i : tie.Need-add-i Inv-loop μ-loop
+add-i c = search needs
+
+loop-less : tie.Need-loop-less Inv-loop μ-loop
+loop-less c = search needs
+
+loop-again : tie.Need-loop-again Inv-loop μ-loop
+loop-again c = (omega arith, parts-more _ _ (c .before .before .before .before .before .loop .i) (c .before .before .before .before .before .loop .i + 64 - c .before .before .before .before .before .loop .i) (c .before .before .before .before .before .loop .inv .1) (omega arith) (c .before .same-part2 .ensures) (not-false _ (c .if2 .left)))
+
+returns-3 : tie.Need-returns-3 Inv-loop μ-loop
+returns-3 c = parts-over _ _ (c .before .loop .i) (c .before .loop .inv .1) (c .before .before .before .before .before .before .before .before .pre .0) (length (c .before .before .before .before .before .before .before .before .args .a .now) - 64) (length (c .before .before .before .before .before .before .before .before .args .a .now) - 64 + 64 - (length (c .before .before .before .before .before .before .before .before .args .a .now) - 64)) (c .loop-test .left) (omega arith) (c .before .before .before .same-part .ensures) (not-false _ (c .before .before .if1 .left))
 
 pub same-by-64-spec : {M : Type 1} → statement M
 same-by-64-spec =
@@ -100,8 +101,7 @@ same-by-64-spec =
     (tie.spec
     Inv-loop
     μ-loop
-    loop-holds
-    add-loop
+    sub-last
     add-same-part
     sub-same-part
     part-same-part-start
@@ -112,10 +112,7 @@ same-by-64-spec =
     part-same-part-end-2
     same-part-requires
     returns
-    add-i
-    loop-less
-    loop-again
-    sub-last
+    loop-holds
     add-same-part-3
     sub-same-part-3
     part-same-part-start-3
@@ -125,4 +122,8 @@ same-by-64-spec =
     part-same-part-start-4
     part-same-part-end-4
     same-part-requires-2
-    returns-2)
+    returns-2
+    add-i
+    loop-less
+    loop-again
+    returns-3)
