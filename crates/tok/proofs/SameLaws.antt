@@ -113,6 +113,10 @@ module _ (a b : List ℕ) (i : ℕ) (before : (k : ℕ) → k < i → getD a k 0
 pub same-word : (t : Texts) (a b : ℕ) → a ≡ b → true ≡ sameBytes (nameBytes t a) (nameBytes t b)
 same-word t a b e = sym (eq-sameBytes (nameBytes t a) (nameBytes t b) (ap (nameBytes t) e))
 
+-- a name of another length
+pub other-length : (t : Texts) (w : ℕ) (name : List ℕ) {own : List ℕ} → own ≡ nameBytes t w → (length name ≡ length own → ⊥) → false ≡ sameBytes name (nameBytes t w)
+other-length t w name e d = sym (ne-sameBytes name (nameBytes t w) (λ q. d (ap length (q ∙ sym e))))
+
 -- a name that is too short
 short-bytes : (n : ℕ) (l : List ℕ) → length (take n l) ≤ n
 short-bytes n l = simp length-take (omega arith)

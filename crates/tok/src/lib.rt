@@ -177,6 +177,20 @@ fn same_by_64(a: &[u8], b: &[u8]) -> bool
     true
 }
 
+// Names of fewer bytes are short.
+const SHORT: usize = 16;
+
+// The same of long ones. It stands apart, and is called from two places, so that it is compiled once and what compares short names stays small.
+fn same_long(a: &[u8], b: &[u8]) -> bool
+    requires { ⌜ (length (now a) ≡ length (now b)) × (16 ≤ length (now a)) ⌝ }
+    ensures { λ r. ⌜ r ≡ sameBytes (now (a .entry)) (now (b .entry)) ⌝ }
+{
+    if a.len() < 64 {
+        return same_by_16(a, b);
+    }
+    same_by_64(a, b)
+}
+
 // Whether two byte strings are equal.
 pub fn same_bytes(a: &[u8], b: &[u8]) -> bool
     ensures { λ r. ⌜ r ≡ sameBytes (now (a .entry)) (now (b .entry)) ⌝ }
@@ -184,13 +198,10 @@ pub fn same_bytes(a: &[u8], b: &[u8]) -> bool
     if a.len() != b.len() {
         return false;
     }
-    if a.len() < 16 {
+    if a.len() < SHORT {
         return same_short(a, b);
     }
-    if a.len() < 64 {
-        return same_by_16(a, b);
-    }
-    same_by_64(a, b)
+    same_long(a, b)
 }
 
 // Whether two name words stand for one name.
@@ -213,7 +224,14 @@ pub fn is_name<'a>(script: &'a [u8], library: &'a [u8], name: &[u8], w: u32) -> 
     if name_length(w) < name.len() {
         return false;
     }
-    same_bytes(name, name_bytes(script, library, w))
+    let own = name_bytes(script, library, w);
+    if name.len() != own.len() {
+        return false;
+    }
+    if name.len() < SHORT {
+        return same_short(name, own);
+    }
+    same_long(name, own)
 }
 
 // Whether a word carries the payload of a name that lies in a text and is well formed, with bit 24 as told.

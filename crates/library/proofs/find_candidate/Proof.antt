@@ -35,7 +35,13 @@ sub-t14 : tie.Need-sub-t14 Inv-loop μ-loop
 sub-t14 c = search needs
 
 returns : tie.Need-returns Inv-loop μ-loop
-returns c = group-found _ _ _ _ _ _ _ (c .before .before .before .before .before .loop .inv) (c .before .before .before .before .loop-test .taken) (c .before .before .before .word-at .ensures) refl (c .before .before .is-name .ensures) (c .function-end .ensures) (c .before .if1 .taken)
+returns c =
+    let c1 = c .before in
+    let c2 = c1 .before in
+    let c3 = c2 .before in
+    let c4 = c3 .before in
+    let c5 = c4 .before in
+    group-found _ _ _ _ _ _ _ (c5 .loop .inv) (c4 .loop-test .taken) (c3 .word-at .ensures) refl (c2 .is-name .ensures) (c .function-end .ensures) (c1 .if1 .taken)
 
 function-end-requires-2 : tie.Need-function-end-requires-2 Inv-loop μ-loop
 function-end-requires-2 c κs = search needs
@@ -47,7 +53,13 @@ loop-less : tie.Need-loop-less Inv-loop μ-loop
 loop-less c = omega arith
 
 loop-again : tie.Need-loop-again Inv-loop μ-loop
-loop-again c = group-past _ _ _ _ _ _ _ (c .before .before .before .before .before .loop .inv) (c .before .before .before .before .loop-test .taken) (c .before .before .before .word-at .ensures) refl (c .before .before .is-name .ensures) (c .function-end2 .ensures) (c .before .if1 .left)
+loop-again c =
+    let c1 = c .before in
+    let c2 = c1 .before in
+    let c3 = c2 .before in
+    let c4 = c3 .before in
+    let c5 = c4 .before in
+    group-past _ _ _ _ _ _ _ (c5 .loop .inv) (c4 .loop-test .taken) (c3 .word-at .ensures) refl (c2 .is-name .ensures) (c .function-end2 .ensures) (c1 .if1 .left)
 
 returns-2 : tie.Need-returns-2 Inv-loop μ-loop
 returns-2 c = group-none _ _ _ _ _ _ _ (c .before .loop .inv) (c .loop-test .left)

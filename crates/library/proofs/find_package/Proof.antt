@@ -32,7 +32,12 @@ is-name-requires : tie.Need-is-name-requires Inv-loop μ-loop
 is-name-requires c κs = search needs
 
 returns : tie.Need-returns Inv-loop μ-loop
-returns c = package-found _ _ _ _ _ (c .before .before .before .before .loop .inv) (c .before .before .before .loop-test .taken) (c .before .before .word-at .ensures) refl (c .before .is-name .ensures) (c .if1 .taken)
+returns c =
+    let c1 = c .before in
+    let c2 = c1 .before in
+    let c3 = c2 .before in
+    let c4 = c3 .before in
+    package-found _ _ _ _ _ (c4 .loop .inv) (c3 .loop-test .taken) (c2 .word-at .ensures) refl (c1 .is-name .ensures) (c .if1 .taken)
 
 package-end-requires : tie.Need-package-end-requires Inv-loop μ-loop
 package-end-requires c κs = search needs
@@ -44,7 +49,13 @@ loop-less : tie.Need-loop-less Inv-loop μ-loop
 loop-less c = omega arith
 
 loop-again : tie.Need-loop-again Inv-loop μ-loop
-loop-again c = package-past _ _ _ _ _ (c .before .before .before .before .before .loop .inv) (c .before .before .before .before .loop-test .taken) (c .before .before .before .word-at .ensures) refl (c .before .before .is-name .ensures) (c .before .if1 .left) (c .package-end .ensures)
+loop-again c =
+    let c1 = c .before in
+    let c2 = c1 .before in
+    let c3 = c2 .before in
+    let c4 = c3 .before in
+    let c5 = c4 .before in
+    package-past _ _ _ _ _ (c5 .loop .inv) (c4 .loop-test .taken) (c3 .word-at .ensures) refl (c2 .is-name .ensures) (c1 .if1 .left) (c .package-end .ensures)
 
 returns-2 : tie.Need-returns-2 Inv-loop μ-loop
 returns-2 c = package-none _ _ _ _ _ (c .before .loop .inv) (c .loop-test .left)

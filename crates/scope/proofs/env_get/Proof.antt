@@ -41,7 +41,15 @@ is-poisoned-requires : tie.Need-is-poisoned-requires Inv-loop μ-loop
 is-poisoned-requires c κs = search needs
 
 returns : tie.Need-returns Inv-loop μ-loop
-returns c = rw (← (c .before .before .before .before .before .before .before .loop .inv .0)) (env-poisoned (c .before .before .before .before .before .before .before .loop .inv .1) (c .before .before .before .before .before .before .loop-test .taken) (c .before .before .before .before .before .word-at .ensures) (c .before .before .before .before .local-name .ensures) refl (c .before .before .before .is-name .ensures) (c .before .before .if1 .taken) (c .before .is-poisoned .ensures) (c .if2 .taken))
+returns c =
+    let c1 = c .before in
+    let c2 = c1 .before in
+    let c3 = c2 .before in
+    let c4 = c3 .before in
+    let c5 = c4 .before in
+    let c6 = c5 .before in
+    let c7 = c6 .before in
+    rw (← (c7 .loop .inv .0)) (env-poisoned (c7 .loop .inv .1) (c6 .loop-test .taken) (c5 .word-at .ensures) (c4 .local-name .ensures) refl (c3 .is-name .ensures) (c2 .if1 .taken) (c1 .is-poisoned .ensures) (c .if2 .taken))
 
 add-word-at : tie.Need-add-word-at Inv-loop μ-loop
 add-word-at c = omega (arith, c .before .before .before .before .before .before .before .loop .inv .1 .within)
@@ -50,13 +58,28 @@ word-at-requires-2 : tie.Need-word-at-requires-2 Inv-loop μ-loop
 word-at-requires-2 c κs = search needs
 
 returns-2 : tie.Need-returns-2 Inv-loop μ-loop
-returns-2 c = rw (← (c .before .before .before .before .before .before .before .before .loop .inv .0)) (env-bound (c .before .before .before .before .before .before .before .before .loop .inv .1) (c .before .before .before .before .before .before .before .loop-test .taken) (c .before .before .before .before .before .before .word-at .ensures) (c .before .before .before .before .before .local-name .ensures) refl (c .before .before .before .before .is-name .ensures) (c .before .before .before .if1 .taken) (c .before .before .is-poisoned .ensures) (c .before .if2 .left) (c .word-at2 .ensures))
+returns-2 c =
+    let c1 = c .before in
+    let c2 = c1 .before in
+    let c3 = c2 .before in
+    let c4 = c3 .before in
+    let c5 = c4 .before in
+    let c6 = c5 .before in
+    let c7 = c6 .before in
+    let c8 = c7 .before in
+    rw (← (c8 .loop .inv .0)) (env-bound (c8 .loop .inv .1) (c7 .loop-test .taken) (c6 .word-at .ensures) (c5 .local-name .ensures) refl (c4 .is-name .ensures) (c3 .if1 .taken) (c2 .is-poisoned .ensures) (c1 .if2 .left) (c .word-at2 .ensures))
 
 loop-less : tie.Need-loop-less Inv-loop μ-loop
 loop-less c = omega arith
 
 loop-again : tie.Need-loop-again Inv-loop μ-loop
-loop-again c = (c .before .before .before .before .before .loop .inv .0, env-past (c .before .before .before .before .before .loop .inv .1) (c .before .before .before .before .loop-test .taken) (c .before .before .before .word-at .ensures) (c .before .before .local-name .ensures) refl (c .before .is-name .ensures) (c .if1 .left))
+loop-again c =
+    let c1 = c .before in
+    let c2 = c1 .before in
+    let c3 = c2 .before in
+    let c4 = c3 .before in
+    let c5 = c4 .before in
+    (c5 .loop .inv .0, env-past (c5 .loop .inv .1) (c4 .loop-test .taken) (c3 .word-at .ensures) (c2 .local-name .ensures) refl (c1 .is-name .ensures) (c .if1 .left))
 
 returns-3 : tie.Need-returns-3 Inv-loop μ-loop
 returns-3 c = rw (← (c .before .loop .inv .0)) (env-none (c .before .loop .inv .1) (c .loop-test .left))

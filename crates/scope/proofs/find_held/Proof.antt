@@ -29,7 +29,13 @@ held-at-requires : tie.Need-held-at-requires Inv-loop μ-loop
 held-at-requires c κs = omega (arith, left-place (c .before .before .before .before .loop .inv .1), c .before .before .before .before .before .before .before .before .before .before .pre)
 
 returns : tie.Need-returns Inv-loop μ-loop
-returns c = rw (← (c .before .before .before .before .before .loop .inv .0)) (held-found (c .before .before .before .before .before .loop .inv .1) (c .before .before .before .before .loop-test .taken) (c .before .before .before .held-name .ensures) refl (c .before .before .is-name .ensures) (c .held-at .ensures _) (c .before .if1 .taken))
+returns c =
+    let c1 = c .before in
+    let c2 = c1 .before in
+    let c3 = c2 .before in
+    let c4 = c3 .before in
+    let c5 = c4 .before in
+    rw (← (c5 .loop .inv .0)) (held-found (c5 .loop .inv .1) (c4 .loop-test .taken) (c3 .held-name .ensures) refl (c2 .is-name .ensures) (c .held-at .ensures _) (c1 .if1 .taken))
 
 word-at-requires : tie.Need-word-at-requires Inv-loop μ-loop
 word-at-requires c κs = search needs
@@ -38,7 +44,15 @@ held-size-requires : tie.Need-held-size-requires Inv-loop μ-loop
 held-size-requires c κs = search needs
 
 add-at : tie.Need-add-at Inv-loop μ-loop
-add-at c = omega (arith, left-place (held-past (c .before .before .before .before .before .before .loop .inv .1) (c .before .before .before .before .before .loop-test .taken) (c .before .before .before .before .held-name .ensures) refl (c .before .before .before .is-name .ensures) (c .before .word-at .ensures) (c .held-size .ensures) (c .before .before .if1 .left)), c .before .before .before .before .before .before .before .before .before .before .before .before .pre)
+add-at c =
+    let c1 = c .before in
+    let c2 = c1 .before in
+    let c3 = c2 .before in
+    let c4 = c3 .before in
+    let c5 = c4 .before in
+    let c6 = c5 .before in
+    let c7 = c6 .before .before .before .before .before .before in
+    omega (arith, left-place (held-past (c6 .loop .inv .1) (c5 .loop-test .taken) (c4 .held-name .ensures) refl (c3 .is-name .ensures) (c1 .word-at .ensures) (c .held-size .ensures) (c2 .if1 .left)), c7 .pre)
 
 sub-left : tie.Need-sub-left Inv-loop μ-loop
 sub-left c = search needs
@@ -47,7 +61,14 @@ loop-less : tie.Need-loop-less Inv-loop μ-loop
 loop-less c = omega arith
 
 loop-again : tie.Need-loop-again Inv-loop μ-loop
-loop-again c = (c .before .before .before .before .before .before .loop .inv .0, held-past (c .before .before .before .before .before .before .loop .inv .1) (c .before .before .before .before .before .loop-test .taken) (c .before .before .before .before .held-name .ensures) refl (c .before .before .before .is-name .ensures) (c .before .word-at .ensures) (c .held-size .ensures) (c .before .before .if1 .left))
+loop-again c =
+    let c1 = c .before in
+    let c2 = c1 .before in
+    let c3 = c2 .before in
+    let c4 = c3 .before in
+    let c5 = c4 .before in
+    let c6 = c5 .before in
+    (c6 .loop .inv .0, held-past (c6 .loop .inv .1) (c5 .loop-test .taken) (c4 .held-name .ensures) refl (c3 .is-name .ensures) (c1 .word-at .ensures) (c .held-size .ensures) (c2 .if1 .left))
 
 returns-2 : tie.Need-returns-2 Inv-loop μ-loop
 returns-2 c = rw (← (c .before .loop .inv .0)) (left-over (c .before .loop .inv .1) (c .loop-test .left))

@@ -63,13 +63,16 @@ loop-less c = omega arith
 
 loop-again : tie.Need-loop-again Inv-loop μ-loop
 loop-again c =
+    let l = c .before .before .before .before .before in
+    let w = c .before .before .before .before .word-at .ensures in
+    let n = c .before .before .before .is-name .ensures in
     let c₂ = c .wide .ensures ∙ c .before .word-at2 .ensures in (
-      c .before .before .before .before .before .before .loop .inv .0,
+      l .before .loop .inv .0,
       (
-        left-more (c .before .before .before .before .before .before .loop .inv .1 .0) (c .before .before .before .before .before .loop-test .taken) c₂,
+        left-more (l .before .loop .inv .1 .0) (l .loop-test .taken) c₂,
         ⊎-elim
-            (λ x. subst (Seeks _ _ _ _ _ _) (sym (x .1)) (seek-hit _ _ _ _ (c .before .before .before .before .before .before .loop .inv .1 .1) (c .before .before .before .before .before .loop-test .taken) (c .before .before .before .before .word-at .ensures) refl (c .before .before .before .is-name .ensures) c₂ (x .0 .taken)))
-            (λ x. subst (Seeks _ _ _ _ _ _) (sym (x .1)) (seek-past _ _ _ _ (c .before .before .before .before .before .before .loop .inv .1 .1) (c .before .before .before .before .before .loop-test .taken) (c .before .before .before .before .word-at .ensures) refl (c .before .before .before .is-name .ensures) c₂ (x .0 .left)))
+            (λ x. subst (Seeks _ _ _ _ _ _) (sym (x .1)) (seek-hit _ _ _ _ (l .before .loop .inv .1 .1) (l .loop-test .taken) w refl n c₂ (x .0 .taken)))
+            (λ x. subst (Seeks _ _ _ _ _ _) (sym (x .1)) (seek-past _ _ _ _ (l .before .loop .inv .1 .1) (l .loop-test .taken) w refl n c₂ (x .0 .left)))
             (c .before .before .if1 .came),
       ),
     )

@@ -36,7 +36,10 @@ flag-words-requires : tie.Need-flag-words-requires Inv-loop μ-loop
 flag-words-requires c κs = search needs
 
 add-t17 : tie.Need-add-t17 Inv-loop μ-loop
-add-t17 c = omega (arith, flag-low (c .before .before .before .before .before .before .before .before .before .before .before .before .args .flagged), c .before .before .before .before .before .before .loop .inv .within)
+add-t17 c =
+    let c1 = c .before .before .before .before .before .before in
+    let c2 = c1 .before .before .before .before .before .before in
+    omega (arith, flag-low (c2 .args .flagged), c1 .loop .inv .within)
 
 entry-end-requires : tie.Need-entry-end-requires Inv-loop μ-loop
 entry-end-requires c κs = search needs
@@ -45,7 +48,15 @@ sub-t19 : tie.Need-sub-t19 Inv-loop μ-loop
 sub-t19 c = search needs
 
 returns : tie.Need-returns Inv-loop μ-loop
-returns c = group-found _ _ _ _ _ _ (c .before .before .before .before .before .before .before .loop .inv) (c .before .before .before .before .before .before .loop-test .taken) (c .before .before .before .before .before .word-at .ensures) refl (c .before .before .before .before .is-name .ensures) (c .before .before .before .if1 .taken) (c .before .before .has-slots .ensures) (c .before .flag-words .ensures) (c .entry-end .ensures)
+returns c =
+    let c1 = c .before in
+    let c2 = c1 .before in
+    let c3 = c2 .before in
+    let c4 = c3 .before in
+    let c5 = c4 .before in
+    let c6 = c5 .before in
+    let c7 = c6 .before in
+    group-found _ _ _ _ _ _ (c7 .loop .inv) (c6 .loop-test .taken) (c5 .word-at .ensures) refl (c4 .is-name .ensures) (c3 .if1 .taken) (c2 .has-slots .ensures) (c1 .flag-words .ensures) (c .entry-end .ensures)
 
 entry-end-requires-2 : tie.Need-entry-end-requires-2 Inv-loop μ-loop
 entry-end-requires-2 c κs = search needs
@@ -57,7 +68,13 @@ loop-less : tie.Need-loop-less Inv-loop μ-loop
 loop-less c = search needs
 
 loop-again : tie.Need-loop-again Inv-loop μ-loop
-loop-again c = group-past _ _ _ _ _ _ (c .before .before .before .before .before .loop .inv) (c .before .before .before .before .loop-test .taken) (c .before .before .before .word-at .ensures) refl (c .before .before .is-name .ensures) (c .before .if1 .left) (c .entry-end2 .ensures)
+loop-again c =
+    let c1 = c .before in
+    let c2 = c1 .before in
+    let c3 = c2 .before in
+    let c4 = c3 .before in
+    let c5 = c4 .before in
+    group-past _ _ _ _ _ _ (c5 .loop .inv) (c4 .loop-test .taken) (c3 .word-at .ensures) refl (c2 .is-name .ensures) (c1 .if1 .left) (c .entry-end2 .ensures)
 
 returns-2 : tie.Need-returns-2 Inv-loop μ-loop
 returns-2 c = group-none _ _ _ _ _ _ (c .before .loop .inv) (c .loop-test .left)

@@ -45,10 +45,14 @@ part-same-part-end-2 : tie.Need-part-same-part-end-2 Inv-loop μ-loop
 part-same-part-end-2 c = search needs
 
 same-part-requires : tie.Need-same-part-requires Inv-loop μ-loop
-same-part-requires c κs = part-long _ _ (length (c .before .before .before .before .args .a .now) - 64) (length (c .before .before .before .before .args .a .now) - 64 + 64 - (length (c .before .before .before .before .args .a .now) - 64)) (c .before .before .before .before .pre .0)
+same-part-requires c κs =
+    let n = length (c .before .before .before .before .args .a .now) in
+    part-long _ _ (n - 64) (n - 64 + 64 - (n - 64)) (c .before .before .before .before .pre .0)
 
 returns : tie.Need-returns Inv-loop μ-loop
-returns c = part-differs _ _ (length (c .before .before .before .before .before .before .args .a .now) - 64) (length (c .before .before .before .before .before .before .args .a .now) - 64 + 64 - (length (c .before .before .before .before .before .before .args .a .now) - 64)) (c .before .same-part .ensures) (not-true _ (c .if1 .taken))
+returns c =
+    let n = length (c .before .before .before .before .before .before .args .a .now) in
+    part-differs _ _ (n - 64) (n - 64 + 64 - (n - 64)) (c .before .same-part .ensures) (not-true _ (c .if1 .taken))
 
 loop-holds : tie.Need-loop-holds Inv-loop μ-loop
 loop-holds c = (search needs, below-none _)
@@ -78,10 +82,14 @@ part-same-part-end-4 : tie.Need-part-same-part-end-4 Inv-loop μ-loop
 part-same-part-end-4 c = search needs
 
 same-part-requires-2 : tie.Need-same-part-requires-2 Inv-loop μ-loop
-same-part-requires-2 c κs = part-long _ _ (c .before .before .before .loop .i) (c .before .before .before .loop .i + 64 - c .before .before .before .loop .i) (c .before .before .before .before .before .before .before .before .before .before .pre .0)
+same-part-requires-2 c κs =
+    let l = c .before .before .before .loop in
+    part-long _ _ (l .i) (l .i + 64 - l .i) (c .before .before .before .before .before .before .before .before .before .before .pre .0)
 
 returns-2 : tie.Need-returns-2 Inv-loop μ-loop
-returns-2 c = part-differs _ _ (c .before .before .before .before .before .loop .i) (c .before .before .before .before .before .loop .i + 64 - c .before .before .before .before .before .loop .i) (c .before .same-part2 .ensures) (not-true _ (c .if2 .taken))
+returns-2 c =
+    let l = c .before .before .before .before .before .loop in
+    part-differs _ _ (l .i) (l .i + 64 - l .i) (c .before .same-part2 .ensures) (not-true _ (c .if2 .taken))
 
 add-i : tie.Need-add-i Inv-loop μ-loop
 add-i c = search needs
@@ -90,10 +98,16 @@ loop-less : tie.Need-loop-less Inv-loop μ-loop
 loop-less c = search needs
 
 loop-again : tie.Need-loop-again Inv-loop μ-loop
-loop-again c = (omega arith, parts-more _ _ (c .before .before .before .before .before .loop .i) (c .before .before .before .before .before .loop .i + 64 - c .before .before .before .before .before .loop .i) (c .before .before .before .before .before .loop .inv .1) (omega arith) (c .before .same-part2 .ensures) (not-false _ (c .if2 .left)))
+loop-again c =
+    let l = c .before .before .before .before .before .loop in
+    (omega arith, parts-more _ _ (l .i) (l .i + 64 - l .i) (l .inv .1) (omega arith) (c .before .same-part2 .ensures) (not-false _ (c .if2 .left)))
 
 returns-3 : tie.Need-returns-3 Inv-loop μ-loop
-returns-3 c = parts-over _ _ (c .before .loop .i) (c .before .loop .inv .1) (c .before .before .before .before .before .before .before .before .pre .0) (length (c .before .before .before .before .before .before .before .before .args .a .now) - 64) (length (c .before .before .before .before .before .before .before .before .args .a .now) - 64 + 64 - (length (c .before .before .before .before .before .before .before .before .args .a .now) - 64)) (c .loop-test .left) (omega arith) (c .before .before .before .same-part .ensures) (not-false _ (c .before .before .if1 .left))
+returns-3 c =
+    let n = length (c .before .before .before .before .before .before .before .before .args .a .now) in
+    let l = c .before .loop in
+    let first = c .before .before .before .before .before .before .before .before in
+    parts-over _ _ (l .i) (l .inv .1) (first .pre .0) (n - 64) (n - 64 + 64 - (n - 64)) (c .loop-test .left) (omega arith) (c .before .before .before .same-part .ensures) (not-false _ (c .before .before .if1 .left))
 
 pub same-by-64-spec : {M : Type 1} → statement M
 same-by-64-spec =

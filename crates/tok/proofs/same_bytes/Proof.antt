@@ -14,18 +14,12 @@ same-short-requires c κs = c .before .if1 .left
 returns-2 : tie.Need-returns-2
 returns-2 c = c .same-short .ensures
 
-same-by-16-requires : tie.Need-same-by-16-requires
-same-by-16-requires c κs = (c .before .before .if1 .left, c .before .if2 .left)
+same-long-requires : tie.Need-same-long-requires
+same-long-requires c κs = (c .before .if1 .left, c .if2 .left)
 
 returns-3 : tie.Need-returns-3
-returns-3 c = c .same-by-16 .ensures
-
-same-by-64-requires : tie.Need-same-by-64-requires
-same-by-64-requires c κs = (c .before .before .if1 .left, c .if3 .left)
-
-returns-4 : tie.Need-returns-4
-returns-4 c = c .same-by-64 .ensures
+returns-3 c = c .same-long .ensures
 
 pub same-bytes-spec : {M : Type 1} → statement M
 same-bytes-spec =
-    tie.close (tie.spec returns same-short-requires returns-2 same-by-16-requires returns-3 same-by-64-requires returns-4)
+    tie.close (tie.spec returns same-short-requires returns-2 same-long-requires returns-3)

@@ -34,7 +34,9 @@ loop-less : tie.Need-loop-less Inv-loop μ-loop
 loop-less c = search needs
 
 loop-again : tie.Need-loop-again Inv-loop μ-loop
-loop-again c = (omega arith, same-more _ _ (c .before .before .before .loop .i) (c .before .before .before .loop .differ) (c .before .before .before .before .pre) (c .before .before .before .loop .inv .1) (c .before .before .loop-test .taken))
+loop-again c =
+    let l = c .before .before .before in
+    (omega arith, same-more _ _ (l .loop .i) (l .loop .differ) (l .before .pre) (l .loop .inv .1) (c .before .before .loop-test .taken))
 
 returns : tie.Need-returns Inv-loop μ-loop
 returns c = same-over _ _ (c .before .loop .i) (c .before .loop .differ) (c .before .before .pre) (c .before .loop .inv .1) (c .loop-test .left)

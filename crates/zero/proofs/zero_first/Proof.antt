@@ -41,7 +41,11 @@ same-length : tie.Need-same-length Inv-loop μ-loop
 same-length c = ap length (c .before .loop .inv .0) ∙ length-zero (now (c .before .before .before .before .args .words)) _
 
 returns : tie.Need-returns Inv-loop μ-loop
-returns c = zero-over (now (c .before .before .before .before .args .words)) (c .before .loop .i) _ (c .before .loop .inv .0) (c .before .loop .inv .1) (c .loop-test .left) ∙ zero-least (now (c .before .before .before .before .args .words)) _ (c .before .before .least .ensures)
+returns c =
+    let c1 = c .before in
+    let c2 = c1 .before in
+    let c3 = c2 .before .before in
+    zero-over (now (c3 .args .words)) (c1 .loop .i) _ (c1 .loop .inv .0) (c1 .loop .inv .1) (c .loop-test .left) ∙ zero-least (now (c3 .args .words)) _ (c2 .least .ensures)
 
 pub zero-first-spec : {M : Type 1} → statement M
 zero-first-spec =
