@@ -163,3 +163,23 @@ module _ (t : Texts) (types l : List ℕ) (go : ℕ → Ty) (i j count m n : ℕ
                 ← k,
               ) (b .is);
         }
+
+-- In the loop: m′ fields from i′ on and n′ from j′ on are left of m from i on and n from j on, and what binds those that are left binds
+-- them all; the lent part is as long as it was.
+pub record Left (t : Texts) (types : List ℕ) (go : ℕ → Ty) (i m j n : ℕ) (l : List ℕ) (count i′ m′ j′ n′ : ℕ) (l′ : List ℕ) (count′ : ℕ) : Type 0 where
+  pub keeps : length l′ ≡ length l
+  pub leads : (r : Bind) (l″ : List ℕ) → Binds t (bindFields t types (fieldsFrom go t types i′ m′) j′ n′) l′ count′ r l″
+      → Binds t (bindFields t types (fieldsFrom go t types i m) j n) l count r l″
+
+pub left-all : (t : Texts) (types : List ℕ) (go : ℕ → Ty) (i m j n : ℕ) (l : List ℕ) (count : ℕ) → Left t types go i m j n l count i m j n l count
+left-all t types go i m j n l count = record { keeps = refl; leads = λ r l″ b. b }
+
+module _ {t : Texts} {types : List ℕ} {go : ℕ → Ty} {i m j n : ℕ} {l : List ℕ} {count i′ m′ j′ n′ : ℕ} {l′ : List ℕ} {count′ : ℕ}
+    (h : Left t types go i m j n l count i′ m′ j′ n′ l′ count′) where
+  pub left-next : {x y c : ℕ} {r : Bind} {l₁ : List ℕ} → (m′ ≡ 0 → ⊥) → (n′ ≡ 0 → ⊥) → x ≡ getD types (i′ + 1) 0 → y ≡ getD types (j′ + 1) 0
+      → Binds t (bindSlots t types (go x) y) l′ count′ r l₁ → r ≡ Done c → length l₁ ≡ length l′
+      → Left t types go i m j n l count (i′ + 2) (m′ - 1) (j′ + 2) (n′ - 1) l₁ c
+  left-next p q hx hy b e k = record {
+    keeps = k ∙ h .keeps;
+    leads = λ s l₂ g. h .leads s l₂ (fields-next t types l′ go i′ j′ count′ m′ n′ p q hx hy b e k g);
+  }

@@ -226,37 +226,35 @@ fn bind_fields<'a>(
     ensures { λ r. let T : Texts = textsOf (now (script .entry)) (now (library .entry)) in
         ⌜ Binds T (bindFields T (now (types .entry)) (fieldsFrom (unfolded T (now (types .entry)) depth) T (now (types .entry)) i m) j n) (now (pairs .entry)) count r (now (pairs .exit)) ⌝ }
 {
-    if m == 0 {
-        return Bind::Done(count);
+    let mut at = i;
+    let mut expected_left = m;
+    let mut to = j;
+    let mut provided_left = n;
+    let mut bound = count;
+    while expected_left > 0 {
+        if provided_left == 0 {
+            return Bind::Done(bound);
+        }
+        let r = bind_within(
+            types,
+            script,
+            library,
+            field_type(types, at),
+            field_type(types, to),
+            depth,
+            pairs,
+            bound,
+        );
+        let Bind::Done(more) = r else {
+            return r;
+        };
+        bound = more;
+        at += 2;
+        expected_left -= 1;
+        to += 2;
+        provided_left -= 1;
     }
-    if n == 0 {
-        return Bind::Done(count);
-    }
-    let r = bind_within(
-        types,
-        script,
-        library,
-        field_type(types, i),
-        field_type(types, j),
-        depth,
-        pairs,
-        count,
-    );
-    let Bind::Done(more) = r else {
-        return r;
-    };
-    bind_fields(
-        types,
-        script,
-        library,
-        i + 2,
-        m - 1,
-        j + 2,
-        n - 1,
-        depth,
-        pairs,
-        more,
-    )
+    Bind::Done(bound)
 }
 
 // Whether a slot that is bound stands in a type, as deep as `depth` says.

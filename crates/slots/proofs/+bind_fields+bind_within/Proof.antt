@@ -1,17 +1,19 @@
--- `slots::bind_within` and `slots::bind_fields` meet their contracts: one law for each return. The depth falls, and in step the number
--- of fields that are left. Assumes nothing.
+-- `slots::bind_within` and `slots::bind_fields` meet their contracts: one law for each return. The depth falls. The loop's
+-- invariant: what binds the fields that are left binds them all. Assumes nothing.
 use mathlib.Core.Path.{sym, _∙_}
 use Prim.Native.Nat.{_+_, _*_, _^_, ℕ, _<_}
 use native.Mathlib.Omega.{arith}
 use borrow.Author.Needs.{needs}
 use borrow.Fn.Kinds.{In}
 use borrow.Fn.PlainCycle.{Measures, is, falls, and}
+use Rattle.tok.specs.Text.{textsOf}
 use Rattle.tok.proofs.kind.Reads as kind-reads
 use Rattle.tok.proofs.payload.Reads as payload-reads
+use Rattle.ptype.specs.Words.{unfolded}
 use Rattle.ptype.proofs.field_count.Reads as field-count-reads
 use Rattle.ptype.proofs.field_type.Reads as field-type-reads
 use Rattle.ptype.proofs.inner.Reads as inner-reads
-use Rattle.slots.proofs.BindReturns.{within-none, within-slot, within-differ, within-rest, within-wrap, within-record, fields-end, fields-short, fields-stop, fields-next}
+use Rattle.slots.proofs.BindReturns.{within-none, within-slot, within-differ, within-rest, within-wrap, within-record, fields-end, fields-short, fields-stop, Left, left-all, left-next}
 use Rattle.slots.proofs.bind_fields.Reads as bind-fields
 use Rattle.slots.proofs.bind_fields.Kinds as bind-fields-kinds
 use Rattle.slots.proofs.+bind_fields+bind_within.Lts-bind_fields as bind-fields-lts
@@ -24,10 +26,10 @@ use Rattle.slots.proofs.+bind_fields+bind_within.{statement}
 use Rattle.slots.proofs.+bind_fields+bind_within.Tie.{close}
 
 abbrev μ-bind-fields : Measures 3 bind-fields-kinds.ps ℕ
-μ-bind-fields κs a = a .1 .1 .1 .1 .1 .1 .1 .0 * 2 ^ 41 + a .1 .1 .1 .1 .0 + 1
+μ-bind-fields κs a = a .1 .1 .1 .1 .1 .1 .1 .0 * 2 + 1
 
 abbrev μ-bind-within : Measures 3 bind-within-kinds.ps ℕ
-μ-bind-within κs a = a .1 .1 .1 .1 .1 .0 * 2 ^ 41
+μ-bind-within κs a = a .1 .1 .1 .1 .1 .0 * 2
 
 abbrev bind-fields-at : ℕ → In 3 bind-fields-kinds.ps
 bind-fields-at t =
@@ -46,52 +48,66 @@ bind-within-below t =
     and 3 bind-within-kinds.ps (falls 3 bind-within-kinds.ps _<_ μ-bind-within t) bind-within.Pre
 
 abbrev bind-fields-claims : ℕ → bind-fields-lts.Claims
-bind-fields-claims t = (field-type-reads.Asked, field-type-reads.Learnt, bind-within-below t, bind-within.Post, bind-fields-below t, bind-fields.Post)
+bind-fields-claims t = (field-type-reads.Asked, field-type-reads.Learnt, bind-within-below t, bind-within.Post)
 
-bind-fields-returns : (t : ℕ) → bind-fields-lts.Need-returns (bind-fields-claims t) (bind-fields-at t) bind-fields.Post
-bind-fields-returns t c = fields-end _ _ _ _ _ _ _ _ _ (c .if1 .taken)
+abbrev bind-fields-Inv-loop : bind-fields-lts.InvT-loop
+bind-fields-Inv-loop types script library i m j n depth pairs₀ count at₀ left₀ to₀ others₀ bound₀ pairs at left to others bound =
+    Left (textsOf script library) types (unfolded (textsOf script library) types depth) i m j n pairs₀ count at left to others pairs bound
+    × ((at + 2 * left < 2 ^ 40) × (to + 2 * others < 2 ^ 40))
 
-bind-fields-returns-2 : (t : ℕ) → bind-fields-lts.Need-returns-2 (bind-fields-claims t) (bind-fields-at t) bind-fields.Post
-bind-fields-returns-2 t c = fields-short _ _ _ _ _ _ _ _ _ (c .before .if1 .left) (c .if2 .taken)
+abbrev bind-fields-μ-loop : bind-fields-lts.MeasureT-loop
+bind-fields-μ-loop types script library i m j n depth pairs₀ count at₀ left₀ to₀ others₀ bound₀ pairs at left to others bound = left
 
-bind-fields-field-type-requires : (t : ℕ) → bind-fields-lts.Need-field-type-requires (bind-fields-claims t) (bind-fields-at t) bind-fields.Post
-bind-fields-field-type-requires t c κs = search needs
+bind-fields-loop-holds : (t : ℕ) → bind-fields-lts.Need-loop-holds (bind-fields-claims t) (bind-fields-at t) bind-fields.Post bind-fields-Inv-loop bind-fields-μ-loop
+bind-fields-loop-holds t c = (left-all _ _ _ _ _ _ _ _ _, c .before .before .before .before .pre .1)
 
-bind-fields-field-type-requires-2 : (t : ℕ) → bind-fields-lts.Need-field-type-requires-2 (bind-fields-claims t) (bind-fields-at t) bind-fields.Post
-bind-fields-field-type-requires-2 t c κs = search needs
-
-bind-fields-bind-within-requires : (t : ℕ) → bind-fields-lts.Need-bind-within-requires (bind-fields-claims t) (bind-fields-at t) bind-fields.Post
-bind-fields-bind-within-requires t c κs = omega (arith, c .before .before .before .before .before .before .before .before .before .pre)
-
-bind-fields-enum-known-r : (t : ℕ) → bind-fields-lts.Need-enum-known-r (bind-fields-claims t) (bind-fields-at t) bind-fields.Post
-bind-fields-enum-known-r t c = search needs
-
-bind-fields-same-length : (t : ℕ) → bind-fields-lts.Need-same-length (bind-fields-claims t) (bind-fields-at t) bind-fields.Post
+bind-fields-same-length : (t : ℕ) → bind-fields-lts.Need-same-length (bind-fields-claims t) (bind-fields-at t) bind-fields.Post bind-fields-Inv-loop bind-fields-μ-loop
 bind-fields-same-length t c = search needs
 
-bind-fields-returns-3 : (t : ℕ) → bind-fields-lts.Need-returns-3 (bind-fields-claims t) (bind-fields-at t) bind-fields.Post
-bind-fields-returns-3 t c = fields-stop _ _ _ _ _ _ _ _ _ (c .before .before .before .before .before .before .before .before .if1 .left) (c .before .before .before .before .before .before .before .if2 .left) (c .before .before .before .before .before .before .field-type .ensures) (c .before .before .before .before .before .field-type2 .ensures) (c .before .before .before .bind-within .ensures) (c .match .keys2)
+bind-fields-returns : (t : ℕ) → bind-fields-lts.Need-returns (bind-fields-claims t) (bind-fields-at t) bind-fields.Post bind-fields-Inv-loop bind-fields-μ-loop
+bind-fields-returns t c = c .before .before .loop .inv .0 .leads _ _ (fields-short _ _ _ _ _ _ _ _ _ (λ z. omega arith) (c .if1 .taken))
 
-bind-fields-add-bind-fields : (t : ℕ) → bind-fields-lts.Need-add-bind-fields (bind-fields-claims t) (bind-fields-at t) bind-fields.Post
-bind-fields-add-bind-fields t c = search needs
+bind-fields-field-type-requires : (t : ℕ) → bind-fields-lts.Need-field-type-requires (bind-fields-claims t) (bind-fields-at t) bind-fields.Post bind-fields-Inv-loop bind-fields-μ-loop
+bind-fields-field-type-requires t c κs = search needs
 
-bind-fields-sub-bind-fields : (t : ℕ) → bind-fields-lts.Need-sub-bind-fields (bind-fields-claims t) (bind-fields-at t) bind-fields.Post
-bind-fields-sub-bind-fields t c = search needs
+bind-fields-field-type-requires-2 : (t : ℕ) → bind-fields-lts.Need-field-type-requires-2 (bind-fields-claims t) (bind-fields-at t) bind-fields.Post bind-fields-Inv-loop bind-fields-μ-loop
+bind-fields-field-type-requires-2 t c κs = search needs
 
-bind-fields-add-bind-fields-2 : (t : ℕ) → bind-fields-lts.Need-add-bind-fields-2 (bind-fields-claims t) (bind-fields-at t) bind-fields.Post
-bind-fields-add-bind-fields-2 t c = search needs
+bind-fields-bind-within-requires : (t : ℕ) → bind-fields-lts.Need-bind-within-requires (bind-fields-claims t) (bind-fields-at t) bind-fields.Post bind-fields-Inv-loop bind-fields-μ-loop
+bind-fields-bind-within-requires t c κs = omega (arith, c .before .before .before .before .before .before .before .before .before .before .pre)
 
-bind-fields-sub-bind-fields-2 : (t : ℕ) → bind-fields-lts.Need-sub-bind-fields-2 (bind-fields-claims t) (bind-fields-at t) bind-fields.Post
-bind-fields-sub-bind-fields-2 t c = search needs
+bind-fields-enum-known-r : (t : ℕ) → bind-fields-lts.Need-enum-known-r (bind-fields-claims t) (bind-fields-at t) bind-fields.Post bind-fields-Inv-loop bind-fields-μ-loop
+bind-fields-enum-known-r t c = search needs
 
-bind-fields-bind-fields-requires : (t : ℕ) → bind-fields-lts.Need-bind-fields-requires (bind-fields-claims t) (bind-fields-at t) bind-fields.Post
-bind-fields-bind-fields-requires t c κs = omega (arith, c .before .before .before .before .before .before .before .before .before .before .before .before .before .before .before .before .pre, c .before .before .before .before .before .before .before .before .before .before .before .if1 .left, c .before .before .before .before .before .before .before .before .before .before .if2 .left)
-
-bind-fields-same-length-2 : (t : ℕ) → bind-fields-lts.Need-same-length-2 (bind-fields-claims t) (bind-fields-at t) bind-fields.Post
+bind-fields-same-length-2 : (t : ℕ) → bind-fields-lts.Need-same-length-2 (bind-fields-claims t) (bind-fields-at t) bind-fields.Post bind-fields-Inv-loop bind-fields-μ-loop
 bind-fields-same-length-2 t c = search needs
 
-bind-fields-returns-4 : (t : ℕ) → bind-fields-lts.Need-returns-4 (bind-fields-claims t) (bind-fields-at t) bind-fields.Post
-bind-fields-returns-4 t c = fields-next _ _ _ _ _ _ _ _ _ (c .before .before .before .before .before .before .before .before .before .before .before .before .before .before .if1 .left) (c .before .before .before .before .before .before .before .before .before .before .before .before .before .if2 .left) (c .before .before .before .before .before .before .before .before .before .before .before .before .field-type .ensures) (c .before .before .before .before .before .before .before .before .before .before .before .field-type2 .ensures) (c .before .before .before .before .before .before .before .before .before .bind-within .ensures) (c .before .before .before .before .before .r .given .1) (search needs) (c .before .before .bind-fields .ensures)
+bind-fields-returns-2 : (t : ℕ) → bind-fields-lts.Need-returns-2 (bind-fields-claims t) (bind-fields-at t) bind-fields.Post bind-fields-Inv-loop bind-fields-μ-loop
+bind-fields-returns-2 t c = c .before .before .before .before .before .before .before .before .before .loop .inv .0 .leads _ _ (fields-stop _ _ _ _ _ _ _ _ _ (λ z. omega arith) (c .before .before .before .before .before .before .before .if1 .left) (c .before .before .before .before .before .before .field-type .ensures) (c .before .before .before .before .before .field-type2 .ensures) (c .before .before .before .bind-within .ensures) (c .match .keys2))
+
+bind-fields-add-at : (t : ℕ) → bind-fields-lts.Need-add-at (bind-fields-claims t) (bind-fields-at t) bind-fields.Post bind-fields-Inv-loop bind-fields-μ-loop
+bind-fields-add-at t c = search needs
+
+bind-fields-sub-expected-left : (t : ℕ) → bind-fields-lts.Need-sub-expected-left (bind-fields-claims t) (bind-fields-at t) bind-fields.Post bind-fields-Inv-loop bind-fields-μ-loop
+bind-fields-sub-expected-left t c = search needs
+
+bind-fields-add-to : (t : ℕ) → bind-fields-lts.Need-add-to (bind-fields-claims t) (bind-fields-at t) bind-fields.Post bind-fields-Inv-loop bind-fields-μ-loop
+bind-fields-add-to t c = search needs
+
+bind-fields-sub-provided-left : (t : ℕ) → bind-fields-lts.Need-sub-provided-left (bind-fields-claims t) (bind-fields-at t) bind-fields.Post bind-fields-Inv-loop bind-fields-μ-loop
+bind-fields-sub-provided-left t c = search needs
+
+bind-fields-loop-less : (t : ℕ) → bind-fields-lts.Need-loop-less (bind-fields-claims t) (bind-fields-at t) bind-fields.Post bind-fields-Inv-loop bind-fields-μ-loop
+bind-fields-loop-less t c = search needs
+
+bind-fields-loop-again : (t : ℕ) → bind-fields-lts.Need-loop-again (bind-fields-claims t) (bind-fields-at t) bind-fields.Post bind-fields-Inv-loop bind-fields-μ-loop
+bind-fields-loop-again t c = (left-next (c .before .before .before .before .before .before .before .before .before .before .before .loop .inv .0) (λ z. omega arith) (c .before .before .before .before .before .before .before .before .before .if1 .left) (c .before .before .before .before .before .before .before .before .field-type .ensures) (c .before .before .before .before .before .before .before .field-type2 .ensures) (c .before .before .before .before .before .bind-within .ensures) (c .before .r .given .1) (search needs), (omega arith, omega arith))
+
+bind-fields-same-length-3 : (t : ℕ) → bind-fields-lts.Need-same-length-3 (bind-fields-claims t) (bind-fields-at t) bind-fields.Post bind-fields-Inv-loop bind-fields-μ-loop
+bind-fields-same-length-3 t c = search needs
+
+bind-fields-returns-3 : (t : ℕ) → bind-fields-lts.Need-returns-3 (bind-fields-claims t) (bind-fields-at t) bind-fields.Post bind-fields-Inv-loop bind-fields-μ-loop
+bind-fields-returns-3 t c = c .before .loop .inv .0 .leads _ _ (fields-end _ _ _ _ _ _ _ _ _ (omega arith))
 
 abbrev bind-within-claims : ℕ → bind-within-lts.Claims
 bind-within-claims t = (kind-reads.Asked, kind-reads.Learnt, bind-one-reads.Asked, bind-one-reads.Learnt, wraps-reads.Asked, wraps-reads.Learnt, inner-reads.Asked, inner-reads.Learnt, bind-within-below t, bind-within.Post, payload-reads.Asked, payload-reads.Learnt, field-count-reads.Asked, field-count-reads.Learnt, bind-fields-below t, bind-fields.Post)
@@ -175,21 +191,25 @@ pub +bind-fields+bind-within-spec : {M : Type 1} → statement M
 +bind-fields+bind-within-spec = close μ-bind-fields μ-bind-within (λ t. bind-fields-lts.spec (bind-fields-claims t)
     (bind-fields-at t)
     bind-fields.Post
+    bind-fields-Inv-loop
+    bind-fields-μ-loop
+    (bind-fields-loop-holds t)
+    (bind-fields-same-length t)
     (bind-fields-returns t)
-    (bind-fields-returns-2 t)
     (bind-fields-field-type-requires t)
     (bind-fields-field-type-requires-2 t)
     (bind-fields-bind-within-requires t)
     (bind-fields-enum-known-r t)
-    (bind-fields-same-length t)
-    (bind-fields-returns-3 t)
-    (bind-fields-add-bind-fields t)
-    (bind-fields-sub-bind-fields t)
-    (bind-fields-add-bind-fields-2 t)
-    (bind-fields-sub-bind-fields-2 t)
-    (bind-fields-bind-fields-requires t)
     (bind-fields-same-length-2 t)
-    (bind-fields-returns-4 t))
+    (bind-fields-returns-2 t)
+    (bind-fields-add-at t)
+    (bind-fields-sub-expected-left t)
+    (bind-fields-add-to t)
+    (bind-fields-sub-provided-left t)
+    (bind-fields-loop-less t)
+    (bind-fields-loop-again t)
+    (bind-fields-same-length-3 t)
+    (bind-fields-returns-3 t))
     λ t. bind-within-lts.spec (bind-within-claims t)
     (bind-within-at t)
     bind-within.Post
