@@ -16,10 +16,9 @@ pub record PartReady (image places : List ℕ) (t part : ℕ) : Type 0 where
   pub ready : TypeReady image places part
   pub under : part < t
 
--- `left` pairs from word `at` on, whose types are numbered below their owner; k were before them
-pub record FieldsReady (image places : List ℕ) (owner at left k : ℕ) : Type 0 where
+-- `left` pairs from word `at` on, whose types are numbered below their owner
+pub record FieldsReady (image places : List ℕ) (owner at left : ℕ) : Type 0 where
   pub readable : Readable image places
   pub below : owner < typeCount image
   pub pairs : Each (Pair (readable .text) owner image) 2 at left
   pub room : at + 2 * left ≤ 8192
-  pub few : k + left ≤ 8192

@@ -94,7 +94,7 @@ module _ {image places : List ℕ} {t at : ℕ} (r : TypeReady image places t) (
     two-words el = rw (el, eh, there) (type-read (r .readable) (r .below) e .words .long)
 
     -- the fields of a Record
-    pub fields-ready : {long : ℕ} → long ≡ payloadOf h → k ≡ 4 → FieldsReady image places t (at + 2) ((long - 2) / 2) 0
+    pub fields-ready : {long : ℕ} → long ≡ payloadOf h → k ≡ 4 → FieldsReady image places t (at + 2) ((long - 2) / 2)
     fields-ready {long} el q =
         let w : TypeRecordWords (countsIn (r .readable .text) image) image t (typePlace image t) = type-record-words (type-read (r .readable) (r .below) e) (kind 4 q) in
         let z : recordLength image (typePlace image t) ≡ long = ap (recordLength image) (sym there) ∙ ap payloadOf (sym eh) ∙ sym el in
@@ -105,11 +105,10 @@ module _ {image places : List ℕ} {t at : ℕ} (r : TypeReady image places t) (
           below = r .below;
           pairs = rw (z, ← there) at (w .fields);
           room = omega arith;
-          few = omega arith;
         }
 
 -- the first pair's type, and the pairs after it
-module _ {image places : List ℕ} {owner at left k : ℕ} (r : FieldsReady image places owner at left k) (d : left ≡ 0 → ⊥) where
+module _ {image places : List ℕ} {owner at left : ℕ} (r : FieldsReady image places owner at left) (d : left ≡ 0 → ⊥) where
   pairs : Each (Pair (r .readable .text) owner image) 2 at (suc (left - 1))
   pairs = rw (one-less d) at (r .pairs)
 
@@ -118,11 +117,10 @@ module _ {image places : List ℕ} {owner at left k : ℕ} (r : FieldsReady imag
       let l : getD image (at + 1) 0 < owner = each-first (Pair (r .readable .text) owner image) pairs .value .under in
       record { ready = record { readable = r .readable; below = omega (arith, r .below) }; under = omega arith }
 
-  pub rest-ready : FieldsReady image places owner (at + 2) (left - 1) (k + 1)
+  pub rest-ready : FieldsReady image places owner (at + 2) (left - 1)
   rest-ready = record {
     readable = r .readable;
     below = r .below;
     pairs = each-rest (Pair (r .readable .text) owner image) pairs;
     room = omega (arith, r .room, d);
-    few = omega (arith, r .few, d);
   }

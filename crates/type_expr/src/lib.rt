@@ -6,15 +6,16 @@ use tok::kind;
 use tok::payload;
 use tok::word_at;
 ghost use mathlib.Core.Path.{_≡_};
-ghost use Prim.Native.Nat.{ℕ, _+_, _<_};
+ghost use Prim.Native.Nat.{ℕ, _+_, _<_, _≤_, _^_};
 ghost use Rattle.tok.specs.Word.{wordOf, payloadOf};
 ghost use Rattle.tok.specs.Text.{Texts};
-ghost use Rattle.ptype.specs.Add.{buffer};
+ghost use Rattle.ptype.specs.Add.{buffer, write};
 ghost use Rattle.add.specs.Answer.{resultOf};
 ghost use Rattle.add.specs.Parts.{recordFrom};
-ghost use Rattle.ast.specs.TypeExpr.{typeOf, typeToken, typeFieldsFrom};
+ghost use Rattle.ast.specs.TypeExpr.{TypeFields, typeOf, typeToken, typeFieldsFrom};
 ghost use Rattle.ast.specs.TypeFrom.{typeFrom, fieldsFromExprs};
 ghost use Rattle.type_expr.specs.Ready.{TypeReady, FieldsReady};
+ghost use Rattle.type_expr.specs.Sizes.{sizeOf, sizesOf, wordBefore, pairsAfter};
 
 // The kinds of type records.
 const ATOM: u32 = 0;
@@ -81,7 +82,7 @@ pub fn type_from_type_expr(
     }
     if k == RECORD {
         let fields = (payload(head) - 2) / 2;
-        let r = fields_from_exprs(types, used, image, places, t, at + 2, fields, 0);
+        let r = fields_from_exprs(types, used, image, places, t, at + 2, fields);
         return add::close_record(&types[..], r);
     }
     let r = type_from_type_expr(types, used, image, places, word_at(image, at + 1));
@@ -94,8 +95,8 @@ pub fn type_from_type_expr(
     add::add_array(types, u, inner)
 }
 
-// The fields of the type `owner` from word `at` on, of which `left` are left and k are done: their types are added on the way down, then
-// the Record of all fields is opened, and the pairs are set on the way back.
+// Adds the Record of the fields of the type `owner`, which stand from word `at` on: first the types of all fields, then the Record is
+// opened, and then its pairs are set. They are not kept until then, since the words used say what each of them is.
 fn fields_from_exprs(
     types: &mut [u32],
     used: usize,
@@ -103,24 +104,141 @@ fn fields_from_exprs(
     places: &[u16],
     owner: u32,
     at: usize,
-    left: usize,
-    k: usize,
+    fields: usize,
 ) -> Added
-    requires { ⌜ FieldsReady (now image) (now places) owner at left k ⌝ }
-    ensures { λ r. ⌜ ((T : Texts) (n : ℕ) → recordFrom n (k + left) k (fieldsFromExprs T n (typeFieldsFrom (typeOf (now (image .entry))) (now (image .entry)) at left)) (buffer (now (types .entry)) used) ≡ resultOf n r (now (types .exit))) ⌝ }
+    requires { ⌜ FieldsReady (now image) (now places) owner at fields ⌝ }
+    ensures { λ r. ⌜ ((T : Texts) (n : ℕ) → recordFrom n fields 0 (fieldsFromExprs T n (typeFieldsFrom (typeOf (now (image .entry))) (now (image .entry)) at fields)) (buffer (now (types .entry)) used) ≡ resultOf n r (now (types .exit))) ⌝ }
 {
-    if left == 0 {
-        return add::open_record(types, used, k);
+    let mut u = used;
+    let mut here = at;
+    let mut left = fields;
+    while left > 0 {
+        let a = type_from_type_expr(types, u, image, places, word_at(image, here + 1));
+        let Added::Put(_, more) = a else {
+            return a;
+        };
+        u = more;
+        here += 2;
+        left -= 1;
     }
-    let name = word_at(image, at);
-    let a = type_from_type_expr(types, used, image, places, word_at(image, at + 1));
-    let Added::Put(new, u) = a else {
-        return a;
-    };
-    let r = fields_from_exprs(types, u, image, places, owner, at + 2, left - 1, k + 1);
+    let r = add::open_record(types, u, fields);
     let Added::Put(record, _) = r else {
         return r;
     };
-    add::set_pair(types, payload(record) + 1 + 2 * k, name, new);
+    set_pairs(
+        types,
+        used,
+        image,
+        places,
+        owner,
+        at,
+        fields,
+        payload(record) + 1,
+    );
     r
+}
+
+// Sets the pairs of fields whose types were added after `used` words, from `place` on.
+fn set_pairs(
+    types: &mut [u32],
+    used: usize,
+    image: &[u32],
+    places: &[u16],
+    owner: u32,
+    at: usize,
+    fields: usize,
+    place: usize,
+)
+    requires { let fs : TypeFields = typeFieldsFrom (typeOf (now image)) (now image) at fields in
+        ⌜ FieldsReady (now image) (now places) owner at fields × ((used + sizesOf fs ≤ 8192) × (place < 2 ^ 40)) ⌝ }
+    ensures { λ _. let fs : TypeFields = typeFieldsFrom (typeOf (now (image .entry))) (now (image .entry)) at fields in
+        ⌜ now (types .exit) ≡ write (now (types .entry)) place (pairsAfter used fs) ⌝ }
+{
+    let mut end = used;
+    let mut here = at;
+    let mut left = fields;
+    let mut to = place;
+    while left > 0 {
+        let t = word_at(image, here + 1);
+        end += type_size(image, places, t);
+        add::set_pair(
+            types,
+            to,
+            word_at(image, here),
+            type_word(image, places, end, t),
+        );
+        here += 2;
+        left -= 1;
+        to += 2;
+    }
+}
+
+// The word of a type expression whose type was added last, when `end` words are used.
+fn type_word(image: &[u32], places: &[u16], end: usize, t: u32) -> u32
+    requires { ⌜ TypeReady (now image) (now places) t × ((sizeOf (typeOf (now image) t) ≤ end) × (end ≤ 8192)) ⌝ }
+    ensures { λ r. ⌜ r ≡ wordBefore end (typeOf (now (image .entry)) t) ⌝ }
+{
+    let at = type_place(places, t);
+    let head = word_at(image, at);
+    let k = kind(head);
+    if k == ATOM {
+        return plain_word(word_at(image, at + 2));
+    }
+    if k == FOREIGN {
+        return foreign_word(word_at(image, at + 1));
+    }
+    if k == RECORD {
+        let fields = (payload(head) - 2) / 2;
+        return compound_word(ptype::RECORD, end - (1 + 2 * fields));
+    }
+    if k == OPTION {
+        return compound_word(ptype::OPTION, end - 1);
+    }
+    compound_word(ptype::ARRAY, end - 1)
+}
+
+// The word of a type that stands at an index.
+fn compound_word(kind: u32, at: usize) -> u32
+    requires { ⌜ (kind < 16) × (at ≤ 8192) ⌝ }
+    ensures { λ r. ⌜ r ≡ wordOf kind at ⌝ }
+{
+    kind * 0x1000_0000 + (at as u32)
+}
+
+// How many words a type expression adds. It is asked only of types that were just added: these have at most 32 levels and fit the
+// buffer, and each field met is two words of it, so it takes no more steps than there are words, for each level at most once.
+fn type_size(image: &[u32], places: &[u16], t: u32) -> usize
+    requires { ⌜ TypeReady (now image) (now places) t × (sizeOf (typeOf (now image) t) ≤ 8192) ⌝ }
+    ensures { λ r. ⌜ r ≡ sizeOf (typeOf (now (image .entry)) t) ⌝ }
+{
+    let at = type_place(places, t);
+    let head = word_at(image, at);
+    let k = kind(head);
+    if k == ATOM {
+        return 0;
+    }
+    if k == FOREIGN {
+        return 0;
+    }
+    if k == RECORD {
+        let fields = (payload(head) - 2) / 2;
+        return sizes(image, places, t, at + 2, fields) + (1 + 2 * fields);
+    }
+    type_size(image, places, word_at(image, at + 1)) + 1
+}
+
+// How many words the types of the fields of the type `owner` add, which stand from word `at` on.
+fn sizes(image: &[u32], places: &[u16], owner: u32, at: usize, fields: usize) -> usize
+    requires { ⌜ FieldsReady (now image) (now places) owner at fields × (sizesOf (typeFieldsFrom (typeOf (now image)) (now image) at fields) ≤ 8192) ⌝ }
+    ensures { λ r. ⌜ r ≡ sizesOf (typeFieldsFrom (typeOf (now (image .entry))) (now (image .entry)) at fields) ⌝ }
+{
+    let mut sum: usize = 0;
+    let mut here = at;
+    let mut left = fields;
+    while left > 0 {
+        sum += type_size(image, places, word_at(image, here + 1));
+        here += 2;
+        left -= 1;
+    }
+    sum
 }
