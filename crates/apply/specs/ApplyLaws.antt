@@ -1,5 +1,4 @@
--- The word that `applyWord` gives means the type with types put for its slots; a type without a bound slot is given as it
--- is, and nothing is added. By induction on the depth. Assumes nothing.
+-- The word that `applyWithin` gives, by the buffer as it is at the time, means the type with types put for its slots. By induction on the depth. Assumes nothing.
 use mathlib.Core.Path.{_≡_, refl, sym, _∙_}
 use mathlib.Core.Bool.{Bool, true, false, true≢false}
 use mathlib.Core.Option.{Option, Option·getD}
@@ -31,7 +30,7 @@ use Rattle.slots.specs.BindLaws.{if-true, if-false}
 use Rattle.slots.specs.Substitute.{Filling, substitute, substituteFields}
 use Rattle.slots.specs.SubstituteLaws.{substitute-none}
 use Rattle.apply.specs.StepLaws.{inside-slot, inside-wrap, inside-record, inside-rest, within-free, within-inside}
-use Rattle.apply.specs.Apply.{applyPairs, applyInside, applyWithin, applyWord}
+use Rattle.apply.specs.Apply.{applyPairs, applyInside, applyWithin, whole}
 
 -- a kind that holds a name holds neither a type nor fields
 no-wrap : (k : ℕ) → names k ≡ true → wraps k ≡ false
@@ -143,18 +142,18 @@ module _ (texts : Texts) (n : ℕ) (f : Filling) (bs : List Binding) where
   abbrev Applies : (deep : ℕ) → Type 0
   Applies deep =
       (w : ℕ) (t : Ty) (b : Buffer) (w′ : ℕ) (b′ : Buffer) → Fills texts f bs b → Means texts b w t → depthOf t < deep
-      → applyWithin texts n bs deep w b ≡ ok w′ b′ → Applied texts f t b w′ b′
+      → applyWithin texts n bs whole deep w b ≡ ok w′ b′ → Applied texts f t b w′ b′
 
   -- fields, one after the other
   fields-applied : (deep : ℕ) → Applies deep → (left : ℕ) {b : Buffer} {at : ℕ} {fs : Fields} → FieldsAt texts b deep at left fs → (pairs : List ℕ) (b′ : Buffer) → Fills texts f bs b
-      → applyPairs (applyWithin texts n bs deep) at left b ≡ ok pairs b′ → PairsMean texts b′ pairs (substituteFields f fs) × Grown b b′
+      → applyPairs (applyWithin texts n bs whole deep) whole at left b ≡ ok pairs b′ → PairsMean texts b′ pairs (substituteFields f fs) × Grown b b′
   unfolding applyPairs substitute
   fields-applied deep h zero {b = b} done pairs b′ fills e = of-answer (λ ps s. PairsMean texts s ps noField × Grown b s) e (none, grown-same b)
   fields-applied deep h (suc left) {b = b} (more {at = at} {t = t} {fs = gs} l m d fs) pairs b′ fills e =
-      let go = applyWithin texts n bs deep in
-      let rest : ℕ → Step Buffer Refusal (List ℕ) = λ new s. next (applyPairs go (at + 2) left s) (λ others. return (getD (b .words) at 0 ∷ new ∷ others)) in
+      let go = applyWithin texts n bs whole deep in
+      let rest : ℕ → Step Buffer Refusal (List ℕ) = λ new s. next (applyPairs go whole (at + 2) left s) (λ others. return (getD (b .words) at 0 ∷ new ∷ others)) in
       let x = next-ok (go (getD (b .words) (at + 1) 0) b) rest pairs b′ e in
-      let y = next-ok (applyPairs go (at + 2) left (x .1)) (λ others. return (getD (b .words) at 0 ∷ x .0 ∷ others)) pairs b′ (x .3) in
+      let y = next-ok (applyPairs go whole (at + 2) left (x .1)) (λ others. return (getD (b .words) at 0 ∷ x .0 ∷ others)) pairs b′ (x .3) in
       let a = h (getD (b .words) (at + 1) 0) t b (x .0) (x .1) fills m d (x .2) in
       let r = fields-applied deep h left (fields-grown (a .grown) fs) (y .0) (y .1) (fills-grown (a .grown) fills) (y .2) in
       of-answer (λ ps s. PairsMean texts s ps (field (nameBytes texts (getD (b .words) at 0)) (substitute f t) (substituteFields f gs)) × Grown b s) (y .3)
@@ -162,15 +161,15 @@ module _ (texts : Texts) (n : ℕ) (f : Filling) (bs : List Binding) where
 
   -- a word with a bound slot, by what it holds
   module _ (deep : ℕ) (h : Applies deep) (w : ℕ) (t : Ty) (b : Buffer) (w′ : ℕ) (b′ : Buffer) (fills : Fills texts f bs b) (m : Means texts b w t) (d : depthOf t ≤ deep)
-      (e : applyInside texts n bs (applyWithin texts n bs deep) w b ≡ ok w′ b′) where
+      (e : applyInside texts n bs whole (applyWithin texts n bs whole deep) w b ≡ ok w′ b′) where
     rest-applied : (kindOf w ≡ 10 → ⊥) → wraps (kindOf w) ≡ false → (kindOf w ≡ 8 → ⊥) → substitute f t ≡ t → Applied texts f t b w′ b′
-    rest-applied ns nw n8 s = unchanged (rw s m) (sym (inside-rest texts n bs (applyWithin texts n bs deep) w b refl ns nw n8) ∙ e)
+    rest-applied ns nw n8 s = unchanged (rw s m) (sym (inside-rest texts n bs whole (applyWithin texts n bs whole deep) w b refl ns nw n8) ∙ e)
 
     wrap-applied : wraps (kindOf w) ≡ true → Applied texts f t b w′ b′
     unfolding substitute depthOf
     wrap-applied p =
-        let go = applyWithin texts n bs deep in
-        let x = next-ok (go (innerWord (b .words) w) b) (addWrap texts n (kindOf w)) w′ b′ (sym (inside-wrap texts n bs go w b refl (λ z. true≢false (sym (rw z at p))) p) ∙ e) in
+        let go = applyWithin texts n bs whole deep in
+        let x = next-ok (go (innerWord (b .words) w) b) (addWrap texts n (kindOf w)) w′ b′ (sym (inside-wrap texts n bs whole go w b refl (λ z. true≢false (sym (rw z at p))) p) ∙ e) in
         let a = h (innerWord (b .words) w) (tyOf texts (b .words) (innerWord (b .words) w)) b (x .0) (x .1) fills (inner-means m p) (omega (arith, rw (inner-is m p) at d)) (x .2) in
         let y = wrap-means n (kindOf w) (x .0) p (a .means) (x .3) in
         rw (inner-is m p) (record { means = y .0; grown = grown-then (a .grown) (y .1) })
@@ -178,9 +177,9 @@ module _ (texts : Texts) (n : ℕ) (f : Filling) (bs : List Binding) where
     record-applied : kindOf w ≡ 8 → Applied texts f t b w′ b′
     unfolding substitute depthOf
     record-applied p =
-        let go = applyWithin texts n bs deep in
-        let fields = applyPairs go (payloadOf w + 1) (fieldCount (b .words) w) in
-        let x = next-ok (fields b) (addRecord texts n) w′ b′ (sym (inside-record texts n bs go w b refl (λ z. omega arith) (rw p) p) ∙ e) in
+        let go = applyWithin texts n bs whole deep in
+        let fields = applyPairs go whole (payloadOf w + 1) (fieldCount (b .words) w) in
+        let x = next-ok (fields b) (addRecord texts n) w′ b′ (sym (inside-record texts n bs whole go w b refl (λ z. omega arith) (rw p) p) ∙ e) in
         let a = fields-applied deep h (fieldCount (b .words) w) (fields-mean m deep p d) (x .0) (x .1) fills (x .2) in
         let y = record-means n (a .0) (x .3) in
         rw (fields-is m p) (record { means = y .0; grown = grown-then (a .1) (y .1) })
@@ -192,7 +191,7 @@ module _ (texts : Texts) (n : ℕ) (f : Filling) (bs : List Binding) where
         by : (q : Bool) → eqb (kindOf w) 10 ≡ q → Applied texts f t b w′ b′
         by true z =
             let s : substitute f t ≡ Option·getD (f (nameBytes texts w)) t = rw (named-is m p) (if-true (Option·getD (f (nameBytes texts w)) (named (kindOf w) (nameBytes texts w))) (named (kindOf w) (nameBytes texts w)) (eqb (kindOf w) 10) z) in
-            unchanged (rw s (slot-means m (fills .each (nameBytes texts w)))) (sym (inside-slot texts n bs (applyWithin texts n bs deep) w b refl (eqb-true (kindOf w) 10 z)) ∙ e)
+            unchanged (rw s (slot-means m (fills .each (nameBytes texts w)))) (sym (inside-slot texts n bs whole (applyWithin texts n bs whole deep) w b refl (eqb-true (kindOf w) 10 z)) ∙ e)
         by false z =
             let s : substitute f t ≡ t = rw (named-is m p) (if-false (Option·getD (f (nameBytes texts w)) (named (kindOf w) (nameBytes texts w))) (named (kindOf w) (nameBytes texts w)) (eqb (kindOf w) 10) z) in
             rest-applied (eqb-false (kindOf w) 10 z) (no-wrap (kindOf w) p) (no-list (kindOf w) p) s
@@ -207,7 +206,7 @@ module _ (texts : Texts) (n : ℕ) (f : Filling) (bs : List Binding) where
     ]
 
   -- THE LAW OF SUBSTITUTION, to any depth
-  within-applied : (deep : ℕ) → Applies deep
+  pub within-applied : (deep : ℕ) → Applies deep
   within-applied zero w t b w′ b′ fills m d e =
       let z : ⊥ = omega arith in
       absurd z
@@ -217,16 +216,6 @@ module _ (texts : Texts) (n : ℕ) (f : Filling) (bs : List Binding) where
       is = levels-enough m (suc deep) (omega arith)
 
       by : Applies deep → (q : Bool) → hasBoundSlot bs t ≡ q → Applied texts f t b w′ b′
-      by less true h = inside-applied deep less w t b w′ b′ fills m (omega arith) (sym (within-inside texts n bs w b refl (rw is h)) ∙ e)
+      by less true h = inside-applied deep less w t b w′ b′ fills m (omega arith) (sym (within-inside texts n bs whole w b refl (rw is h)) ∙ e)
       by less false h =
-          unchanged (rw (substitute-none f bs (λ s. filled-none (fills .each s)) t h) m) (sym (within-free texts n bs w b refl (rw is h)) ∙ e)
-
-  -- and as deep as a word is unfolded: where the bindings mean the filling f, the word given means the type with that filling put in.
-  pub apply-means : {b b′ : Buffer} {w w′ : ℕ} {t : Ty} → Fills texts f bs b → Means texts b w t → applyWord texts n bs w b ≡ ok w′ b′ → Applied texts f t b w′ b′
-  unfolding applyWord
-  apply-means {b} {b′} {w} {w′} {t} fills m e = within-applied 33 w t b w′ b′ fills m (omega (arith, m .shallow)) e
-
--- A type without a bound slot: the same word, and nothing is added.
-pub apply-unbound : (texts : Texts) (n : ℕ) (bs : List Binding) (w : ℕ) (b : Buffer) → hasBoundSlot bs (tyOf texts (b .words) w) ≡ false → applyWord texts n bs w b ≡ ok w b
-unfolding applyWord tyOf
-apply-unbound texts n bs w b h = within-free texts n bs w b refl h
+          unchanged (rw (substitute-none f bs (λ s. filled-none (fills .each s)) t h) m) (sym (within-free texts n bs whole w b refl (rw is h)) ∙ e)

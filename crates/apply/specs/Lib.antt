@@ -4,3 +4,6 @@ pub mod StepLaws
 pub mod ApplyLaws
 pub mod TreeLaws
 pub mod BoundLaws
+pub mod Sizes
+pub mod SizeLaws
+pub mod Setting

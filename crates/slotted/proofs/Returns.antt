@@ -23,7 +23,7 @@ use Rattle.slots.specs.declared.Bind.{Bind}
 use Rattle.slots.specs.declared.Bind.the-variants.{Done, Conflict, Void, NoRoom}
 use Rattle.slots.specs.Bindings.{pairRoom, bindingsIn, bindingsAfter, fitted, boundOf, Binds}
 use Rattle.apply.specs.Apply.{applyWord}
-use Rattle.apply.specs.TreeLaws.{apply-tree, within-grows}
+use Rattle.apply.specs.TreeLaws.{apply-tree, apply-grows}
 use Rattle.err.specs.declared.Reported.{Reported}
 use Rattle.err.specs.Message.{slotConflict, slotVoid}
 use Rattle.err.specs.Report.{Reports}
@@ -62,9 +62,8 @@ module _ (texts : Texts) (n : ℕ) (callName : List ℕ) (name expected : ℕ) (
 
   -- the provided type is what it was
   provided-stays : {w v : ℕ} → r ≡ Put w v → tyOf texts t provided ≡ tyOf texts t′ provided
-  unfolding applyWord
   provided-stays {w} {v} p =
-      tyOf-grow (within-grows texts n (bindingsIn texts pairs count) 33 expected (buffer t (u .types)) w (buffer t′ v) (e n ∙ ap (λ a. resultOf n a t′) p) .front) texts (mp .means .within 33)
+      tyOf-grow (apply-grows texts n (bindingsIn texts pairs count) expected (buffer t (u .types)) (e n ∙ ap (λ a. resultOf n a t′) p) .front) texts (mp .means .within 33)
 
   pub applied-compared : {w v : ℕ} {d′ m′ : List ℕ} {went : Went} → r ≡ Put w v
       → Compares texts n callName name span (tyOf texts t′ w) (tyOf texts t′ provided) t′ d m (record { types = v; told = u .told }) d′ m′ went
