@@ -18,8 +18,7 @@ use Rattle.state.specs.Context.{ctx}
 use Rattle.state.specs.Store.{heldFrom}
 use Rattle.own_call.specs.OwnCalls.{OwnReady}
 use Rattle.call_args.specs.Given.{givenFrom}
-use Rattle.pkg_group.specs.Ready.{SlotsReady, MayBind}
-use Rattle.pkg_call.specs.Ready.{PackagesBind, PkgReady}
+use Rattle.pkg_call.specs.Ready.{SlotsReady, MayBind, PackagesBind, PkgReady}
 use Rattle.visit.specs.declared.State.{State}
 use Rattle.visit.specs.declared.Visit.{Visit}
 use Rattle.visit.specs.Whole.{Lent}
@@ -57,6 +56,7 @@ module _ {T : Texts} {image places words : List ℕ} {n at count : ℕ} {st : St
     given = record { nodes = nodes; meant = arguments-meant (z .ready) nodes };
     bind = packages-bind T (b .types) (st .used .types) (heldFrom words (b .scratch) (st .held) (st .packages)) (package-meant (z .ready));
     free = z .ready .free;
+    long = z .ready .long;
   }
 
   -- ── The returns ──

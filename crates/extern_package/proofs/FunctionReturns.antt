@@ -21,7 +21,7 @@ use Rattle.state.specs.World.{Rest, world}
 use Rattle.visit.specs.StoreLaws.{getD-front, entry-end, ends-front, entries-front, ends-last}
 use Rattle.externs.specs.Framed.{Framed, framed-same, framed-then, framed-wide, each-ok, each-stops, one-ok, one-stops}
 use Rattle.externs.specs.Entries.{FunctionRoom, functionIn, functionGiven, EntersExtern}
-use Rattle.extern_package.specs.Packing.{Functions, FunctionsRoom, functionsGiven, WritesFunctions, functions-after, functions-first, first-room}
+use Rattle.extern_package.specs.Packing.{Functions, FunctionsRoom, functionsGiven, WritesFunctions, functions-after, functions-first, functions-over, first-room}
 
 -- functions end at one place
 functions-same : {text text′ image : List ℕ} {end end′ at k : ℕ} → FunctionsWords (countsIn text image) image end at k → FunctionsWords (countsIn text′ image) image end′ at k → end ≡ end′
@@ -74,6 +74,10 @@ module _ {image places : List ℕ} {n from at count k : ℕ} {t₀ : List ℕ} {
       record {
         step = λ T ls v rest s d m. rw z (i .step T ls v rest s d m);
         frame = λ end f. let y = functions-same f (h .functions .functions) in framed-wide (omega (arith, i .places-alike, functions-after (i .left .functions), i .after)) (i .frame);
+        ends = λ o end f.
+            let y = functions-same f (h .functions .functions) in
+            let none : Functions image places place (h .end) 0 = let w : count - k ≡ 0 = omega arith in rw w at (i .left) in
+            rw z (i .ends ∙ omega (arith, i .places-alike, functions-over (none .functions), i .after));
       }
 
   module _ (l : k < count) where
@@ -107,6 +111,7 @@ module _ {image places : List ℕ} {n from at count k : ℕ} {t₀ : List ℕ} {
             (one-stops (λ f. externFn (ctx T ls v) n f) (functionIn image place) _ (p .step T ls v rest s d m ∙ rw er refl));
         frame = λ end f. let y = functions-same f (h .functions .functions) in
             framed-wide (omega (arith, i .places-alike, ahead, i .after)) (framed-then {a = at} {b = to} {c = to} {d = to + 3 + 2 * wordAt image (place + 2)} (omega (arith, i .places-alike, i .after)) (omega arith) (i .frame) (p .frame));
+        ends = λ o end f. let no : _≡_ {A = ℕ} 0 1 = cc in absurd (omega arith);
       })
 
       pub packing-more : {u′ : Used} {size w c : ℕ} → r ≡ W.On u′ → w ≡ getD image (place + 2) 0 → c ≡ w → size ≡ 3 + 2 * c

@@ -1,5 +1,5 @@
 -- The returns of writing the package of an Extern. By rewriting. Assumes nothing.
-use Prim.Native.Nat.{ℕ, zero, suc, _+_, _*_, _-_, _≤_, _<_}
+use Prim.Native.Nat.{ℕ, zero, suc, _+_, _*_, _-_, _≤_, _<_, max}
 use mathlib.Core.Path.{_≡_, refl, sym, ap, _∙_}
 use mathlib.Core.Bool.{cond}
 use mathlib.Core.List.{List, [], _∷_, _++_}
@@ -21,15 +21,16 @@ use Rattle.state.specs.declared.Used.{Used}
 use Rattle.state.specs.declared.Went.{Went}
 use Rattle.state.specs.declared.Went.the-variants as W
 use Rattle.state.specs.Context.{ctx}
-use Rattle.state.specs.Signatures.{entriesFrom}
-use Rattle.state.specs.Store.{envUp, externAt, heldAt, heldSize, heldFrom, heldEnd}
+use Rattle.state.specs.Signatures.{entriesFrom, entriesEnd}
+use Rattle.state.specs.Store.{envUp, externAt, heldAt, heldSize, heldFrom}
 use Rattle.visit.specs.declared.State.{State}
 use Rattle.visit.specs.declared.Visit.the-variants as X
 use Rattle.visit.specs.Whole.{lent, restOf, visited}
+use Rattle.visit.specs.Reach.{heldReach}
 use Rattle.visit.specs.Within.{top, Within, Visits, knows, refuses}
 use Rattle.room_laws.specs.Room.{externWords}
 use Rattle.visit.specs.Free.{Free, held-low}
-use Rattle.visit.specs.StoreLaws.{getD-front, env-front, held-past, held-end-past}
+use Rattle.visit.specs.StoreLaws.{getD-front, env-front, held-past, reach-past, reach-after}
 use Rattle.externs.specs.Framed.{Framed, framed-write, framed-set, framed-then}
 use Rattle.extern_package.specs.Packing.{externHeld, externRule, Functions, FunctionsRoom, ExternReady, functionsGiven, WritesFunctions, functions-after, extern-size}
 
@@ -129,12 +130,14 @@ module _ {image places : List ℕ} {st : State} {e : List ℕ} {from end count :
           rw (a, size-there, le-ltb (8192 + (3 + (end - from))) 8192 (omega arith), b, c, name-there, count-there, d)
           (ap (λ ps. pkg name (entriesFrom e′ 0 (start + 3) count) ∷ ps) (held-past e e′ (whole-frame .back) words (st .held) (st .packages) (omega arith)))
 
-      held-end-extern : heldEnd e′ start (st .packages + 1) ≡ heldEnd e (st .held) (st .packages)
-      unfolding heldEnd
-      held-end-extern =
+      -- its entries end where the packages held begin
+      reach-extern : {after : Used} → went ≡ W.On after → heldReach e′ start (st .packages + 1) ≡ heldReach e (st .held) (st .packages)
+      unfolding heldReach
+      reach-extern eg =
           let a : st .packages + 1 ≡ suc (st .packages) = omega arith in
           let d : start + (8192 + (3 + (end - from)) - 8192) ≡ st .held = omega (arith, ending) in
-          rw (a, size-there, le-ltb (8192 + (3 + (end - from))) 8192 (omega arith), d) (held-end-past e e′ (whole-frame .back) (st .held) (st .packages) (omega arith))
+          rw (a, size-there, le-ltb (8192 + (3 + (end - from))) 8192 (omega arith), d, count-there, p .ends eg end (h .functions .functions))
+          (ap (max (start + 3 + (end - from))) (reach-past e e′ (whole-frame .back) (st .held) (st .packages) (omega arith)) ∙ omega (arith, reach-after e (st .packages) (st .held), ending))
 
       front : take (top st) e′ ≡ take (top st) e
       front = sym (take-take (top st) start e′ above) ∙ ap (take (top st)) (whole-frame .front) ∙ take-take (top st) start e above
@@ -150,7 +153,7 @@ module _ {image places : List ℕ} {st : State} {e : List ℕ} {from end count :
           taken = omega (arith, ending, sized);
           written = omega arith;
           names = front;
-          held = held-end-extern;
+          held = reach-extern eg;
           packages = omega (arith, ending);
           scratch = whole-frame .long;
           functions = refl;

@@ -70,11 +70,12 @@ unfoldable pub functionsGiven : Rest → (slots types diagnostics messages : Lis
 functionsGiven rest s t d m fs (W.On u) = ok fs (world rest s t d m u)
 functionsGiven rest s t d m fs (W.Refused number place) = refused (refusal number place)
 
--- the entries stand in scratch, and nothing else of it has changed
+-- the entries stand in scratch, as many words as in the image, and nothing else of it has changed
 pub record WritesFunctions (image : List ℕ) (n from at count : ℕ) (t : List ℕ) (u : Used) (e t′ e′ : List ℕ) (r : Went) : Type 0 where
   pub step : (T : Texts) (ls : List Package) (v : ℕ) (rest : Rest) (s d m : List ℕ)
       → forEach (λ f. externFn (ctx T ls v) n f) (externsFrom image from count) (world rest s t d m u) ≡ functionsGiven rest s t′ d m (entriesFrom e′ 0 at count) r
   pub frame : (end : ℕ) {text : List ℕ} → FunctionsWords (countsIn text image) image end from count → Framed at (at + (end - from)) e e′
+  pub ends : {after : Used} → r ≡ W.On after → (end : ℕ) {text : List ℕ} → FunctionsWords (countsIn text image) image end from count → entriesEnd e′ 0 at count ≡ at + (end - from)
 
 -- ── Functions one after the other ──
 

@@ -27,9 +27,10 @@ use Rattle.rules.specs.Rules.{importAll, node}
 use Rattle.state.specs.Store.{envUp, heldFrom, heldEnd}
 use Rattle.visit.specs.declared.State.{State}
 use Rattle.visit.specs.Whole.{lent}
+use Rattle.visit.specs.Reach.{heldReach}
 use Rattle.visit.specs.Within.{top, Within}
 use Rattle.visit.specs.Free.{Free, held-low}
-use Rattle.visit.specs.StoreLaws.{env-front, held-more, held-end-more}
+use Rattle.visit.specs.StoreLaws.{env-front, held-more, reach-more, reach-end}
 
 -- the state with one more package of the library held
 abbrev pub oneHeld : State → State
@@ -83,6 +84,9 @@ module _ {T : Texts} {words : List ℕ} (fine : LibraryFine T words) where
 -- ── A word before the first package held ──
 
 module _ {st : State} {e : List ℕ} (free : Free 1 st e) where
+  pub held-near : heldEnd e (st .held) (st .packages) ≤ 16384
+  held-near = omega (arith, reach-end e (st .packages) (st .held), free .ends)
+
   pub some-room : 0 < st .held
   some-room = omega (arith, free .between)
 
@@ -110,7 +114,7 @@ module _ {st : State} {e : List ℕ} (free : Free 1 st e) where
       taken = omega (arith, free .between);
       written = omega arith;
       names = take-set-le (top st) e (st .held - 1) w (omega (arith, free .between));
-      held = held-end-more e e (st .held - 1) (st .packages) w low below ∙ ap (λ i. heldEnd e i (st .packages)) back;
+      held = reach-more e e (st .held - 1) (st .packages) w low below ∙ ap (λ i. heldReach e i (st .packages)) back;
       packages = omega (arith, free .between);
       scratch = length-set e (st .held - 1) w;
       functions = refl;

@@ -20,7 +20,7 @@ use Rattle.visit.specs.declared.State.{State}
 use Rattle.visit.specs.Whole.{lent}
 use Rattle.visit.specs.Within.{top, Within}
 use Rattle.visit.specs.Free.{Free, held-low, free-top}
-use Rattle.visit.specs.StoreLaws.{write-alike, held-past, held-end-past}
+use Rattle.visit.specs.StoreLaws.{write-alike, held-past, reach-past}
 
 -- the state with one more name in scope
 abbrev pub oneMore : State → Used → State
@@ -61,7 +61,7 @@ module _ {st : State} {e : List ℕ} (free : Free 2 st e) where
     taken = omega arith;
     written = omega arith;
     names = front-write e (top st) (top st) (x ∷ w ∷ []) (omega arith);
-    held = held-end-past e (write e (top st) (x ∷ w ∷ [])) (write-alike e (top st) (st .held) (x ∷ w ∷ []) (omega (arith, free .between))) (st .held) (st .packages) (omega arith);
+    held = reach-past e (write e (top st) (x ∷ w ∷ [])) (write-alike e (top st) (st .held) (x ∷ w ∷ []) (omega (arith, free .between))) (st .held) (st .packages) (omega arith);
     packages = omega arith;
     scratch = length-write e (top st) (x ∷ w ∷ []);
     functions = refl;

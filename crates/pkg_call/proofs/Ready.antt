@@ -1,17 +1,22 @@
--- What a call takes for granted, handed on from the packages held to the group. Assumes nothing.
-use Prim.Native.Nat.{ℕ, _+_, _-_, _≤_, min}
+-- What a call takes for granted, handed on from the packages held to the group, and from there to a call with slots. Assumes nothing.
+use Prim.Native.Nat.{ℕ, zero, suc, _+_, _-_, _≤_, min}
 use mathlib.Core.Path.{_≡_, refl, sym, ap, subst, _∙_}
-use mathlib.Core.Bool.{Bool, true, false}
+use mathlib.Core.Bool.{Bool, true, false, true≢false}
 use mathlib.Core.Option.{Option, none, some}
 use mathlib.Core.List.{List, [], _∷_}
+use mathlib.Core.Logic.{⊎-elim}
 use native.Mathlib.Omega.{arith}
 use native.Mathlib.Decide.{decLe}
-use lib.ListN.{length, getD, take, drop, List·getD-eq-default}
+use types.Run.{OneOf}
+use denote.Enum.Declared.{tagOf}
+use borrow.Author.Tests.{eqb-false}
+use lib.ListN.{length, getD, take, drop, length-drop, List·getD-eq-default}
+use lib.Seq.{length-take-le}
 use Rattle.tok.specs.Text.{Texts, nameBytes, sameBytes}
 use Rattle.library.specs.Package.{Signature, Function, Package, findPackage, groupOf}
 use Rattle.library.specs.PackagesRead.{packageAt}
 use Rattle.rules.specs.Promises.{Every}
-use Rattle.state.specs.Signatures.{entriesFrom}
+use Rattle.state.specs.Signatures.{signatureAt, entryAt, entryEnd, entriesFrom}
 use Rattle.state.specs.Store.{heldFrom, heldEnd, externAt}
 use Rattle.scope.specs.declared.Held as F
 use Rattle.scope.specs.declared.Held.the-variants as H
@@ -19,10 +24,14 @@ use Rattle.scope.specs.Found.{heldOf}
 use Rattle.signatures.specs.Entries.{flagWords}
 use Rattle.signatures.specs.EntryLaws.{entries-library}
 use Rattle.selection.specs.Candidates.{group}
-use Rattle.call_args.specs.Given.{givenFrom}
-use Rattle.call_types.specs.Gather.{wordsIn}
-use Rattle.pkg_group.specs.Ready.{MayBind, GroupReady}
-use Rattle.pkg_call.specs.Ready.{PackagesBind, HeldReady}
+use Rattle.slotted_call.specs.Bindable.{SlottedReady}
+use Rattle.visit.specs.StoreLaws.{reach-end}
+use Rattle.pkg_group.specs.declared.Candidates.{Candidates}
+use Rattle.pkg_group.specs.declared.Candidates.the-variants as C
+use Rattle.pkg_group.specs.Among.{Among}
+use Rattle.pkg_group.specs.Groups.{GroupReady}
+use Rattle.pkg_group.proofs.Candidates.{the-type}
+use Rattle.pkg_call.specs.Ready.{SlotsReady, MayBind, PackageBinds, GatheredReady, LibraryReady, HeldReady}
 
 -- ── Among many ──
 
@@ -75,36 +84,73 @@ module _ (texts : Texts) (name words : List ℕ) (at : ℕ) {k from : ℕ} (ek :
   unfolding externAt
   extern-group = rw (ek, ef) (ap (groupOf texts name) (entries-begin words 0 at))
 
--- ── From the packages held to the group ──
+-- ── Functions without slots ──
+
+-- entries without a flag have none
+plain-entries : (words : List ℕ) (k at : ℕ) → Every (λ (f : Function). f .sig .withSlots ≡ false) (entriesFrom words 0 at k)
+unfolding Every entriesFrom entryAt signatureAt
+plain-entries words zero at = tt
+plain-entries words (suc k) at = (refl, plain-entries words k (entryEnd words 0 at))
+
+module _ (texts : Texts) (name : List ℕ) {words : List ℕ} (from k : ℕ) {found : Candidates} (a : Among words (group texts name words (flagWords false) from k) found) where
+  pub extern-plain : (at : ℕ) → found ≡ C.Slotted at → ⊥
+  unfolding Every signatureAt
+  extern-plain at o =
+      let e : group texts name words 0 from k ≡ signatureAt words at true ∷ [] = rw o at (a .are) in
+      let p : Every (λ (f : Signature). f .withSlots ≡ false) (signatureAt words at true ∷ []) = subst (Every (λ (f : Signature). f .withSlots ≡ false)) e (group-every _ texts name (entriesFrom words 0 from k) (plain-entries words k from)) in
+      true≢false (p .0)
+
+-- a match says which ones they may still be
+pub not-slotted : {found : Candidates} → OneOf (0 ∷ 1 ∷ 3 ∷ []) (tagOf the-type found) → (at : ℕ) → found ≡ C.Slotted at → ⊥
+not-slotted {found} h at o = two (rw o at h)
+  where
+    two : OneOf (0 ∷ 1 ∷ 3 ∷ []) 2 → ⊥
+    two t = ⊎-elim (λ z. eqb-false 2 0 refl z) (λ t. ⊎-elim (λ z. eqb-false 2 1 refl z) (λ z. eqb-false 2 3 refl z) t) t
+
+-- ── From what is gathered to the group ──
+
+module _ {texts : Texts} {image places scratch : List ℕ} {top n args count : ℕ} {slots types : List ℕ} {used : ℕ} (h : GatheredReady texts image places scratch top n args count slots types used) {end : ℕ} (ee : end ≡ top + count) where
+  pub group-ready : {words : List ℕ} {fs : List Signature} {found : Candidates} → Among words fs found → ((at : ℕ) → found ≡ C.Slotted at → ⊥)
+      → GroupReady image places n args count slots (take (end - top) (drop top scratch)) words fs found
+  group-ready a o =
+      let z : end - top ≡ count = omega arith in
+      record { nodes = h .given .nodes; gathered = rw z (h .gathered); among = a; other = o }
+
+-- ── A call with slots ──
+
+-- the tail of scratch that is lent
+tail-long : (e : List ℕ) → length (take (length e - 8192) (drop 8192 e)) ≡ length e - 8192
+tail-long e = length-take-le (length e - 8192) (drop 8192 e) (rw length-drop (omega arith))
+
+module _ {texts : Texts} {image places words scratch : List ℕ} {top n at args count : ℕ} {slots types : List ℕ} {used : ℕ} (h : LibraryReady texts image places words scratch top n at args count slots types used) where
+  -- the words from 8,192 on are room for 4,096 pairs
+  pub slotted-ready : (name : List ℕ) {k from place : ℕ} {found : Candidates} → k ≡ getD words (at + 1) 0 → from ≡ min at (length words) + 2
+      → Among words (group texts name words (flagWords true) from k) found → found ≡ C.Slotted place
+      → SlottedReady texts image places n args count slots types used words place (take (length scratch - 8192) (drop 8192 scratch))
+  unfolding Every signatureAt
+  slotted-ready name {k} {from} {place} ek ef a o =
+      let e : group texts name words 1 from k ≡ signatureAt words place true ∷ [] = rw o at (a .are) in
+      let g = library-group texts name words at ek ef in
+      let m : Every (MayBind texts types used) (signatureAt words place true ∷ []) = subst (Every (MayBind texts types used)) (sym g ∙ e) (group-every _ texts name (packageAt words at .functions) (h .bind)) in
+      let b : SlotsReady texts types used (signatureAt words place true) = m .0 refl in
+      record {
+        nodes = h .ready .given .nodes;
+        params = b .params;
+        given = h .ready .given .meant;
+        ret = b .ret;
+        room = λ bs i. omega (arith, b .room bs i, h .ready .long, tail-long scratch);
+      }
+
+-- ── From the packages held to one of them ──
 
 module _ {texts : Texts} {image places words scratch : List ℕ} {held packages top n args count : ℕ} {slots types : List ℕ} {used : ℕ}
     (h : HeldReady texts image places words scratch held packages top n args count slots types used) where
   pub held-near : heldEnd scratch held packages ≤ 16384
-  held-near = omega (arith, h .ends)
+  held-near = omega (arith, h .ends, reach-end scratch packages held)
 
-  module _ (pkg name : ℕ) (found : F.Held) (e : heldOf words scratch found ≡ findPackage texts (nameBytes texts pkg) (heldFrom words scratch held packages)) {end : ℕ} (ee : end ≡ top + count) where
-    bound : Of (λ (p : Package). Every (λ (f : Function). MayBind texts types used (f .sig)) (p .functions)) (heldOf words scratch found)
-    bound = subst (Of _) (sym e) (found-every _ texts (nameBytes texts pkg) (heldFrom words scratch held packages) (h .bind))
+  module _ (pkg : ℕ) (found : F.Held) (e : heldOf words scratch found ≡ findPackage texts (nameBytes texts pkg) (heldFrom words scratch held packages)) where
+    bound : Of (PackageBinds texts types used) (heldOf words scratch found)
+    bound = subst (Of (PackageBinds texts types used)) (sym e) (found-every (PackageBinds texts types used) texts (nameBytes texts pkg) (heldFrom words scratch held packages) (h .bind))
 
-    -- the part of scratch that is lent
-    lent-part : wordsIn slots (givenFrom image args count) ≡ take (end - top) (drop top scratch)
-    lent-part =
-        let z : end - top ≡ count = omega arith in
-        rw z (h .gathered)
-
-    module _ {at k from : ℕ} where
-      pub library-ready : found ≡ H.Library at → k ≡ getD words (at + 1) 0 → from ≡ min at (length words) + 2
-          → GroupReady texts image places n args count slots types used (take (end - top) (drop top scratch)) (group texts (nameBytes texts name) words (flagWords true) from k)
-      library-ready o ek ef = record {
-        given = h .given;
-        bind = rw (library-group texts (nameBytes texts name) words at ek ef) (group-every _ texts (nameBytes texts name) (packageAt words at .functions) (rw o at bound));
-        gathered = lent-part;
-      }
-
-      pub extern-ready : found ≡ H.Extern at → k ≡ getD scratch (at + 1) 0 → from ≡ min at (length scratch) + 2
-          → GroupReady texts image places n args count slots types used (take (end - top) (drop top scratch)) (group texts (nameBytes texts name) scratch (flagWords false) from k)
-      extern-ready o ek ef = record {
-        given = h .given;
-        bind = rw (extern-group texts (nameBytes texts name) scratch at ek ef) (group-every _ texts (nameBytes texts name) (externAt scratch at .functions) (rw o at bound));
-        gathered = lent-part;
-      }
+    pub library-ready : {at : ℕ} → found ≡ H.Library at → LibraryReady texts image places words scratch top n at args count slots types used
+    library-ready o = record { ready = h .ready; bind = rw o at bound }

@@ -1,3 +1,3 @@
 -- Laws that the proofs of the functions share.
-pub mod Ready
+pub mod Found
 pub mod Returns

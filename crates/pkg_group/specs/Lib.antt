@@ -1,3 +1,3 @@
 -- What the contracts of the crate cite.
-pub mod Ready
+pub mod Among
 pub mod Groups

@@ -30,12 +30,12 @@ use Rattle.clean.specs.LibraryTypes.{library-ok}
 use Rattle.clean.specs.Walked.{script-name}
 use Rattle.state.specs.declared.Used.{Used}
 use Rattle.state.specs.Context.{ctx}
-use Rattle.state.specs.Store.{heldEnd}
 use Rattle.state.specs.Signatures.{entriesEnd}
 use Rattle.places.specs.Places.{placesOf}
 use Rattle.places.specs.Placed.{image-placed}
 use Rattle.visit.specs.declared.State.{State}
 use Rattle.visit.specs.Whole.{Lent, whole}
+use Rattle.visit.specs.Reach.{heldReach}
 use Rattle.room_laws.specs.Room.{rooms, rowsAll}
 use Rattle.room_laws.specs.Bounds.{scratch-room, functions-room}
 use Rattle.ready.specs.Ready.{slotsAmong, PairsFit, walkRun, Given, Ready}
@@ -94,7 +94,7 @@ module _ (i : Inputs) (b : Buffers) (e : refusalOf i b ≡ none) where
       ≡ ok tt (whole (i .library) (startState u) b′)
       → length (b′ .functions) ≡ length (b .functions) → length (b′ .scratch) ≡ length (b .scratch)
       → Ready (textsIn i) (i .image) (placesOf (i .image)) (i .library) (rooms (rootsOf (i .image))) (rowsAll (rootsOf (i .image))) (startState u) b′
-  unfolding heldEnd entriesEnd
+  unfolding heldReach entriesEnd
   ready-start u b′ q ef es =
       let p = passed i b e in
       let s = scratch-long i b e in

@@ -4,18 +4,18 @@ use mathlib.Core.Path.{_≡_, refl, sym, ap, _∙_}
 use mathlib.Core.List.{List}
 use native.Mathlib.Omega.{arith}
 use lib.ListN.{length}
-use Rattle.state.specs.Store.{heldEnd}
 use Rattle.state.specs.Signatures.{entriesEnd}
 use Rattle.visit.specs.declared.State.{State}
 use Rattle.visit.specs.Whole.{Lent, functionWords}
+use Rattle.visit.specs.Reach.{heldReach}
 use Rattle.visit.specs.Within.{top, Within}
-use Rattle.visit.specs.StoreLaws.{held-after}
+use Rattle.visit.specs.StoreLaws.{reach-after}
 
 -- `room` words are free between the names in scope and the packages held, which end at word 8,192 of scratch at most
 pub record Free (room : ℕ) (st : State) (scratch : List ℕ) : Type 0 where
   pub between : top st + room ≤ st .held
   pub few : st .packages + st .held ≤ 8192
-  pub ends : heldEnd scratch (st .held) (st .packages) ≤ 8192
+  pub ends : heldReach scratch (st .held) (st .packages) ≤ 8192
   pub long : 8192 ≤ length scratch
 
 -- `rows` words of the functions buffer are free after its entries
@@ -24,7 +24,7 @@ pub record FreeRows (rows : ℕ) (st : State) (functions : List ℕ) : Type 0 wh
 
 module _ {room : ℕ} {st : State} {scratch : List ℕ} (f : Free room st scratch) where
   pub held-low : st .held ≤ 8192
-  held-low = omega (arith, held-after scratch (st .packages) (st .held), f .ends)
+  held-low = omega (arith, reach-after scratch (st .packages) (st .held), f .ends)
 
   pub free-top : top st + room ≤ 8192
   free-top = omega (arith, held-low, f .between)

@@ -1,6 +1,6 @@
 -- What scratch and the functions buffer hold goes by their words: names in scope and entries by the words below their end, packages held by
 -- the words from the first on. And one more of each. Assumes nothing.
-use Prim.Native.Nat.{ℕ, zero, suc, _+_, _*_, _-_, _≤_, _<_, _^_}
+use Prim.Native.Nat.{ℕ, zero, suc, _+_, _*_, _-_, _≤_, _<_, _^_, max}
 use mathlib.Core.Path.{_≡_, refl, sym, ap, _∙_}
 use mathlib.Core.Bool.{Bool, true, false, cond, _&&_}
 use mathlib.Core.Option.{none, some}
@@ -21,6 +21,7 @@ use Rattle.rules.specs.World.{Local}
 use Rattle.rules.specs.Steps.{pairsOf, entryOf}
 use Rattle.state.specs.Signatures.{signatureAt, entryAt, entryEnd, entriesFrom, entriesEnd, entriesBack, ownIn}
 use Rattle.state.specs.Store.{localAt, envUp, externAt, heldAt, heldSize, heldFrom, heldEnd}
+use Rattle.visit.specs.Reach.{packageReach, heldReach}
 
 -- ── Words of lists that are alike in a part ──
 
@@ -256,6 +257,11 @@ module _ {n : ℕ} (l l′ : List ℕ) (e : AlikeFrom n l l′) where
       rw (entry-same l l′ at (λ j a b. e .from j (omega arith)), end-same l l′ at (λ j a b. e .from j (omega arith)))
       (ap (λ fs. entryAt l 0 at ∷ fs) (entries-past (entryEnd l 0 at) k (omega arith)))
 
+  ends-past : (at k : ℕ) → n ≤ at → entriesEnd l′ 0 at k ≡ entriesEnd l 0 at k
+  unfolding entriesEnd
+  ends-past at zero h = refl
+  ends-past at (suc k) h = rw (end-same l l′ at (λ j a b. e .from j (omega arith))) (ends-past (entryEnd l 0 at) k (omega arith))
+
   held-same : (library : List ℕ) (at : ℕ) → n ≤ at → heldAt library l′ at ≡ heldAt library l at
   unfolding heldAt externAt
   held-same library at h =
@@ -268,15 +274,65 @@ module _ {n : ℕ} (l l′ : List ℕ) (e : AlikeFrom n l l′) where
   held-past library at (suc k) h =
       rw (held-same library at h, e .from at h) (ap (λ ps. heldAt library l at ∷ ps) (held-past library (at + heldSize (getD l at 0)) k (omega arith)))
 
-  pub held-end-past : (at k : ℕ) → n ≤ at → heldEnd l′ at k ≡ heldEnd l at k
-  unfolding heldEnd
-  held-end-past at zero h = refl
-  held-end-past at (suc k) h = rw (e .from at h) (held-end-past (at + heldSize (getD l at 0)) k (omega arith))
+  pub reach-past : (at k : ℕ) → n ≤ at → heldReach l′ at k ≡ heldReach l at k
+  unfolding heldReach
+  reach-past at zero h = refl
+  reach-past at (suc k) h =
+      rw (e .from at h, e .from (at + 2) (omega arith), ends-past (at + 3) (getD l (at + 2) 0) (omega arith))
+      (ap (max (packageReach l at)) (reach-past (at + heldSize (getD l at 0)) k (omega arith)))
 
-pub held-after : (l : List ℕ) (k at : ℕ) → at ≤ heldEnd l at k
-unfolding heldEnd
-held-after l zero at = omega arith
-held-after l (suc k) at = omega (arith, held-after l k (at + heldSize (getD l at 0)))
+pub reach-after : (l : List ℕ) (k at : ℕ) → at ≤ heldReach l at k
+unfolding heldReach
+reach-after l zero at = omega arith
+reach-after l (suc k) at = omega (arith, reach-after l k (at + heldSize (getD l at 0)))
+
+-- as far as where the next one would stand, or farther
+pub reach-end : (l : List ℕ) (k at : ℕ) → heldEnd l at k ≤ heldReach l at k
+unfolding heldReach heldEnd
+reach-end l zero at = omega arith
+reach-end l (suc k) at = omega (arith, reach-end l k (at + heldSize (getD l at 0)))
+
+-- They go by the words below their reach: those from there on may change.
+module _ (l l′ : List ℕ) {n : ℕ} (e : (j : ℕ) → j < n → getD l′ j 0 ≡ getD l j 0) where
+  -- what one of them reads
+  pub record Reads (library : List ℕ) (at : ℕ) : Type 0 where
+    pub word : getD l′ at 0 ≡ getD l at 0
+    pub held : heldAt library l′ at ≡ heldAt library l at
+    pub reach : packageReach l′ at ≡ packageReach l at
+
+  reads-same : (library : List ℕ) (at : ℕ) → packageReach l at ≤ n → Reads library at
+  unfolding heldAt externAt
+  reads-same library at h = by (ltb (getD l at 0) 8192) refl h
+    where
+      by : (b : Bool) → ltb (getD l at 0) 8192 ≡ b → cond b (at + 1) (entriesEnd l 0 (at + 3) (getD l (at + 2) 0)) ≤ n → Reads library at
+      by true q h =
+          let w = e at (omega arith) in
+          record { word = w; held = rw (w, q) refl; reach = rw (w, q) refl }
+      by false q h =
+          let m = end-after l 0 (getD l (at + 2) 0) (at + 3) in
+          let w = e at (omega arith) in
+          let a : at + 1 + 1 ≡ at + 2 = omega arith in
+          let b : at + 1 + 2 ≡ at + 3 = omega arith in
+          let c = e (at + 2) (omega arith) in
+          record {
+            word = w;
+            held = rw (w, q, a, b, e (at + 1) (omega arith), c, entries-front l l′ e (at + 3) (getD l (at + 2) 0) h) refl;
+            reach = rw (w, q, c) (ends-front l l′ e (at + 3) (getD l (at + 2) 0) h);
+          }
+
+  pub held-below : (library : List ℕ) (at k : ℕ) → heldReach l at k ≤ n → heldFrom library l′ at k ≡ heldFrom library l at k
+  unfolding heldFrom heldReach
+  held-below library at zero h = refl
+  held-below library at (suc k) h =
+      let r = reads-same library at (omega arith) in
+      rw (r .held, r .word) (ap (λ ps. heldAt library l at ∷ ps) (held-below library (at + heldSize (getD l at 0)) k (omega arith)))
+
+  pub reach-below : (at k : ℕ) → heldReach l at k ≤ n → heldReach l′ at k ≡ heldReach l at k
+  unfolding heldReach
+  reach-below at zero h = refl
+  reach-below at (suc k) h =
+      let r = reads-same [] at (omega arith) in
+      rw (r .reach, r .word) (ap (max (packageReach l at)) (reach-below (at + heldSize (getD l at 0)) k (omega arith)))
 
 -- one more, of the library: a word before the first
 module _ (library l : List ℕ) (at k w : ℕ) (low : w < 8192) (room : at < length l) where
@@ -290,9 +346,10 @@ module _ (library l : List ℕ) (at k w : ℕ) (low : w < 8192) (room : at < len
       rw (s, first-held, lt-ltb w 8192 low)
       (ap (λ ps. packageAt library w ∷ ps) (held-past l (set l at w) (set-alike l at (at + 1) w (omega arith)) library (at + 1) k (omega arith)))
 
-  pub held-end-more : heldEnd (set l at w) at (k + 1) ≡ heldEnd l (at + 1) k
-  unfolding heldEnd
-  held-end-more =
+  pub reach-more : heldReach (set l at w) at (k + 1) ≡ heldReach l (at + 1) k
+  unfolding heldReach
+  reach-more =
       let s : k + 1 ≡ suc k = omega arith in
-      rw (s, first-held, lt-ltb w 8192 low)
-      (held-end-past l (set l at w) (set-alike l at (at + 1) w (omega arith)) (at + 1) k (omega arith))
+      let m = reach-after l k (at + 1) in
+      let r : max (at + 1) (heldReach l (at + 1) k) ≡ heldReach l (at + 1) k = omega arith in
+      rw (s, first-held, lt-ltb w 8192 low) (ap (max (at + 1)) (reach-past l (set l at w) (set-alike l at (at + 1) w (omega arith)) (at + 1) k (omega arith)) ∙ r)

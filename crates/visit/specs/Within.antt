@@ -8,11 +8,11 @@ use lib.ListN.{take, length}
 use lib.Seq.{take-take}
 use Rattle.rules.specs.declared.Answer.{Answer}
 use Rattle.rules.specs.World.{Walk}
-use Rattle.state.specs.Store.{heldEnd}
 use Rattle.visit.specs.declared.State.{State}
 use Rattle.visit.specs.declared.Visit.{Visit}
 use Rattle.visit.specs.declared.Visit.the-variants as X
 use Rattle.visit.specs.Whole.{Lent, functionWords, whole, visited}
+use Rattle.visit.specs.Reach.{heldReach}
 
 -- the words of scratch below those of the next name in scope
 abbrev pub top : State → ℕ
@@ -25,7 +25,7 @@ pub record Within (room rows : ℕ) (st : State) (b : Lent) (st′ : State) (b�
   pub taken : top st′ + st .held ≤ top st + st′ .held + room
   pub written : functionWords st′ b′ ≤ functionWords st b + rows
   pub names : take (top st) (b′ .scratch) ≡ take (top st) (b .scratch)
-  pub held : heldEnd (b′ .scratch) (st′ .held) (st′ .packages) ≡ heldEnd (b .scratch) (st .held) (st .packages)
+  pub held : heldReach (b′ .scratch) (st′ .held) (st′ .packages) ≡ heldReach (b .scratch) (st .held) (st .packages)
   pub packages : st′ .packages + st′ .held ≤ st .packages + st .held
   pub scratch : length (b′ .scratch) ≡ length (b .scratch)
   pub functions : length (b′ .functions) ≡ length (b .functions)

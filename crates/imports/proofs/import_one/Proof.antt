@@ -1,7 +1,7 @@
 -- `imports::import_one` meets its contract: one law for each return. Assumes nothing.
 use mathlib.Core.Path.{refl}
 use native.Mathlib.Omega.{arith}
-use Rattle.imports.specs.Holding.{some-room, few-packages}
+use Rattle.imports.specs.Holding.{held-near, some-room, few-packages}
 use Rattle.imports.proofs.Returns.{place-low, import-held, import-found, import-none}
 use borrow.Author.Needs.{needs}
 use Rattle.imports.proofs.import_one.Statement.{statement}
@@ -19,7 +19,7 @@ use Rattle.visit.proofs.went_on.Reads as went-on-reads
 
 -- src/lib.rt:51:9
 find-held-requires : tie.Need-find-held-requires
-find-held-requires c κs = omega (arith, c .before .before .before .before .before .before .before .pre .free .ends)
+find-held-requires c κs = held-near (c .before .before .before .before .before .before .before .pre .free)
 
 enum-told : tie.Need-enum-told
 enum-told c = search needs

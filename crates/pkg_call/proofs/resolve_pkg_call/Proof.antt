@@ -53,7 +53,7 @@ same-length-5 : tie.Need-same-length-5
 same-length-5 c = search needs
 
 returns : tie.Need-returns
-returns c = pkg-visits (c .before .before .before .before .before .before .before .before .before .before .before .before .before .before .before .before .before .before .before .before .before .before .before .before .before .before .before .before .before .before .before .before .pre) refl (c .before .before .before .before .before .before .before .before .before .before .before .before .before .before .before .before .before .before .gather-types .last .0) (c .before .before .before .before .before .before .before .before .before .before .before .before .before .before .before .before .before .before .gather-types .kept .0) _ _ _ _ _ _ (c .before .before .before .before .before .before .before .before .before .in-held .ensures) (c .answered .ensures)
+returns c = pkg-visits (c .before .before .before .before .before .before .before .before .before .before .before .before .before .before .before .before .before .before .before .before .before .before .before .before .before .before .before .before .before .before .before .before .before .before .pre) refl (c .before .before .before .before .before .before .before .before .before .before .before .before .before .before .before .before .before .before .before .before .gather-types .last .0) (c .before .before .before .before .before .before .before .before .before .before .before .before .before .before .before .before .before .before .before .before .gather-types .kept .0) _ _ _ _ _ _ (c .before .before .before .before .before .before .before .before .before .before .before .in-held .ensures) (c .before .before .before .before .before .before .before .before .before .before .before .in-held .kept .1 .1 .1 .1 .0) (c .answered .ensures)
 
 pub resolve-pkg-call-spec : {M : Type 1} → statement M
 resolve-pkg-call-spec =
