@@ -130,7 +130,8 @@ fn walk<'a>(
     requires { ⌜ refusalOf (inputsOf (now script) (now image) (now text) (now library)) (buffersOf (now slots) (now functions) (now types) (now diagnostics) (now messages) (now scratch)) ≡ none ⌝ }
     ensures { λ r. ⌜ WalkEnds (inputsOf (now (script .entry)) (now (image .entry)) (now (text .entry)) (now (library .entry))) (buffersOf (now (slots .entry)) (now (functions .entry)) (now (types .entry)) (now (diagnostics .entry)) (now (messages .entry)) (now (scratch .entry))) (lent (now (slots .exit)) (now (functions .exit)) (now (types .exit)) (now (diagnostics .exit)) (now (messages .exit)) (now (scratch .exit))) r ⌝ }
 {
-    let places = places::record_places(image);
+    let mut places = [0u16; 2560];
+    places::record_places(&mut places, image);
     match start::begin(slots, types, image, library) {
         Walked::Refused(number, place) => {
             return Visit::Refused(number, place);

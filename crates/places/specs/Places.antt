@@ -29,14 +29,18 @@ pub record Filled (image : List ℕ) (i k at : ℕ) (old : List ℕ) (r : ℕ) (
   pub last : r ≡ placeLast image k at
   pub places : new ≡ fill image i k at old
 
-unfoldable pub noPlaces : List ℕ
-noPlaces = replicate 2560 0
-
--- Of an image: node n's place at index n, type t's at index 2048 + t, of at most 2,048 nodes and 512 types ("Limits: N 2,048; T 512");
--- 0 where there is none.
-unfoldable pub placesOf : List ℕ → List ℕ
-placesOf image =
+-- Of an image: node n's place at index n, type t's at index 2048 + t, of at most 2,048 nodes and 512 types ("Limits: N 2,048; T 512"),
+-- filled into a list
+abbrev pub placesIn : (image places : List ℕ) → List ℕ
+placesIn image places =
     let nodes : ℕ = min (nodeCount image) 2048 in
     let types : ℕ = min (typeCount image) 512 in
     let first : ℕ = clipped (4 + rootCount image) in
-    fill image 2048 types (placeLast image nodes first) (fill image 0 nodes first noPlaces)
+    fill image 2048 types (placeLast image nodes first) (fill image 0 nodes first places)
+
+unfoldable pub noPlaces : List ℕ
+noPlaces = replicate 2560 0
+
+-- and into zeros: 0 where there is none
+unfoldable pub placesOf : List ℕ → List ℕ
+placesOf image = placesIn image noPlaces

@@ -3,7 +3,7 @@
 ghost use mathlib.Core.Path.{_≡_};
 ghost use Prim.Native.Nat.{_+_, _<_, _^_, min};
 ghost use lib.ListN.{getD, set};
-ghost use Rattle.places.specs.Places.{clipped, placeAfter, Filled, noPlaces, placesOf};
+ghost use Rattle.places.specs.Places.{clipped, placeAfter, Filled, placesIn};
 
 // The index of type 0's place.
 const TYPES: usize = 2048;
@@ -78,22 +78,13 @@ fn fill(places: &mut [u16], image: &[u32], index: usize, count: usize, first: u1
     at
 }
 
-// A place for each node and each type.
-fn no_places() -> [u16; 2560]
-    ensures { λ r. ⌜ r ≡ noPlaces ⌝ }
-{
-    [0u16; 2560]
-}
-
-// The places of an image's records: of at most 2,048 nodes and 512 types.
-pub fn record_places(image: &[u32]) -> [u16; 2560]
-    ensures { λ r. ⌜ r ≡ placesOf (now (image .entry)) ⌝ }
+// The places of an image's records, of at most 2,048 nodes and 512 types, filled into an array of zeros that is lent.
+pub fn record_places(places: &mut [u16], image: &[u32])
+    ensures { λ _. ⌜ now (places .exit) ≡ placesIn (now (image .entry)) (now (places .entry)) ⌝ }
 {
     let nodes = least(tok::wide(tok::word_at(image, 0)), 2048);
     let types = least(tok::wide(tok::word_at(image, 1)), 512);
     let first = clipped(4 + tok::wide(tok::word_at(image, 2)));
-    let mut places = no_places();
-    let first_type = fill(&mut places, image, 0, nodes, first);
-    fill(&mut places, image, TYPES, types, first_type);
-    places
+    let first_type = fill(places, image, 0, nodes, first);
+    fill(places, image, TYPES, types, first_type);
 }

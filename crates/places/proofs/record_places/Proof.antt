@@ -34,23 +34,17 @@ add-clipped c = search needs
 clipped-requires : tie.Need-clipped-requires
 clipped-requires c κs = search needs
 
-no-places-requires : tie.Need-no-places-requires
-no-places-requires c κs = search needs
-
-slice-aggregate-fill : tie.Need-slice-aggregate-fill
-slice-aggregate-fill c = search needs
-
 fill-requires : tie.Need-fill-requires
 fill-requires c κs = search needs
-
-slice-aggregate-fill-2 : tie.Need-slice-aggregate-fill-2
-slice-aggregate-fill-2 c = search needs
 
 fill-requires-2 : tie.Need-fill-requires-2
 fill-requires-2 c κs = search needs
 
+same-length : tie.Need-same-length
+same-length c = search needs
+
 returns : tie.Need-returns
-returns c = all-filled _ (c .before .before .before .before .before .before .before .before .before .before .before .before .before .before .before .word-at .ensures) (c .before .before .before .before .before .before .before .before .before .before .before .before .before .before .wide .ensures) (c .before .before .before .before .before .before .before .before .before .before .before .before .before .least .ensures) (c .before .before .before .before .before .before .before .before .before .before .before .before .word-at2 .ensures) (c .before .before .before .before .before .before .before .before .before .before .before .wide2 .ensures) (c .before .before .before .before .before .before .before .before .before .before .least2 .ensures) (c .before .before .before .before .before .before .before .before .before .word-at3 .ensures) (c .before .before .before .before .before .before .before .before .wide3 .ensures) (c .before .before .before .before .before .before .before .clipped .ensures) (c .before .before .before .before .before .before .no-places .ensures) (c .before .before .before .before .fill .ensures) (c .before .fill2 .ensures)
+returns c = all-filled _ (c .before .before .before .before .before .before .before .before .before .before .before .before .before .before .before .before .word-at .ensures) (c .before .before .before .before .before .before .before .before .before .before .before .before .before .before .before .wide .ensures) (c .before .before .before .before .before .before .before .before .before .before .before .before .before .before .least .ensures) (c .before .before .before .before .before .before .before .before .before .before .before .before .before .word-at2 .ensures) (c .before .before .before .before .before .before .before .before .before .before .before .before .wide2 .ensures) (c .before .before .before .before .before .before .before .before .before .before .before .least2 .ensures) (c .before .before .before .before .before .before .before .before .before .before .word-at3 .ensures) (c .before .before .before .before .before .before .before .before .before .wide3 .ensures) (c .before .before .before .before .before .before .before .before .clipped .ensures) (c .before .before .before .before .before .before .fill .ensures) (c .before .before .fill2 .ensures)
 
 pub record-places-spec : {M : Type 1} → statement M
 record-places-spec =
@@ -66,9 +60,7 @@ record-places-spec =
     wide-requires-3
     add-clipped
     clipped-requires
-    no-places-requires
-    slice-aggregate-fill
     fill-requires
-    slice-aggregate-fill-2
     fill-requires-2
+    same-length
     returns)
