@@ -60,8 +60,8 @@ module _ (e ys : List ℕ) (at count : ℕ) {end : ℕ} (ee : end ≡ at + count
 
 -- ── The walk's world, where scratch has changed between the two and from word 8,192 on ──
 
-module _ {count : ℕ} {st : State} {e e₁ e′ : List ℕ} (free : Free count st e) (front₁ : take (top st) e₁ ≡ take (top st) e) (past : AlikeFrom (top st + count) e e₁) (long₁ : length e₁ ≡ length e) (low : Low e₁ e′)
-    (long₂ : length e′ ≡ length e₁) where
+module _ {count : ℕ} {st : State} {e e₁ e′ : List ℕ} (free : Free count st e) (front₁ : take (top st) e₁ ≡ take (top st) e)
+    (past : AlikeFrom (top st + count) e e₁) (long₁ : length e₁ ≡ length e) (low : Low e₁ e′) (long₂ : length e′ ≡ length e₁) where
   ends₁ : heldReach e₁ (st .held) (st .packages) ≡ heldReach e (st .held) (st .packages)
   ends₁ = reach-past e e₁ past (st .held) (st .packages) (free .between)
 
@@ -123,7 +123,8 @@ module _ {count : ℕ} {st : State} {e e₁ e′ : List ℕ} (free : Free count 
       → (library : List Package) (void : ℕ) (f : List ℕ)
       → Visits (resolvePkgCall (ctx texts library void) n slot pkg name given poisoned) count 0 words st (lent s f t d m e) (lent s′ f t′ d′ m′ e′) v
   calls-visit texts n slot pkg name given poisoned words s t d m {s′} {t′} {d′} {m′} {r} {v} h q library void f = rw q (record {
-    step = h .step library void (restOf words st (lent s f t d m e)) (sym (held₁ words)) ∙ ap (λ x. stepped x s′ t′ d′ m′ r) (rest-same s t d m s′ t′ d′ m′ f words) ∙ visited-is s t d m s′ t′ d′ m′ f words r;
+    step = h .step library void (restOf words st (lent s f t d m e)) (sym (held₁ words)) ∙ ap (λ x. stepped x s′ t′ d′ m′ r) (rest-same s t d m s′ t′ d′ m′ f words)
+        ∙ visited-is s t d m s′ t′ d′ m′ f words r;
     keeps = keeps s t d m s′ t′ d′ m′ f r;
   })
 
@@ -155,7 +156,8 @@ module _ {texts : Texts} {image places words : List ℕ} {st : State} {e : List 
     }
 
     pub pkg-visits : (slot pkg name : ℕ) (poisoned : Bool) (d m : List ℕ) {e′ s′ t′ d′ m′ : List ℕ} {r : Step} {v : Visit}
-        → HeldCalls texts n slot pkg name (givenFrom image args count) poisoned words (st .held) (st .packages) (take (top st) e ++ (ys ++ drop (end - top st) (drop (top st) e))) slots types d m (st .used) e′ s′ t′ d′ m′ r
+        → HeldCalls texts n slot pkg name (givenFrom image args count) poisoned words (st .held) (st .packages)
+        (take (top st) e ++ (ys ++ drop (end - top st) (drop (top st) e))) slots types d m (st .used) e′ s′ t′ d′ m′ r
         → length e′ ≡ length (take (top st) e ++ (ys ++ drop (end - top st) (drop (top st) e)))
         → v ≡ visitOf st r → (library : List Package) (void : ℕ) (f : List ℕ)
         → Visits (resolvePkgCall (ctx texts library void) n slot pkg name (givenFrom image args count) poisoned) count 0 words st (lent slots f types d m e) (lent s′ f t′ d′ m′ e′) v

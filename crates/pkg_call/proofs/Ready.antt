@@ -97,8 +97,9 @@ module _ (texts : Texts) (name : List ℕ) {words : List ℕ} (from k : ℕ) {fo
   unfolding Every signatureAt
   extern-plain at o =
       let e : group texts name words 0 from k ≡ signatureAt words at true ∷ [] = rw o at (a .are) in
-      let p : Every (λ (f : Signature). f .withSlots ≡ false) (signatureAt words at true ∷ []) = subst (Every (λ (f : Signature). f .withSlots ≡ false)) e (group-every _ texts name (entriesFrom words 0 from k) (plain-entries words k from)) in
-      true≢false (p .0)
+      let all : Every (λ (f : Signature). f .withSlots ≡ false) (group texts name words 0 from k) = group-every _ texts name (entriesFrom words 0 from k) (plain-entries words k from) in
+      let one : Every (λ (f : Signature). f .withSlots ≡ false) (signatureAt words at true ∷ []) = rw e at all in
+      true≢false (one .0)
 
 -- a match says which ones they may still be
 pub not-slotted : {found : Candidates} → OneOf (0 ∷ 1 ∷ 3 ∷ []) (tagOf the-type found) → (at : ℕ) → found ≡ C.Slotted at → ⊥
@@ -109,7 +110,8 @@ not-slotted {found} h at o = two (rw o at h)
 
 -- ── From what is gathered to the group ──
 
-module _ {texts : Texts} {image places scratch : List ℕ} {top n args count : ℕ} {slots types : List ℕ} {used : ℕ} (h : GatheredReady texts image places scratch top n args count slots types used) {end : ℕ} (ee : end ≡ top + count) where
+module _ {texts : Texts} {image places scratch : List ℕ} {top n args count : ℕ} {slots types : List ℕ} {used : ℕ}
+    (h : GatheredReady texts image places scratch top n args count slots types used) {end : ℕ} (ee : end ≡ top + count) where
   pub group-ready : {words : List ℕ} {fs : List Signature} {found : Candidates} → Among words fs found → ((at : ℕ) → found ≡ C.Slotted at → ⊥)
       → GroupReady image places n args count slots (take (end - top) (drop top scratch)) words fs found
   group-ready a o =
@@ -122,7 +124,8 @@ module _ {texts : Texts} {image places scratch : List ℕ} {top n args count : �
 tail-long : (e : List ℕ) → length (take (length e - 8192) (drop 8192 e)) ≡ length e - 8192
 tail-long e = length-take-le (length e - 8192) (drop 8192 e) (rw length-drop (omega arith))
 
-module _ {texts : Texts} {image places words scratch : List ℕ} {top n at args count : ℕ} {slots types : List ℕ} {used : ℕ} (h : LibraryReady texts image places words scratch top n at args count slots types used) where
+module _ {texts : Texts} {image places words scratch : List ℕ} {top n at args count : ℕ} {slots types : List ℕ} {used : ℕ}
+    (h : LibraryReady texts image places words scratch top n at args count slots types used) where
   -- the words from 8,192 on are room for 4,096 pairs
   pub slotted-ready : (name : List ℕ) {k from place : ℕ} {found : Candidates} → k ≡ getD words (at + 1) 0 → from ≡ min at (length words) + 2
       → Among words (group texts name words (flagWords true) from k) found → found ≡ C.Slotted place
@@ -130,8 +133,9 @@ module _ {texts : Texts} {image places words scratch : List ℕ} {top n at args 
   unfolding Every signatureAt
   slotted-ready name {k} {from} {place} ek ef a o =
       let e : group texts name words 1 from k ≡ signatureAt words place true ∷ [] = rw o at (a .are) in
-      let g = library-group texts name words at ek ef in
-      let m : Every (MayBind texts types used) (signatureAt words place true ∷ []) = subst (Every (MayBind texts types used)) (sym g ∙ e) (group-every _ texts name (packageAt words at .functions) (h .bind)) in
+      let g = sym (library-group texts name words at ek ef) ∙ e in
+      let m : Every (MayBind texts types used) (signatureAt words place true ∷ []) =
+      subst (Every (MayBind texts types used)) g (group-every _ texts name (packageAt words at .functions) (h .bind)) in
       let b : SlotsReady texts types used (signatureAt words place true) = m .0 refl in
       record {
         nodes = h .ready .given .nodes;

@@ -40,15 +40,19 @@ front-stays e rest l = record { same = take-at (take 8192 e) rest 8192 (length-t
 
 -- ── Into one package ──
 
-module _ (texts : Texts) (n slot pkg name : ℕ) (given : List Provided) (poisoned : Bool) (words : List ℕ) (at : ℕ) {k from : ℕ} (ek : k ≡ getD words (at + 1) 0) (ef : from ≡ min at (length words) + 2)
-    (s t d m : List ℕ) (u : Used) {s′ t′ d′ m′ : List ℕ} {r : Step} where
+module _ (texts : Texts) (n slot pkg name : ℕ) (given : List Provided) (poisoned : Bool) (words : List ℕ) (at : ℕ)
+    {k from : ℕ} (ek : k ≡ getD words (at + 1) 0) (ef : from ≡ min at (length words) + 2) (s t d m : List ℕ) (u : Used) {s′ t′ d′ m′ : List ℕ} {r : Step} where
   pub library-calls : (e : List ℕ) → InGroup texts n slot pkg name given poisoned (group texts (nameBytes texts name) words (flagWords true) from k) s t d m u s′ t′ d′ m′ r
       → LibraryCalls texts n slot pkg name given poisoned (packageAt words at) e s t d m u e s′ t′ d′ m′ r
-  library-calls e c = record { call = subst (λ fs. InGroup texts n slot pkg name given poisoned fs s t d m u s′ t′ d′ m′ r) (library-group texts (nameBytes texts name) words at ek ef) c; low = record { same = refl } }
+  library-calls e c = record {
+    call = subst (λ fs. InGroup texts n slot pkg name given poisoned fs s t d m u s′ t′ d′ m′ r) (library-group texts (nameBytes texts name) words at ek ef) c;
+    low = record { same = refl };
+  }
 
   -- of one function, with slots
   pub slotted-calls : {found : Candidates} {place : ℕ} {e e′ : List ℕ} → Among words (group texts (nameBytes texts name) words (flagWords true) from k) found → found ≡ C.Slotted place
-      → ((library : List Package) (void : ℕ) → Steps (checkCallArgs (ctx texts library void) n slot name (callName texts (OfPackage pkg name)) (signatureAt words place true) given) s t d m u s′ t′ d′ m′ r)
+      → ((library : List Package) (void : ℕ) → Steps (checkCallArgs (ctx texts library void) n slot name (callName texts (OfPackage pkg name)) (signatureAt words place true) given)
+      s t d m u s′ t′ d′ m′ r)
       → Low e e′ → LibraryCalls texts n slot pkg name given poisoned (packageAt words at) e s t d m u e′ s′ t′ d′ m′ r
   unfolding inGroup callName
   slotted-calls {place = place} a o c l =
@@ -74,7 +78,8 @@ module _ (texts : Texts) (n slot pkg name : ℕ) (given : List Provided) (poison
 
   module _ {s′ t′ d′ m′ : List ℕ} {r : Step} where
     -- the package found, and the candidates in it
-    in-package : (p : Package) {e′ : List ℕ} → heldOf words e found ≡ some p → InGroup texts n slot pkg name given poisoned (groupOf texts (nameBytes texts name) (p .functions)) s t d m u s′ t′ d′ m′ r → Low e e′
+    in-package : (p : Package) {e′ : List ℕ} → heldOf words e found ≡ some p
+        → InGroup texts n slot pkg name given poisoned (groupOf texts (nameBytes texts name) (p .functions)) s t d m u s′ t′ d′ m′ r → Low e e′
         → HeldCalls texts n slot pkg name given poisoned words held packages e s t d m u e′ s′ t′ d′ m′ r
     unfolding resolvePkgCall onOption
     in-package p o c l = record {
@@ -86,6 +91,7 @@ module _ (texts : Texts) (n slot pkg name : ℕ) (given : List Provided) (poison
         → HeldCalls texts n slot pkg name given poisoned words held packages e s t d m u e′ s′ t′ d′ m′ r
     library-held {at} o c = in-package (packageAt words at) (ap (heldOf words e) o) (c .call) (c .low)
 
-    pub extern-held : {at : ℕ} → found ≡ H.Extern at → InGroup texts n slot pkg name given poisoned (groupOf texts (nameBytes texts name) (externAt e at .functions)) s t d m u s′ t′ d′ m′ r
+    pub extern-held : {at : ℕ} → found ≡ H.Extern at
+        → InGroup texts n slot pkg name given poisoned (groupOf texts (nameBytes texts name) (externAt e at .functions)) s t d m u s′ t′ d′ m′ r
         → HeldCalls texts n slot pkg name given poisoned words held packages e s t d m u e s′ t′ d′ m′ r
     extern-held {at} o c = in-package (externAt e at) (ap (heldOf words e) o) c (record { same = refl })

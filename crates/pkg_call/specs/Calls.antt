@@ -19,12 +19,14 @@ pub record Low (e e′ : List ℕ) : Type 0 where
   pub same : take 8192 e′ ≡ take 8192 e
 
 -- `inGroup`, of a package of the library
-pub record LibraryCalls (texts : Texts) (n slot pkg name : ℕ) (given : List Provided) (poisoned : Bool) (p : Package) (e s t d m : List ℕ) (u : Used) (e′ s′ t′ d′ m′ : List ℕ) (r : Step) : Type 0 where
+pub record LibraryCalls (texts : Texts) (n slot pkg name : ℕ) (given : List Provided) (poisoned : Bool) (p : Package)
+    (e s t d m : List ℕ) (u : Used) (e′ s′ t′ d′ m′ : List ℕ) (r : Step) : Type 0 where
   pub call : InGroup texts n slot pkg name given poisoned (groupOf texts (nameBytes texts name) (p .functions)) s t d m u s′ t′ d′ m′ r
   pub low : Low e e′
 
 -- `resolvePkgCall`, in a world whose packages are those held from a word of scratch on
-pub record HeldCalls (texts : Texts) (n slot pkg name : ℕ) (given : List Provided) (poisoned : Bool) (words : List ℕ) (held packages : ℕ) (e s t d m : List ℕ) (u : Used) (e′ s′ t′ d′ m′ : List ℕ) (r : Step) : Type 0 where
+pub record HeldCalls (texts : Texts) (n slot pkg name : ℕ) (given : List Provided) (poisoned : Bool) (words : List ℕ) (held packages : ℕ)
+    (e s t d m : List ℕ) (u : Used) (e′ s′ t′ d′ m′ : List ℕ) (r : Step) : Type 0 where
   pub step : (library : List Package) (void : ℕ) (rest : Rest) → rest .packages ≡ heldFrom words e held packages
       → resolvePkgCall (ctx texts library void) n slot pkg name given poisoned (world rest s t d m u) ≡ stepped rest s′ t′ d′ m′ r
   pub low : Low e e′

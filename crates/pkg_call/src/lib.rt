@@ -76,7 +76,9 @@ fn in_library<'a>(
     requires { let T : Texts = textsOf (now script) (now library) in
         ⌜ LibraryReady T (now image) (now places) (now words) (now scratch) top n at args count (now slots) (now types) (used .types) ⌝ }
     ensures { λ r. let T : Texts = textsOf (now (script .entry)) (now (library .entry)) in
-        ⌜ LibraryCalls T n slot pkg name (givenFrom (now (image .entry)) args count) poisoned (packageAt (now (words .entry)) at) (now (scratch .entry)) (now (slots .entry)) (now (types .entry)) (now (diagnostics .entry)) (now (messages .entry)) used (now (scratch .exit)) (now (slots .exit)) (now (types .exit)) (now (diagnostics .exit)) (now (messages .exit)) r ⌝ }
+        ⌜ LibraryCalls T n slot pkg name (givenFrom (now (image .entry)) args count) poisoned (packageAt (now (words .entry)) at)
+        (now (scratch .entry)) (now (slots .entry)) (now (types .entry)) (now (diagnostics .entry)) (now (messages .entry)) used
+        (now (scratch .exit)) (now (slots .exit)) (now (types .exit)) (now (diagnostics .exit)) (now (messages .exit)) r ⌝ }
 {
     let k = function_count(words, at);
     let from = first_entry(words, at);
@@ -155,7 +157,9 @@ fn in_extern<'a>(
     requires { let T : Texts = textsOf (now script) (now library) in
         ⌜ GatheredReady T (now image) (now places) (now scratch) top n args count (now slots) (now types) (used .types) ⌝ }
     ensures { λ r. let T : Texts = textsOf (now (script .entry)) (now (library .entry)) in
-        ⌜ InGroup T n slot pkg name (givenFrom (now (image .entry)) args count) poisoned (groupOf T (nameBytes T name) (externAt (now (scratch .entry)) at .functions)) (now (slots .entry)) (now (types .entry)) (now (diagnostics .entry)) (now (messages .entry)) used (now (slots .exit)) (now (types .entry)) (now (diagnostics .exit)) (now (messages .exit)) r ⌝ }
+        ⌜ InGroup T n slot pkg name (givenFrom (now (image .entry)) args count) poisoned (groupOf T (nameBytes T name) (externAt (now (scratch .entry)) at .functions))
+        (now (slots .entry)) (now (types .entry)) (now (diagnostics .entry)) (now (messages .entry)) used
+        (now (slots .exit)) (now (types .entry)) (now (diagnostics .exit)) (now (messages .exit)) r ⌝ }
 {
     let k = function_count(scratch, at);
     let from = first_entry(scratch, at);
@@ -214,7 +218,9 @@ fn in_held<'a>(
     requires { let T : Texts = textsOf (now script) (now library) in
         ⌜ HeldReady T (now image) (now places) (now words) (now scratch) held packages top n args count (now slots) (now types) (used .types) ⌝ }
     ensures { λ r. let T : Texts = textsOf (now (script .entry)) (now (library .entry)) in
-        ⌜ HeldCalls T n slot pkg name (givenFrom (now (image .entry)) args count) poisoned (now (words .entry)) held packages (now (scratch .entry)) (now (slots .entry)) (now (types .entry)) (now (diagnostics .entry)) (now (messages .entry)) used (now (scratch .exit)) (now (slots .exit)) (now (types .exit)) (now (diagnostics .exit)) (now (messages .exit)) r ⌝ }
+        ⌜ HeldCalls T n slot pkg name (givenFrom (now (image .entry)) args count) poisoned (now (words .entry)) held packages
+        (now (scratch .entry)) (now (slots .entry)) (now (types .entry)) (now (diagnostics .entry)) (now (messages .entry)) used
+        (now (scratch .exit)) (now (slots .exit)) (now (types .exit)) (now (diagnostics .exit)) (now (messages .exit)) r ⌝ }
 {
     let found = scope::find_held(script, library, words, &scratch[..], held, packages, pkg);
     match found {

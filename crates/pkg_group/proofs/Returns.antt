@@ -25,9 +25,10 @@ use Rattle.pkg_group.specs.declared.Candidates.the-variants as C
 use Rattle.pkg_group.specs.Among.{OfSeveral, Are}
 use Rattle.pkg_group.specs.Groups.{GroupReady, InGroup}
 
-module _ (texts : Texts) (n slot pkg name : ℕ) {image places : List ℕ} {args count : ℕ} {provided words : List ℕ} {fs : List Signature} {found : Candidates} (poisoned : Bool) (s t d m : List ℕ) (u : Used)
-    (h : GroupReady image places n args count s provided words fs found) where
-  pub group-none : {d′ m′ : List ℕ} {x : Reported} {r : Step} → found ≡ C.Nothing → Reports (undefinedInPackage name (pkgName (nameBytes texts pkg) (nameBytes texts name))) d m (u .told) d′ m′ x → r ≡ poisonOf n u x
+module _ (texts : Texts) (n slot pkg name : ℕ) {image places : List ℕ} {args count : ℕ} {provided words : List ℕ} {fs : List Signature} {found : Candidates}
+    (poisoned : Bool) (s t d m : List ℕ) (u : Used) (h : GroupReady image places n args count s provided words fs found) where
+  pub group-none : {d′ m′ : List ℕ} {x : Reported} {r : Step} → found ≡ C.Nothing
+      → Reports (undefinedInPackage name (pkgName (nameBytes texts pkg) (nameBytes texts name))) d m (u .told) d′ m′ x → r ≡ poisonOf n u x
       → InGroup texts n slot pkg name (givenFrom image args count) poisoned fs s t d m u s t d′ m′ r
   unfolding inGroup
   group-none o p w =
@@ -35,7 +36,8 @@ module _ (texts : Texts) (n slot pkg name : ℕ) {image places : List ℕ} {args
       record { of = λ library void. record { step = λ rest. rw (e, w) (poisons-step n {s = s} {t = t} {u = u} p .step rest) } }
 
   pub group-plain : {at : ℕ} {s′ d′ m′ : List ℕ} {r : Step} → found ≡ C.Plain at
-      → ((library : List Package) (void : ℕ) → Steps (checkCallArgs (ctx texts library void) n slot name (callName texts (OfPackage pkg name)) (signatureAt words at false) (givenFrom image args count)) s t d m u s′ t d′ m′ r)
+      → ((library : List Package) (void : ℕ) → Steps (checkCallArgs (ctx texts library void) n slot name (callName texts (OfPackage pkg name)) (signatureAt words at false) (givenFrom image args count))
+      s t d m u s′ t d′ m′ r)
       → InGroup texts n slot pkg name (givenFrom image args count) poisoned fs s t d m u s′ t d′ m′ r
   unfolding inGroup callName
   group-plain {at} o c =
@@ -46,7 +48,8 @@ module _ (texts : Texts) (n slot pkg name : ℕ) {image places : List ℕ} {args
   pub group-slotted : {at : ℕ} {s′ d′ m′ : List ℕ} {r : Step} → found ≡ C.Slotted at → InGroup texts n slot pkg name (givenFrom image args count) poisoned fs s t d m u s′ t d′ m′ r
   group-slotted {at} o = absurd (h .other at o)
 
-  pub group-several : (flags from k : ℕ) {wanted : List ℕ} {s′ d′ m′ : List ℕ} {r : Step} → found ≡ C.Several → wanted ≡ nameBytes texts name → fs ≡ group texts (nameBytes texts name) words flags from k
+  pub group-several : (flags from k : ℕ) {wanted : List ℕ} {s′ d′ m′ : List ℕ} {r : Step}
+      → found ≡ C.Several → wanted ≡ nameBytes texts name → fs ≡ group texts (nameBytes texts name) words flags from k
       → Selects texts n slot name (callName texts (OfPackage pkg name)) provided poisoned (group texts wanted words flags from k) s t d m u s′ d′ m′ r
       → InGroup texts n slot pkg name (givenFrom image args count) poisoned fs s t d m u s′ t d′ m′ r
   unfolding inGroup callName

@@ -18,8 +18,8 @@ use Rattle.pkg_group.specs.declared.Candidates.{Candidates}
 use Rattle.pkg_group.specs.declared.Candidates.the-variants.{Slotted}
 use Rattle.pkg_group.specs.Among.{Among}
 
--- The arguments are nodes of an accepted image, and the words of their types are gathered; the candidates are found, and it is not one of
--- slots alone.
+-- The arguments are nodes of an accepted image, and the words of their types are gathered; the candidates are found, and are not one with
+-- slots.
 pub record GroupReady (image places : List ℕ) (n args count : ℕ) (slots provided words : List ℕ) (fs : List Signature) (found : Candidates) : Type 0 where
   pub nodes : NodesReady image places n args count
   pub gathered : wordsIn slots (givenFrom image args count) ≡ provided
@@ -27,6 +27,7 @@ pub record GroupReady (image places : List ℕ) (n args count : ℕ) (slots prov
   pub other : (at : ℕ) → found ≡ Slotted at → ⊥
 
 -- `inGroup`, of these candidates
-pub record InGroup (texts : Texts) (n slot pkg name : ℕ) (given : List Provided) (poisoned : Bool) (fs : List Signature) (s t d m : List ℕ) (u : Used) (s′ t′ d′ m′ : List ℕ) (r : Step) : Type 0 where
+pub record InGroup (texts : Texts) (n slot pkg name : ℕ) (given : List Provided) (poisoned : Bool) (fs : List Signature)
+    (s t d m : List ℕ) (u : Used) (s′ t′ d′ m′ : List ℕ) (r : Step) : Type 0 where
   pub of : (library : List Package) (void : ℕ)
       → Steps (inGroup (ctx texts library void) n slot name (pkgName (nameBytes texts pkg) (nameBytes texts name)) fs given poisoned) s t d m u s′ t′ d′ m′ r

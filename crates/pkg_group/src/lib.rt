@@ -55,8 +55,8 @@ pub fn find_candidates<'a>(
     Candidates::Plain(at)
 }
 
-// A call of the candidates of a name among k entries of a package, where no one of slots is alone: none is 16, one is checked by itself,
-// several are selected from.
+// A call of the candidates of a name among k entries of a package, but for one with slots, which wants room for its bindings: none is 16,
+// one is checked by itself, several are selected from.
 pub fn in_group<'a>(
     slots: &mut [u32],
     types: &[u32],
@@ -82,9 +82,13 @@ pub fn in_group<'a>(
     poisoned: bool,
 ) -> Step
     requires { let T : Texts = textsOf (now script) (now library) in
-        ⌜ GroupReady (now image) (now places) n args count (now slots) (now provided) (now words) (group T (nameBytes T name) (now words) (flagWords flagged) from k) found ⌝ }
+        ⌜ GroupReady (now image) (now places) n args count (now slots) (now provided) (now words)
+        (group T (nameBytes T name) (now words) (flagWords flagged) from k) found ⌝ }
     ensures { λ r. let T : Texts = textsOf (now (script .entry)) (now (library .entry)) in
-        ⌜ InGroup T n slot pkg name (givenFrom (now (image .entry)) args count) poisoned (group T (nameBytes T name) (now (words .entry)) (flagWords flagged) from k) (now (slots .entry)) (now (types .entry)) (now (diagnostics .entry)) (now (messages .entry)) used (now (slots .exit)) (now (types .entry)) (now (diagnostics .exit)) (now (messages .exit)) r ⌝ }
+        ⌜ InGroup T n slot pkg name (givenFrom (now (image .entry)) args count) poisoned
+        (group T (nameBytes T name) (now (words .entry)) (flagWords flagged) from k)
+        (now (slots .entry)) (now (types .entry)) (now (diagnostics .entry)) (now (messages .entry)) used
+        (now (slots .exit)) (now (types .entry)) (now (diagnostics .exit)) (now (messages .exit)) r ⌝ }
 {
     match found {
         Candidates::Nothing => {

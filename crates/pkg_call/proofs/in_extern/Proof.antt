@@ -31,7 +31,10 @@ part-in-group-end : tie.Need-part-in-group-end
 part-in-group-end c = search needs
 
 in-group-requires : tie.Need-in-group-requires
-in-group-requires c κs = group-ready (c .before .before .before .before .before .before .before .before .before .before .before .before .before .before .before .before .pre) refl (c .before .before .before .before .find-candidates .ensures) (extern-plain _ _ _ _ (c .before .before .before .before .find-candidates .ensures))
+in-group-requires c κs =
+    let c1 = c .before .before .before .before in
+    let c2 = c1 .before .before .before .before .before .before .before .before .before .before .before .before in
+    group-ready (c2 .pre) refl (c1 .find-candidates .ensures) (extern-plain _ _ _ _ (c1 .find-candidates .ensures))
 
 same-length : tie.Need-same-length
 same-length c = search needs
@@ -43,7 +46,11 @@ same-length-3 : tie.Need-same-length-3
 same-length-3 c = search needs
 
 returns : tie.Need-returns
-returns c = extern-calls _ _ _ _ _ _ _ _ _ (c .before .before .before .before .before .before .before .before .before .before .before .before .before .function-count .ensures) (c .before .before .before .before .before .before .before .before .before .before .before .before .first-entry .ensures) _ _ _ _ _ (c .before .before .before .before .before .before .in-group .ensures)
+returns c =
+    let c1 = c .before .before .before .before .before .before in
+    let c2 = c1 .before .before .before .before .before .before in
+    let c3 = c2 .before in
+    extern-calls _ _ _ _ _ _ _ _ _ (c3 .function-count .ensures) (c2 .first-entry .ensures) _ _ _ _ _ (c1 .in-group .ensures)
 
 pub in-extern-spec : {M : Type 1} → statement M
 in-extern-spec =

@@ -12,7 +12,11 @@ enum-known-found : tie.Need-enum-known-found
 enum-known-found c = search needs
 
 in-library-requires : tie.Need-in-library-requires
-in-library-requires c κs = library-ready (c .before .before .before .before .before .before .before .before .before .before .before .before .before .before .before .before .before .before .before .before .pre) _ _ (c .before .before .before .before .before .before .before .before .find-held .ensures) (c .before .before .before .before .before .before .found .given .1)
+in-library-requires c κs =
+    let c1 = c .before .before .before .before .before .before in
+    let c2 = c1 .before .before in
+    let c3 = c2 .before .before .before .before .before .before .before .before .before .before .before .before in
+    library-ready (c3 .pre) _ _ (c2 .find-held .ensures) (c1 .found .given .1)
 
 same-length : tie.Need-same-length
 same-length c = search needs
@@ -30,7 +34,11 @@ same-length-5 : tie.Need-same-length-5
 same-length-5 c = search needs
 
 returns : tie.Need-returns
-returns c = library-held _ _ _ _ _ _ _ _ _ _ _ _ _ _ _ _ _ (c .before .before .before .before .before .before .before .before .before .before .before .before .before .before .before .before .before .before .before .find-held .ensures) (c .before .before .before .before .before .before .before .before .before .before .before .before .before .before .before .before .before .found .given .1) (c .before .before .before .before .before .before .before .before .before .before .in-library .ensures)
+returns c =
+    let c1 = c .before .before .before .before .before .before .before .before .before .before in
+    let c2 = c1 .before .before .before .before .before .before .before in
+    let c3 = c2 .before .before in
+    library-held _ _ _ _ _ _ _ _ _ _ _ _ _ _ _ _ _ (c3 .find-held .ensures) (c2 .found .given .1) (c1 .in-library .ensures)
 
 enum-known-found-2 : tie.Need-enum-known-found-2
 enum-known-found-2 c = search needs
@@ -54,7 +62,11 @@ same-length-10 : tie.Need-same-length-10
 same-length-10 c = search needs
 
 returns-2 : tie.Need-returns-2
-returns-2 c = extern-held _ _ _ _ _ _ _ _ _ _ _ _ _ _ _ _ _ (c .before .before .before .before .before .before .before .before .before .before .before .before .before .before .before .find-held .ensures) (c .before .before .before .before .before .before .before .before .before .before .before .before .before .found2 .given .1) (c .before .before .before .before .before .before .in-extern .ensures)
+returns-2 c =
+    let c1 = c .before .before .before .before .before .before in
+    let c2 = c1 .before .before .before .before .before .before .before in
+    let c3 = c2 .before .before in
+    extern-held _ _ _ _ _ _ _ _ _ _ _ _ _ _ _ _ _ (c3 .find-held .ensures) (c2 .found2 .given .1) (c1 .in-extern .ensures)
 
 enum-told : tie.Need-enum-told
 enum-told c = search needs
@@ -75,7 +87,11 @@ same-length-13 : tie.Need-same-length-13
 same-length-13 c = search needs
 
 returns-3 : tie.Need-returns-3
-returns-3 c = no-package _ _ _ _ _ _ _ _ _ _ _ _ _ _ _ _ _ (c .before .before .before .before .before .before .before .before .before .before .find-held .ensures) (c .before .before .before .before .before .before .before .before .enum-told .given .1) (c .before .before .before .before .before .missing-package .ensures) (c .poisoned .ensures)
+returns-3 c =
+    let c1 = c .before .before .before .before .before in
+    let c2 = c1 .before .before .before in
+    let c3 = c2 .before .before in
+    no-package _ _ _ _ _ _ _ _ _ _ _ _ _ _ _ _ _ (c3 .find-held .ensures) (c2 .enum-told .given .1) (c1 .missing-package .ensures) (c .poisoned .ensures)
 
 pub in-held-spec : {M : Type 1} → statement M
 in-held-spec =

@@ -36,7 +36,11 @@ part-in-group-end : tie.Need-part-in-group-end
 part-in-group-end c = search needs
 
 in-group-requires : tie.Need-in-group-requires
-in-group-requires c κs = group-ready (c .before .before .before .before .before .before .before .before .before .before .before .before .before .before .before .before .before .before .before .before .pre .ready) refl (c .before .before .before .before .before .before .before .find-candidates .ensures) (not-slotted (c .before .before .before .before .before .before .match .keys2))
+in-group-requires c κs =
+    let c1 = c .before .before .before .before .before .before in
+    let c2 = c1 .before in
+    let c3 = c2 .before .before .before .before .before .before .before .before .before .before .before .before .before in
+    group-ready (c3 .pre .ready) refl (c2 .find-candidates .ensures) (not-slotted (c1 .match .keys2))
 
 same-length : tie.Need-same-length
 same-length c = search needs
@@ -54,7 +58,11 @@ same-length-5 : tie.Need-same-length-5
 same-length-5 c = search needs
 
 returns : tie.Need-returns
-returns c = library-calls _ _ _ _ _ _ _ _ _ (c .before .before .before .before .before .before .before .before .before .before .before .before .before .before .before .before .function-count .ensures) (c .before .before .before .before .before .before .before .before .before .before .before .before .before .before .before .first-entry .ensures) _ _ _ _ _ _ (c .before .before .before .before .before .before .in-group .ensures)
+returns c =
+    let c1 = c .before .before .before .before .before .before in
+    let c2 = c1 .before .before .before .before .before .before .before .before .before in
+    let c3 = c2 .before in
+    library-calls _ _ _ _ _ _ _ _ _ (c3 .function-count .ensures) (c2 .first-entry .ensures) _ _ _ _ _ _ (c1 .in-group .ensures)
 
 sub-check-slotted : tie.Need-sub-check-slotted
 sub-check-slotted c = search needs
@@ -66,7 +74,13 @@ part-check-slotted-end : tie.Need-part-check-slotted-end
 part-check-slotted-end c = search needs
 
 check-slotted-requires : tie.Need-check-slotted-requires
-check-slotted-requires c κs = slotted-ready (c .before .before .before .before .before .before .before .before .before .before .before .before .before .before .before .before .before .before .before .before .before .pre) _ (c .before .before .before .before .before .before .before .before .before .before .function-count .ensures) (c .before .before .before .before .before .before .before .before .before .first-entry .ensures) (c .before .before .before .before .before .before .before .before .find-candidates .ensures) (c .before .before .before .before .before .before .found .given .1)
+check-slotted-requires c κs =
+    let c1 = c .before .before .before .before .before .before in
+    let c2 = c1 .before .before in
+    let c3 = c2 .before in
+    let c4 = c3 .before in
+    let c5 = c4 .before .before .before .before .before .before .before .before .before .before .before in
+    slotted-ready (c5 .pre) _ (c4 .function-count .ensures) (c3 .first-entry .ensures) (c2 .find-candidates .ensures) (c1 .found .given .1)
 
 same-length-6 : tie.Need-same-length-6
 same-length-6 c = search needs
@@ -84,7 +98,15 @@ same-length-10 : tie.Need-same-length-10
 same-length-10 c = search needs
 
 returns-2 : tie.Need-returns-2
-returns-2 c = slotted-calls _ _ _ _ _ _ _ _ _ (c .before .before .before .before .before .before .before .before .before .before .before .before .before .before .before .before .before .before .before .before .before .function-count .ensures) (c .before .before .before .before .before .before .before .before .before .before .before .before .before .before .before .before .before .before .before .before .first-entry .ensures) _ _ _ _ _ (c .before .before .before .before .before .before .before .before .before .before .before .before .before .before .before .before .before .before .before .find-candidates .ensures) (c .before .before .before .before .before .before .before .before .before .before .before .before .before .before .before .before .before .found .given .1) (c .before .before .before .before .before .before .before .before .before .before .check-slotted .ensures) (front-stays _ _ (omega (arith, c .before .before .before .before .before .before .before .before .before .before .before .before .before .before .before .before .before .before .before .before .before .before .before .before .before .before .before .before .before .before .before .before .pre .ready .long)))
+returns-2 c =
+    let c1 = c .before .before .before .before .before .before .before .before .before .before in
+    let c2 = c1 .before .before .before .before .before .before .before in
+    let c3 = c2 .before .before in
+    let c4 = c3 .before in
+    let c5 = c4 .before in
+    let c6 = c5 .before .before .before .before .before .before .before .before .before .before .before in
+    slotted-calls _ _ _ _ _ _ _ _ _ (c5 .function-count .ensures) (c4 .first-entry .ensures)
+    _ _ _ _ _ (c3 .find-candidates .ensures) (c2 .found .given .1) (c1 .check-slotted .ensures) (front-stays _ _ (omega (arith, c6 .pre .ready .long)))
 
 pub in-library-spec : {M : Type 1} → statement M
 in-library-spec =

@@ -32,7 +32,10 @@ gather-types-requires : tie.Need-gather-types-requires
 gather-types-requires c κs = gather-ready (c .before .before .before .before .before .before .before .before .before .before .before .before .before .pre) refl
 
 in-held-requires : tie.Need-in-held-requires
-in-held-requires c κs = held-ready (c .before .before .before .before .before .before .before .before .before .before .before .before .before .before .before .before .before .before .before .before .before .before .pre) refl _ (c .before .before .before .before .before .before .before .before .gather-types .kept .0) (c .before .before .before .before .before .before .before .before .gather-types .ensures)
+in-held-requires c κs =
+    let c1 = c .before .before .before .before .before .before .before .before in
+    let c2 = c1 .before .before .before .before .before .before .before .before .before .before .before .before .before .before in
+    held-ready (c2 .pre) refl _ (c1 .gather-types .kept .0) (c1 .gather-types .ensures)
 
 answered-requires : tie.Need-answered-requires
 answered-requires c κs = search needs
@@ -53,7 +56,11 @@ same-length-5 : tie.Need-same-length-5
 same-length-5 c = search needs
 
 returns : tie.Need-returns
-returns c = pkg-visits (c .before .before .before .before .before .before .before .before .before .before .before .before .before .before .before .before .before .before .before .before .before .before .before .before .before .before .before .before .before .before .before .before .before .before .pre) refl (c .before .before .before .before .before .before .before .before .before .before .before .before .before .before .before .before .before .before .before .before .gather-types .last .0) (c .before .before .before .before .before .before .before .before .before .before .before .before .before .before .before .before .before .before .before .before .gather-types .kept .0) _ _ _ _ _ _ (c .before .before .before .before .before .before .before .before .before .before .before .in-held .ensures) (c .before .before .before .before .before .before .before .before .before .before .before .in-held .kept .1 .1 .1 .1 .0) (c .answered .ensures)
+returns c =
+    let c1 = c .before .before .before .before .before .before .before .before .before .before .before in
+    let c2 = c1 .before .before .before .before .before .before .before .before .before in
+    let c3 = c2 .before .before .before .before .before .before .before .before .before .before .before .before .before .before in
+    pkg-visits (c3 .pre) refl (c2 .gather-types .last .0) (c2 .gather-types .kept .0) _ _ _ _ _ _ (c1 .in-held .ensures) (c1 .in-held .kept .1 .1 .1 .1 .0) (c .answered .ensures)
 
 pub resolve-pkg-call-spec : {M : Type 1} → statement M
 resolve-pkg-call-spec =

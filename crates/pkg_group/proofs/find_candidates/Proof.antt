@@ -29,13 +29,30 @@ enum-told-3 : tie.Need-enum-told-3
 enum-told-3 c = search needs
 
 returns-2 : tie.Need-returns-2
-returns-2 c = several-found _ _ _ _ _ _ (c .before .before .before .before .before .before .before .name-bytes .ensures) (c .before .before .before .before .before .before .find-entry .ensures) (c .before .before .before .before .first .given .1) (c .before .before .find-entry2 .ensures) (c .enum-told3 .given .1)
+returns-2 c =
+    let c1 = c .before .before in
+    let c2 = c1 .before .before in
+    let c3 = c2 .before .before in
+    let c4 = c3 .before in
+    several-found _ _ _ _ _ _ (c4 .name-bytes .ensures) (c3 .find-entry .ensures) (c2 .first .given .1) (c1 .find-entry2 .ensures) (c .enum-told3 .given .1)
 
 returns-3 : tie.Need-returns-3
-returns-3 c = slotted-found _ _ _ _ _ _ (c .before .before .before .before .before .before .before .before .name-bytes .ensures) (c .before .before .before .before .before .before .before .find-entry .ensures) (c .before .before .before .before .before .first .given .1) (c .before .before .before .find-entry2 .ensures) (c .before .enum-told2 .given .1) (c .if1 .taken)
+returns-3 c =
+    let c1 = c .before in
+    let c2 = c1 .before .before in
+    let c3 = c2 .before .before in
+    let c4 = c3 .before .before in
+    let c5 = c4 .before in
+    slotted-found _ _ _ _ _ _ (c5 .name-bytes .ensures) (c4 .find-entry .ensures) (c3 .first .given .1) (c2 .find-entry2 .ensures) (c1 .enum-told2 .given .1) (c .if1 .taken)
 
 returns-4 : tie.Need-returns-4
-returns-4 c = plain-found _ _ _ _ _ _ (c .before .before .before .before .before .before .before .before .name-bytes .ensures) (c .before .before .before .before .before .before .before .find-entry .ensures) (c .before .before .before .before .before .first .given .1) (c .before .before .before .find-entry2 .ensures) (c .before .enum-told2 .given .1) (c .if1 .left)
+returns-4 c =
+    let c1 = c .before in
+    let c2 = c1 .before .before in
+    let c3 = c2 .before .before in
+    let c4 = c3 .before .before in
+    let c5 = c4 .before in
+    plain-found _ _ _ _ _ _ (c5 .name-bytes .ensures) (c4 .find-entry .ensures) (c3 .first .given .1) (c2 .find-entry2 .ensures) (c1 .enum-told2 .given .1) (c .if1 .left)
 
 pub find-candidates-spec : {M : Type 1} → statement M
 find-candidates-spec =

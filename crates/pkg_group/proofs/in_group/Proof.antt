@@ -21,7 +21,11 @@ same-length-2 : tie.Need-same-length-2
 same-length-2 c = search needs
 
 returns : tie.Need-returns
-returns c = group-none _ _ _ _ _ _ _ _ _ _ _ (c .before .before .before .before .before .before .before .before .before .before .before .before .before .before .before .before .before .before .before .before .pre) (c .before .before .before .before .before .before .before .before .enum-told .given .1) (c .before .before .before .before .before .undefined-in-package .ensures) (c .poisoned .ensures)
+returns c =
+    let c1 = c .before .before .before .before .before in
+    let c2 = c1 .before .before .before in
+    let c3 = c2 .before .before .before .before .before .before .before .before .before .before .before .before in
+    group-none _ _ _ _ _ _ _ _ _ _ _ (c3 .pre) (c2 .enum-told .given .1) (c1 .undefined-in-package .ensures) (c .poisoned .ensures)
 
 enum-known-found : tie.Need-enum-known-found
 enum-known-found c = search needs
@@ -39,7 +43,11 @@ same-length-5 : tie.Need-same-length-5
 same-length-5 c = search needs
 
 returns-2 : tie.Need-returns-2
-returns-2 c = group-plain _ _ _ _ _ _ _ _ _ _ _ (c .before .before .before .before .before .before .before .before .before .before .before .before .before .before .before .before .before .before .before .before .before .before .before .pre) (c .before .before .before .before .before .before .before .before .before .before .before .found .given .1) (c .before .before .before .before .before .before .check-plain .ensures)
+returns-2 c =
+    let c1 = c .before .before .before .before .before .before in
+    let c2 = c1 .before .before .before .before .before in
+    let c3 = c2 .before .before .before .before .before .before .before .before .before .before .before .before in
+    group-plain _ _ _ _ _ _ _ _ _ _ _ (c3 .pre) (c2 .found .given .1) (c1 .check-plain .ensures)
 
 enum-told-2 : tie.Need-enum-told-2
 enum-told-2 c = search needs
@@ -66,7 +74,12 @@ same-length-8 : tie.Need-same-length-8
 same-length-8 c = search needs
 
 returns-4 : tie.Need-returns-4
-returns-4 c = group-several _ _ _ _ _ _ _ _ _ _ _ (c .before .before .before .before .before .before .before .before .before .before .before .before .before .before .before .before .before .before .before .before .before .before .before .pre) _ _ _ (c .before .before .before .before .before .before .before .before .before .before .before .enum-told3 .given .1) (c .before .before .before .before .before .before .before .before .before .before .name-bytes .ensures) refl (c .before .before .before .before .before .before .select .ensures)
+returns-4 c =
+    let c1 = c .before .before .before .before .before .before in
+    let c2 = c1 .before .before .before .before in
+    let c3 = c2 .before in
+    let c4 = c3 .before .before .before .before .before .before .before .before .before .before .before .before in
+    group-several _ _ _ _ _ _ _ _ _ _ _ (c4 .pre) _ _ _ (c3 .enum-told3 .given .1) (c2 .name-bytes .ensures) refl (c1 .select .ensures)
 
 pub in-group-spec : {M : Type 1} → statement M
 in-group-spec =
