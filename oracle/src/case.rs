@@ -17,6 +17,11 @@ impl<'c> Parts<'c> {
         if input.len() > MOST_BYTES {
             return None;
         }
+        Self::of_any_length(input)
+    }
+
+    /// As `split`, for inputs that are too long for the bench.
+    pub fn of_any_length(input: &'c [u8]) -> Option<Self> {
         let (head, mut rest) = input.split_first_chunk::<16>()?;
         let lengths = words(head);
         let mut part = |bytes: u64| -> Option<&'c [u8]> {

@@ -37,7 +37,7 @@ fn warm() -> Bump {
 pub fn prepare(input: &[u8]) -> Option<Prepared> {
     let input: &'static [u8] = input.to_vec().leak();
     let keep: &'static Bump = Box::leak(Box::new(Bump::new()));
-    let parts = Parts::split(input)?;
+    let parts = Parts::of_any_length(input)?;
     let lib = decode::library(&parts.lib, parts.lib_text, keep).ok()?;
     let image = decode::image(&parts.image, parts.script, keep).ok()?;
     Some(Prepared {

@@ -1,0 +1,281 @@
+#!/usr/bin/env python3
+"""Sums the stack frames of libshelfstork.a along the longest chain of calls, from what `objdump -d` shows.
+
+  frames.py ARCHIVE [--frames]
+
+For each function: how far %rsp lies below the return address at each call (pushes, `sub $N,%rsp`). Functions that call each other in a ring are taken
+apart at the functions of RINGS, each of which stands on the stack at most so many times at once.
+"""
+import re
+import subprocess
+import sys
+from collections import namedtuple
+
+# How many of a function's frames stand on the stack at once, at most, and why. A function that has no line here must not call itself, by whatever way.
+LEVELS = "types are followed 33 levels deep, and stop at the 34th"
+RINGS = [
+    ("typecheck::node", 64, "node depth"),
+    ("typecheck::pairs", 2047, "values of a Record, each a node"),
+    ("spans::span_of", 64, "node depth"),
+    ("ptype::same_type_within", 34, LEVELS),
+    ("ptype::stands_in", 34, LEVELS),
+    ("ptype::depth_within", 34, LEVELS),
+    ("display::show_within", 34, LEVELS),
+    ("slots::bind_within", 34, LEVELS),
+    ("slots::bind_fields", 4096, "fields of records in each other, in 8,192 words"),
+    ("slots::has_bound_slot_within", 34, LEVELS),
+    ("apply::apply_within", 34, LEVELS),
+    ("apply::apply_fields", 4096, "fields of records in each other, in 8,192 words"),
+    ("type_expr::type_from_type_expr", 512, "type expressions in each other"),
+    ("type_expr::fields_from_exprs", 4096, "fields of type expressions in each other, in 8,192 words"),
+    ("type_expr::type_token", 512, "type expressions in each other"),
+    ("display::put_digits", 11, "digits"),
+]
+ACTIVE = {name: (count, why) for name, count, why in RINGS}
+
+# Functions of the C library, which are not in the archive. Bytes that they may take.
+OUTSIDE = {"memcpy": 64, "memmove": 64, "memset": 64, "memcmp": 64, "bcmp": 64}
+
+# own: bytes below the return address that the function itself takes; calls: callee to bytes at the call, the return address included
+Function = namedtuple("Function", "own calls")
+Instruction = namedtuple("Instruction", "at name words symbol")
+
+HEADING = re.compile(r"^([0-9a-f]+) <(.+)>:$")
+LINE = re.compile(r"^\s*([0-9a-f]+):\t(\S+)\s*(.*)$")
+RELOCATION = re.compile(r"^\s*[0-9a-f]+: R_X86_64_(\w+)\s+(.+)$")
+TARGET = re.compile(r"^([0-9a-f]+)(?: <(.+?)(?:\+0x[0-9a-f]+)?>)?$")
+
+
+def disassembled(archive):
+    """Name to instructions. A direct call or jump has the name that it goes to in `symbol`, or its target in `words`."""
+    text = subprocess.run(["objdump", "-dr", "--no-show-raw-insn", archive], stdout=subprocess.PIPE, check=True, text=True).stdout
+    out, body = {}, None
+    for line in text.splitlines():
+        heading, one, moved = HEADING.match(line), LINE.match(line), RELOCATION.match(line)
+        if heading:
+            body = out.setdefault(heading.group(2), [])
+        elif moved and body:
+            if moved.group(1) in ("PLT32", "PC32") and body[-1].name in ("call", "jmp"):
+                body[-1] = body[-1]._replace(symbol=re.sub(r"^\.text\.|[-+]0x[0-9a-f]+$", "", moved.group(2)))
+        elif one and body is not None:
+            body.append(Instruction(int(one.group(1), 16), one.group(2).replace("callq", "call").replace("jmpq", "jmp"), one.group(3).split("#")[0].strip(), None))
+    return {name: body for name, body in out.items() if body}
+
+
+def signed(text):
+    n = int(text, 16)
+    return n - (1 << 64) if n >> 63 else n
+
+
+def moved(i, depth, base, probe):
+    """Depth of %rsp, depth of %rbp as a frame's base, and where a loop of probes ends, after an instruction."""
+    w = i.words
+    if i.name in ("push", "pushq"):
+        return depth + 8, base, probe
+    if i.name in ("pop", "popq"):
+        return depth - 8, base, probe
+    if i.name == "leave":
+        return base - 8, base, probe
+    m = re.match(r"^\$0x([0-9a-f]+),%rsp$", w)
+    if m and i.name in ("sub", "subq"):
+        return depth + signed(m.group(1)), base, probe
+    if m and i.name in ("add", "addq"):
+        return depth - signed(m.group(1)), base, probe
+    if m and i.name in ("and", "andq"):
+        return depth - signed(m.group(1)) - 8, base, probe
+    if w == "%rsp,%rbp" and i.name == "mov":
+        return depth, depth, probe
+    m = re.match(r"^(-?)0x([0-9a-f]+)\((%rsp|%rbp)\),(%rsp|%r11)$", w)
+    if m and i.name == "lea":
+        to = (depth if m.group(3) == "%rsp" else base) - int(m.group(1) + m.group(2), 16)
+        return (to, base, probe) if m.group(4) == "%rsp" else (depth, base, to)
+    if w == "%rsp,%r11" and i.name == "mov":
+        return depth, base, depth
+    m = re.match(r"^\$0x([0-9a-f]+),%r11$", w)
+    if m and i.name == "sub":
+        return depth, base, probe + signed(m.group(1))
+    if w == "%r11,%rsp" and i.name == "cmp":
+        return probe, base, probe
+    if re.search(r",%rsp$|^%rsp$", w) and i.name not in ("cmp", "test"):
+        raise ValueError("%x: %s %s: %%rsp changed in a way that is not known" % (i.at, i.name, w))
+    return depth, base, probe
+
+
+def frame(name, body):
+    """How deep a function goes, and at which depth it calls which."""
+    index = {i.at: k for k, i in enumerate(body)}
+    depth, calls, most, jumps = {}, {}, 0, []
+    work = [(0, (0, 0, 0))]
+    while True:
+        while work:
+            k, at = work.pop()
+            while k < len(body) and k not in depth:
+                i = body[k]
+                depth[k] = at[0]
+                at = moved(i, *at)
+                most = max(most, at[0])
+                target = TARGET.match(i.words)
+                if i.name == "call":
+                    callee = i.symbol or target and target.group(2)
+                    if not callee:
+                        raise ValueError("%s calls what is not known: %s" % (name, i.words))
+                    calls[callee] = max(calls.get(callee, 0), at[0] + 8)
+                elif i.name.startswith("j"):
+                    inside = target and int(target.group(1), 16)
+                    if i.symbol and i.symbol != name or inside is not None and not i.symbol and inside not in index:
+                        callee = i.symbol or target.group(2)
+                        calls[callee] = max(calls.get(callee, 0), at[0])
+                    elif target:
+                        work.append((index[inside], at))
+                    else:
+                        jumps.append(at)
+                    if i.name == "jmp":
+                        break
+                elif i.name in ("ret", "retq", "ud2", "hlt"):
+                    break
+                k += 1
+        # Through a table of jumps come blocks to which nothing else leads: at the depth of the jump.
+        left = [k for k in range(len(body)) if k not in depth and not body[k].name.startswith(("nop", "int3", "xchg", "cs", "data16"))]
+        if not left:
+            break
+        if not jumps:
+            break
+        work = [(left[0], jumps[-1])]
+    return Function(most, calls)
+
+
+def rings_of(graph):
+    """The strongly connected parts, callees before callers (Tarjan)."""
+    number, low, stack, out = {}, {}, [], []
+
+    def visit(f):
+        number[f] = low[f] = len(number)
+        stack.append(f)
+        for g in graph[f].calls:
+            if g not in graph:
+                continue
+            if g not in number:
+                visit(g)
+                low[f] = min(low[f], low[g])
+            elif g in stack:
+                low[f] = min(low[f], number[g])
+        if low[f] == number[f]:
+            at = stack.index(f)
+            out.append(stack[at:])
+            del stack[at:]
+    sys.setrecursionlimit(10000)
+    for f in graph:
+        if f not in number:
+            visit(f)
+    return out
+
+
+def acyclic_order(graph, members):
+    """Callees before callers, or None if they call each other in a ring."""
+    left, order = set(members), []
+    while left:
+        free = [f for f in left if not any(g in left for g in graph[f].calls)]
+        if not free:
+            return None
+        order += sorted(free)
+        left -= set(free)
+    return order
+
+
+class Sum:
+    def __init__(self, graph):
+        self.graph, self.total, self.way = graph, {}, {}
+        for ring in rings_of(graph):
+            self.ring(ring)
+
+    def of(self, f):
+        return self.total[f] if f in self.total else OUTSIDE[f]
+
+    def out(self, f, without=()):
+        """The most that f takes through calls outside of `without`, and the callee."""
+        best = (self.graph[f].own, None)
+        for g, at in self.graph[f].calls.items():
+            if g not in without:
+                best = max(best, (at + self.of(g), g), key=lambda b: b[0])
+        return best
+
+    def ring(self, ring):
+        graph = self.graph
+        if len(ring) == 1 and ring[0] not in graph[ring[0]].calls:
+            self.total[ring[0]], self.way[ring[0]] = self.out(ring[0])
+            return
+        cut = [f for f in ring if f in ACTIVE]
+        # As few as possible: what is taken apart at one function needs no other.
+        for f in sorted(cut, key=lambda f: -ACTIVE[f][0]):
+            if acyclic_order(graph, set(ring) - set(cut) | {f}) is not None and f not in graph[f].calls:
+                cut.remove(f)
+        order = acyclic_order(graph, set(ring) - set(cut))
+        if not cut or order is None:
+            raise ValueError("these call each other, and nothing is known of how often: %s" % ", ".join(sorted(ring)))
+        inside = set(ring)
+        # turn[f]: the most from f's start to the start of a function in `cut`; leaves[f]: the most with no further one
+        turn, leaves, path = {}, {}, {}
+        for f in order + cut:
+            turn[f], path[f] = -10 ** 9, ()
+            for g, at in graph[f].calls.items():
+                if g in cut and at > turn[f]:
+                    turn[f], path[f] = at, (f,)
+                elif g in turn and g not in cut and at + turn[g] > turn[f]:
+                    turn[f], path[f] = at + turn[g], (f,) + path[g]
+            leaves[f] = self.out(f, inside)
+            for g, at in graph[f].calls.items():
+                if g in leaves and g not in cut and at + leaves[g][0] > leaves[f][0]:
+                    leaves[f] = (at + leaves[g][0], g)
+        turns = sum((ACTIVE[c][0] - (1 if len(cut) == 1 else 0)) * turn[c] for c in cut)
+        last = max(cut, key=lambda c: leaves[c][0])
+        whole = turns + leaves[last][0]
+        told = ["%d x %s: %s (%s)" % (ACTIVE[c][0], format(turn[c], ","), ", ".join(path[c]), ACTIVE[c][1]) for c in cut]
+        for f in ring:
+            at = 0 if f in cut else max(turn[f], 0)
+            self.total[f] = max(at + whole, leaves[f][0])
+            self.way[f] = (told, last)
+        self.leaves = getattr(self, "leaves", {})
+        self.leaves.update(leaves)
+
+    def chain(self, f):
+        """Lines that say where the sum comes from."""
+        lines = []
+        while f in self.graph:
+            way = self.way[f]
+            if isinstance(way, tuple):
+                told, f = way
+                lines += told
+                while True:
+                    size, g = self.leaves[f]
+                    lines.append("%s, last: %s" % (f, format(self.graph[f].calls.get(g, size), ",")))
+                    if g is None or g not in self.leaves:
+                        break
+                    f = g
+                f = g
+            else:
+                lines.append("%s: %s" % (f, format(self.graph[f].calls[way] if way else self.graph[f].own, ",")))
+                f = way
+        return lines
+
+
+def worst(archive, entry="shelfstork_check"):
+    """Bytes below the caller's frame, the return address included, and lines that say where they come from."""
+    graph = {name: frame(name, body) for name, body in disassembled(archive).items()}
+    unknown = sorted({g for f in graph.values() for g in f.calls if g not in graph and g not in OUTSIDE})
+    if unknown:
+        raise ValueError("not in the archive: %s" % ", ".join(unknown))
+    s = Sum(graph)
+    return 8 + s.total[entry], s.chain(entry)
+
+
+def main():
+    if "--frames" in sys.argv:
+        for name, body in disassembled(sys.argv[1]).items():
+            f = frame(name, body)
+            print("%8d  %s  %s" % (f.own, name, " ".join("%s@%d" % c for c in f.calls.items())))
+    total, lines = worst(sys.argv[1], *[a for a in sys.argv[2:] if not a.startswith("--")])
+    print("\n".join(lines + ["%s bytes" % format(total, ",")]))
+
+
+if __name__ == "__main__":
+    main()
