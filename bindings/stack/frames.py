@@ -16,7 +16,7 @@ LEVELS = "types are followed 33 levels deep, and stop at the 34th"
 RINGS = [
     ("typecheck::node", 64, "node depth"),
     ("typecheck::pairs", 2047, "values of a Record, each a node"),
-    ("spans::span_of", 64, "node depth"),
+    ("spans::span_of", 1, "a level of a part's span stands in place of a level of the walk, which takes more"),
     ("ptype::same_type_within", 34, LEVELS),
     ("ptype::stands_in", 34, LEVELS),
     ("ptype::depth_within", 34, LEVELS),
@@ -226,6 +226,8 @@ class Sum:
             for g, at in graph[f].calls.items():
                 if g in leaves and g not in cut and at + leaves[g][0] > leaves[f][0]:
                     leaves[f] = (at + leaves[g][0], g)
+        if "spans::span_of" in cut and turn["spans::span_of"] > 1000:
+            raise ValueError("a level of spans::span_of takes %d bytes: is that still less than a level of the walk?" % turn["spans::span_of"])
         turns = sum((ACTIVE[c][0] - (1 if len(cut) == 1 else 0)) * turn[c] for c in cut)
         last = max(cut, key=lambda c: leaves[c][0])
         whole = turns + leaves[last][0]

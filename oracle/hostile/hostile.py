@@ -22,9 +22,8 @@ from collections import namedtuple
 HERE = os.path.dirname(os.path.abspath(__file__))
 sys.path.insert(0, HERE)
 sys.path.insert(1, os.path.join(HERE, "..", "definitions"))
-import families  # noqa: E402
 from bench_case import batch_of  # noqa: E402
-from families import FAMILIES, damage, of_line, to_line  # noqa: E402
+from families import FAMILIES, made, to_line  # noqa: E402
 
 # Allowed: 50 ms on one core, or four times the Rust where that is longer.
 MOST_MS, TIMES = 50, 4
@@ -76,7 +75,7 @@ def differ(own, rust):
 
 def allowed(rust, limit):
     """Milliseconds."""
-    return max(MOST_MS, TIMES * (limit if rust.ms is None else rust.ms or rust.decoding))
+    return max(MOST_MS, TIMES * (limit if rust.ms is None else rust.ms))
 
 
 def over(own, rust, limit):
@@ -103,12 +102,8 @@ def stored():
 
 
 def of_one(line):
-    """`damaged SEED line..` is a damaged case."""
-    if line.startswith("damaged "):
-        _, seed, rest = line.split(" ", 2)
-        return Hostile(line, None, damage(rest, int(seed)))
-    chosen, values = of_line(line)
-    return Hostile(line, chosen.waits(**values), chosen.make(**values))
+    case, waits = made(line)
+    return Hostile(line, waits, case)
 
 
 def drawn(seed, count, damaged, names):

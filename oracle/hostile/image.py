@@ -8,7 +8,7 @@ import random
 import sys
 
 sys.path.insert(0, os.path.join(os.path.dirname(os.path.abspath(__file__)), "..", "definitions"))
-from bench_case import Parts, join_case  # noqa: E402
+from bench_case import Parts, join_case  # noqa: E402, F401
 
 MOST_WORDS, MOST_BYTES, MOST_NODES, MOST_TYPES, MOST_ROOTS, MOST_SLOTS = 8192, 65536, 2048, 512, 512, 4096
 VOID, BOOL, INT, DOUBLE, STR = (k << 28 for k in range(1, 6))

@@ -81,6 +81,14 @@ def tall_expression(s, width=1):
     return t
 
 
+def tall_span(s):
+    """An argument whose span covers a type expression of 480 levels. It is never made: the Fn is of a name already met, and not visited."""
+    t = s.i.plain()
+    for _ in range(480):
+        t = s.i.option(t)
+    return s.i.own_call(s.i.text.word("f"), s.i.fn(s.i.text.word("f"), [], s.i.plain(), [s.i.cast(s.i.atom(), t)])), 4
+
+
 def call(name, *values):
     return lambda s: (s.of(name, *[s.value(v) for v in values]), 3)
 
@@ -109,6 +117,7 @@ BOTTOMS = {
     "slot conflict": call("two", "fields", "tall"),
     "slotted, made there": lambda s: (s.of("records", s.of("fields")), 4),
     "tall field": lambda s: (s.i.field(s.value("fields"), s.i.text.word("none")), 2),
+    "tall span": tall_span,
     "undefined": lambda s: (s.of("none", s.i.atom()), 3),
 }
 
