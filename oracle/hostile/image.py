@@ -48,6 +48,7 @@ def block(style, count, length):
     """Bytes that hold `count` names of this length, and where each begins.
 
     last      equal but for the last bytes (at least length - 18 are equal)
+    front     equal but for the first bytes
     first     different from the first byte on
     same      all equal, at different places
     anagram   the same bytes in another order: alike for a sum of bytes
@@ -61,6 +62,12 @@ def block(style, count, length):
             data += b"a" * length + bytes([98 + j // 24, 98 + j % 24])
             places += [at + s for s in range(2, 19)]
         return bytes(data + b"a" * 20), places[:count]
+    if style == "front":
+        data, places = bytearray(b"a" * 20), []
+        for j in range(-(-count // 17)):
+            places += [len(data) - s for s in range(17)]
+            data += bytes([98 + j // 24, 98 + j % 24]) + b"a" * length
+        return bytes(data), places[:count]
     if style == "same":
         return b"a" * (length + count), list(range(count))
     if style == "anagram":
@@ -81,7 +88,7 @@ def block(style, count, length):
     return bytes(draw.choices(b"abcdefghijklmnopqrstuvwxyz", k=count + length)), list(range(count))
 
 
-STYLES = ("last", "first", "same", "anagram", "wide", "short")
+STYLES = ("last", "front", "first", "same", "anagram", "wide", "short")
 
 
 class Text:

@@ -1,6 +1,8 @@
 """Wide types, and functions of many slots."""
+import random
+
 from family import UpTo, family
-from image import INT, OPTION, STR, STYLES, Image, Library
+from image import INT, OPTION, RECORD, STR, STYLES, Count, Image, Library, Type
 
 
 @family(fields=UpTo(100, 4000), reads=UpTo(16, 1000), style=STYLES)
@@ -184,16 +186,46 @@ def slotted_arguments(slots, style, ret, calls):
     return i, l
 
 
-@family(functions=UpTo(1, 1000), slots=UpTo(16, 2000), style=STYLES, names=("one", "all"))
-def return_slots(functions, slots, style, names):
+def ordered(names, order):
+    """A sort may be slow for some of these."""
+    up = sorted(names, key=lambda w: (w >> 8) & 0xFFFF)
+    if order == "shuffled":
+        random.Random(1).shuffle(up)
+    return {"up": up, "down": up[::-1], "shuffled": up, "pipe": up[::2] + up[1::2][::-1], "given": list(names)}[order]
+
+
+@family(functions=UpTo(1, 1000), slots=UpTo(16, 2000), style=STYLES, names=("one", "all"), order=("given", "up", "down", "shuffled", "pipe"))
+def return_slots(functions, slots, style, names, order):
     """Slotted functions over one pool: argument and return type are records of many slots. Refusal 2 looks each return slot up."""
     i, l = Image(), Library()
     functions = min(functions, (8150 - 4 * slots) // 6)
-    held = l.text.names(style, slots)
+    held = ordered(l.text.names(style, slots), order)
     a = l.record([(held[0], l.slot(n)) for n in held])
     r = l.record([(held[0], l.slot(n)) for n in (reversed(held) if names == "all" else [held[-1]] * slots)])
     fs = l.text.names("short", functions)
     l.package(l.text.word("p"), [(g, [(held[0], a)], r, 1) for g in fs])
+    return i, l
+
+
+@family(slots=UpTo(16, 8000), style=STYLES, order=("given", "up", "down", "shuffled", "pipe"))
+def pool_slots(slots, style, order):
+    """Slots alone in the pool, as many as fit, and one slotted function."""
+    i, l = Image(), Library()
+    names = l.text.names(style, min(slots, 4000 if style in ("last", "front") else 8000))
+    l.pool += [l.slot(n) for n in ordered(names, order) * 2][:slots]
+    t = l.slot(names[0])
+    l.package(l.text.word("p"), [(l.text.word("f"), [(l.text.word("x"), t)], l.wrap(OPTION, t), 1)])
+    return i, l
+
+
+@family(pairs=UpTo(1, 4000), style=("last", "first"))
+def pairs_after_a_fault(pairs, style):
+    """An argument list whose first name is none: what follows it must not be gone through."""
+    i, l = Image(), Library()
+    t = l.slot(l.text.names(style, 100)[-1])
+    l.pool.append(t)
+    p = l.text.word("p")
+    l.packages.append([p, Count(1), p, Count(1), Count(pairs)] + [t, Type(RECORD << 28)] * pairs + [t])
     return i, l
 
 
