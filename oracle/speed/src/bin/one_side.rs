@@ -5,9 +5,11 @@
 //! Begins at case FIRST. A line for each case as soon as it is done: least nanoseconds of processor time, then
 //!
 //!     own:  nanoseconds, number and place of the answer, diagnostics, slots that have a type
-//!     rust: nanoseconds, those of decoding, `answered`, diagnostics, slots that have a type; or 0, those of decoding, `bad-input` or `panic`
+//!     rust: nanoseconds, those of decoding, `answered`, diagnostics, slots that have a type; or 0, those of decoding, `bad-input` or `panic`.
+//!           Before it, as soon as the case is decoded: `decoded` and nanoseconds
 //!
-//! A case that takes longer than MILLISECONDS ends the program by SIGPROF. Inputs may be longer than the bench takes.
+//! A case that takes longer than MILLISECONDS ends the program by SIGPROF; decoding is no part of that, and has ten times as long. Inputs may be longer than
+//! the bench takes.
 
 use std::{error::Error, hint::black_box, io::Write, process::ExitCode};
 
@@ -86,17 +88,22 @@ fn run() -> Result<(), Box<dyn Error>> {
     let mut buffers = Buffers::new();
     for input in case::batch(&batch)?.into_iter().skip(first.parse()?) {
         let parts = Parts::of_any_length(input).ok_or("lengths that do not fit")?;
-        limit(milliseconds);
         let line = match side.as_str() {
-            "own" => own(&parts, runs, &mut buffers),
-            _ => rust(input, &parts, runs),
+            "own" => {
+                limit(milliseconds);
+                own(&parts, runs, &mut buffers)
+            }
+            _ => rust(input, &parts, runs, milliseconds),
         };
         limit(0);
-        let mut out = std::io::stdout().lock();
-        writeln!(out, "{line}")?;
-        out.flush()?;
+        tell(&line);
     }
     Ok(())
+}
+
+fn tell(line: &str) {
+    let mut out = std::io::stdout().lock();
+    let _ = writeln!(out, "{line}").and_then(|()| out.flush());
 }
 
 /// Runs go on while they are few and short: the least of several is wanted, but a slow case is slow at once.
@@ -127,25 +134,25 @@ fn own(parts: &Parts<'_>, runs: usize, buffers: &mut Buffers) -> String {
     format!("{least} {told}")
 }
 
-fn rust(input: &[u8], parts: &Parts<'_>, runs: usize) -> String {
+fn rust(input: &[u8], parts: &Parts<'_>, runs: usize, milliseconds: i64) -> String {
+    limit(10 * milliseconds);
     let start = now();
     timed::decoding(parts);
-    let mut decoding = now() - start;
+    let decoding = now() - start;
     let Some(prepared) = timed::prepare(input) else {
         return format!("0 {decoding} bad-input 0 0");
     };
+    tell(&format!("decoded {decoding}"));
+    limit(milliseconds);
     let (mut least, mut spent, mut done) = (i64::MAX, 0, 0);
     let mut told = String::new();
     while goes_on(done, runs, spent) {
         let start = now();
-        timed::decoding(parts);
-        let between = now();
         let Ok(run) = std::panic::catch_unwind(std::panic::AssertUnwindSafe(|| prepared.run()))
         else {
             return format!("0 {decoding} panic 0 0");
         };
-        let took = now() - between;
-        decoding = decoding.min(between - start);
+        let took = now() - start;
         told = format!("answered {} {}", run.diagnostics, run.typed_slots);
         (least, spent, done) = (least.min(took), spent + took, done + 1);
     }
