@@ -11,27 +11,22 @@ import subprocess
 import sys
 from collections import namedtuple
 
-# How many of a function's frames stand on the stack at once, at most, and why. A function that has no line here must not call itself, by whatever way.
-LEVELS = "types are followed 33 levels deep, and stop at the 34th"
-RINGS = [
-    ("typecheck::node", 64, "node depth"),
-    ("typecheck::pairs", 2047, "values of a Record, each a node"),
+# How many of a function's frames stand on the stack at once, at most, and why. A ring of calls must go through one of these each time round; of several
+# that would do, the first here is taken. A ring that goes through none is an error.
+RINGS = [(name, most, why) for names, most, why in (
+    ("typecheck::node typecheck::nodes typecheck::func typecheck::cases typecheck::case typecheck::sequence typecheck::call typecheck::array "
+     "typecheck::record_node typecheck::listed typecheck::operand typecheck::bin typecheck::one typecheck::cast", 64, "node depth"),
     ("spans::span_of", 1, "a level of a part's span stands in place of a level of the walk, which takes more"),
-    ("ptype::same_type_within", 34, LEVELS),
-    ("ptype::stands_in", 34, LEVELS),
-    ("ptype::depth_within", 34, LEVELS),
-    ("display::show_within", 34, LEVELS),
-    ("slots::bind_within", 34, LEVELS),
-    ("slots::bind_fields", 4096, "fields of records in each other, in 8,192 words"),
-    ("slots::has_bound_slot_within", 34, LEVELS),
-    ("apply::apply_within", 34, LEVELS),
-    ("apply::apply_fields", 4096, "fields of records in each other, in 8,192 words"),
-    ("type_expr::type_from_type_expr", 512, "type expressions in each other"),
-    ("type_expr::fields_from_exprs", 4096, "fields of type expressions in each other, in 8,192 words"),
-    ("type_expr::type_token", 512, "type expressions in each other"),
+    ("ptype::same_type_within ptype::stands_in ptype::depth_within ptype::room_after ptype::same_fields ptype::stands_among ptype::deepest_of "
+     "ptype::room_after_fields ptype::contains ptype::depth_of display::show_within display::show_fields slots::bind_within slots::has_bound_slot_within "
+     "slots::bound_slot_in slots::any_bound_slot apply::apply_within", 34, "types are followed 33 levels deep, and stop at the 34th"),
+    ("type_expr::type_from_type_expr type_expr::type_size type_expr::type_word type_expr::sizes type_expr::type_token", 512, "type expressions in each other"),
     ("display::put_digits", 11, "digits"),
-]
-ACTIVE = {name: (count, why) for name, count, why in RINGS}
+    ("typecheck::pairs", 2047, "values of a Record, each a node"),
+    ("slots::bind_fields apply::apply_fields type_expr::fields_from_exprs", 4096, "fields of records in each other, in 8,192 words"),
+) for name in names.split()]
+ORDER = [name for name, _, _ in RINGS]
+ACTIVE = {name: (most, why) for name, most, why in RINGS}
 
 # Functions of the C library, which are not in the archive. Bytes that they may take.
 OUTSIDE = {"memcpy": 64, "memmove": 64, "memset": 64, "memcmp": 64, "bcmp": 64}
@@ -40,6 +35,7 @@ OUTSIDE = {"memcpy": 64, "memmove": 64, "memset": 64, "memcmp": 64, "bcmp": 64}
 Function = namedtuple("Function", "own calls")
 Instruction = namedtuple("Instruction", "at name words symbol")
 
+PREFIXES = ("notrack", "bnd", "rep", "repz", "lock", "data16", "cs")
 HEADING = re.compile(r"^([0-9a-f]+) <(.+)>:$")
 LINE = re.compile(r"^\s*([0-9a-f]+):\t(\S+)\s*(.*)$")
 RELOCATION = re.compile(r"^\s*[0-9a-f]+: R_X86_64_(\w+)\s+(.+)$")
@@ -58,7 +54,10 @@ def disassembled(archive):
             if moved.group(1) in ("PLT32", "PC32") and body[-1].name in ("call", "jmp"):
                 body[-1] = body[-1]._replace(symbol=re.sub(r"^\.text\.|[-+]0x[0-9a-f]+$", "", moved.group(2)))
         elif one and body is not None:
-            body.append(Instruction(int(one.group(1), 16), one.group(2).replace("callq", "call").replace("jmpq", "jmp"), one.group(3).split("#")[0].strip(), None))
+            name, words = one.group(2), one.group(3).split("#")[0].strip()
+            if name in PREFIXES and words:
+                name, words = (words.split(None, 1) + [""])[:2]
+            body.append(Instruction(int(one.group(1), 16), {"callq": "call", "jmpq": "jmp", "retq": "ret"}.get(name, name), words, None))
     return {name: body for name, body in out.items() if body}
 
 
@@ -109,8 +108,12 @@ def frame(name, body):
     while True:
         while work:
             k, at = work.pop()
-            while k < len(body) and k not in depth:
+            while k < len(body):
                 i = body[k]
+                if depth.get(k, at[0]) != at[0]:
+                    raise ValueError("%s: %%rsp at two depths, %d and %d" % (name, depth[k], at[0]))
+                if k in depth:
+                    break
                 depth[k] = at[0]
                 at = moved(i, *at)
                 most = max(most, at[0])
@@ -125,20 +128,20 @@ def frame(name, body):
                     if i.symbol and i.symbol != name or inside is not None and not i.symbol and inside not in index:
                         callee = i.symbol or target.group(2)
                         calls[callee] = max(calls.get(callee, 0), at[0])
+                    elif target and body[k - 1].words == "%r11,%rsp":
+                        pass  # back into a loop of probes, which was taken at its end
                     elif target:
                         work.append((index[inside], at))
                     else:
                         jumps.append(at)
                     if i.name == "jmp":
                         break
-                elif i.name in ("ret", "retq", "ud2", "hlt"):
+                elif i.name in ("ret", "ud2", "hlt"):
                     break
                 k += 1
         # Through a table of jumps come blocks to which nothing else leads: at the depth of the jump.
-        left = [k for k in range(len(body)) if k not in depth and not body[k].name.startswith(("nop", "int3", "xchg", "cs", "data16"))]
-        if not left:
-            break
-        if not jumps:
+        left = [k for k in range(len(body)) if k not in depth and not body[k].name.startswith(("nop", "int3", "xchg"))]
+        if not left or not jumps:
             break
         work = [(left[0], jumps[-1])]
     return Function(most, calls)
@@ -206,7 +209,7 @@ class Sum:
             return
         cut = [f for f in ring if f in ACTIVE]
         # As few as possible: what is taken apart at one function needs no other.
-        for f in sorted(cut, key=lambda f: -ACTIVE[f][0]):
+        for f in sorted(cut, key=ORDER.index, reverse=True):
             if acyclic_order(graph, set(ring) - set(cut) | {f}) is not None and f not in graph[f].calls:
                 cut.remove(f)
         order = acyclic_order(graph, set(ring) - set(cut))
