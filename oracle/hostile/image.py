@@ -48,6 +48,7 @@ def block(style, count, length):
     """Bytes that hold `count` names of this length, and where each begins.
 
     last      equal but for the last bytes (at least length - 18 are equal)
+    middle    equal but for some bytes in the middle
     front     equal but for the first bytes
     first     different from the first byte on
     same      all equal, at different places
@@ -55,13 +56,14 @@ def block(style, count, length):
     wide      of characters of three bytes
     short     of four letters, whatever the length asked for
     """
-    if style == "last":
+    if style in ("last", "middle"):
         data, places = bytearray(), []
+        first = 2 if style == "last" else length // 2 - 8
         for j in range(-(-count // 17)):
             at = len(data)
             data += b"a" * length + bytes([98 + j // 24, 98 + j % 24])
-            places += [at + s for s in range(2, 19)]
-        return bytes(data + b"a" * 20), places[:count]
+            places += [at + s for s in range(first, first + 17)]
+        return bytes(data + b"a" * (first + 17)), places[:count]
     if style == "front":
         data, places = bytearray(b"a" * 20), []
         for j in range(-(-count // 17)):
@@ -88,7 +90,7 @@ def block(style, count, length):
     return bytes(draw.choices(b"abcdefghijklmnopqrstuvwxyz", k=count + length)), list(range(count))
 
 
-STYLES = ("last", "front", "first", "same", "anagram", "wide", "short")
+STYLES = ("last", "middle", "front", "first", "same", "anagram", "wide", "short")
 
 
 class Text:

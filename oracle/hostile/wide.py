@@ -23,7 +23,7 @@ def wide_types_compared(fields, members, style, apart, in_match):
     i, l = Image(), Library()
     names = l.text.names(style, fields)
     one = l.record([(n, INT) for n in names])
-    other = l.record([(n, INT) for n in (l.text.names(style, fields) if apart == 1 and 2 * len(l.text.data) < 60000 else names)]) if apart else one
+    other = l.record([(n, INT) for n in (again(l.text, names, style) if apart == 1 else names)]) if apart else one
     l.package(l.text.word("p"), [(l.text.word("one"), [], one, 0), (l.text.word("other"), [], other, 0)])
     p, r, s = i.text.word("p"), i.text.word("r"), i.text.word("s")
     i.root(i.imports(p), i.let(r, i.package_call(p, i.text.word("one"))), i.let(s, i.package_call(p, i.text.word("other"))))
@@ -35,13 +35,19 @@ def wide_types_compared(fields, members, style, apart, in_match):
     return i, l
 
 
-@family(candidates=UpTo(2, 600), calls=UpTo(1, 500), fields=UpTo(1, 900), style=STYLES, hit=(0, 1))
-def group_of_wide_types(candidates, calls, fields, style, hit):
+def again(text, names, style):
+    """The same names at another place, if the text has room for them; else the same words."""
+    return text.names(style, len(names)) if 2 * len(text.data) < 60000 else names
+
+
+@family(candidates=UpTo(2, 600), calls=UpTo(1, 500), fields=UpTo(1, 900), style=STYLES, hit=(0, 1), apart=(0, 1))
+def group_of_wide_types(candidates, calls, fields, style, hit, apart):
     """A group of several, whose argument types are records that differ in the last field from what is given; the last candidate fits, or none."""
     i, l = Image(), Library()
     names, g, x = l.text.names(style, fields), l.text.word("g"), l.text.word("x")
     given = l.record([(n, INT) for n in names])
-    wanted = l.record([(n, INT) for n in names[:-1]] + [(names[-1], STR)])
+    others = again(l.text, names, style) if apart else names
+    wanted = l.record([(n, INT) for n in others[:-1]] + [(others[-1], STR)])
     candidates = min(candidates, (8150 - len(l.pool) - 8) // 6)
     kinds = [wanted] * (candidates - hit) + [given] * hit
     l.package(l.text.word("p"), [(l.text.word("make"), [], given, 0)] + [(g, [(x, t)], INT, 0) for t in kinds])
@@ -67,12 +73,12 @@ def group_of_many_arguments(args, candidates, calls, style):
     return i, l
 
 
-@family(candidates=UpTo(2, 600), calls=UpTo(1, 500), fields=UpTo(1, 900), style=STYLES)
-def group_returns(candidates, calls, fields, style):
+@family(candidates=UpTo(2, 600), calls=UpTo(1, 500), fields=UpTo(1, 900), style=STYLES, apart=(0, 1))
+def group_returns(candidates, calls, fields, style, apart):
     """Calls of a group with a poisoned argument: the return types, wide and equal but not the same, are compared."""
     i, l = Image(), Library()
     names, g, x = l.text.names(style, fields), l.text.word("g"), l.text.word("x")
-    one, other = l.record([(n, INT) for n in names]), l.record([(n, INT) for n in names])
+    one, other = l.record([(n, INT) for n in names]), l.record([(n, INT) for n in (again(l.text, names, style) if apart else names)])
     candidates = min(candidates, (8150 - len(l.pool)) // 6)
     l.package(l.text.word("p"), [(g, [(x, INT)], other if n else one, 0) for n in range(candidates)])
     p, own, bad = i.text.word("p"), i.text.word("g"), i.text.word("bad")
@@ -115,7 +121,7 @@ def values_of_a_wide_type(fields, uses, use, style):
     i, l = Image(), Library()
     names, x = l.text.names(style, fields), l.text.word("x")
     wide = l.record([(n, INT) for n in names])
-    other = l.record([(n, INT) for n in names])
+    other = l.record([(n, INT) for n in again(l.text, names, style)])
     l.package(l.text.word("p"), [(l.text.word("make"), [], wide, 0), (l.text.word("take"), [(x, other)], INT, 0)])
     p, r = i.text.word("p"), i.text.word("r")
     i.root(i.imports(p), i.let(r, i.package_call(p, i.text.word("make"))))
@@ -211,7 +217,7 @@ def return_slots(functions, slots, style, names, order):
 def pool_slots(slots, style, order):
     """Slots alone in the pool, as many as fit, and one slotted function."""
     i, l = Image(), Library()
-    names = l.text.names(style, min(slots, 4000 if style in ("last", "front") else 8000))
+    names = l.text.names(style, min(slots, 4000 if style in ("last", "middle", "front") else 8000))
     l.pool += [l.slot(n) for n in ordered(names, order) * 2][:slots]
     t = l.slot(names[0])
     l.package(l.text.word("p"), [(l.text.word("f"), [(l.text.word("x"), t)], l.wrap(OPTION, t), 1)])
