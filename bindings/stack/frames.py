@@ -231,10 +231,12 @@ class Sum:
                     leaves[f] = (at + leaves[g][0], g)
         if "spans::span_of" in cut and turn["spans::span_of"] > 1000:
             raise ValueError("a level of spans::span_of takes %d bytes: is that still less than a level of the walk?" % turn["spans::span_of"])
-        turns = sum((ACTIVE[c][0] - (1 if len(cut) == 1 else 0)) * turn[c] for c in cut)
+        # The last frame of a single one goes round no more.
+        times = {c: ACTIVE[c][0] - (1 if len(cut) == 1 else 0) for c in cut}
+        turns = sum(times[c] * turn[c] for c in cut)
         last = max(cut, key=lambda c: leaves[c][0])
         whole = turns + leaves[last][0]
-        told = ["%d x %s: %s (%s)" % (ACTIVE[c][0], format(turn[c], ","), ", ".join(path[c]), ACTIVE[c][1]) for c in cut]
+        told = ["%d x %s: %s (%s)" % (times[c], format(turn[c], ","), ", ".join(path[c]), ACTIVE[c][1]) for c in cut]
         for f in ring:
             at = 0 if f in cut else max(turn[f], 0)
             self.total[f] = max(at + whole, leaves[f][0])

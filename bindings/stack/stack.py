@@ -1,7 +1,7 @@
 #!/usr/bin/env python3
 """How much stack the check needs: measured on the deepest and widest shapes, and summed from the compiled frames. Fails past the bound.
 
-  stack.py [--lib FOLDER] [--worst N] [--all]
+  stack.py [--lib FOLDER] [--all]
 
 1. Each shape of ../../oracle/hostile/shapes.py is run on a painted stack (stack.c): the bytes below the caller's frame that were written.
 2. All shapes are run on the program's own stack under `ulimit -s` of the bound and what the driver needs by itself (an empty image's run), and for the
@@ -28,6 +28,7 @@ BOUND = 196608
 # The measured most is at least this part of the sum.
 NEAR = 0.85
 PAGE = 4096
+BENCH = os.path.join(HERE, "..", "..", "target", "bin", "bench")
 
 
 def compile_driver(lib, made):
@@ -50,24 +51,24 @@ def painted(driver, made, cases):
     return [tuple(map(int, l.split())) for l in out.splitlines()]
 
 
-def ends(driver, path, kilobytes):
-    """Whether the driver comes to its end under `ulimit -s` of so many."""
+def ends(command, kilobytes, stdin=None):
+    """Whether a command comes to its end under `ulimit -s` of so many."""
     def limited():
         resource.setrlimit(resource.RLIMIT_STACK, (1024 * kilobytes, resource.RLIM_INFINITY))
         resource.setrlimit(resource.RLIMIT_CORE, (0, 0))
     try:
-        run = subprocess.run([driver, "plain", path], stdout=subprocess.DEVNULL, stderr=subprocess.DEVNULL, env={}, preexec_fn=limited)
+        run = subprocess.run(command, input=stdin, stdout=subprocess.DEVNULL, stderr=subprocess.DEVNULL, env={}, preexec_fn=limited)
     except OSError:
         return False
     return run.returncode == 0
 
 
-def least(driver, path):
+def least(command, stdin=None):
     """The least `ulimit -s`, in KB, to a page."""
     low, high = 0, 8192
     while high - low > PAGE // 1024:
         middle = (low + high) // 2
-        if ends(driver, path, middle):
+        if ends(command, middle, stdin):
             high = middle
         else:
             low = middle
@@ -94,14 +95,15 @@ def main():
         for (name, c), (size, number, _) in measured:
             if size > groups.get(group_of(name), (0,))[0]:
                 groups[group_of(name)] = (size, name, c, number)
-        own = least(driver, batch(made, [named[0][1]])) - (measured[0][1][0] + 1023) // 1024
+        empty, floor = named[0][1], (measured[0][1][0] + 1023) // 1024
+        own = least([driver, "plain", batch(made, [empty])]) - floor
         print("stack of the check in bytes, %d shapes; least `ulimit -s` in KB without the driver's own %d" % (len(named), own))
         for size, name, c, number in sorted(groups.values(), reverse=True):
-            under = least(driver, batch(made, [c])) - own
+            under = least([driver, "plain", batch(made, [c])]) - own
             print("%9s  %4d KB  %s%s" % (format(size, ","), under, name, "" if number == 0 else " (refused %d)" % number))
         most, worst = max((size, name) for (name, _), (size, _, _) in measured)
         answered = max(size for _, (size, number, _) in measured if number == 0)
-        within = ends(driver, batch(made, [c for _, c in named]), own + BOUND // 1024)
+        within = ends([driver, "plain", batch(made, [c for _, c in named])], own + BOUND // 1024)
     try:
         summed, chain = frames.worst(os.path.join(o.lib, "libshelfstork.a"))
     except ValueError as why:
@@ -110,6 +112,8 @@ def main():
     print("summed from the frames: %s" % format(summed, ","))
     for line in chain:
         print("    " + line)
+    if os.path.exists(BENCH):
+        print("the bench takes %d KB besides, for its own buffers" % (least([BENCH], empty) - floor))
     print("measured: %s at most, %s of inputs that are answered" % (format(most, ","), format(answered, ",")))
     faults = []
     if most > BOUND:
