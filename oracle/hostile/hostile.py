@@ -27,13 +27,15 @@ from families import FAMILIES, made, to_line  # noqa: E402
 
 # Allowed: 50 ms on one core, or four times the Rust where that is longer.
 MOST_MS, TIMES = 50, 4
+# Times the limit that the Rust has where the first run leaves a case open.
+LONGER = 5
 MEMORY = 4 << 30
 AT_ONCE = 100
 
 # line, waits: what the case waits for, or None; case: bytes
 Hostile = namedtuple("Hostile", "line waits case")
 # ms: least processor time, None where the limit was met; told: what the side answers
-Timed = namedtuple("Timed", "ms decoding told")
+Timed = namedtuple("Timed", "ms decoding told limit")
 
 
 def build():
@@ -59,11 +61,11 @@ def side(driver, which, limit, runs, cases):
                     decoded = int(told[0]) / 1e6
                     continue
                 decoding = int(told.pop(0)) / 1e6 if which == "rust" else 0
-                out.append(Timed(int(took) / 1e6, decoding, tuple(told)))
+                out.append(Timed(int(took) / 1e6, decoding, tuple(told), limit))
                 decoded = None
             if len(out) < len(cases):
                 why = "stopped by %d" % -run.returncode if run.returncode != -signal.SIGPROF else "limit" if which == "own" or decoded is not None else "decoding"
-                out.append(Timed(None, decoded or 0, (why,)))
+                out.append(Timed(None, decoded or 0, (why,), limit))
     return out
 
 
@@ -78,28 +80,43 @@ def differ(own, rust):
     return own.told[0] != "0" or own.told[2:] != rust.told[1:]
 
 
-def allowed(rust, limit):
+def at_least(t):
+    """Milliseconds."""
+    return t.limit if t.ms is None else t.ms
+
+
+def allowed(rust):
     """Milliseconds. A case that the oracle does not decode in time says nothing of the Rust."""
-    if rust.told == ("decoding",):
-        return MOST_MS
-    return max(MOST_MS, TIMES * (limit if rust.ms is None else rust.ms))
+    return MOST_MS if rust.told == ("decoding",) else max(MOST_MS, TIMES * at_least(rust))
 
 
-def over(own, rust, limit):
-    return (limit if own.ms is None else own.ms) > min(allowed(rust, limit), limit - 1)
+def over(own, rust):
+    """Whether it is a finding, also where neither side ends."""
+    return at_least(own) > allowed(rust) or own.ms is None and rust.ms is None
 
 
-def shown(t, limit):
+def settled(driver, h, own, rust):
+    """Cases of which the limit leaves open whether they are findings are run once more, with longer limits."""
+    if own.ms is not None or h.waits or at_least(own) > allowed(rust):
+        return h, own, rust
+    if rust.ms is None:
+        rust, = side(driver, "rust", LONGER * rust.limit, 1, [h.case])
+    if rust.ms is not None:
+        own, = side(driver, "own", int(allowed(rust)) + 1, 1, [h.case])
+    return h, own, rust
+
+
+def shown(t):
     if t.ms is None:
-        return "over %d" % limit if t.told == ("limit",) else " ".join(t.told)
+        return "over %d" % t.limit if t.told == ("limit",) else " ".join(t.told)
     if t.told[0] in ("bad-input", "panic"):
         return t.told[0]
     return "%.2f" % t.ms
 
 
-def row(h, own, rust, limit):
+def row(h, own, rust):
     answer = "" if own.ms is None else "answered, %s diagnostics" % own.told[2] if own.told[0] == "0" else "refused %s %s" % own.told[:2]
-    return "| `%s` | %s | %s | %.2f | %s | %s |" % (h.line, shown(own, limit), shown(rust, limit), rust.decoding, answer, h.waits or "")
+    return "| `%s` | %s | %s | %.2f | %s | %s |" % (h.line, shown(own), shown(rust), rust.decoding, answer, h.waits or "")
 
 
 def stored():
@@ -132,7 +149,8 @@ def timed(driver, o, cases):
     for at in range(0, len(cases), AT_ONCE):
         part = cases[at:at + AT_ONCE]
         bytes_of = [h.case for h in part]
-        out += zip(part, side(driver, "own", o.limit, o.runs, bytes_of), side(driver, "rust", o.limit, o.runs, bytes_of))
+        both = zip(part, side(driver, "own", o.limit, o.runs, bytes_of), side(driver, "rust", o.limit, o.runs, bytes_of))
+        out += [settled(driver, *r) for r in both]
         if o.progress:
             print("%d of %d" % (at + len(part), len(cases)), file=sys.stderr, flush=True)
     return out
@@ -168,22 +186,22 @@ def main():
     else:
         cases = ([] if o.no_stored else stored()) + drawn(o.seed, o.count, o.damaged, o.family)
     results = timed(build(), o, cases)
-    results.sort(key=lambda r: -(o.limit if r[1].ms is None else r[1].ms))
+    results.sort(key=lambda r: -at_least(r[1]))
     print("%d cases; processor time of one core in ms, the least of up to %d runs, limit %d ms.\n" % (len(results), o.runs, o.limit))
     head = "| case | check | Rust | decoding | answer | waits for |\n|---|---|---|---|---|---|"
     print(head)
     for r in results[:o.worst]:
-        print(row(*r, o.limit))
+        print(row(*r))
     unlike = [r for r in results if differ(r[1], r[2])]
     if unlike:
         print("\nThe two answers differ:\n\n%s" % head)
         for r in unlike:
-            print(row(*r, o.limit), r[1].told, r[2].told)
-    found = [r for r in results if over(r[1], r[2], o.limit)]
+            print(row(*r), r[1].told, r[2].told)
+    found = [r for r in results if over(r[1], r[2])]
     new = [r for r in found if not r[0].waits]
     print("\n%d over %d ms and over %d times the Rust, of which %d wait for nothing:\n\n%s" % (len(found), MOST_MS, TIMES, len(new), head))
     for r in found:
-        print(row(*r, o.limit))
+        print(row(*r))
     if o.save:
         save(o.save, found + unlike)
     return 1 if new or unlike else 0
