@@ -13,13 +13,14 @@ from collections import namedtuple
 
 # How many of a function's frames stand on the stack at once, at most, and why. A ring of calls must go through one of these each time round; of several
 # that would do, the first here is taken. A ring that goes through none is an error.
+LEVELS = "types are followed 33 levels deep, and stop at the 34th"
 RINGS = [(name, most, why) for names, most, why in (
     ("typecheck::node typecheck::nodes typecheck::func typecheck::cases typecheck::case typecheck::sequence typecheck::call typecheck::array "
      "typecheck::record_node typecheck::listed typecheck::operand typecheck::bin typecheck::one typecheck::cast", 64, "node depth"),
     ("spans::span_of", 1, "a level of a part's span stands in place of a level of the walk, which takes more"),
     ("ptype::same_type_within ptype::stands_in ptype::depth_within ptype::room_after ptype::same_fields ptype::stands_among ptype::deepest_of "
-     "ptype::room_after_fields ptype::contains ptype::depth_of display::show_within display::show_fields slots::bind_within slots::has_bound_slot_within "
-     "slots::bound_slot_in slots::any_bound_slot apply::apply_within", 34, "types are followed 33 levels deep, and stop at the 34th"),
+     "ptype::room_after_fields ptype::contains ptype::depth_of display::show_within display::show_fields slots::bind_within", 34, LEVELS),
+    ("apply::apply_within apply::applied_size slots::has_bound_slot_within slots::bound_slot_in slots::any_bound_slot", 34, LEVELS),
     ("type_expr::type_from_type_expr type_expr::type_size type_expr::type_word type_expr::sizes type_expr::type_token", 512, "type expressions in each other"),
     ("display::put_digits", 11, "digits"),
     ("typecheck::pairs", 2047, "values of a Record, each a node"),
@@ -27,6 +28,8 @@ RINGS = [(name, most, why) for names, most, why in (
 ) for name in names.split()]
 ORDER = [name for name, _, _ in RINGS]
 ACTIVE = {name: (most, why) for name, most, why in RINGS}
+# These hand the levels that are left on to each other: all their turns together are no more than one's.
+SHARED, TURNS = {"apply::apply_within", "apply::applied_size", "slots::has_bound_slot_within", "slots::bound_slot_in", "slots::any_bound_slot"}, 33
 
 # Functions of the C library, which are not in the archive. Bytes that they may take.
 OUTSIDE = {"memcpy": 64, "memmove": 64, "memset": 64, "memcmp": 64, "bcmp": 64}
@@ -185,84 +188,82 @@ def acyclic_order(graph, members):
     return order
 
 
+# A cost is a table: the largest turn of the SHARED functions on the way (0 if none) to the bytes without their turns, and lines that say where they
+# come from. The whole is the most of bytes + TURNS x turn.
+
+def joined(*costs):
+    out = {}
+    for cost in costs:
+        for turn, (size, lines) in cost.items():
+            if turn not in out or size > out[turn][0]:
+                out[turn] = (size, lines)
+    return out
+
+
+def after(cost, size, *lines):
+    """A cost that begins so many bytes deeper."""
+    return {turn: (size + more, lines + rest) for turn, (more, rest) in cost.items()}
+
+
 class Sum:
     def __init__(self, graph):
-        self.graph, self.total, self.way = graph, {}, {}
+        self.graph, self.cost, self.turns = graph, {}, {}
         for ring in rings_of(graph):
-            self.ring(ring)
+            if len(ring) == 1 and ring[0] not in graph[ring[0]].calls:
+                self.cost[ring[0]] = self.leaving(ring[0], {}, set())
+            else:
+                self.ring(ring)
 
-    def of(self, f):
-        return self.total[f] if f in self.total else OUTSIDE[f]
-
-    def out(self, f, without=()):
-        """The most that f takes through calls outside of `without`, and the callee."""
-        best = (self.graph[f].own, None)
+    def leaving(self, f, inside, ring):
+        """What f takes with no further turn: by itself, through calls out of the ring, or through those in `inside`."""
+        cost = {0: (self.graph[f].own, ("%s: %s" % (f, format(self.graph[f].own, ",")),))}
         for g, at in self.graph[f].calls.items():
-            if g not in without:
-                best = max(best, (at + self.of(g), g), key=lambda b: b[0])
-        return best
+            rest = inside.get(g) if g in ring else self.cost[g] if g in self.cost else {0: (OUTSIDE[g], ())}
+            if rest:
+                cost = joined(cost, after(rest, at, "%s: %s" % (f, format(at, ","))))
+        return cost
 
-    def ring(self, ring):
-        graph = self.graph
-        if len(ring) == 1 and ring[0] not in graph[ring[0]].calls:
-            self.total[ring[0]], self.way[ring[0]] = self.out(ring[0])
-            return
+    def cut(self, ring):
+        """The functions at which a ring is taken apart, as few as will do, and the others, callees first."""
         cut = [f for f in ring if f in ACTIVE]
-        # As few as possible: what is taken apart at one function needs no other.
         for f in sorted(cut, key=ORDER.index, reverse=True):
-            if acyclic_order(graph, set(ring) - set(cut) | {f}) is not None and f not in graph[f].calls:
+            if acyclic_order(self.graph, set(ring) - set(cut) | {f}) is not None and f not in self.graph[f].calls:
                 cut.remove(f)
-        order = acyclic_order(graph, set(ring) - set(cut))
+        order = acyclic_order(self.graph, set(ring) - set(cut))
         if not cut or order is None:
             raise ValueError("these call each other, and nothing is known of how often: %s" % ", ".join(sorted(ring)))
-        inside = set(ring)
-        # turn[f]: the most from f's start to the start of a function in `cut`; leaves[f]: the most with no further one
-        turn, leaves, path = {}, {}, {}
-        for f in order + cut:
-            turn[f], path[f] = -10 ** 9, ()
-            for g, at in graph[f].calls.items():
-                if g in cut and at > turn[f]:
-                    turn[f], path[f] = at, (f,)
-                elif g in turn and g not in cut and at + turn[g] > turn[f]:
-                    turn[f], path[f] = at + turn[g], (f,) + path[g]
-            leaves[f] = self.out(f, inside)
-            for g, at in graph[f].calls.items():
-                if g in leaves and g not in cut and at + leaves[g][0] > leaves[f][0]:
-                    leaves[f] = (at + leaves[g][0], g)
-        if "spans::span_of" in cut and turn["spans::span_of"] > 1000:
-            raise ValueError("a level of spans::span_of takes %d bytes: is that still less than a level of the walk?" % turn["spans::span_of"])
-        # The last frame of a single one goes round no more.
-        times = {c: ACTIVE[c][0] - (1 if len(cut) == 1 else 0) for c in cut}
-        turns = sum(times[c] * turn[c] for c in cut)
-        last = max(cut, key=lambda c: leaves[c][0])
-        whole = turns + leaves[last][0]
-        told = ["%d x %s: %s (%s)" % (times[c], format(turn[c], ","), ", ".join(path[c]), ACTIVE[c][1]) for c in cut]
-        for f in ring:
-            at = 0 if f in cut else max(turn[f], 0)
-            self.total[f] = max(at + whole, leaves[f][0])
-            self.way[f] = (told, last)
-        self.leaves = getattr(self, "leaves", {})
-        self.leaves.update(leaves)
+        return cut, order
 
-    def chain(self, f):
-        """Lines that say where the sum comes from."""
-        lines = []
-        while f in self.graph:
-            way = self.way[f]
-            if isinstance(way, tuple):
-                told, f = way
-                lines += told
-                while True:
-                    size, g = self.leaves[f]
-                    lines.append("%s, last: %s" % (f, format(self.graph[f].calls.get(g, size), ",")))
-                    if g is None or g not in self.leaves:
-                        break
-                    f = g
-                f = g
-            else:
-                lines.append("%s: %s" % (f, format(self.graph[f].calls[way] if way else self.graph[f].own, ",")))
-                f = way
-        return lines
+    def ring(self, ring):
+        cut, order = self.cut(ring)
+        # turn: the most from a function's start to the start of one in `cut`, and the way there
+        turn, leaves = {}, {}
+        for f in order + cut:
+            ways = [(at, (f,)) for g, at in self.graph[f].calls.items() if g in cut]
+            ways += [(at + turn[g][0], (f,) + turn[g][1]) for g, at in self.graph[f].calls.items() if g in turn and g not in cut and turn[g]]
+            turn[f] = max(ways, default=None)
+            leaves[f] = self.leaving(f, {g: cost for g, cost in leaves.items() if g not in cut}, set(ring))
+        told = {c: "%%d x %s: %s (%s)" % (format(turn[c][0], ","), ", ".join(turn[c][1]), ACTIVE[c][1]) for c in cut}
+        if "spans::span_of" in cut and turn["spans::span_of"][0] > 1000:
+            raise ValueError("a level of spans::span_of takes %d bytes: is that still less than a level of the walk?" % turn["spans::span_of"][0])
+        last = joined(*[leaves[c] for c in cut])
+        if set(cut) <= SHARED:
+            most = max(turn[c][0] for c in cut)
+            entry = joined(*[{max(most, w): cost} for w, cost in last.items()])
+            self.turns[most] = [told[c] for c in cut if turn[c][0] == most][0]
+        else:
+            # The last frame of a single one goes round no more.
+            times = {c: ACTIVE[c][0] - (1 if len(cut) == 1 else 0) for c in cut}
+            entry = after(last, sum(times[c] * turn[c][0] for c in cut), *[told[c] % times[c] for c in cut])
+        for f in cut:
+            self.cost[f] = entry
+        for f in order:
+            self.cost[f] = joined(leaves[f], after(entry, turn[f][0], "%s: %s" % (", ".join(turn[f][1]), format(turn[f][0], ","))) if turn[f] else {})
+
+    def most(self, f):
+        """(bytes, lines)"""
+        size, turn, lines = max((size + TURNS * turn, turn, lines) for turn, (size, lines) in self.cost[f].items())
+        return size, list(lines) + ([self.turns[turn] % TURNS] if turn else [])
 
 
 def worst(archive, entry="shelfstork_check"):
@@ -271,8 +272,8 @@ def worst(archive, entry="shelfstork_check"):
     unknown = sorted({g for f in graph.values() for g in f.calls if g not in graph and g not in OUTSIDE})
     if unknown:
         raise ValueError("not in the archive: %s" % ", ".join(unknown))
-    s = Sum(graph)
-    return 8 + s.total[entry], s.chain(entry)
+    size, lines = Sum(graph).most(entry)
+    return 8 + size, lines
 
 
 def main():

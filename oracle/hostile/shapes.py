@@ -24,13 +24,19 @@ class Shape:
         for n in range(TALL - 1):
             tall, open_tall, other = (l.wrap(6 + n % 2, inner) for inner in (tall, open_tall, other))
             fields, open_fields = l.record([(x, fields)]), l.record([(x, open_fields)])
+        wrapped, doubled = t, INT
+        for n in range(TALL - 1):
+            wrapped, doubled = l.wrap(7, wrapped), l.record([(x, doubled), (w("y"), doubled)])
+        inner = l.record([(x, INT)])
+        wide = l.record([(x, inner)] * 60)
         self.functions = [
+            (w("wide"), [], wide, 0), (w("doubled"), [], doubled, 0), (w("wrap"), [(x, t)], wrapped, 1), (w("wide_too"), [(x, wide)], INT, 0),
             (w("tall"), [], tall, 0), (w("fields"), [], fields, 0), (w("int"), [(x, INT)], INT, 0), (w("take"), [(x, tall)], INT, 0),
             (w("slotted"), [(x, open_tall)], open_tall, 1), (w("records"), [(x, open_fields)], open_fields, 1), (w("two"), [(x, t), (w("y"), t)], t, 1),
             (w("g"), [(x, other)], INT, 0), (w("g"), [(x, fields)], INT, 0), (w("g"), [(x, tall)], INT, 0)]
         i.root(i.imports(i.text.word("p")))
         i.root(i.fn(i.text.word("f"), [(i.text.word("x"), i.plain())], i.plain(), [i.atom()]))
-        for name in ("tall", "fields"):
+        for name in ("tall", "fields", "wide", "doubled"):
             i.root(i.let(i.text.word(name), self.of(name)))
 
     def of(self, name, *args):
@@ -115,6 +121,12 @@ BOTTOMS = {
     "slotted, records": call("records", "fields"),
     "slotted, wrong": call("slotted", "fields"),
     "slot conflict": call("two", "fields", "tall"),
+    "wrapped, wide": call("wrap", "wide"),
+    "wrapped, wide, made there": lambda s: (s.of("wrap", s.of("wide")), 4),
+    "wrapped, too deep": call("wrap", "doubled"),
+    "wrapped, too deep, made there": lambda s: (s.of("wrap", s.of("doubled")), 4),
+    "wide argument": call("wide_too", "wide"),
+    "array of a tall type": lambda s: (s.i.array(s.value("doubled")), 2),
     "slotted, made there": lambda s: (s.of("records", s.of("fields")), 4),
     "tall field": lambda s: (s.i.field(s.value("fields"), s.i.text.word("none")), 2),
     "tall span": tall_span,
@@ -177,14 +189,14 @@ def wide_slotted(count, through_record):
 
 def wide_plain_slotted(s):
     """A slotted function of a wide type that has no slot: fields are gone through all the same."""
-    wide = s.l.record([(n, INT) for n in s.l.text.names("first", 3900, 12)])
+    wide = s.l.record([(n, INT) for n in s.l.text.names("first", 3600, 12)])
     s.functions += [(s.l.text.word("make"), [], wide, 0), (s.l.text.word("wide"), [(s.l.text.word("x"), wide)], INT, 1)]
     s.i.root(s.of("wide", s.of("make")))
 
 
 def wide_return(s):
     """A wide return type with one slot, which does not fit into the types buffer a second time: refusal 7."""
-    x, t = s.l.text.names("first", 3800, 12), s.l.slot(s.l.text.word("T"))
+    x, t = s.l.text.names("first", 3500, 12), s.l.slot(s.l.text.word("T"))
     s.functions.append((s.l.text.word("wide"), [(s.l.text.word("x"), t)], s.l.record([(n, INT) for n in x[:-1]] + [(x[-1], t)]), 1))
     s.i.root(s.of("wide", s.i.atom()))
 
@@ -210,9 +222,9 @@ def chain(length, kind):
 
 
 def wide_field(s):
-    x = s.l.text.names("first", 3900, 12)
+    x = s.l.text.names("first", 3600, 12)
     s.functions.append((s.l.text.word("make"), [], s.l.record([(n, INT) for n in x]), 0))
-    s.i.root(s.i.field(s.of("make"), s.i.text.names("first", 3900, 12)[-1]), s.i.array(s.of("make"), s.of("make")), s.i.cast(s.of("make"), s.i.plain()))
+    s.i.root(s.i.field(s.of("make"), s.i.text.names("first", 3600, 12)[-1]), s.i.array(s.of("make"), s.of("make")), s.i.cast(s.of("make"), s.i.plain()))
 
 
 def wide_extern(s):
@@ -233,7 +245,7 @@ WIDE = {
     "call": wide_call,
     "package call": wide_package_call,
     "slotted call": wide_slotted(1500, False),
-    "slotted call, record": wide_slotted(1250, True),
+    "slotted call, record": wide_slotted(1150, True),
     "slotted call, no slot": wide_plain_slotted,
     "slotted call, return type": wide_return,
     "group": wide_group,
