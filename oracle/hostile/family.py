@@ -60,7 +60,7 @@ def made(line):
     if line.startswith("damaged "):
         _, seed, rest = line.split(" ", 2)
         chosen, values = of_line(rest)
-        return join_case(damage(parts(*chosen.make(**values)), random.Random(line))), None
+        return join_case(damage(parts(*chosen.make(**values)), random.Random(line))), chosen.waits(**values)
     chosen, values = of_line(line)
     return join_case(parts(*chosen.make(**values))), chosen.waits(**values)
 
