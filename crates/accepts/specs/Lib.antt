@@ -9,10 +9,12 @@ pub mod Once
 pub mod SoundTrees
 pub mod LongerImage
 pub mod OtherSlots
+pub mod Fresh
 pub mod Extended
 pub mod FunctionRoom
 pub mod AcceptedInputs
 pub mod LowSlots
+pub mod FreshRoots
 pub mod Table
 pub mod NamesWell
 pub mod Demands

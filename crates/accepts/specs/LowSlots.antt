@@ -50,9 +50,10 @@ module _ {text image : List ℕ} (a : Accepted text image) where
         omega arith;
   }
 
+  pub owned-low : (slot : ℕ) → 1 ≤ owned slot (visitedIn image) → slot < slotCount image
+  owned-low = all-owned (λ slot. slot < slotCount image) (visitedIn image) (visited-every a (Owns (λ slot. slot < slotCount image)) low)
+
   -- THE LAW
   pub low-slots : (Q : ℕ → Type 0) → ((slot : ℕ) → slot < slotCount image → Q slot) → SlotsOfAll Q (rootsOf image)
   unfolding visitedIn
-  low-slots Q f =
-      let all = all-owned (λ slot. slot < slotCount image) (visitedIn image) (visited-every a (Owns (λ slot. slot < slotCount image)) low) in
-      among-hold Q (rootsOf image) (record { holds = λ slot l. f slot (all slot l) })
+  low-slots Q f = among-hold Q (rootsOf image) (record { holds = λ slot l. f slot (owned-low slot l) })

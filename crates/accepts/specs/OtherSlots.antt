@@ -20,6 +20,10 @@ use Rattle.accepts.specs.Once.{own-slot}
 abbrev pub owned : (slot : ℕ) → List Node → ℕ
 owned slot xs = total (λ x. count slot (slotsOf x)) xs
 
+pub own-owned : (x : Node) (xs : List Node) → 1 ≤ owned (slotOf x) (x ∷ xs)
+unfolding total
+own-owned x xs = omega (arith, own-slot (slotOf x) x, one-same (slotOf x))
+
 pub visited-joined : (xs ys : Nodes) → visitedAmong (joined xs ys) ≡ visitedAmong xs ++ visitedAmong ys
 unfolding joined visitedAmong
 visited-joined done ys = refl
@@ -32,10 +36,10 @@ module _ (Q : ℕ → Type 0) where
     pub holds : (slot : ℕ) → 1 ≤ owned slot xs → Q slot
 
   -- parts of a list
-  left : (xs ys : List Node) → Holds (xs ++ ys) → Holds xs
+  pub left : (xs ys : List Node) → Holds (xs ++ ys) → Holds xs
   left xs ys h = record { holds = λ slot l. h .holds slot (omega (arith, total-append (λ x. count slot (slotsOf x)) xs ys)) }
 
-  right : (xs ys : List Node) → Holds (xs ++ ys) → Holds ys
+  pub right : (xs ys : List Node) → Holds (xs ++ ys) → Holds ys
   right xs ys h = record { holds = λ slot l. h .holds slot (omega (arith, total-append (λ x. count slot (slotsOf x)) xs ys)) }
 
   below : (x : Node) (xs : List Node) → Holds (x ∷ xs) → Holds xs
@@ -46,12 +50,12 @@ module _ (Q : ℕ → Type 0) where
   unfolding total
   own x xs h = h .holds (slotOf x) (omega (arith, own-slot (slotOf x) x, one-same (slotOf x)))
 
-  args-hold : (slot : ℕ) (args : List Arg) → ((s : ℕ) → 1 ≤ count s (countFrom slot (length args)) → Q s) → ArgSlots Q slot args
+  pub args-hold : (slot : ℕ) (args : List Arg) → ((s : ℕ) → 1 ≤ count s (countFrom slot (length args)) → Q s) → ArgSlots Q slot args
   unfolding ArgSlots countFrom total
   args-hold slot [] h = tt
   args-hold slot (a ∷ rest) h = (h slot (omega (arith, one-same slot)), args-hold (slot + 1) rest (λ s l. h s (omega arith)))
 
-  fn-args : (n slot name : ℕ) (ret : _) (args : List Arg) (body : Nodes) (xs : List Node) → Holds (Fn n slot name ret args body ∷ xs) → ArgSlots Q (slot + 1) args
+  pub fn-args : (n slot name : ℕ) (ret : _) (args : List Arg) (body : Nodes) (xs : List Node) → Holds (Fn n slot name ret args body ∷ xs) → ArgSlots Q (slot + 1) args
   unfolding countFrom total slotOf argumentsOf
   fn-args n slot name ret args body xs h =
       args-hold (slot + 1) args (λ s l. h .holds s (rw (add-one (length args)) (omega arith)))
@@ -59,7 +63,7 @@ module _ (Q : ℕ → Type 0) where
   mutual
     unfolding SlotsOf visitedBelow slotOf
 
-    slots-hold : (x : Node) → Holds (x ∷ visitedBelow x) → SlotsOf Q x
+    pub slots-hold : (x : Node) → Holds (x ∷ visitedBelow x) → SlotsOf Q x
     slots-hold (Atom n slot token k) h = own _ _ h
     slots-hold (Ident n slot name) h = own _ _ h
     slots-hold (Bin n slot token op l r) h =
@@ -85,13 +89,13 @@ module _ (Q : ℕ → Type 0) where
     among-hold done h = tt
     among-hold (then x xs) h = (slots-hold x (left (x ∷ visitedBelow x) (visitedAmong xs) h), among-hold xs (right (x ∷ visitedBelow x) (visitedAmong xs) h))
 
-    cases-hold : (cs : Cases) → Holds (visitedInCases cs) → SlotsOfCases Q cs
+    pub cases-hold : (cs : Cases) → Holds (visitedInCases cs) → SlotsOfCases Q cs
     cases-hold noCase h = tt
     cases-hold (case token x body cs) h =
         let ys : List Node = (x ∷ visitedBelow x) ++ visitedAmong body in
         let b = left ys (visitedInCases cs) h in
         (slots-hold x (left (x ∷ visitedBelow x) (visitedAmong body) b), among-hold body (right (x ∷ visitedBelow x) (visitedAmong body) b), cases-hold cs (right ys (visitedInCases cs) h))
 
-    values-hold : (vs : Values) → Holds (visitedInValues vs) → SlotsOfValues Q vs
+    pub values-hold : (vs : Values) → Holds (visitedInValues vs) → SlotsOfValues Q vs
     values-hold noValue h = tt
     values-hold (value name x vs) h = (slots-hold x (left (x ∷ visitedBelow x) (visitedInValues vs) h), values-hold vs (right (x ∷ visitedBelow x) (visitedInValues vs) h))

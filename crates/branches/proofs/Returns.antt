@@ -1,22 +1,24 @@
 -- One law for each return of the crate's functions but `compare_branches`. Assumes nothing.
-use Prim.Native.Nat.{ℕ, zero, suc, _+_, _*_, _-_, _<_}
-use mathlib.Core.Path.{_≡_, refl, sym, ap, _∙_}
-use mathlib.Core.Bool.{Bool, true, false}
+use Prim.Native.Nat.{ℕ, suc, _+_, _*_, _-_, _<_}
+use mathlib.Core.Path.{_≡_, refl, ap, _∙_}
+use mathlib.Core.Bool.{true, false}
 use mathlib.Core.List.{List}
 use native.Mathlib.Omega.{arith}
 use lib.ListN.{getD}
+use lib.Dec.{eqb}
+use borrow.Author.Tests.{ne-eqb}
+use Rattle.tok.specs.Word.{kindOf}
 use Rattle.tok.specs.Text.{Texts}
 use Rattle.tok.specs.Step.{next}
 use Rattle.library.specs.Package.{Package}
-use Rattle.ast.specs.Image.{wordAt, slotCount}
-use Rattle.ast.specs.Node.{Node, nodesFrom, treeOf, slotOf}
+use Rattle.ast.specs.Image.{wordAt}
+use Rattle.ast.specs.Node.{treeOf, slotOf}
 use Rattle.image_laws.specs.RecordWords.{Under}
-use Rattle.laws.specs.Owns.{endSlot}
+use Rattle.places.specs.Readable.{node-there}
 use Rattle.places.specs.NodesAt.{NodeReady, part-ready}
 use Rattle.spans.specs.Ready.{NodesReady}
 use Rattle.rules.specs.declared.Answer.{Answer}
 use Rattle.rules.specs.declared.Answer.the-variants.{Known, Poison}
-use Rattle.rules.specs.Steps.{isPoison}
 use Rattle.rules.specs.Rules.{condition, Branch, compareBranches, matched}
 use Rattle.values.specs.Answers.{alias, matched-known}
 use Rattle.state.specs.declared.Used.{Used}
@@ -35,7 +37,7 @@ use Rattle.visit.specs.Within.{Visits}
 use Rattle.visit.specs.Walks.{Walks}
 use Rattle.visit.specs.Plain.{visitOf, walkedOf, steps-visits, goes-walks}
 use Rattle.visiting.specs.Then.{visits-poison}
-use Rattle.branches.specs.Branches.{branchAnswer}
+use Rattle.branches.specs.Branches.{answerOf, isField, nodeAnswer, bodyAnswer}
 
 -- ── A condition ──
 
@@ -44,35 +46,33 @@ pub condition-walks : (T : Texts) (image : List ℕ) (n at : ℕ) (a : Answer) (
     → (ls : List Package) (v : ℕ) (words f e : List ℕ) → Walks (condition (ctx T ls v) n (wordAt image at) a) 0 0 words st (lent s f t d m e) (lent s f t d′ m′ e) r
 condition-walks T image n at a st et g er ls v words f e = rw (er, ← et) (goes-walks (g ls v) words f e)
 
--- ── Flags ──
+-- ── What a node and a body answered ──
 
-pub is-known : {a : Answer} {slot : ℕ} → a ≡ Known slot → false ≡ isPoison a
-unfolding isPoison
-is-known e = rw e refl
+pub kind-field : (image : List ℕ) {places : List ℕ} (n : ℕ) {at w k : ℕ} → NodeReady image places n → at ≡ getD places n 0 → w ≡ getD image at 0 → k ≡ kindOf w → eqb k 8 ≡ isField image n
+kind-field image n r ea ew ek = rw (ek, ew, node-there (r .readable) (r .below) ea) refl
 
-pub is-poisoned : {a : Answer} → a ≡ Poison → true ≡ isPoison a
-unfolding isPoison
-is-poisoned e = rw e refl
+module _ (image slots : List ℕ) (n : ℕ) {slot wide w : ℕ} (es : slot ≡ slotOf (treeOf image n)) (eb : wide ≡ slot) (ew : w ≡ getD slots wide 0) where
+  pub no-type : w ≡ 0 → Poison ≡ nodeAnswer image slots n
+  unfolding nodeAnswer answerOf
+  no-type z = rw (← es, ← eb, ← ew, z) refl
 
-pub flag-poisoned : {p : Bool} (slot : ℕ) → p ≡ true → Poison ≡ branchAnswer p slot
-unfolding branchAnswer
-flag-poisoned slot e = rw e refl
+  module _ (z : w ≡ 0 → ⊥) where
+    pub read-unknown : kindOf w ≡ 11 → isField image n ≡ true → Poison ≡ nodeAnswer image slots n
+    unfolding nodeAnswer answerOf
+    read-unknown k f = rw (← es, ← eb, ← ew, ne-eqb w 0 z, k, f) refl
 
-pub flag-known : {p : Bool} (slot : ℕ) → p ≡ false → Known slot ≡ branchAnswer p slot
-unfolding branchAnswer
-flag-known slot e = rw e refl
+    pub had-unknown : kindOf w ≡ 11 → isField image n ≡ false → Known slot ≡ nodeAnswer image slots n
+    unfolding nodeAnswer answerOf
+    had-unknown k f = rw (← es, ← eb, ← ew, ne-eqb w 0 z, k, f) refl
 
--- ── A body's slot ──
+    pub had-type : (kindOf w ≡ 11 → ⊥) → Known slot ≡ nodeAnswer image slots n
+    unfolding nodeAnswer answerOf
+    had-type k = rw (← es, ← eb, ← ew, ne-eqb w 0 z, ne-eqb (kindOf w) 11 k) refl
 
-end-slot : (go : ℕ → Node) (image : List ℕ) (slot at k : ℕ) → endSlot slot (nodesFrom go image at (suc k)) ≡ slotOf (go (wordAt image (at + k)))
-unfolding endSlot nodesFrom
-end-slot go image slot at zero = let e : at + 0 ≡ at = omega arith in rw e refl
-end-slot go image slot at (suc k) = let e : at + suc k ≡ at + 1 + k = omega arith in rw e (end-slot go image (slotOf (go (wordAt image at))) (at + 1) k)
-
-module _ (image : List ℕ) (at : ℕ) {count : ℕ} where
-  pub no-body : {w : ℕ} → count ≡ 0 → w ≡ getD image 3 0 → w ≡ endSlot (slotCount image) (nodesFrom (treeOf image) image at count)
-  unfolding endSlot nodesFrom
-  no-body z e = rw z e
+module _ (image slots : List ℕ) (at : ℕ) {count : ℕ} where
+  pub no-body : {w : ℕ} → count ≡ 0 → w ≡ getD image 3 0 → Known w ≡ bodyAnswer image slots at count
+  unfolding bodyAnswer
+  no-body z e = rw (z, e) refl
 
   module _ (z : count ≡ 0 → ⊥) {number : ℕ} (e : number ≡ getD image (at + (count - 1)) 0) where
     pub last-ready : {places : List ℕ} {n : ℕ} → NodesReady image places n at count → NodeReady image places number
@@ -82,10 +82,11 @@ module _ (image : List ℕ) (at : ℕ) {count : ℕ} where
         let u : Under n image (at + (count - 1)) = rw i at (h .nodes .each (count - 1) l) in
         part-ready (h .ready) u e .ready
 
-    pub last-slot : {w : ℕ} → w ≡ slotOf (treeOf image number) → w ≡ endSlot (slotCount image) (nodesFrom (treeOf image) image at count)
-    last-slot ew =
+    pub last-answer : {a : Answer} → a ≡ nodeAnswer image slots number → a ≡ bodyAnswer image slots at count
+    unfolding bodyAnswer
+    last-answer ea =
         let l : suc (count - 1) ≡ count = omega (arith, z) in
-        ew ∙ ap (λ x. slotOf (treeOf image x)) e ∙ sym (end-slot (treeOf image) image (slotCount image) at (count - 1)) ∙ ap (λ k. endSlot (slotCount image) (nodesFrom (treeOf image) image at k)) l
+        ea ∙ ap (nodeAnswer image slots) e ∙ ap (bodyAnswer image slots at) l
 
 -- ── The end of a Match ──
 

@@ -1,60 +1,53 @@
--- What the branches of a Match answered, as it is known once all are visited: a flag tells of each whether it was poisoned, and the image
--- which slot it answered else ("a block answers its last node's slot or V": laws, `own-block`). Definitions and laws. Assumes nothing.
-use Prim.Native.Nat.{ℕ, zero, suc, _+_, _*_, _≤_, _<_}
+-- What the branches of a Match answered, as image and slots tell it once all are visited: a rule answers its node's own slot, and where it
+-- is poisoned leaves no type in it, or Unknown where it read a field of that type (laws, `Told`). Definitions, and laws of lists of them.
+-- Assumes nothing.
+use Prim.Native.Nat.{ℕ, zero, suc, _+_, _≤_}
 use mathlib.Core.Path.{_≡_, refl, ap, _∙_}
-use mathlib.Core.Bool.{Bool, true, false}
+use mathlib.Core.Bool.{Bool, cond}
 use mathlib.Core.List.{List, [], _∷_, _++_}
 use native.Mathlib.Omega.{arith}
-use native.Mathlib.Nat.{zero-add}
-use lib.ListN.{length, getD, set, replicate, length-replicate}
-use lib.Seq.{getD-set-same, getD-set-other}
-use Rattle.ast.specs.Image.{wordAt, slotCount}
-use Rattle.ast.specs.Outline.{Counts}
-use Rattle.ast.specs.Node.{nodesFrom, casesEnd, treeOf}
-use Rattle.image_laws.specs.RecordWords.{CasesWords, defaultWords, caseWords}
-use Rattle.laws.specs.Owns.{endSlot, OwnAnswer, its, nothing}
+use lib.ListN.{getD}
+use lib.Dec.{eqb}
+use Rattle.tok.specs.Word.{kindOf}
+use Rattle.ast.specs.Image.{wordAt, slotCount, nodePlace, recordKind}
+use Rattle.ast.specs.Node.{Node, nodesFrom, casesFrom, casesEnd, treeOf, slotOf}
+use Rattle.laws.specs.SlotsOf.{lastNode}
 use Rattle.rules.specs.declared.Answer.{Answer}
 use Rattle.rules.specs.declared.Answer.the-variants.{Known, Poison}
-use Rattle.rules.specs.Steps.{isPoison}
+use Rattle.rules.specs.Visited.{visitedAmong, visitedInCases}
 use Rattle.rules.specs.Rules.{Branch}
+use Rattle.accepts.specs.Count.{total, total-append, count}
+use Rattle.accepts.specs.VisitedParts.{slotsOf}
+use Rattle.accepts.specs.OtherSlots.{owned}
+use Rattle.accepts.specs.Fresh.{visitedFrom, Apart, end-owned}
 
--- a flag for each case that an image has room for
-unfoldable pub noFlags : List Bool
-noFlags = replicate 2731 false
+-- of the word in a node's slot, and whether the node reads a field
+unfoldable pub answerOf : (word : ℕ) → (field : Bool) → (slot : ℕ) → Answer
+answerOf word field slot = cond (eqb word 0) Poison (cond (eqb (kindOf word) 11) (cond field Poison (Known slot)) (Known slot))
 
--- the slot that the body of the case at word `at` answers
-abbrev pub bodySlot : (image : List ℕ) → (at : ℕ) → ℕ
-bodySlot image at = endSlot (slotCount image) (nodesFrom (treeOf image) image (at + 3) (wordAt image (at + 2)))
+-- node n is a Field
+abbrev pub isField : (image : List ℕ) → (n : ℕ) → Bool
+isField image n = eqb (recordKind image (nodePlace image n)) 8
 
-unfoldable pub branchAnswer : (poisoned : Bool) → (slot : ℕ) → Answer
-branchAnswer true slot = Poison
-branchAnswer false slot = Known slot
+-- what node n answered
+unfoldable pub nodeAnswer : (image slots : List ℕ) → (n : ℕ) → Answer
+nodeAnswer image slots n = answerOf (getD slots (slotOf (treeOf image n)) 0) (isField image n) (slotOf (treeOf image n))
+
+-- "a block answers its last node's slot or V": k nodes, whose numbers stand from word `at` on
+unfoldable pub bodyAnswer : (image slots : List ℕ) → (at k : ℕ) → Answer
+bodyAnswer image slots at zero = Known (slotCount image)
+bodyAnswer image slots at (suc k) = nodeAnswer image slots (wordAt image (at + k))
 
 -- the branch of the case at word `at`
-abbrev pub branchAt : (image : List ℕ) → (at : ℕ) → (poisoned : Bool) → Branch
-branchAt image at p = record { token = wordAt image at; answer = branchAnswer p (bodySlot image at) }
+abbrev pub branchAt : (image slots : List ℕ) → (at : ℕ) → Branch
+branchAt image slots at = record { token = wordAt image at; answer = bodyAnswer image slots (at + 3) (wordAt image (at + 2)) }
 
--- k cases from word `at` on; the first one's flag is number i
-unfoldable pub branchesFrom : (image : List ℕ) → (flags : List Bool) → (i at k : ℕ) → List Branch
-branchesFrom image flags i at zero = []
-branchesFrom image flags i at (suc k) = branchAt image at (getD flags i false) ∷ branchesFrom image flags (i + 1) (at + 3 + wordAt image (at + 2)) k
+-- k cases from word `at` on
+unfoldable pub branchesFrom : (image slots : List ℕ) → (at k : ℕ) → List Branch
+branchesFrom image slots at zero = []
+branchesFrom image slots at (suc k) = branchAt image slots at ∷ branchesFrom image slots (at + 3 + wordAt image (at + 2)) k
 
 -- ── Laws ──
-
-pub no-flags : length noFlags ≡ 2731
-unfolding noFlags
-no-flags = length-replicate {A = Bool} 2731 false
-
--- three words each at least
-pub cases-few : {c : Counts} {image : List ℕ} {n end at k : ℕ} → CasesWords c image n end at k → at + 3 * k + 1 ≤ end
-cases-few (defaultWords t l b) = omega arith
-cases-few (caseWords t q body others) = let l = cases-few others in omega arith
-
--- an answer of a body's own slot is what its flag tells
-pub branch-told : {slot : ℕ} {a : Answer} → OwnAnswer slot a → branchAnswer (isPoison a) slot ≡ a
-unfolding branchAnswer isPoison
-branch-told its = refl
-branch-told nothing = refl
 
 module _ (image : List ℕ) where
   -- the word after one more case
@@ -63,25 +56,40 @@ module _ (image : List ℕ) where
   end-more at zero = refl
   end-more at (suc k) = let e : suc k + 1 ≡ suc (k + 1) = omega arith in rw e (end-more (at + 3 + wordAt image (at + 2)) k)
 
-  -- a later flag tells nothing of them
-  branches-other : (flags : List Bool) (j : ℕ) (p : Bool) (i at k : ℕ) → i + k ≤ j → branchesFrom image (set flags j p) i at k ≡ branchesFrom image flags i at k
-  unfolding branchesFrom
-  branches-other flags j p i at zero h = refl
-  branches-other flags j p i at (suc k) h =
-      rw (getD-set-other flags j i p false (λ e. omega arith))
-      (ap (λ bs. branchAt image at (getD flags i false) ∷ bs) (branches-other flags j p (i + 1) (at + 3 + wordAt image (at + 2)) k (omega arith)))
-
-  branches-last : (flags : List Bool) (i at k : ℕ) → branchesFrom image flags i at (k + 1) ≡ branchesFrom image flags i at k ++ (branchAt image (casesEnd image at k) (getD flags (i + k) false) ∷ [])
-  unfolding branchesFrom casesEnd
-  branches-last flags i at zero = let e : i + 0 ≡ i = omega arith in rw e refl
-  branches-last flags i at (suc k) =
-      let e : i + suc k ≡ i + 1 + k = omega arith in
-      let n : suc k + 1 ≡ suc (k + 1) = omega arith in
-      rw (e, n) (ap (λ bs. branchAt image at (getD flags i false) ∷ bs) (branches-last flags (i + 1) (at + 3 + wordAt image (at + 2)) k))
-
   -- one more case is done
-  pub branches-more : (flags : List Bool) (p : Bool) (at k : ℕ) → k < length flags
-      → branchesFrom image (set flags k p) 0 at (k + 1) ≡ branchesFrom image flags 0 at k ++ (branchAt image (casesEnd image at k) p ∷ [])
-  branches-more flags p at k h =
-      branches-last (set flags k p) 0 at k
-      ∙ rw (zero-add, getD-set-same flags k p false h, branches-other flags k p 0 at k (omega arith)) refl
+  pub branches-more : (slots : List ℕ) (at k : ℕ) → branchesFrom image slots at (k + 1) ≡ branchesFrom image slots at k ++ (branchAt image slots (casesEnd image at k) ∷ [])
+  unfolding branchesFrom casesEnd
+  branches-more slots at zero = refl
+  branches-more slots at (suc k) =
+      let n : suc k + 1 ≡ suc (k + 1) = omega arith in
+      rw n (ap (λ bs. branchAt image slots at ∷ bs) (branches-more slots (at + 3 + wordAt image (at + 2)) k))
+
+  -- the last node of a body
+  pub last-is : (at k : ℕ) → lastNode (treeOf image (wordAt image at)) (nodesFrom (treeOf image) image (at + 1) k) ≡ treeOf image (wordAt image (at + k))
+  unfolding lastNode nodesFrom
+  last-is at zero = let e : at + 0 ≡ at = omega arith in rw e refl
+  last-is at (suc k) = let e : at + suc k ≡ at + 1 + k = omega arith in rw e (last-is (at + 1) k)
+
+  -- its slot is one of those that the body's visited nodes own
+  last-owned : (at k : ℕ) → 1 ≤ owned (slotOf (treeOf image (wordAt image (at + k)))) (visitedAmong (nodesFrom (treeOf image) image at (suc k)))
+  unfolding nodesFrom
+  last-owned at k = rw (last-is at k) at (end-owned (treeOf image (wordAt image at)) (nodesFrom (treeOf image) image (at + 1) k))
+
+  -- ── Visits of other nodes change nothing of it ──
+
+  module _ {ys : List Node} {slots after : List ℕ} (p : Apart ys slots after) where
+    body-still : (at k : ℕ) → ((a : ℕ) → 1 ≤ owned a (visitedAmong (nodesFrom (treeOf image) image at k)) → owned a ys ≡ 0) → bodyAnswer image after at k ≡ bodyAnswer image slots at k
+    unfolding bodyAnswer nodeAnswer
+    body-still at zero h = refl
+    body-still at (suc k) h = rw (p .same (slotOf (treeOf image (wordAt image (at + k)))) (h _ (last-owned at k))) refl
+
+    pub branches-still : (at k : ℕ) → ((a : ℕ) → 1 ≤ owned a (visitedInCases (casesFrom (treeOf image) image at k)) → owned a ys ≡ 0) → branchesFrom image after at k ≡ branchesFrom image slots at k
+    unfolding branchesFrom casesFrom visitedInCases
+    branches-still at zero h = refl
+    branches-still at (suc k) h =
+        let x : List Node = visitedFrom (treeOf image (wordAt image (at + 1))) in
+        let body : List Node = visitedAmong (nodesFrom (treeOf image) image (at + 3) (wordAt image (at + 2))) in
+        let rest : List Node = visitedInCases (casesFrom (treeOf image) image (at + 3 + wordAt image (at + 2)) k) in
+        let both : (a : ℕ) → owned a (x ++ body ++ rest) ≡ owned a x + owned a body + owned a rest = λ a.
+            omega (arith, total-append (λ y. count a (slotsOf y)) (x ++ body) rest, total-append (λ y. count a (slotsOf y)) x body) in
+        rw (body-still (at + 3) (wordAt image (at + 2)) (λ a l. h a (omega (arith, both a))), branches-still (at + 3 + wordAt image (at + 2)) k (λ a l. h a (omega (arith, both a)))) refl

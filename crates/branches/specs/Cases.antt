@@ -1,11 +1,10 @@
 -- A Match, put together of its cases' visits and its default's: the loop's invariant with a law for its beginning, each turn and its ends,
 -- and one law for each way out of the code after it. Assumes nothing.
-use Prim.Native.Nat.{ℕ, _+_, _*_, _-_, _≤_, _<_}
+use Prim.Native.Nat.{ℕ, zero, suc, _+_, _*_, _-_, _≤_, _<_}
 use mathlib.Core.Path.{_≡_, refl, sym, ap, _∙_}
-use mathlib.Core.Bool.{Bool}
-use mathlib.Core.List.{List, [], _∷_, _++_}
+use mathlib.Core.List.{List, [], _∷_, _++_, append-assoc}
 use native.Mathlib.Omega.{arith}
-use lib.ListN.{length, getD, set, length-set}
+use lib.ListN.{getD}
 use Rattle.tok.specs.Text.{Texts}
 use Rattle.tok.specs.Step.{Result, ok, refused, Refusal, next, _>>=_, _>>_}
 use Rattle.ast.specs.Image.{wordAt, recordLength}
@@ -14,8 +13,13 @@ use Rattle.image_laws.specs.RecordWords.{MatchWords}
 use Rattle.trees.specs.SameWords.{cases-end}
 use Rattle.rules.specs.declared.Answer.{Answer}
 use Rattle.rules.specs.World.{Ctx, World, Walk}
-use Rattle.rules.specs.Steps.{isPoison}
 use Rattle.rules.specs.Rules.{condition, Branch, matched, node, block}
+use Rattle.rules.specs.Visited.{visitedAmong, visitedInCases}
+use Rattle.accepts.specs.Count as N
+use Rattle.accepts.specs.Count.{total, total-append}
+use Rattle.accepts.specs.VisitedParts.{slotsOf}
+use Rattle.accepts.specs.OtherSlots.{owned}
+use Rattle.accepts.specs.Fresh.{visitedFrom, Fresh, fresh-first, fresh-rest}
 use Rattle.room_laws.specs.Room.{room, rooms, caseRooms, rows, rowsAll, caseRows}
 use Rattle.places.specs.NodesAt.{NodeReady, countsOf, record-room, node-match, words-match}
 use Rattle.spans.specs.Ready.{NodesReady, CasesReady, case-condition, case-room, case-body, case-rest}
@@ -30,32 +34,25 @@ use Rattle.visiting.specs.Turns as U
 use Rattle.ready.specs.Ready.{Ready, node-ready}
 use Rattle.ready.specs.Passes.{ready-less, ready-rest}
 use Rattle.ready.specs.Parts.{match-room, cases-turn, cases-room}
+use Rattle.ready.specs.Unvisited.{match-fresh, block-visits-apart}
 use Rattle.ready.specs.Asked.{match-cases, default-nodes}
 use Rattle.walking.specs.Kinds.{Is}
 use Rattle.walking.specs.Contracts.{ctxIn, NodeVisited, ClassVisit, nodesAt, ListVisit, ListVisited, caseBody, caseRule, CaseVisit, CaseVisited}
 use Rattle.walking.specs.Blocks.{block-visits}
-use Rattle.branches.specs.Branches.{noFlags, no-flags, branchAt, branchesFrom, cases-few, branch-told, end-more, branches-more}
-use Rattle.branches.specs.Case.{case-owns, after-case}
+use Rattle.branches.specs.Branches.{branchAt, branchesFrom, end-more, branches-more, branches-still}
+use Rattle.branches.specs.Case.{case-apart, case-told, after-case}
 
 -- ── Rules that are alike ──
 
 leads-same : {o : Beginning} {m m′ : Walk Answer} {r w : ℕ} {st : State} {b : Lent} → ((s : World) → m s ≡ m′ s) → Leads o m r w st b → Leads o m′ r w st b
 leads-same {o} {st = st} {b = b} e l = record { onto = λ b′ v x. l .onto b′ v (record { step = e (whole (o .library) st b) ∙ x .step; keeps = x .keeps }) }
 
-next-alike : {A B : Type 0} (r : Result World Refusal A) {f g : A → Walk B} → ((a : A) (s : World) → f a s ≡ g a s) → next r f ≡ next r g
-next-alike (ok a s) h = h a s
-next-alike (refused e) h = refl
-
-next-next : {A B C : Type 0} (r : Result World Refusal A) (f : A → Walk B) (g : B → Walk C) → next (next r f) g ≡ next r (λ a s. next (f a s) g)
-next-next (ok a s) f g = refl
-next-next (refused e) f g = refl
-
 -- a case, and what follows it
 case-then : (c : Ctx) (n token : ℕ) (x : Node) (body : Nodes) (f : Answer → Walk Answer) (s : World)
     → next (node c x s) (λ a. condition c n token a >> (_>>=_ (block c body) f)) ≡ next (caseRule c n token x body s) f
 unfolding caseRule
 case-then c n token x body f s =
-    next-alike (node c x s) (λ a t. sym (next-next (condition c n token a t) _ f)) ∙ sym (next-next (node c x s) _ f)
+    U.next-alike (node c x s) (λ a t. sym (U.next-next (condition c n token a t) _ f)) ∙ sym (U.next-next (node c x s) _ f)
 
 -- a Match, before its first case
 match-rule : (c : Ctx) (n slot token : ℕ) (cs : Cases) (d : Nodes) (s : World)
@@ -79,15 +76,18 @@ casesAt image place k = casesFrom (treeOf image) image place k
 abbrev pub ending : Texts → (image words : List ℕ) → (n at : ℕ) → List Branch → Walk Answer
 ending T image words n at bs = _>>=_ (block (ctxIn T image words) (defaultBody image at)) (λ a. matched (ctxIn T image words) n (wordAt image (at + 1)) bs a)
 
+-- the nodes that are visited in k cases from word `place` on, and in the default's body
+abbrev pub leftOver : (image : List ℕ) → (at place k : ℕ) → List Node
+leftOver image at place k = visitedInCases (casesAt image place k) ++ visitedAmong (defaultBody image at)
+
 -- the Match's rule, at its beginning
 abbrev pub matching : Texts → (image words : List ℕ) → (n : ℕ) → State → Lent → Beginning
 matching T image words n st b = record { rule = node (ctxIn T image words) (treeOf image n); room = room (treeOf image n); rows = rows (treeOf image n); library = words; st = st; b = b }
 
--- i of its cases are done, which flags tell of; the others begin at `place`
-pub record Turn (T : Texts) (image places words : List ℕ) (n at count : ℕ) (st : State) (b : Lent) (flags : List Bool) (here : State) (place i : ℕ) (b′ : Lent) : Type 0 where
+-- i of its cases are done, as their slots tell; the others begin at `place`
+pub record Turn (T : Texts) (image places words : List ℕ) (n at count : ℕ) (st : State) (b : Lent) (here : State) (place i : ℕ) (b′ : Lent) : Type 0 where
   pub within : i ≤ count
   pub counted : count ≡ wordAt image (at + 2)
-  pub long : length flags ≡ 2731
   pub place-is : place ≡ casesEnd image (at + 3) i
   -- what the image has there
   pub cases : CasesReady image places n place (count - i)
@@ -95,9 +95,30 @@ pub record Turn (T : Texts) (image places words : List ℕ) (n at count : ℕ) (
   pub at-is : at ≡ getD places n 0
   pub facts : MatchWords (countsOf ready-node) image n at
   -- what is left of the rule leads to all of it, and there is room for it
-  pub leads : Leads (matching T image words n st b) (U.casesFrom (ctxIn T image words) n (branchesFrom image flags 0 (at + 3) i) (casesAt image place (count - i)) (ending T image words n at))
+  pub leads : Leads (matching T image words n st b) (U.casesFrom (ctxIn T image words) n (branchesFrom image (b′ .slots) (at + 3) i) (casesAt image place (count - i)) (ending T image words n at))
       (caseRooms (casesAt image place (count - i)) + rooms (defaultBody image at)) (caseRows (casesAt image place (count - i)) + rowsAll (defaultBody image at)) here b′
   pub ready : Ready T image places words (caseRooms (casesAt image place (count - i)) + rooms (defaultBody image at)) (caseRows (casesAt image place (count - i)) + rowsAll (defaultBody image at)) here b′
+  -- the slots of those that are left have no type yet, and none of them is a slot of those that are done
+  pub fresh : Fresh (leftOver image at place (count - i)) (b′ .slots)
+  pub apart : (a : ℕ) → owned a (visitedInCases (casesAt image (at + 3) i)) + owned a (leftOver image at place (count - i)) ≤ 1
+
+
+-- one more case is done
+done-more : (image : List ℕ) (a at k : ℕ) → owned a (visitedInCases (casesAt image at (k + 1)))
+    ≡ owned a (visitedInCases (casesAt image at k)) + owned a (visitedFrom (treeOf image (wordAt image (casesEnd image at k + 1))) ++ visitedAmong (caseBody image (casesEnd image at k)))
+unfolding visitedInCases casesFrom casesEnd total
+done-more image a at zero = omega (arith, total-append (λ y. N.count a (slotsOf y)) (visitedFrom (treeOf image (wordAt image (at + 1))) ++ visitedAmong (caseBody image at)) [])
+done-more image a at (suc k) =
+    let e : suc k + 1 ≡ suc (k + 1) = omega arith in
+    let next : ℕ = at + 3 + wordAt image (at + 2) in
+    let first : List Node = visitedFrom (treeOf image (wordAt image (at + 1))) ++ visitedAmong (caseBody image at) in
+    rw e
+    (omega (
+      arith,
+      total-append (λ y. N.count a (slotsOf y)) first (visitedInCases (casesAt image next (k + 1))),
+      total-append (λ y. N.count a (slotsOf y)) first (visitedInCases (casesAt image next k)),
+      done-more image a next k,
+    ))
 
 -- ── Its beginning ──
 
@@ -119,15 +140,17 @@ module _ {T : Texts} {image places words : List ℕ} {n at : ℕ} {st : State} {
       (leads-same (λ s. ap (λ x. node (ctxIn T image words) x s) is-match ∙ match-rule (ctxIn T image words) n (wordAt image (at + 1)) _ (casesAt image (at + 3) (wordAt image (at + 2))) (defaultBody image at) s)
       (leads-begin (matching T image words n st b)))
 
-  pub turn-begin : {count : ℕ} {flags : List Bool} → count ≡ getD image (at + 2) 0 → flags ≡ noFlags → Turn T image places words n at count st b flags st (at + 3) 0 b
-  unfolding branchesFrom casesEnd
-  turn-begin {count} {flags} ec ef =
+  all-fresh : Fresh (leftOver image at (at + 3) (wordAt image (at + 2))) (b .slots)
+  all-fresh = match-fresh (h .visit) is-match
+
+  pub turn-begin : {count : ℕ} → count ≡ getD image (at + 2) 0 → Turn T image places words n at count st b st (at + 3) 0 b
+  unfolding branchesFrom casesEnd casesFrom visitedInCases total
+  turn-begin {count} ec =
       let z : wordAt image (at + 2) - 0 ≡ wordAt image (at + 2) = omega arith in
-      rw (ec, ef)
+      rw ec
       (record {
         within = omega arith;
         counted = refl;
-        long = no-flags;
         place-is = refl;
         cases = rw z (match-cases (node-ready (h .visit)) e match-words refl);
         ready-node = node-ready (h .visit);
@@ -135,25 +158,36 @@ module _ {T : Texts} {image places words : List ℕ} {n at : ℕ} {st : State} {
         facts = match-words;
         leads = rw z begins;
         ready = rw z (match-room (h .visit) is-match);
+        fresh = rw z all-fresh;
+        apart = λ a. rw z (omega (arith, all-fresh .once a));
       })
 
 -- ── A turn ──
 
-module _ {T : Texts} {image places words : List ℕ} {n at count : ℕ} {st : State} {b : Lent} {flags : List Bool} {here : State} {place i : ℕ} {b′ : Lent}
-    (h : Turn T image places words n at count st b flags here place i b′) where
-  -- a flag for each
-  few : 3 * count + 4 ≤ 8192
-  few = let l = cases-few (h .facts .cases) in omega (arith, record-room (h .ready-node) (h .at-is), h .counted)
-
+module _ {T : Texts} {image places words : List ℕ} {n at count : ℕ} {st : State} {b : Lent} {here : State} {place i : ℕ} {b′ : Lent}
+    (h : Turn T image places words n at count st b here place i b′) where
   module _ (l : i < count) where
     left : 0 < count - i
     left = omega arith
 
-    pub flag-there : i < 2731
-    flag-there = omega (arith, few)
-
     pub place-inside : place + 3 ≤ 8192
     place-inside = omega (arith, case-room left (h .cases) refl)
+
+    -- this case's nodes, and those after it
+    abbrev own : List Node
+    own = visitedFrom (treeOf image (wordAt image (place + 1))) ++ visitedAmong (caseBody image place)
+
+    abbrev after : List Node
+    after = leftOver image at (place + 3 + wordAt image (place + 2)) (count - i - 1)
+
+    split : leftOver image at place (count - i) ≡ own ++ after
+    unfolding visitedInCases
+    split =
+        ap (λ cs. visitedInCases cs ++ visitedAmong (defaultBody image at)) (cases-turn image place left)
+        ∙ append-assoc own (visitedInCases (casesAt image (place + 3 + wordAt image (place + 2)) (count - i - 1))) (visitedAmong (defaultBody image at))
+
+    both-fresh : Fresh (own ++ after) (b′ .slots)
+    both-fresh = rw split at (h .fresh)
 
     pub turn-case : CaseVisit T image places words n place here b′
     turn-case = record {
@@ -162,11 +196,12 @@ module _ {T : Texts} {image places words : List ℕ} {n at count : ℕ} {st : St
       body = case-body left (h .cases) refl .nodes;
       inside = case-room left (h .cases) refl;
       ready = ready-less (omega arith) (omega arith) (cases-room place left (rooms (defaultBody image at)) (rowsAll (defaultBody image at)) (h .ready));
+      fresh = fresh-first own after both-fresh;
     }
 
     -- the rest after this case, by what it answers
     abbrev rest : Answer → Walk Answer
-    rest a = U.casesFrom (ctxIn T image words) n (branchesFrom image flags 0 (at + 3) i ++ (record { token = wordAt image place; answer = a } ∷ [])) (casesAt image (place + 3 + wordAt image (place + 2)) (count - i - 1)) (ending T image words n at)
+    rest a = U.casesFrom (ctxIn T image words) n (branchesFrom image (b′ .slots) (at + 3) i ++ (record { token = wordAt image place; answer = a } ∷ [])) (casesAt image (place + 3 + wordAt image (place + 2)) (count - i - 1)) (ending T image words n at)
 
     next-case : Leads (matching T image words n st b) (_>>=_ (caseRule (ctxIn T image words) n (wordAt image place) (treeOf image (wordAt image (place + 1))) (caseBody image place)) rest)
         (room (treeOf image (wordAt image (place + 1))) + rooms (caseBody image place) + (caseRooms (casesAt image (place + 3 + wordAt image (place + 2)) (count - i - 1)) + rooms (defaultBody image at)))
@@ -174,8 +209,8 @@ module _ {T : Texts} {image places words : List ℕ} {n at count : ℕ} {st : St
     unfolding room rows
     next-case =
         leads-less (omega (arith, ap caseRooms (cases-turn image place left))) (omega (arith, ap caseRows (cases-turn image place left)))
-        (leads-same (λ s. ap (λ cs. U.casesFrom (ctxIn T image words) n (branchesFrom image flags 0 (at + 3) i) cs (ending T image words n at) s) (cases-turn image place left)
-        ∙ U.cases-turn (ctxIn T image words) n (branchesFrom image flags 0 (at + 3) i) (ending T image words n at) (wordAt image place) (treeOf image (wordAt image (place + 1))) (caseBody image place) (casesAt image (place + 3 + wordAt image (place + 2)) (count - i - 1)) s
+        (leads-same (λ s. ap (λ cs. U.casesFrom (ctxIn T image words) n (branchesFrom image (b′ .slots) (at + 3) i) cs (ending T image words n at) s) (cases-turn image place left)
+        ∙ U.cases-turn (ctxIn T image words) n (branchesFrom image (b′ .slots) (at + 3) i) (ending T image words n at) (wordAt image place) (treeOf image (wordAt image (place + 1))) (caseBody image place) (casesAt image (place + 3 + wordAt image (place + 2)) (count - i - 1)) s
         ∙ case-then (ctxIn T image words) n (wordAt image place) (treeOf image (wordAt image (place + 1))) (caseBody image place) rest s)
         (h .leads))
 
@@ -183,13 +218,27 @@ module _ {T : Texts} {image places words : List ℕ} {n at count : ℕ} {st : St
       pub turn-stops : Stopped v → NodeVisited T image words n st b b₁ v
       turn-stops s = leads-stop rest next-case x s
 
-      -- what it answered is told by its flag
+      -- the slots of those done before are as they were, and this one's tells what it answered
       told : {a : Answer} {next : State} → Came v a next
-          → branchesFrom image flags 0 (at + 3) i ++ (record { token = wordAt image place; answer = a } ∷ []) ≡ branchesFrom image (set flags i (isPoison a)) 0 (at + 3) (i + 1)
+          → branchesFrom image (b′ .slots) (at + 3) i ++ (record { token = wordAt image place; answer = a } ∷ []) ≡ branchesFrom image (b₁ .slots) (at + 3) (i + 1)
       told {a} k =
-          ap (λ y. branchesFrom image flags 0 (at + 3) i ++ (record { token = wordAt image place; answer = y } ∷ [])) (sym (branch-told (case-owns T image words n place x k)))
-          ∙ ap (λ p. branchesFrom image flags 0 (at + 3) i ++ (branchAt image p (isPoison a) ∷ [])) (h .place-is)
-          ∙ sym (branches-more image flags (isPoison a) (at + 3) i (omega (arith, h .long, few)))
+          let o : (a : ℕ) → owned a (leftOver image at place (count - i)) ≡ owned a own + owned a after = λ a. ap (owned a) split ∙ total-append (λ y. N.count a (slotsOf y)) own after in
+          ap (λ bs. bs ++ (record { token = wordAt image place; answer = a } ∷ []))
+          (sym (branches-still image (case-apart T image words n place x k) (at + 3) i (λ a q. omega (arith, h .apart a, o a))))
+          ∙ ap (λ y. branchesFrom image (b₁ .slots) (at + 3) i ++ (record { token = wordAt image place; answer = y } ∷ [])) (case-told turn-case x k)
+          ∙ ap (λ p. branchesFrom image (b₁ .slots) (at + 3) i ++ (branchAt image (b₁ .slots) p ∷ [])) (h .place-is)
+          ∙ sym (branches-more image (b₁ .slots) (at + 3) i)
+
+      still-apart : (a : ℕ) → owned a (visitedInCases (casesAt image (at + 3) (i + 1))) + owned a after ≤ 1
+      still-apart a =
+          omega (
+            arith,
+            h .apart a,
+            ap (owned a) split,
+            total-append (λ y. N.count a (slotsOf y)) own after,
+            done-more image a (at + 3) i,
+            ap (λ p. owned a (visitedFrom (treeOf image (wordAt image (p + 1))) ++ visitedAmong (caseBody image p))) (h .place-is),
+          )
 
       ready-next : {a : Answer} {next : State} → Came v a next
           → Ready T image places words (caseRooms (casesAt image (place + 3 + wordAt image (place + 2)) (count - i - 1)) + rooms (defaultBody image at))
@@ -197,15 +246,14 @@ module _ {T : Texts} {image places words : List ℕ} {n at count : ℕ} {st : St
       ready-next k =
           ready-rest _ _ (omega arith) (omega arith) (cases-room place left (rooms (defaultBody image at)) (rowsAll (defaultBody image at)) (h .ready)) (after-case turn-case x k)
 
-      pub turn-next : {a : Answer} {next : State} {p : Bool} {place′ : ℕ} → Came v a next → p ≡ isPoison a → place′ ≡ place + 3 + getD image (place + 2) 0
-          → Turn T image places words n at count st b (set flags i p) next place′ (i + 1) b₁
-      turn-next {a} {next} k ep eq =
+      pub turn-next : {a : Answer} {next : State} {place′ : ℕ} → Came v a next → place′ ≡ place + 3 + getD image (place + 2) 0
+          → Turn T image places words n at count st b next place′ (i + 1) b₁
+      turn-next {a} {next} k eq =
           let z : count - i - 1 ≡ count - (i + 1) = omega arith in
-          rw (ep, eq)
+          rw eq
           (record {
             within = omega arith;
             counted = h .counted;
-            long = length-set flags i (isPoison a) ∙ h .long;
             place-is = ap (λ p. p + 3 + wordAt image (p + 2)) (h .place-is) ∙ sym (end-more image (at + 3) i);
             cases = rw z at (case-rest left (h .cases) refl);
             ready-node = h .ready-node;
@@ -213,6 +261,8 @@ module _ {T : Texts} {image places words : List ℕ} {n at count : ℕ} {st : St
             facts = h .facts;
             leads = rw (z, told k) at (leads-then rest next-case x k);
             ready = rw z at (ready-next k);
+            fresh = rw z at (fresh-rest own after both-fresh (case-apart T image words n place x k));
+            apart = λ a. rw z at (still-apart a);
           })
 
   -- ── After the loop ──
@@ -231,13 +281,22 @@ module _ {T : Texts} {image places words : List ℕ} {n at count : ℕ} {st : St
     pub record-inside : at + recordLength image at ≤ 8192
     record-inside = record-room (h .ready-node) (h .at-is)
 
-    none-left : Leads (matching T image words n st b) (ending T image words n at (branchesFrom image flags 0 (at + 3) (wordAt image (at + 2)))) (rooms (defaultBody image at)) (rowsAll (defaultBody image at)) here b′
+    none-left : Leads (matching T image words n st b) (ending T image words n at (branchesFrom image (b′ .slots) (at + 3) (wordAt image (at + 2)))) (rooms (defaultBody image at)) (rowsAll (defaultBody image at)) here b′
     unfolding casesFrom
     none-left =
         let z : count - i ≡ 0 = omega arith in
         let f : i ≡ wordAt image (at + 2) = all-done ∙ h .counted in
         leads-less (omega arith) (omega arith)
-        (leads-same (λ s. U.cases-end (ctxIn T image words) n (branchesFrom image flags 0 (at + 3) (wordAt image (at + 2))) (ending T image words n at) s) (rw (z, f) at (h .leads)))
+        (leads-same (λ s. U.cases-end (ctxIn T image words) n (branchesFrom image (b′ .slots) (at + 3) (wordAt image (at + 2))) (ending T image words n at) s) (rw (z, f) at (h .leads)))
+
+    default-fresh : Fresh (visitedAmong (defaultBody image at)) (b′ .slots)
+    unfolding casesFrom visitedInCases
+    default-fresh = let z : count - i ≡ 0 = omega arith in rw z at (h .fresh)
+
+    default-apart : (a : ℕ) → owned a (visitedInCases (casesAt image (at + 3) (wordAt image (at + 2)))) + owned a (leftOver image at place 0) ≤ 1
+        → 1 ≤ owned a (visitedInCases (casesAt image (at + 3) (wordAt image (at + 2)))) → owned a (visitedAmong (defaultBody image at)) ≡ 0
+    unfolding casesFrom visitedInCases
+    default-apart a p q = omega arith
 
     module _ {k : ℕ} (ek : k ≡ at + recordLength image at - (place + 1)) where
       length-is : k ≡ at + recordLength image at - (defaultAt image at + 1)
@@ -252,6 +311,7 @@ module _ {T : Texts} {image places words : List ℕ} {n at count : ℕ} {st : St
             nodes = d .nodes;
             inside = d .room;
             ready = rw length-is (ready-less (omega arith) (omega arith) (h .ready));
+            fresh = rw length-is default-fresh;
           })
 
       module _ {b₁ : Lent} {v last : Visit} (x : ListVisited T image words (place + 1) k here b′ b₁ v) (el : last ≡ leaveOf v here) where
@@ -259,14 +319,23 @@ module _ {T : Texts} {image places words : List ℕ} {n at count : ℕ} {st : St
         default-block = rw el (block-visits (ctxIn T image words) (defaultBody image at) (rw (default-place, length-is) at x))
 
         abbrev matched-with : Answer → Walk Answer
-        matched-with a = matched (ctxIn T image words) n (wordAt image (at + 1)) (branchesFrom image flags 0 (at + 3) (wordAt image (at + 2))) a
+        matched-with a = matched (ctxIn T image words) n (wordAt image (at + 1)) (branchesFrom image (b′ .slots) (at + 3) (wordAt image (at + 2))) a
 
         pub default-stops : Stopped last → NodeVisited T image words n st b b₁ last
         default-stops s = leads-stop matched-with none-left default-block s
 
-        pub match-ends : {a : Answer} {end : State} {b₂ : Lent} {r : Visit} → Came last a end → Visits (matched-with a) 0 0 words end b₁ b₂ r → NodeVisited T image words n st b b₂ r
-        match-ends {b₂ = b₂} {r = r} c y =
-            leads-then matched-with {r₂ = 0} {w₂ = 0} (leads-less (omega arith) (omega arith) none-left) default-block c .onto b₂ r y
+        -- the default's visits change nothing of the cases' slots
+        same-branches : {a : Answer} {end : State} → Came last a end → branchesFrom image (b₁ .slots) (at + 3) (wordAt image (at + 2)) ≡ branchesFrom image (b′ .slots) (at + 3) (wordAt image (at + 2))
+        same-branches c =
+            let z : count - i ≡ 0 = omega arith in
+            let f : i ≡ wordAt image (at + 2) = all-done ∙ h .counted in
+            branches-still image (block-visits-apart (ctxIn T image words) (defaultBody image at) default-block c) (at + 3) (wordAt image (at + 2))
+            (λ a q. default-apart a (rw (z, f) at (h .apart a)) q)
+
+        pub match-ends : {a : Answer} {end : State} {b₂ : Lent} {r : Visit} → Came last a end
+            → Visits (matched (ctxIn T image words) n (wordAt image (at + 1)) (branchesFrom image (b₁ .slots) (at + 3) (wordAt image (at + 2))) a) 0 0 words end b₁ b₂ r → NodeVisited T image words n st b b₂ r
+        match-ends {a} {b₂ = b₂} {r = r} c y =
+            leads-then matched-with {r₂ = 0} {w₂ = 0} (leads-less (omega arith) (omega arith) none-left) default-block c .onto b₂ r (rw (same-branches c) at y)
 
     pub end-cases : CasesReady image places n (at + 3) (wordAt image (at + 2))
     end-cases = match-cases (h .ready-node) (h .at-is) (h .facts) refl

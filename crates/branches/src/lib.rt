@@ -1,16 +1,12 @@
-// Node::Match beside its visits (typecheck/lib.rs): a case's condition, which branches are poisoned, and the branches compared with the
+// Node::Match beside its visits (typecheck/lib.rs): a case's condition, what its branches answered, and the branches compared with the
 // default. The buffers are lent in one order: slots, types, diagnostics, messages; then the two texts, the image, the places of its records.
 ghost use mathlib.Core.Path.{_≡_};
-ghost use mathlib.Core.Bool.{Bool, false};
 ghost use mathlib.Core.List.{List};
 ghost use Prim.Native.Nat.{ℕ, _+_, _≤_};
-ghost use lib.ListN.{getD};
 ghost use Rattle.tok.specs.Text.{Texts, textsOf};
 ghost use Rattle.library.specs.Package.{Package};
-ghost use Rattle.ast.specs.Image.{wordAt, slotCount};
-ghost use Rattle.ast.specs.Node.{treeOf, nodesFrom};
-ghost use Rattle.laws.specs.Owns.{endSlot};
-ghost use Rattle.rules.specs.Steps.{isPoison};
+ghost use Rattle.ast.specs.Image.{wordAt};
+ghost use Rattle.places.specs.NodesAt.{NodeReady};
 ghost use Rattle.rules.specs.Rules.{condition, compareBranches, matched};
 ghost use Rattle.state.specs.Context.{ctx};
 ghost use Rattle.state.specs.World.{Goes};
@@ -18,7 +14,7 @@ ghost use Rattle.spans.specs.Ready.{NodesReady, CasesReady};
 ghost use Rattle.visit.specs.Whole.{lent};
 ghost use Rattle.visit.specs.Within.{Visits};
 ghost use Rattle.visit.specs.Walks.{Walks};
-ghost use Rattle.branches.specs.Branches.{noFlags, branchAnswer, branchesFrom};
+ghost use Rattle.branches.specs.Branches.{isField, nodeAnswer, bodyAnswer, branchesFrom};
 use call_args::slot_of;
 use rules::Answer;
 use state::Used;
@@ -28,6 +24,9 @@ use tok::word_at;
 use visit::State;
 use visit::Visit;
 use visit::Walked;
+
+// The kind of a node that reads a field.
+const FIELD: u32 = 8;
 
 // The condition of the case at word `at`, of what it answered: 23 where it is not Bool.
 pub fn condition<'a>(
@@ -71,55 +70,50 @@ pub fn case_end(image: &[u32], at: usize) -> usize
     at + 3 + wide(word_at(image, at + 2))
 }
 
-// Which branches are poisoned. A case has at least three words and an image at most 8,192, so there is a flag for each.
+// The branches, once all bodies are visited: their answers are read from slots, so that no Match keeps room for them while it visits.
 
-// None yet.
-pub fn no_flags() -> [bool; 2731]
-    ensures { λ r. ⌜ r ≡ noFlags ⌝ }
+// Whether node n is a Field.
+fn is_field(image: &[u32], places: &[u16], n: u32) -> bool
+    requires { ⌜ NodeReady (now image) (now places) n ⌝ }
+    ensures { λ r. ⌜ r ≡ isField (now (image .entry)) n ⌝ }
 {
-    [false; 2731]
+    tok::kind(word_at(image, places::node_place(places, n))) == FIELD
 }
 
-pub fn is_poison(answer: Answer) -> bool
-    ensures { λ r. ⌜ r ≡ isPoison answer ⌝ }
+// What node n has answered: poisoned it left no type in its slot, or Unknown where it read a field of that type.
+fn node_answer(slots: &[u32], image: &[u32], places: &[u16], n: u32) -> Answer
+    requires { ⌜ NodeReady (now image) (now places) n ⌝ }
+    ensures { λ r. ⌜ r ≡ nodeAnswer (now (image .entry)) (now (slots .entry)) n ⌝ }
 {
-    match answer {
-        Answer::Known(_) => {
-            return false;
-        }
-        Answer::Poison => {
-            return true;
-        }
-    }
-}
-
-fn flag_at(flags: &[bool], i: usize) -> bool
-    ensures { λ r. ⌜ r ≡ getD (now (flags .entry)) i false ⌝ }
-{
-    if i < flags.len() { flags[i] } else { false }
-}
-
-// The branches, once all bodies are visited.
-
-// The slot that a body answers where it is not poisoned: its last node's, or V where it is empty.
-fn body_slot(image: &[u32], places: &[u16], n: u32, at: usize, count: usize) -> u32
-    requires { ⌜ NodesReady (now image) (now places) n at count ⌝ }
-    ensures { λ r. ⌜ r ≡ endSlot (slotCount (now (image .entry))) (nodesFrom (treeOf (now (image .entry))) (now (image .entry)) at count) ⌝ }
-{
-    if count == 0 {
-        return word_at(image, 3);
-    }
-    slot_of(image, places, word_at(image, at + (count - 1)))
-}
-
-// What a body has answered, by its slot.
-fn branch_answer(poisoned: bool, slot: u32) -> Answer
-    ensures { λ r. ⌜ r ≡ branchAnswer poisoned slot ⌝ }
-{
-    if poisoned {
+    let slot = slot_of(image, places, n);
+    let w = word_at(slots, wide(slot));
+    if w == 0 {
         return Answer::Poison;
     }
+    if tok::kind(w) == ptype::UNKNOWN {
+        if is_field(image, places, n) {
+            return Answer::Poison;
+        }
+    }
     Answer::Known(slot)
+}
+
+// What a body of the node n has answered: its last node's answer, or slot V where it is empty.
+fn body_answer(
+    slots: &[u32],
+    image: &[u32],
+    places: &[u16],
+    n: u32,
+    at: usize,
+    count: usize,
+) -> Answer
+    requires { ⌜ NodesReady (now image) (now places) n at count ⌝ }
+    ensures { λ r. ⌜ r ≡ bodyAnswer (now (image .entry)) (now (slots .entry)) at count ⌝ }
+{
+    if count == 0 {
+        return Answer::Known(word_at(image, 3));
+    }
+    node_answer(slots, image, places, word_at(image, at + (count - 1)))
 }
 
 // The branches of the Match n, whose cases stand from word `at` on, against the default's slot, in order: 24 for each that differs.
@@ -136,19 +130,18 @@ fn compare_branches<'a>(
     count: usize,
     used: Used,
     n: u32,
-    poisoned: &[bool],
     default: u32,
 ) -> Went
     requires { ⌜ CasesReady (now image) (now places) n at count ⌝ }
     ensures { λ r. let T : Texts = textsOf (now (script .entry)) (now (library .entry)) in
-        ⌜ ((ls : List Package) (v : ℕ) → Goes (compareBranches (ctx T ls v) n default (branchesFrom (now (image .entry)) (now (poisoned .entry)) 0 at count)) (now (slots .entry)) (now (types .entry)) (now (diagnostics .entry)) (now (messages .entry)) used (now (slots .entry)) (now (types .entry)) (now (diagnostics .exit)) (now (messages .exit)) r) ⌝ }
+        ⌜ ((ls : List Package) (v : ℕ) → Goes (compareBranches (ctx T ls v) n default (branchesFrom (now (image .entry)) (now (slots .entry)) at count)) (now (slots .entry)) (now (types .entry)) (now (diagnostics .entry)) (now (messages .entry)) used (now (slots .entry)) (now (types .entry)) (now (diagnostics .exit)) (now (messages .exit)) r) ⌝ }
 {
     let mut here = used;
     let mut place = at;
     let mut i = 0;
     while i < count {
         let body = wide(word_at(image, place + 2));
-        let slot = body_slot(image, places, n, place + 3, body);
+        let answer = body_answer(slots, image, places, n, place + 3, body);
         let went = values::compare_branch(
             slots,
             types,
@@ -160,7 +153,7 @@ fn compare_branches<'a>(
             n,
             default,
             word_at(image, place),
-            branch_answer(flag_at(poisoned, i), slot),
+            answer,
         );
         let Went::On(after) = went else {
             return went;
@@ -185,12 +178,11 @@ pub fn end<'a>(
     at: usize,
     st: State,
     n: u32,
-    poisoned: &[bool],
     default: Answer,
 ) -> Visit
     requires { ⌜ CasesReady (now image) (now places) n (at + 3) (wordAt (now image) (at + 2)) ⌝ }
     ensures { λ r. let T : Texts = textsOf (now (script .entry)) (now (library .entry)) in let I : List ℕ = now (image .entry) in
-        ⌜ ((ls : List Package) (v : ℕ) (words f e : List ℕ) → Visits (matched (ctx T ls v) n (wordAt I (at + 1)) (branchesFrom I (now (poisoned .entry)) 0 (at + 3) (wordAt I (at + 2))) default) 0 0 words st (lent (now (slots .entry)) f (now (types .entry)) (now (diagnostics .entry)) (now (messages .entry)) e) (lent (now (slots .exit)) f (now (types .entry)) (now (diagnostics .exit)) (now (messages .exit)) e) r) ⌝ }
+        ⌜ ((ls : List Package) (v : ℕ) (words f e : List ℕ) → Visits (matched (ctx T ls v) n (wordAt I (at + 1)) (branchesFrom I (now (slots .entry)) (at + 3) (wordAt I (at + 2))) default) 0 0 words st (lent (now (slots .entry)) f (now (types .entry)) (now (diagnostics .entry)) (now (messages .entry)) e) (lent (now (slots .exit)) f (now (types .entry)) (now (diagnostics .exit)) (now (messages .exit)) e) r) ⌝ }
 {
     let Answer::Known(slot) = default else {
         return Visit::Poison(st);
@@ -210,7 +202,6 @@ pub fn end<'a>(
         count,
         used,
         n,
-        poisoned,
         slot,
     );
     match went {

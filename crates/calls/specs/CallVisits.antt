@@ -3,7 +3,7 @@
 use Prim.Native.Nat.{ℕ, _+_, _*_, _-_, _<_, _≤_}
 use mathlib.Core.Path.{_≡_, refl, sym, ap, _∙_}
 use mathlib.Core.Bool.{Bool, true, false, _||_}
-use mathlib.Core.List.{List}
+use mathlib.Core.List.{List, _++_}
 use native.Mathlib.Omega.{arith}
 use lib.ListN.{getD}
 use Rattle.tok.specs.Word.{kindOf, payloadOf}
@@ -16,6 +16,8 @@ use Rattle.rules.specs.declared.Answer.{Answer}
 use Rattle.rules.specs.World.{Ctx, Walk}
 use Rattle.rules.specs.Steps.{isPoison}
 use Rattle.rules.specs.Rules.{node, visitAll}
+use Rattle.rules.specs.Visited.{visitedAmong}
+use Rattle.accepts.specs.Fresh.{visitedFrom, Fresh, fresh-first, fresh-rest}
 use Rattle.rules.specs.Calls.{Callee, noCallee, calleeOf, providedOf, call}
 use Rattle.onerun.specs.Claim.{NameAt}
 use Rattle.onerun.specs.Functions.{Below}
@@ -34,6 +36,7 @@ use Rattle.ready.specs.Ready.{walkRun, Ready, NodeVisit, node-ready}
 use Rattle.ready.specs.Passes.{ready-less, ready-then}
 use Rattle.ready.specs.After.{after-node}
 use Rattle.ready.specs.Parts.{nodes-turn, call-room, call-words}
+use Rattle.ready.specs.Unvisited.{call-fresh, nodes-fresh, visit-apart}
 use Rattle.walking.specs.Kinds.{Is}
 use Rattle.walking.specs.Contracts.{ctxIn, NodeVisited, ClassVisit, nodesAt}
 use Rattle.calls.specs.Callees.{calleeAt, isThroughField, callEnd, CallAt, FieldCall, call-parts}
@@ -60,6 +63,7 @@ pub record Resolvable (T : Texts) (image places words : List ℕ) (n at count : 
 pub record Arguing (T : Texts) (image places words : List ℕ) (n at count place left : ℕ) (st₀ : State) (b₀ : Lent) (poisoned : Bool) (st : State) (b : Lent) : Type 0 where
   pub leads : Leads (callFrom T image words n st₀ b₀) (visitsFrom (ctxIn T image words) poisoned (nodesAt image place left) (endAt T image words n at count)) (rooms (nodesAt image place left) + count) (rowsAll (nodesAt image place left)) st b
   pub ready : Ready T image places words (rooms (nodesAt image place left) + count) (rowsAll (nodesAt image place left)) st b
+  pub fresh : Fresh (visitedAmong (nodesAt image place left)) (b .slots)
 
 -- a rule that goes on as another does
 leads-as : {o : Beginning} {m : Walk Answer} (m′ : Walk Answer) {r w : ℕ} {st : State} {b : Lent} → m (whole (o .library) st b) ≡ m′ (whole (o .library) st b) → Leads o m r w st b → Leads o m′ r w st b
@@ -92,8 +96,11 @@ module _ {T : Texts} {image places words : List ℕ} {n at count place left : �
     unfolding rooms rowsAll
     argument-ready = ready-less (omega (arith, ap rooms all-nodes)) (omega (arith, ap rowsAll all-nodes)) (t .ready)
 
+    argument-fresh : Fresh (visitedFrom (treeOf image part) ++ visitedAmong others) (b .slots)
+    argument-fresh = rw ep (nodes-fresh image place (omega (arith, p)) (t .fresh))
+
     pub argument-visit : part < nodeCount image → NodeVisit T image places words part st b
-    argument-visit l = record { below = l; ready = ready-less (omega arith) (omega arith) argument-ready }
+    argument-visit l = record { below = l; ready = ready-less (omega arith) (omega arith) argument-ready; fresh = fresh-first _ _ argument-fresh }
 
     abbrev rest-after : Answer → Walk Answer
     rest-after a = visitsFrom (ctxIn T image words) (poisoned || isPoison a) others (endAt T image words n at count)
@@ -115,7 +122,11 @@ module _ {T : Texts} {image places words : List ℕ} {n at count place left : �
       -- the next one's turn
       pub argument-passed : part < nodeCount image → {a : Answer} {st₁ : State} → Came v a st₁ → {q : Bool} → q ≡ (poisoned || isPoison a) → Arguing T image places words n at count (place + 1) (left - 1) st₀ b₀ q st₁ b₁
       argument-passed below c e =
-          rw e (record { leads = leads-then rest-after argument-leads x c; ready = ready-then argument-ready (after-node argument-ready below x c) })
+          rw e (record {
+            leads = leads-then rest-after argument-leads x c;
+            ready = ready-then argument-ready (after-node argument-ready below x c);
+            fresh = fresh-rest _ _ argument-fresh (visit-apart (ctxIn T image words) (treeOf image part) x c);
+          })
 
 -- as a loop counts them
 pub some-left : {i count : ℕ} → i < count → count - i ≡ 0 → ⊥
@@ -201,6 +212,7 @@ module _ {T : Texts} {image places words : List ℕ} {n : ℕ} {st : State} {b :
             });
           };
           ready = rw e at (call-room (y .visit) tree);
+          fresh = call-fresh (y .visit) tree;
         }
 
     pub arguing-first : isThroughField (calleeAt image at) ≡ false → Arguing T image places words n at (l - 3) (at + 3 + 0) (l - 3 - 0) st b false st b

@@ -1,74 +1,211 @@
--- Node::Record put together of the visits of its values and its end: what each asks for, and one law for each way out of the code. Assumes
--- nothing.
-use Prim.Native.Nat.{ℕ, suc, _+_, _*_, _-_, _/_, _<_, _≤_}
+-- Node::Record put together of the visits of its values and its end: the loop's invariant with a law for its beginning, each turn and its
+-- ends. Assumes nothing.
+use Prim.Native.Nat.{ℕ, zero, suc, _+_, _*_, _-_, _/_, _<_, _≤_}
 use mathlib.Core.Path.{_≡_, refl, sym, ap, _∙_}
-use mathlib.Core.List.{List}
+use mathlib.Core.List.{List, [], _∷_, _++_}
 use native.Mathlib.Omega.{arith}
-use lib.ListN.{length, getD}
+use lib.ListN.{getD}
 use Rattle.tok.specs.Word.{kindOf, payloadOf}
 use Rattle.tok.specs.Text.{Texts}
-use Rattle.tok.specs.Step.{ok, _>>=_}
-use Rattle.ptype.specs.UnfoldLaws.{one-less}
-use Rattle.ast.specs.Image.{nodeCount, recordLength}
-use Rattle.ast.specs.Node.{Values, Record, treeOf}
+use Rattle.tok.specs.Step.{ok, next, _>>=_}
+use Rattle.ast.specs.Image.{nodeCount, recordLength, wordAt}
+use Rattle.ast.specs.Node.{Node, Values, Record, value, noValue, treeOf, slotOf, valuesFrom}
 use Rattle.image_laws.specs.Many.{Each}
 use Rattle.image_laws.specs.RecordWords.{Pair, RecordWords}
-use Rattle.trees.specs.SameWords.{each-first, each-rest}
+use Rattle.laws.specs.Told.{Reads, Tells}
 use Rattle.rules.specs.declared.Answer.{Answer}
 use Rattle.rules.specs.World.{World, Walk}
-use Rattle.rules.specs.Rules.{values}
+use Rattle.rules.specs.Rules.{valueType, node}
+use Rattle.rules.specs.Visited.{visitedInValues}
+use Rattle.accepts.specs.Count as N
+use Rattle.accepts.specs.Count.{total, total-append}
+use Rattle.accepts.specs.VisitedParts.{slotsOf}
+use Rattle.accepts.specs.OtherSlots.{owned}
+use Rattle.accepts.specs.Fresh.{visitedFrom, Fresh, fresh-first, fresh-rest, node-tells}
 use Rattle.places.specs.NodesAt.{NodeReady, countsOf, record-room, length-there, node-record, words-record}
+use Rattle.spans.specs.Ready.{ValuesReady}
 use Rattle.room_laws.specs.Room.{room, rows, valueRooms, valueRows}
 use Rattle.visit.specs.declared.State.{State}
 use Rattle.visit.specs.declared.Visit.{Visit}
-use Rattle.visit.specs.declared.Visit.the-variants as X
-use Rattle.visit.specs.declared.Gave.{Gave}
-use Rattle.visit.specs.declared.Gave.the-variants as G
 use Rattle.visit.specs.Whole.{Lent, whole}
 use Rattle.visit.specs.Within.{Visits}
-use Rattle.visiting.specs.Then.{Came, visits-most}
-use Rattle.visiting.specs.Leads.{Beginning, Whole, leads-begin, leads-word, leads-word-stop}
-use Rattle.ready.specs.Ready.{Ready, NodeVisit, node-ready}
+use Rattle.visiting.specs.Then.{Came, Stopped, visits-most}
+use Rattle.visiting.specs.Leads.{Beginning, Leads, leads-begin, leads-less, leads-then, leads-stop}
+use Rattle.visiting.specs.Turns as U
+use Rattle.ready.specs.Ready.{walkRun, Ready, NodeVisit, node-ready}
 use Rattle.ready.specs.Passes.{ready-less, ready-then}
-use Rattle.ready.specs.After.{after-node}
+use Rattle.ready.specs.After.{after-node, node-answer}
+use Rattle.ready.specs.Parts as R
 use Rattle.ready.specs.Parts.{values-turn}
+use Rattle.ready.specs.Unvisited.{came-ok, record-fresh, values-fresh, visit-apart}
 use Rattle.walking.specs.Kinds.{Is}
-use Rattle.walking.specs.Contracts.{ctxIn, NodeVisited, ClassVisit, valuesAt, pairsFrom, ValuesVisit, ValuesVisited}
-use Rattle.walking.specs.Stops.{refusedOf}
-use Rattle.fields.specs.Parts.{recordEnd, two-each, record-rule}
+use Rattle.walking.specs.Contracts.{ctxIn, NodeVisited, ClassVisit, valuesAt}
+use Rattle.fields.specs.Read.{nodeValue, pairsRead, read-more, read-still, value-told}
+use Rattle.fields.specs.Parts.{recordOf}
 
--- ── What the visits of the values ask for ──
+-- what follows the values, of their pairs
+abbrev pub ending : Texts → (image : List ℕ) → (n at : ℕ) → List ℕ → Walk Answer
+ending T image n at pairs = recordOf T n (wordAt image (at + 1)) pairs
 
-module _ {T : Texts} {image places words : List ℕ} {n at left k : ℕ} {st : State} {b : Lent} (y : ValuesVisit T image places words n at left k st b) (p : left ≡ 0 → ⊥) {part : ℕ} (ep : part ≡ getD image (at + 1) 0) where
-  pairs : Each (Pair (y .text) n image) 2 at (suc (left - 1))
-  pairs = rw (one-less p) at (y .values)
+-- the Record's rule, at its beginning
+abbrev pub recording : Texts → (image words : List ℕ) → (n : ℕ) → State → Lent → Beginning
+recording T image words n st b = record { rule = node (ctxIn T image words) (treeOf image n); room = room (treeOf image n); rows = rows (treeOf image n); library = words; st = st; b = b }
 
-  -- "A part's number is smaller than its owner's"
-  pub value-under : part < n
-  value-under = rw ep (each-first (Pair (y .text) n image) pairs .value .under)
+-- where value i stands, and those from there on, of `count`
+abbrev pub placeOf : (at i : ℕ) → ℕ
+placeOf at i = at + 3 + 2 * i
 
-  value-below : part < nodeCount image
-  value-below = omega (arith, value-under, y .below)
+abbrev pub leftAt : (image : List ℕ) → (at count i : ℕ) → Values
+leftAt image at count i = valuesAt image (placeOf at i) (count - i)
 
-  value-ready : Ready T image places words (room (treeOf image part) + valueRooms (valuesAt image (at + 2) (left - 1))) (rows (treeOf image part) + valueRows (valuesAt image (at + 2) (left - 1))) st b
-  unfolding valueRooms valueRows
-  value-ready =
-      let some : 0 < left = omega (arith, p) in
-      rw (values-turn image at some, ← ep) at (y .ready)
+-- i values are done, as their slots tell
+pub record Turn (T : Texts) (image places words : List ℕ) (n at count : ℕ) (st : State) (b : Lent) (here : State) (i : ℕ) (b′ : Lent) : Type 0 where
+  pub within : i ≤ count
+  pub values : ValuesReady image places n (at + 3) count
+  -- what is left of the rule leads to all of it, and there is room for it
+  pub leads : Leads (recording T image words n st b) (U.valuesFrom (ctxIn T image words) (pairsRead image (b′ .slots) (at + 3) i) (leftAt image at count i) (ending T image n at))
+      (valueRooms (leftAt image at count i)) (valueRows (leftAt image at count i)) here b′
+  pub ready : Ready T image places words (valueRooms (leftAt image at count i)) (valueRows (leftAt image at count i)) here b′
+  -- the slots of those that are left have no type yet, and none of them is a slot of those that are done
+  pub fresh : Fresh (visitedInValues (leftAt image at count i)) (b′ .slots)
+  pub apart : (a : ℕ) → owned a (visitedInValues (valuesAt image (at + 3) i)) + owned a (visitedInValues (leftAt image at count i)) ≤ 1
 
-  pub value-visit : NodeVisit T image places words part st b
-  value-visit = record { below = value-below; ready = ready-less (omega arith) (omega arith) value-ready }
+leads-as : {o : Beginning} {m : Walk Answer} (m′ : Walk Answer) {r w : ℕ} {st : State} {b : Lent} → m (whole (o .library) st b) ≡ m′ (whole (o .library) st b) → Leads o m r w st b → Leads o m′ r w st b
+leads-as m′ e l = record { onto = λ b′ v x. l .onto b′ v (record { step = e ∙ x .step; keeps = x .keeps }) }
 
-  -- the values after it
-  pub rest-visit : {b₁ : Lent} {v : Visit} {a : Answer} {st₁ : State} → NodeVisited T image words part st b b₁ v → Came v a st₁ → ValuesVisit T image places words n (at + 2) (left - 1) (k + 1) st₁ b₁
-  rest-visit x c = record {
-    text = y .text;
-    below = y .below;
-    values = each-rest (Pair (y .text) n image) pairs;
-    inside = omega (arith, y .inside, p);
-    few = omega (arith, y .few, p);
-    ready = ready-then value-ready (after-node value-ready value-below x c);
-  }
+-- one more value is done
+done-more : (image : List ℕ) (a at k : ℕ) → owned a (visitedInValues (valuesAt image at (k + 1)))
+    ≡ owned a (visitedInValues (valuesAt image at k)) + owned a (visitedFrom (treeOf image (wordAt image (at + 2 * k + 1))))
+unfolding visitedInValues valuesFrom total
+done-more image a at zero =
+    let e : at + 2 * 0 + 1 ≡ at + 1 = omega arith in
+    rw e (omega (arith, total-append (λ y. N.count a (slotsOf y)) (visitedFrom (treeOf image (wordAt image (at + 1)))) []))
+done-more image a at (suc k) =
+    let e : suc k + 1 ≡ suc (k + 1) = omega arith in
+    let f : at + 2 * suc k + 1 ≡ at + 2 + 2 * k + 1 = omega arith in
+    let x : List Node = visitedFrom (treeOf image (wordAt image (at + 1))) in
+    rw (e, f)
+    (omega (
+      arith,
+      total-append (λ y. N.count a (slotsOf y)) x (visitedInValues (valuesAt image (at + 2) (k + 1))),
+      total-append (λ y. N.count a (slotsOf y)) x (visitedInValues (valuesAt image (at + 2) k)),
+      done-more image a (at + 2) k,
+    ))
+
+-- ── A turn ──
+
+module _ {T : Texts} {image places words : List ℕ} {n at count : ℕ} {st : State} {b : Lent} {here : State} {i : ℕ} {b′ : Lent}
+    (h : Turn T image places words n at count st b here i b′) where
+  module _ (l : i < count) {part : ℕ} (ep : part ≡ getD image (at + 4 + 2 * i) 0) where
+    left : 0 < count - i
+    left = omega arith
+
+    part-is : part ≡ getD image (placeOf at i + 1) 0
+    part-is = let z : placeOf at i + 1 ≡ at + 4 + 2 * i = omega arith in rw z ep
+
+    -- "A part's number is smaller than its owner's"
+    pub value-under : part < n
+    value-under = rw part-is (h .values .values .each i l .value .under)
+
+    value-below : part < nodeCount image
+    value-below = omega (arith, value-under, h .values .ready .below)
+
+    -- those after it
+    abbrev others : Values
+    others = valuesAt image (placeOf at i + 2) (count - i - 1)
+
+    all-values : leftAt image at count i ≡ value (getD image (placeOf at i) 0) (treeOf image part) others
+    all-values = values-turn image (placeOf at i) left ∙ ap (λ p. value (getD image (placeOf at i) 0) (treeOf image p) others) (sym part-is)
+
+    value-ready : Ready T image places words (room (treeOf image part) + valueRooms others) (rows (treeOf image part) + valueRows others) here b′
+    unfolding valueRooms valueRows
+    value-ready = rw all-values at (h .ready)
+
+    value-fresh : Fresh (visitedFrom (treeOf image part) ++ visitedInValues others) (b′ .slots)
+    unfolding visitedInValues
+    value-fresh = rw all-values at (h .fresh)
+
+    pub value-visit : NodeVisit T image places words part here b′
+    value-visit = record { below = value-below; ready = ready-less (omega arith) (omega arith) value-ready; fresh = fresh-first _ _ value-fresh }
+
+    -- the rest after its visit, of its type
+    abbrev with-type : ℕ → Walk Answer
+    with-type w = U.valuesFrom (ctxIn T image words) (pairsRead image (b′ .slots) (at + 3) i ++ (getD image (placeOf at i) 0 ∷ w ∷ [])) others (ending T image n at)
+
+    abbrev rest : Answer → Walk Answer
+    rest a = _>>=_ (valueType a) with-type
+
+    value-leads : Leads (recording T image words n st b) (_>>=_ (node (ctxIn T image words) (treeOf image part)) rest) (room (treeOf image part) + valueRooms others) (rows (treeOf image part) + valueRows others) here b′
+    unfolding valueRooms valueRows
+    value-leads =
+        leads-as (_>>=_ (node (ctxIn T image words) (treeOf image part)) rest)
+        (U.values-turn (ctxIn T image words) (pairsRead image (b′ .slots) (at + 3) i) (ending T image n at) (getD image (placeOf at i) 0) (treeOf image part) others (whole words here b′))
+        (rw all-values at (h .leads))
+
+    module _ {b₁ : Lent} {v : Visit} (x : NodeVisited T image words part here b′ b₁ v) where
+      pub turn-stops : Stopped v → NodeVisited T image words n st b b₁ v
+      turn-stops s = leads-stop rest value-leads x s
+
+      module _ {a : Answer} {on : State} (k : Came v a on) where
+        -- its slot tells its type
+        type-is : valueType a (whole words on b₁) ≡ ok (nodeValue image (b₁ .slots) part) (whole words on b₁)
+        unfolding nodeValue
+        type-is =
+            let e = x .step ∙ came-ok words b₁ k in
+            let t : Tells (Reads (treeOf image part)) (slotOf (treeOf image part)) 0 (ok a (whole words on b₁)) = rw e at (node-tells (ctxIn T image words) (treeOf image part) (whole words here b′) (fresh-first _ _ value-fresh)) in
+            value-told (walkRun T image words) t (node-answer (after-node value-ready value-below x k))
+
+        -- the slots of those done before are as they were
+        told : pairsRead image (b′ .slots) (at + 3) i ++ (getD image (placeOf at i) 0 ∷ nodeValue image (b₁ .slots) part ∷ []) ≡ pairsRead image (b₁ .slots) (at + 3) (i + 1)
+        unfolding visitedInValues
+        told =
+            let o : (a : ℕ) → owned a (visitedInValues (leftAt image at count i)) ≡ owned a (visitedFrom (treeOf image part)) + owned a (visitedInValues others) = λ a.
+                ap (λ vs. owned a (visitedInValues vs)) all-values ∙ total-append (λ y. N.count a (slotsOf y)) (visitedFrom (treeOf image part)) (visitedInValues others) in
+            ap (λ ps. ps ++ (getD image (placeOf at i) 0 ∷ nodeValue image (b₁ .slots) part ∷ []))
+            (sym (read-still image (visit-apart (ctxIn T image words) (treeOf image part) x k) (at + 3) i (λ a q. omega (arith, h .apart a, o a))))
+            ∙ ap (λ p. pairsRead image (b₁ .slots) (at + 3) i ++ (getD image (placeOf at i) 0 ∷ nodeValue image (b₁ .slots) p ∷ [])) part-is
+            ∙ sym (read-more image (b₁ .slots) (at + 3) i)
+
+        next-leads : Leads (recording T image words n st b) (U.valuesFrom (ctxIn T image words) (pairsRead image (b₁ .slots) (at + 3) (i + 1)) others (ending T image n at)) (valueRooms others) (valueRows others) on b₁
+        next-leads =
+            leads-as (U.valuesFrom (ctxIn T image words) (pairsRead image (b₁ .slots) (at + 3) (i + 1)) others (ending T image n at))
+            (ap (λ r. next r with-type) type-is ∙ ap (λ ps. U.valuesFrom (ctxIn T image words) ps others (ending T image n at) (whole words on b₁)) told)
+            (leads-then rest value-leads x k)
+
+        still-apart : (a : ℕ) → owned a (visitedInValues (valuesAt image (at + 3) (i + 1))) + owned a (visitedInValues others) ≤ 1
+        unfolding visitedInValues
+        still-apart a =
+            omega (
+              arith,
+              h .apart a,
+              ap (λ vs. owned a (visitedInValues vs)) all-values,
+              total-append (λ y. N.count a (slotsOf y)) (visitedFrom (treeOf image part)) (visitedInValues others),
+              done-more image a (at + 3) i,
+              ap (λ p. owned a (visitedFrom (treeOf image p))) part-is,
+            )
+
+        pub turn-next : Turn T image places words n at count st b on (i + 1) b₁
+        turn-next =
+            let p : placeOf at i + 2 ≡ placeOf at (i + 1) = omega arith in
+            let c : count - i - 1 ≡ count - (i + 1) = omega arith in
+            record {
+              within = omega arith;
+              values = h .values;
+              leads = rw (p, c) at next-leads;
+              ready = rw (p, c) at (ready-then value-ready (after-node value-ready value-below x k));
+              fresh = rw (p, c) at (fresh-rest _ _ value-fresh (visit-apart (ctxIn T image words) (treeOf image part) x k));
+              apart = λ a. rw (p, c) at (still-apart a);
+            }
+
+  -- ── After the loop ──
+
+  pub record-made : count ≤ i → {b₁ : Lent} {v : Visit} → Visits (recordOf T n (wordAt image (at + 1)) (pairsRead image (b′ .slots) (at + 3) count)) 0 0 words here b′ b₁ v → NodeVisited T image words n st b b₁ v
+  unfolding valuesFrom
+  record-made l {b₁} {v} y =
+      let z : count - i ≡ 0 = omega arith in
+      let e : i ≡ count = omega (arith, h .within) in
+      let leads : Leads (recording T image words n st b) (U.valuesFrom (ctxIn T image words) (pairsRead image (b′ .slots) (at + 3) count) noValue (ending T image n at)) _ _ here b′ = rw (z, e) at (h .leads) in
+      leads .onto b₁ v (visits-most (omega arith) (omega arith) (record { step = U.values-end (ctxIn T image words) (pairsRead image (b′ .slots) (at + 3) count) (ending T image n at) (whole words here b′) ∙ y .step; keeps = y .keeps }))
 
 -- ── Node::Record ──
 
@@ -86,11 +223,8 @@ module _ {T : Texts} {image places words : List ℕ} {n : ℕ} {st : State} {b :
   facts : RecordWords (countsOf there) image n at
   facts = words-record there ea eh refl kind
 
-  abbrev count : ℕ
-  count = (l - 3) / 2
-
   abbrev fields : Values
-  fields = valuesAt image (at + 3) count
+  fields = valuesAt image (at + 3) ((l - 3) / 2)
 
   tree : treeOf image n ≡ Record n (getD image (at + 1) 0) (getD image (at + 2) 0) fields
   tree = node-record there ea eh refl kind ∙ ap (λ j. Record n (getD image (at + 1) 0) (getD image (at + 2) 0) (valuesAt image (at + 3) ((j - 3) / 2))) (sym long)
@@ -102,46 +236,25 @@ module _ {T : Texts} {image places words : List ℕ} {n : ℕ} {st : State} {b :
   pub record-inside : at + l ≤ 8192
   record-inside = rw long (record-room there ea)
 
-  pub record-few : (l - 3) / 2 ≤ 4096
-  record-few = omega (arith, record-inside, record-length)
-
   pub record-low : at ≤ 8192
   record-low = omega (arith, record-inside)
 
-  pub record-values : ValuesVisit T image places words n (at + 3) ((l - 3) / 2) 0 st b
-  unfolding room rows
-  record-values = record {
-    text = there .readable .text;
-    below = y .visit .below;
-    values = rw (← long) at (facts .values);
-    inside = omega (arith, record-inside, record-length);
-    few = omega (arith, record-few);
-    ready = rw tree at (y .visit .ready);
-  }
+  begins : Leads (recording T image words n st b) (U.valuesFrom (ctxIn T image words) [] fields (ending T image n at)) (valueRooms fields) (valueRows fields) st b
+  unfolding node room rows recordOf
+  begins = record { onto = λ b′ v x. rw tree (record { step = x .step; keeps = x .keeps }) }
 
-  -- ── The ways out ──
-
-  abbrev rule : Walk Answer
-  rule = _>>=_ (pairsFrom (ctxIn T image words) n (0 + count) 0 fields) (recordEnd T n (getD image (at + 1) 0))
-
-  two : (pairs : List ℕ) (s′ : World) → values (ctxIn T image words) fields (whole words st b) ≡ ok pairs s′ → length pairs ≡ 2 * (0 + count)
-  two pairs s′ e = omega (arith, two-each (ctxIn T image words) (treeOf image) image count (at + 3) (whole words st b) pairs s′ e)
-
-  is-rule : {b′ : Lent} {v : Visit} → Visits rule (valueRooms fields) (valueRows fields) words st b b′ v → NodeVisited T image words n st b b′ v
-  unfolding room rows
-  is-rule z = rw tree (record { step = record-rule (ctxIn T image words) n (getD image (at + 1) 0) (0 + count) (getD image (at + 2) 0) fields (whole words st b) two ∙ z .step; keeps = z .keeps })
-
-  abbrev beginning : Beginning
-  beginning = record { rule = rule; room = valueRooms fields + 0; rows = valueRows fields + 0; library = words; st = st; b = b }
-
-  from-beginning : {b′ : Lent} {v : Visit} → Whole beginning b′ v → NodeVisited T image words n st b b′ v
-  from-beginning z = is-rule (visits-most (omega arith) (omega arith) z)
-
-  module _ {b₁ : Lent} {g : Gave} (x : ValuesVisited T image words n (at + 3) ((l - 3) / 2) 0 st b b₁ g) where
-    pub record-refused : {number place : ℕ} {v : Visit} → g ≡ G.Refused number place → v ≡ refusedOf g → NodeVisited T image words n st b b₁ v
-    unfolding refusedOf
-    record-refused e ev = rw (ev, e) (from-beginning (leads-word-stop (recordEnd T n (getD image (at + 1) 0)) (leads-begin beginning) x e))
-
-    pub record-closed : {word : ℕ} {st₁ : State} {b₂ : Lent} {v : Visit} → g ≡ G.Word word st₁ → Visits (recordEnd T n (getD image (at + 1) 0) word) 0 0 words st₁ b₁ b₂ v
-        → NodeVisited T image words n st b b₂ v
-    record-closed {b₂ = b₂} {v = v} e z = from-beginning (leads-word (recordEnd T n (getD image (at + 1) 0)) (leads-begin beginning) x e .onto b₂ v z)
+  pub turn-begin : {count : ℕ} → count ≡ (l - 3) / 2 → Turn T image places words n at count st b st 0 b
+  unfolding pairsRead valuesFrom visitedInValues total
+  turn-begin ec =
+      let p : placeOf at 0 ≡ at + 3 = omega arith in
+      let c : (l - 3) / 2 - 0 ≡ (l - 3) / 2 = omega arith in
+      let f = record-fresh (y .visit) tree in
+      rw ec
+      (record {
+        within = omega arith;
+        values = record { ready = there; values = rw (← long) at (facts .values); room = omega (arith, record-inside, record-length) };
+        leads = rw (p, c) begins;
+        ready = rw (p, c) (R.record-room (y .visit) tree);
+        fresh = rw (p, c) f;
+        apart = λ a. rw (p, c) (omega (arith, f .once a));
+      })

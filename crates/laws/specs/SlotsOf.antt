@@ -39,6 +39,34 @@ unfoldable mutual
   SlotsOfValues P noValue = Unit {0}
   SlotsOfValues P (value name x vs) = SlotsOf P x × SlotsOfValues P vs
 
+-- the same of all but the node's own slot
+unfoldable pub PartsOf : (P : ℕ → Type 0) → Node → Type 0
+PartsOf P (Atom n slot token k) = Unit {0}
+PartsOf P (Ident n slot name) = Unit {0}
+PartsOf P (Bin n slot token op l r) = SlotsOf P l × SlotsOf P r
+PartsOf P (Unary n slot token op r) = SlotsOf P r
+PartsOf P (Let n slot name r) = SlotsOf P r
+PartsOf P (Fn n slot name ret args body) = ArgSlots P (slot + 1) args × SlotsOfAll P body
+PartsOf P (Match n slot cs token d) = SlotsOfCases P cs × SlotsOfAll P d
+PartsOf P (Call n slot target args) = SlotsOfAll P args
+PartsOf P (Field n slot target name) = SlotsOf P target
+PartsOf P (Cast n slot token l t) = SlotsOf P l
+PartsOf P (Import n slot token paths) = Unit {0}
+PartsOf P (Extern n slot token name fs) = Unit {0}
+PartsOf P (Record n slot token fs) = SlotsOfValues P fs
+PartsOf P (Array n slot token ms) = SlotsOfAll P ms
+PartsOf P (Absent n) = Unit {0}
+
+-- the last of nodes one after the other
+unfoldable pub lastNode : Node → Nodes → Node
+lastNode x done = x
+lastNode x (then y ys) = lastNode y ys
+
+-- and of nodes one after the other, but the last one's own slot
+unfoldable pub LastOf : (P : ℕ → Type 0) → Node → Nodes → Type 0
+LastOf P x done = PartsOf P x
+LastOf P x (then y ys) = SlotsOf P x × LastOf P y ys
+
 -- what holds of every number holds of a tree's slots
 pub all-args : {P : ℕ → Type 0} → ((slot : ℕ) → P slot) → (slot : ℕ) (args : List Arg) → ArgSlots P slot args
 unfolding ArgSlots

@@ -4,7 +4,7 @@ use Prim.Native.Nat.{ℕ, _+_, _*_, _-_, _<_, _≤_}
 use mathlib.Core.Path.{_≡_, refl, sym, ap, _∙_}
 use mathlib.Core.Bool.{Bool, false}
 use mathlib.Core.Option.{Option, some}
-use mathlib.Core.List.{List}
+use mathlib.Core.List.{List, [], _++_}
 use native.Mathlib.Omega.{arith}
 use lib.ListN.{getD}
 use Rattle.tok.specs.Word.{kindOf, payloadOf}
@@ -21,6 +21,8 @@ use Rattle.rules.specs.declared.Answer.the-variants.{Poison}
 use Rattle.rules.specs.World.{Walk}
 use Rattle.rules.specs.Steps.{onOption, poison}
 use Rattle.rules.specs.Rules.{node, array, members, arrayOf}
+use Rattle.rules.specs.Visited.{visitedAmong}
+use Rattle.accepts.specs.Fresh.{visitedFrom, Fresh, Apart, fresh-first, fresh-rest, member-apart}
 use Rattle.places.specs.NodesAt.{NodeReady, countsOf, record-room, length-there, node-array, words-array}
 use Rattle.room_laws.specs.Room.{room, rooms, rows, rowsAll}
 use Rattle.onerun.specs.Claim.{AnswerOk}
@@ -37,11 +39,12 @@ use Rattle.ready.specs.Ready.{walkRun, Ready, NodeVisit, node-ready}
 use Rattle.ready.specs.Passes.{Passes, ready-less, ready-then, ready-step, passes-answer, rule-passes}
 use Rattle.ready.specs.After.{after-node, member-gives}
 use Rattle.ready.specs.Parts.{nodes-turn}
+use Rattle.ready.specs.Unvisited.{array-fresh, nodes-fresh, visit-apart}
 use Rattle.walking.specs.Kinds.{Is}
 use Rattle.walking.specs.Contracts.{ctxIn, NodeVisited, ClassVisit, nodesAt}
 use Rattle.members.specs.declared.Turn.{Turn}
 use Rattle.members.specs.declared.Turn.the-variants as R
-use Rattle.members.specs.Turns.{memberTurn, turnIn, KeepsTurn, goes, ends, Turns, Ended, by-difference, by-refusal, endedOf, rest-of, members-turn}
+use Rattle.members.specs.Turns.{turnOf, memberTurn, turnIn, KeepsTurn, goes, ends, Turns, Ended, by-difference, by-refusal, endedOf, rest-of, members-turn}
 
 -- ── What is left after a turn ──
 
@@ -91,6 +94,14 @@ turn-passes {T} {image} {words = words} {st = st} {st₁ = st₁} {b = b} {b₁ 
     (g-next (walkRun T image words) _ (member-gives y n span o k) (λ m u t f. g-return (walkRun T image words) (λ i. f i .holds) (λ i. tt)))
     (z .step) (turn-within (z .keeps))
 
+-- a turn touches no slot
+turn-apart : (T : Texts) (image : List ℕ) (n : ℕ) (span : Span) (first second : Answer) (poisoned : Bool) {words : List ℕ} {st st₁ : State} {b b₁ : Lent} {q : Bool} {v : Turn}
+    → Turns (memberTurn (ctxIn T image words) n span first second poisoned) words st b b₁ v → v ≡ R.On q st₁ → Apart [] (b .slots) (b₁ .slots)
+unfolding memberTurn turnIn
+turn-apart T image n span first second poisoned {words} {st} {st₁} {b} {b₁} {q} x e =
+    let z : Turns (memberTurn (ctxIn T image words) n span first second poisoned) words st b b₁ (R.On q st₁) = rw e at x in
+    member-apart (ctxIn T image words) n span first second (λ m. turnOf m poisoned) (whole words st b) (z .step)
+
 -- ── The members that are left ──
 
 -- all of the rule
@@ -101,6 +112,7 @@ arrayFrom T image words n st b = record { rule = node (ctxIn T image words) (tre
 pub record Turning (T : Texts) (image places words : List ℕ) (n slot place left : ℕ) (st₀ : State) (b₀ : Lent) (first : Answer) (poisoned : Bool) (st : State) (b : Lent) : Type 0 where
   pub leads : Leads (arrayFrom T image words n st₀ b₀) (members (ctxIn T image words) n slot first poisoned (nodesAt image place left)) (rooms (nodesAt image place left)) (rowsAll (nodesAt image place left)) st b
   pub ready : Ready T image places words (rooms (nodesAt image place left)) (rowsAll (nodesAt image place left)) st b
+  pub fresh : Fresh (visitedAmong (nodesAt image place left)) (b .slots)
   pub answer : AnswerOk (walkRun T image words) (whole words st b) first
 
 module _ {T : Texts} {image places words : List ℕ} {n slot place left : ℕ} {st₀ : State} {b₀ : Lent} {first : Answer} {poisoned : Bool} {st : State} {b : Lent}
@@ -122,8 +134,11 @@ module _ {T : Texts} {image places words : List ℕ} {n slot place left : ℕ} {
     unfolding rooms rowsAll
     member-ready = rw all-nodes at (t .ready)
 
+    member-fresh : Fresh (visitedFrom (treeOf image part) ++ visitedAmong others) (b .slots)
+    member-fresh = rw ep (nodes-fresh image place (omega (arith, p)) (t .fresh))
+
     pub member-visit : part < nodeCount image → NodeVisit T image places words part st b
-    member-visit l = record { below = l; ready = ready-less (omega arith) (omega arith) member-ready }
+    member-visit l = record { below = l; ready = ready-less (omega arith) (omega arith) member-ready; fresh = fresh-first _ _ member-fresh }
 
     abbrev rest-after : Answer → Walk Answer
     rest-after a = _>>=_ (memberTurn (ctxIn T image words) n (spanOf (treeOf image part)) first a poisoned) (rest-of (ctxIn T image words) n slot first poisoned others)
@@ -159,6 +174,7 @@ module _ {T : Texts} {image places words : List ℕ} {n slot place left : ℕ} {
             record {
               leads = leads-turn (rest-of (ctxIn T image words) n slot first poisoned others) turn-leads z e;
               ready = ready-step ready₁ turned;
+              fresh = fresh-rest [] _ (fresh-rest _ _ member-fresh (visit-apart (ctxIn T image words) (treeOf image part) x c)) (turn-apart T image n (spanOf (treeOf image part)) first a poisoned z e);
               answer = passes-answer turned (passes-answer passed (t .answer));
             }
 
@@ -256,8 +272,12 @@ module _ {T : Texts} {image places words : List ℕ} {n : ℕ} {st : State} {b :
     unfolding room rows
     first-ready = rw tree-first at (y .visit .ready)
 
+    first-fresh : Fresh (visitedFrom (treeOf image part) ++ visitedAmong rest) (b .slots)
+    unfolding visitedAmong
+    first-fresh = array-fresh (y .visit) tree-first
+
     pub first-visit : NodeVisit T image places words part st b
-    first-visit = record { below = first-below; ready = ready-less (omega arith) (omega arith) first-ready }
+    first-visit = record { below = first-below; ready = ready-less (omega arith) (omega arith) first-ready; fresh = fresh-first _ _ first-fresh }
 
     abbrev members-after : Answer → Walk Answer
     members-after first = members (ctxIn T image words) n (getD image (at + 1) 0) first false rest
@@ -275,5 +295,6 @@ module _ {T : Texts} {image places words : List ℕ} {n : ℕ} {st : State} {b :
       first-passed c = record {
         leads = leads-then members-after first-leads x c;
         ready = ready-then first-ready (after-node first-ready first-below x c);
+        fresh = fresh-rest _ _ first-fresh (visit-apart (ctxIn T image words) (treeOf image part) x c);
         answer = after-node first-ready first-below x c .after .value .own .answer;
       }

@@ -2,7 +2,7 @@
 -- Assumes nothing.
 use Prim.Native.Nat.{ℕ, _+_, _≤_, _<_}
 use mathlib.Core.Path.{_≡_, refl}
-use mathlib.Core.List.{List}
+use mathlib.Core.List.{List, _++_}
 use native.Mathlib.Omega.{arith}
 use lib.ListN.{getD}
 use Rattle.tok.specs.Text.{Texts}
@@ -13,6 +13,7 @@ use Rattle.places.specs.NodesAt.{NodeReady, countsOf, record-room, node-bin, wo
 use Rattle.rules.specs.declared.Answer.{Answer}
 use Rattle.rules.specs.Rules.{node}
 use Rattle.room_laws.specs.Room.{room, rows}
+use Rattle.accepts.specs.Fresh.{visitedFrom, Fresh, fresh-first, fresh-rest}
 use Rattle.visit.specs.declared.State.{State}
 use Rattle.visit.specs.declared.Visit.{Visit}
 use Rattle.visit.specs.Whole.{Lent}
@@ -23,6 +24,7 @@ use Rattle.ready.specs.Ready.{Ready, NodeVisit, node-ready}
 use Rattle.ready.specs.Passes.{ready-then}
 use Rattle.ready.specs.After.{after-node}
 use Rattle.ready.specs.Parts.{node-visit, bin-room}
+use Rattle.ready.specs.Unvisited.{bin-fresh, visit-apart}
 use Rattle.walking.specs.Kinds.{Is}
 use Rattle.walking.specs.Contracts.{ctxIn, NodeVisited, ClassVisit}
 use Rattle.operands.specs.Ends.{binEnd}
@@ -52,10 +54,13 @@ module _ {T : Texts} {image places words : List ℕ} {n : ℕ} {st : State} {b :
   rooms : Ready T image places words (room (treeOf image (wordAt image (at + 4))) + room (treeOf image (wordAt image (at + 5)))) (rows (treeOf image (wordAt image (at + 4))) + rows (treeOf image (wordAt image (at + 5)))) st b
   rooms = bin-room (pre .visit) tree-is
 
+  sides : Fresh (visitedFrom (treeOf image (wordAt image (at + 4))) ++ visitedFrom (treeOf image (wordAt image (at + 5)))) (b .slots)
+  sides = bin-fresh (pre .visit) tree-is
+
   pub left-visit : {i : ℕ} → i ≡ getD image (at + 4) 0 → NodeVisit T image places words i st b
   left-visit {i} e =
       let l : i < n = left-under e in
-      node-visit (room (treeOf image (wordAt image (at + 5)))) (rows (treeOf image (wordAt image (at + 5)))) (omega (arith, there .below)) (rw e rooms)
+      node-visit (room (treeOf image (wordAt image (at + 5)))) (rows (treeOf image (wordAt image (at + 5)))) (omega (arith, there .below)) (rw e rooms) (rw e (fresh-first _ _ sides))
 
   module _ {i : ℕ} (ei : i ≡ getD image (at + 4) 0) {b₁ : Lent} {v : Visit} (x : NodeVisited T image words i st b b₁ v) where
     left-visited : Visiting (ctxIn T image words) words (treeOf image (wordAt image (at + 4))) st b b₁ v
@@ -70,7 +75,8 @@ module _ {T : Texts} {image places words : List ℕ} {n : ℕ} {st : State} {b :
           let k : wordAt image (at + 4) < n = left-under refl in
           let l : j < n = right-under e in
           let p = after-node rooms (omega (arith, there .below)) left-visited came in
-          record { below = omega (arith, there .below); ready = rw e (ready-then rooms p) }
+          let f = fresh-rest _ _ sides (visit-apart (ctxIn T image words) (treeOf image (wordAt image (at + 4))) left-visited came) in
+          record { below = omega (arith, there .below); ready = rw e (ready-then rooms p); fresh = rw e f }
 
       module _ {j : ℕ} (ej : j ≡ getD image (at + 5) 0) {b₂ : Lent} {v₂ : Visit} (y : NodeVisited T image words j st₁ b₁ b₂ v₂) where
         right-visited : Visiting (ctxIn T image words) words (treeOf image (wordAt image (at + 5))) st₁ b₁ b₂ v₂

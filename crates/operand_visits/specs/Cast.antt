@@ -2,7 +2,7 @@
 -- return. Assumes nothing.
 use Prim.Native.Nat.{ℕ, _+_, _≤_, _<_}
 use mathlib.Core.Path.{_≡_, refl}
-use mathlib.Core.List.{List}
+use mathlib.Core.List.{List, []}
 use native.Mathlib.Omega.{arith}
 use lib.ListN.{getD}
 use Rattle.tok.specs.Text.{Texts}
@@ -14,6 +14,7 @@ use Rattle.places.specs.NodesAt.{NodeReady, countsOf, record-room, node-cast, w
 use Rattle.rules.specs.declared.Answer.{Answer}
 use Rattle.rules.specs.World.{Walk}
 use Rattle.rules.specs.Rules.{node}
+use Rattle.accepts.specs.Fresh.{visitedFrom, Fresh, fresh-rest}
 use Rattle.room_laws.specs.Room.{room, rows}
 use Rattle.visit.specs.declared.State.{State}
 use Rattle.visit.specs.declared.Visit.{Visit}
@@ -29,6 +30,7 @@ use Rattle.ready.specs.Ready.{Ready, NodeVisit, node-ready}
 use Rattle.ready.specs.Passes.{word-passes, ready-step}
 use Rattle.ready.specs.After.{type-gives}
 use Rattle.ready.specs.Parts.{cast-room}
+use Rattle.ready.specs.Unvisited.{cast-fresh, type-apart}
 use Rattle.ready.specs.Asked.{cast-type}
 use Rattle.walking.specs.Kinds.{Is}
 use Rattle.walking.specs.Stops.{refusedOf}
@@ -92,10 +94,14 @@ module _ {T : Texts} {image places words : List ℕ} {n : ℕ} {st : State} {b :
       unfolding castType
       begun-ready = ready-step rooms (word-passes g (type-gives rooms n (wordAt image (at + 4)) (cast-ready .type .below)) em)
 
+      begun-fresh : Fresh (visitedFrom (treeOf image (wordAt image (at + 3)))) (b₀ .slots)
+      unfolding castType
+      begun-fresh = fresh-rest [] _ (cast-fresh (pre .visit) tree-is) (type-apart (ctxIn T image words) n _ g em)
+
       pub operand-visit : {i : ℕ} → i ≡ getD image (at + 3) 0 → NodeVisit T image places words i begun b₀
       operand-visit {i} e =
           let l : i < n = operand-under e in
-          record { below = omega (arith, there .below); ready = rw e begun-ready }
+          record { below = omega (arith, there .below); ready = rw e begun-ready; fresh = rw e begun-fresh }
 
       leads : Leads start (left to) (room (treeOf image (wordAt image (at + 3)))) (rows (treeOf image (wordAt image (at + 3)))) begun b₀
       leads = leads-word left (leads-less (omega arith) (omega arith) (leads-begin start)) g em

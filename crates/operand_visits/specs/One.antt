@@ -1,7 +1,7 @@
 -- Node::Unary, Node::Let and Node::Field, put together of the visit of their operand and of what comes after: what the calls ask for, and
 -- one law for each return. Assumes nothing.
 use Prim.Native.Nat.{ℕ, _+_, _≤_, _<_}
-use mathlib.Core.Path.{_≡_, refl, ap, _∙_}
+use mathlib.Core.Path.{_≡_, refl, sym, ap, _∙_}
 use mathlib.Core.List.{List}
 use native.Mathlib.Omega.{arith}
 use native.Mathlib.Decide.{ℕ-discrete}
@@ -13,6 +13,8 @@ use Rattle.places.specs.NodesAt.{NodeReady, record-room, node-unary, words-unar
 use Rattle.rules.specs.declared.Answer.{Answer}
 use Rattle.rules.specs.World.{Ctx, World}
 use Rattle.rules.specs.Rules.{node}
+use Rattle.rules.specs.Visited.{visitedBelow}
+use Rattle.accepts.specs.Fresh.{visitedFrom}
 use Rattle.room_laws.specs.Room.{room, rows}
 use Rattle.visit.specs.declared.State.{State}
 use Rattle.visit.specs.declared.Visit.{Visit}
@@ -23,6 +25,7 @@ use Rattle.visiting.specs.Operands.{Visiting}
 use Rattle.ready.specs.Ready.{Ready, NodeVisit, node-ready}
 use Rattle.ready.specs.Passes.{ready-then, ready-less}
 use Rattle.ready.specs.After.{after-node}
+use Rattle.ready.specs.Unvisited.{below-fresh}
 use Rattle.ready.specs.Asked.{let-bindable}
 use Rattle.walking.specs.Kinds.{OneOperand, is-field}
 use Rattle.walking.specs.Contracts.{ctxIn, NodeVisited, ClassVisit}
@@ -36,10 +39,11 @@ record OneNode (c : Ctx) (image : List ℕ) (n at : ℕ) : Type 0 where
   rule : (w : World) → node c (treeOf image n) w ≡ oneRule c (treeOf image) image n at w
   room : room (treeOf image n) ≡ room (treeOf image (operandAt image at)) + oneRoom image at
   rows : rows (treeOf image n) ≡ rows (treeOf image (operandAt image at)) + 0
+  below : visitedBelow (treeOf image n) ≡ visitedFrom (treeOf image (operandAt image at))
 
 module _ (c : Ctx) {image places : List ℕ} {n at : ℕ} (r : NodeReady image places n) (e : at ≡ getD places n 0) where
   unary-node : recordKind image at ≡ 3 → OneNode c image n at
-  unfolding room rows
+  unfolding room rows visitedBelow
   unary-node q =
       let t : treeOf image n ≡ readUnary (treeOf image) image n at = node-unary r e refl refl q in
       let i : operandAt image at ≡ wordAt image (at + 4) = at-unary image at q in
@@ -48,10 +52,11 @@ module _ (c : Ctx) {image places : List ℕ} {n at : ℕ} (r : NodeReady image p
         rule = λ w. ap (λ x. node c x w) t ∙ one-unary c (treeOf image) image n at q w;
         room = omega (arith, ap room t, ap (λ i. room (treeOf image i)) i, room-unary image at q);
         rows = omega (arith, ap rows t, ap (λ i. rows (treeOf image i)) i);
+        below = ap visitedBelow t ∙ ap (λ i. visitedFrom (treeOf image i)) (sym i);
       }
 
   let-node : recordKind image at ≡ 4 → OneNode c image n at
-  unfolding room rows
+  unfolding room rows visitedBelow
   let-node q =
       let t : treeOf image n ≡ readLet (treeOf image) image n at = node-let r e refl refl q in
       let i : operandAt image at ≡ wordAt image (at + 3) = at-let image at q in
@@ -60,10 +65,11 @@ module _ (c : Ctx) {image places : List ℕ} {n at : ℕ} (r : NodeReady image p
         rule = λ w. ap (λ x. node c x w) t ∙ one-let c (treeOf image) image n at q w;
         room = omega (arith, ap room t, ap (λ i. room (treeOf image i)) i, room-let image at q);
         rows = omega (arith, ap rows t, ap (λ i. rows (treeOf image i)) i);
+        below = ap visitedBelow t ∙ ap (λ i. visitedFrom (treeOf image i)) (sym i);
       }
 
   field-node : recordKind image at ≡ 8 → OneNode c image n at
-  unfolding room rows
+  unfolding room rows visitedBelow
   field-node q =
       let t : treeOf image n ≡ readField (treeOf image) image n at = node-field r e refl refl q in
       let i : operandAt image at ≡ wordAt image (at + 2) = at-field image at q in
@@ -72,6 +78,7 @@ module _ (c : Ctx) {image places : List ℕ} {n at : ℕ} (r : NodeReady image p
         rule = λ w. ap (λ x. node c x w) t ∙ one-field c (treeOf image) image n at q w;
         room = omega (arith, ap room t, ap (λ i. room (treeOf image i)) i, room-field image at q);
         rows = omega (arith, ap rows t, ap (λ i. rows (treeOf image i)) i);
+        below = ap visitedBelow t ∙ ap (λ i. visitedFrom (treeOf image i)) (sym i);
       }
 
   one-node : OneOperand (recordKind image at) → OneNode c image n at
@@ -102,7 +109,7 @@ module _ {T : Texts} {image places words : List ℕ} {n : ℕ} {st : State} {b :
   pub operand-visit : {i : ℕ} → i ≡ operandAt image at → NodeVisit T image places words i st b
   operand-visit {i} e =
       let l : i < n = operand-under e in
-      record { below = omega (arith, there .below); ready = rw e (ready-less (omega arith) (omega arith) both) }
+      record { below = omega (arith, there .below); ready = rw e (ready-less (omega arith) (omega arith) both); fresh = rw (e, ← (is-one .below)) (below-fresh (pre .visit)) }
 
   module _ {i : ℕ} (ei : i ≡ operandAt image at) {b₁ : Lent} {v : Visit} (x : NodeVisited T image words i st b b₁ v) where
     visited : Visiting (ctxIn T image words) words (treeOf image (operandAt image at)) st b b₁ v

@@ -5,6 +5,7 @@ pub mod Passes
 pub mod After
 pub mod Plain
 pub mod Parts
+pub mod Unvisited
 pub mod Asked
 pub mod Meant
 pub mod Given

@@ -11,13 +11,15 @@ use Rattle.ast.specs.Node.{Node, Nodes, Cases, Values, ExternFn, Bin, Unary, Le
 use Rattle.visit.specs.declared.State.{State}
 use Rattle.visit.specs.Whole.{Lent}
 use Rattle.room_laws.specs.Room.{externWords, room, rooms, caseRooms, valueRooms, callRoom, rows, rowsAll, caseRows, valueRows}
+use Rattle.accepts.specs.Fresh.{visitedFrom, Fresh}
 use Rattle.ready.specs.Ready.{Ready, NodeVisit}
 use Rattle.ready.specs.Passes.{ready-less}
 
 module _ {T : Texts} {image places words : List ℕ} {st : State} {b : Lent} where
   -- the visit of a part that comes next
-  pub node-visit : {i : ℕ} (r w : ℕ) → i < nodeCount image → Ready T image places words (room (treeOf image i) + r) (rows (treeOf image i) + w) st b → NodeVisit T image places words i st b
-  node-visit r w l y = record { below = l; ready = ready-less (omega arith) (omega arith) y }
+  pub node-visit : {i : ℕ} (r w : ℕ) → i < nodeCount image → Ready T image places words (room (treeOf image i) + r) (rows (treeOf image i) + w) st b → Fresh (visitedFrom (treeOf image i)) (b .slots)
+      → NodeVisit T image places words i st b
+  node-visit r w l y f = record { below = l; ready = ready-less (omega arith) (omega arith) y; fresh = f }
 
   -- ── By kind ──
 

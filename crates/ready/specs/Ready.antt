@@ -14,6 +14,7 @@ use Rattle.library.specs.Accepted.{LibraryFine}
 use Rattle.ast.specs.Image.{nodeCount, typeCount, slotCount}
 use Rattle.ast.specs.TypeExpr.{typeOf}
 use Rattle.ast.specs.Node.{treeOf}
+use Rattle.accepts.specs.Fresh.{visitedFrom, Fresh}
 use Rattle.library_laws.specs.Bindings.{Held}
 use Rattle.library_laws.specs.Room.{mostPairs}
 use Rattle.onerun.specs.Claim.{Run, NameAt, Holds}
@@ -67,6 +68,8 @@ pub record Ready (T : Texts) (image places words : List ℕ) (r w : ℕ) (st : S
 pub record NodeVisit (T : Texts) (image places words : List ℕ) (n : ℕ) (st : State) (b : Lent) : Type 0 where
   pub below : n < nodeCount image
   pub ready : Ready T image places words (room (treeOf image n)) (rows (treeOf image n)) st b
+  -- "a slot owned twice" is refused, and no node visited here was visited before: its slots have no type yet
+  pub fresh : Fresh (visitedFrom (treeOf image n)) (b .slots)
 
 -- the node's record can be read
 pub node-ready : {T : Texts} {image places words : List ℕ} {n : ℕ} {st : State} {b : Lent} → NodeVisit T image places words n st b → NodeReady image places n

@@ -5,19 +5,19 @@ use mathlib.Core.Path.{_≡_, refl, sym, ap, _∙_}
 use mathlib.Core.Bool.{Bool, true, false, _||_}
 use mathlib.Core.List.{List, [], _∷_, _++_, append-assoc, append-nil}
 use Rattle.tok.specs.Step.{Result, ok, refused, Refusal, next, _>>=_, _>>_, return}
-use Rattle.ast.specs.Node.{Node, Nodes, Cases, done, then, noCase, case}
+use Rattle.ast.specs.Node.{Node, Nodes, Cases, Values, done, then, noCase, case, noValue, value}
 use Rattle.rules.specs.declared.Answer.{Answer}
 use Rattle.rules.specs.World.{Ctx, World, Walk}
 use Rattle.rules.specs.Steps.{isPoison}
-use Rattle.rules.specs.Rules.{condition, Branch, node, block, visitAll, cases}
+use Rattle.rules.specs.Rules.{condition, valueType, Branch, node, block, visitAll, cases, values}
 
 -- steps that go on alike go on alike after a step
-next-alike : {A B : Type 0} (r : Result World Refusal A) {f g : A → Walk B} → ((a : A) (s : World) → f a s ≡ g a s) → next r f ≡ next r g
+pub next-alike : {A B : Type 0} (r : Result World Refusal A) {f g : A → Walk B} → ((a : A) (s : World) → f a s ≡ g a s) → next r f ≡ next r g
 next-alike (ok a s) h = h a s
 next-alike (refused e) h = refl
 
 -- one step after another, and a third after both
-next-next : {A B C : Type 0} (r : Result World Refusal A) (f : A → Walk B) (g : B → Walk C) → next (next r f) g ≡ next r (λ a s. next (f a s) g)
+pub next-next : {A B C : Type 0} (r : Result World Refusal A) (f : A → Walk B) (g : B → Walk C) → next (next r f) g ≡ next r (λ a s. next (f a s) g)
 next-next (ok a s) f g = refl
 next-next (refused e) f g = refl
 
@@ -69,3 +69,23 @@ module _ {A : Type 0} (c : Ctx) (n : ℕ) (before : List Branch) (k : List Branc
   pub cases-end : (s : World) → casesFrom c n before noCase k s ≡ k before s
   unfolding cases
   cases-end s = ap (λ bs. k bs s) (append-nil before)
+
+-- ── A record's values ──
+
+-- those that are left, after pairs that are known
+abbrev pub valuesFrom : {A : Type 0} → Ctx → (before : List ℕ) → Values → (List ℕ → Walk A) → Walk A
+valuesFrom c before vs k = λ s. next (values c vs s) (λ rest. k (before ++ rest))
+
+module _ {A : Type 0} (c : Ctx) (before : List ℕ) (k : List ℕ → Walk A) where
+  pub values-turn : (name : ℕ) (x : Node) (vs : Values) (s : World)
+      → valuesFrom c before (value name x vs) k s ≡ next (node c x s) (λ a. _>>=_ (valueType a) (λ w. valuesFrom c (before ++ (name ∷ w ∷ [])) vs k))
+  unfolding values
+  values-turn name x vs s =
+      next-next (node c x s) _ _
+      ∙ next-alike (node c x s) (λ a t. next-next (valueType a t) _ _
+      ∙ next-alike (valueType a t) (λ w u. next-next (values c vs u) _ _
+      ∙ next-alike (values c vs u) (λ rest v. ap (λ ps. k ps v) (sym (append-assoc before (name ∷ w ∷ []) rest)))))
+
+  pub values-end : (s : World) → valuesFrom c before noValue k s ≡ k before s
+  unfolding values
+  values-end s = ap (λ ps. k ps s) (append-nil before)

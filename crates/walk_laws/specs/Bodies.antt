@@ -1,7 +1,7 @@
 -- Node::Fn as a visit: what its parts ask for, and one law for each way out of the code. Assumes nothing.
 use Prim.Native.Nat.{ℕ, _+_, _-_, _*_, _≤_, _<_}
 use mathlib.Core.Path.{_≡_, refl, sym, ap, subst, _∙_}
-use mathlib.Core.List.{List}
+use mathlib.Core.List.{List, [], _∷_}
 use native.Mathlib.Omega.{arith}
 use lib.ListN.{length, getD}
 use Rattle.tok.specs.Text.{Texts}
@@ -15,6 +15,8 @@ use Rattle.rules.specs.declared.Answer.{Answer}
 use Rattle.rules.specs.declared.Answer.the-variants.{Known}
 use Rattle.rules.specs.World.{Walk}
 use Rattle.rules.specs.Rules.{block, node}
+use Rattle.rules.specs.Visited.{visitedBelow, visitedAmong}
+use Rattle.accepts.specs.Fresh.{Fresh, fresh-rest}
 use Rattle.room_laws.specs.Room.{room, rooms, rows, rowsAll}
 use Rattle.parameters.specs.Arguments.{length-args}
 use Rattle.visit.specs.declared.State.{State}
@@ -29,10 +31,11 @@ use Rattle.visiting.specs.Blocks.{innerOf}
 use Rattle.ready.specs.Ready.{Ready, NodeVisit, node-ready}
 use Rattle.ready.specs.Passes.{ready-less, ready-then}
 use Rattle.ready.specs.Parts.{fn-room}
+use Rattle.ready.specs.Unvisited.{begin-apart}
 use Rattle.ready.specs.After.{fn-proper, after-begin, ready-inner}
 use Rattle.bodies.specs.declared.Begun.{Begun}
 use Rattle.bodies.specs.declared.Begun.the-variants as B
-use Rattle.bodies.specs.Bodies.{countAt, argsAt, fnAt, endAt, BeginReady, EndReady, Begins, goes, ends}
+use Rattle.bodies.specs.Bodies.{slotAt, nameAt, returnAt, countAt, argsAt, fnAt, endAt, BeginReady, EndReady, Begins, goes, ends}
 use Rattle.bodies.specs.BodyLaws.{body-stops, fn-visited}
 use Rattle.walking.specs.Kinds.{Is}
 use Rattle.walking.specs.Contracts.{ctxIn, nodesAt, ClassVisit, ListVisit, ListVisited, NodeVisited}
@@ -109,6 +112,12 @@ module _ {T : Texts} {image places words : List ℕ} {n at : ℕ} {st : State} {
     body-room : Begins (ctxIn T image words) image at n words st b b₁ (B.Body ret st₁) → Ready T image places words (rooms (bodyAt image at)) (rowsAll (bodyAt image at)) st₁ b₁
     body-room (goes pass y) = ready-then (ready-inner all-room) (after-begin (ready-inner all-room) n _ (fn-proper (h .visit .ready .given) (h .visit .below) is-fn) y refl)
 
+    body-fresh : Begins (ctxIn T image words) image at n words st b b₁ (B.Body ret st₁) → Fresh (visitedAmong (bodyAt image at)) (b₁ .slots)
+    unfolding visitedBelow
+    body-fresh (goes pass y) =
+        fresh-rest (readFn (treeOf image) image n at ∷ []) (visitedAmong (bodyAt image at)) (rw is-fn at (h .visit .fresh))
+        (begin-apart (ctxIn T image words) n (slotAt image at) (nameAt image at) (returnAt image at) (argsAt image at) (bodyAt image at) y refl)
+
     -- the body's nodes are parts of the Fn
     pub body-visit : {count long : ℕ} → count ≡ countAt image at → long ≡ recordLength image at → ListVisit T image places words n (at + 5 + 2 * count) (long - (5 + 2 * count)) st₁ b₁
     body-visit ec el = rw (ec, el) (record {
@@ -116,6 +125,7 @@ module _ {T : Texts} {image places words : List ℕ} {n at : ℕ} {st : State} {
       nodes = facts .body;
       inside = omega (arith, record-room (node-ready (h .visit)) e, facts .long);
       ready = body-room started;
+      fresh = body-fresh started;
     })
 
     module _ {count long : ℕ} {b₂ : Lent} {v : Visit} (ec : count ≡ countAt image at) (el : long ≡ recordLength image at) (y : ListVisited T image words (at + 5 + 2 * count) (long - (5 + 2 * count)) st₁ b₁ b₂ v) where

@@ -1,7 +1,7 @@
 -- Nodes one after the other, as a loop visits them: its invariant, with a law for its beginning, each turn and its ends. Assumes nothing.
 use Prim.Native.Nat.{ℕ, _+_, _-_, _*_, _≤_, _<_}
 use mathlib.Core.Path.{_≡_, refl, sym, ap, _∙_}
-use mathlib.Core.List.{List}
+use mathlib.Core.List.{List, _++_}
 use native.Mathlib.Omega.{arith}
 use lib.ListN.{getD}
 use Rattle.tok.specs.Text.{Texts}
@@ -12,6 +12,8 @@ use Rattle.image_laws.specs.RecordWords.{Under}
 use Rattle.rules.specs.declared.Answer.{Answer}
 use Rattle.rules.specs.declared.Answer.the-variants.{Known}
 use Rattle.rules.specs.Rules.{last}
+use Rattle.rules.specs.Visited.{visitedAmong}
+use Rattle.accepts.specs.Fresh.{visitedFrom, Fresh, fresh-first, fresh-rest}
 use Rattle.room_laws.specs.Room.{room, rooms, rows, rowsAll}
 use Rattle.visit.specs.declared.State.{State}
 use Rattle.visit.specs.declared.Visit.{Visit}
@@ -21,6 +23,7 @@ use Rattle.visiting.specs.Leads.{Beginning, Leads, leads-begin, leads-then, lea
 use Rattle.ready.specs.Ready.{Ready, NodeVisit}
 use Rattle.ready.specs.Passes.{ready-less, ready-then}
 use Rattle.ready.specs.Parts.{node-visit, nodes-turn, nodes-room}
+use Rattle.ready.specs.Unvisited.{nodes-fresh, visit-apart}
 use Rattle.ready.specs.After.{after-node}
 use Rattle.walking.specs.Contracts.{ctxIn, nodesAt, ListVisit, ListVisited, NodeVisited}
 
@@ -62,8 +65,11 @@ module _ {T : Texts} {image places words : List ℕ} {owner at k : ℕ} {st : St
     first-room : Ready T image places words (room (treeOf image part) + rooms (nodesAt image (place + 1) (left - 1))) (rows (treeOf image part) + rowsAll (nodesAt image (place + 1) (left - 1))) here b′
     first-room = rw e (ready-less (omega arith) (omega arith) (nodes-room place l 0 0 (ready-less (omega arith) (omega arith) (h .visit .ready))))
 
+    all-fresh : Fresh (visitedFrom (treeOf image (getD image place 0)) ++ visitedAmong (nodesAt image (place + 1) (left - 1))) (b′ .slots)
+    all-fresh = nodes-fresh image place l (h .visit .fresh)
+
     pub turn-visit : NodeVisit T image places words part here b′
-    turn-visit = node-visit _ _ part-below first-room
+    turn-visit = node-visit _ _ part-below first-room (rw e (fresh-first _ _ all-fresh))
 
     module _ {b″ : Lent} {v : Visit} (x : NodeVisited T image words part here b′ b″ v) where
       onward : Leads (listing T image words at k st b) (last (ctxIn T image words) answer (then (treeOf image part) (nodesAt image (place + 1) (left - 1))))
@@ -83,6 +89,7 @@ module _ {T : Texts} {image places words : List ℕ} {owner at k : ℕ} {st : St
           nodes = others;
           inside = omega (arith, h .visit .inside);
           ready = ready-then first-room (after-node first-room part-below x c);
+          fresh = fresh-rest _ _ all-fresh (visit-apart (ctxIn T image words) (treeOf image (getD image place 0)) (rw e at x) c);
         };
       }
 

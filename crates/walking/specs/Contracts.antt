@@ -1,31 +1,28 @@
 -- What the functions that visit ask for, and what they say: the rule, over all six buffers (docs/WALK.md, "Contracts"). Definitions.
-use Prim.Native.Nat.{ℕ, _+_, _*_, _≤_, _<_}
+use Prim.Native.Nat.{ℕ, _+_, _≤_, _<_}
 use mathlib.Core.Path.{_≡_}
-use mathlib.Core.List.{List}
+use mathlib.Core.List.{List, _++_}
 use lib.ListN.{getD}
 use Rattle.tok.specs.Text.{Texts}
 use Rattle.tok.specs.Word.{kindOf}
 use Rattle.tok.specs.Step.{_>>=_, _>>_}
-use Rattle.ptype.specs.Add.{Buffer}
 use Rattle.library.specs.Package.{packagesOf}
 use Rattle.ast.specs.Image.{nodeCount, slotCount, wordAt}
 use Rattle.ast.specs.Node.{Node, Nodes, Values, treeOf, nodesFrom, valuesFrom}
 use Rattle.image_laws.specs.Many.{Each}
-use Rattle.image_laws.specs.RecordWords.{Under, Pair}
-use Rattle.add.specs.Parts.{opened, paired}
+use Rattle.image_laws.specs.RecordWords.{Under}
 use Rattle.rules.specs.declared.Answer.{Answer}
 use Rattle.rules.specs.declared.Answer.the-variants.{Known}
 use Rattle.rules.specs.World.{Ctx, Walk}
-use Rattle.rules.specs.Steps.{onTypes}
-use Rattle.rules.specs.Rules.{node, block, last, condition, values}
+use Rattle.rules.specs.Rules.{node, block, last, condition}
+use Rattle.rules.specs.Visited.{visitedAmong}
+use Rattle.accepts.specs.Fresh.{visitedFrom, Fresh}
 use Rattle.state.specs.Context.{ctx}
-use Rattle.room_laws.specs.Room.{room, rooms, valueRooms, rows, rowsAll, valueRows}
+use Rattle.room_laws.specs.Room.{room, rooms, rows, rowsAll}
 use Rattle.visit.specs.declared.State.{State}
 use Rattle.visit.specs.declared.Visit.{Visit}
-use Rattle.visit.specs.declared.Gave.{Gave}
 use Rattle.visit.specs.Whole.{Lent}
 use Rattle.visit.specs.Within.{Visits}
-use Rattle.visit.specs.Walks.{Gives}
 use Rattle.ready.specs.Ready.{Ready, NodeVisit}
 
 -- what stays during the walk, as the rules have it
@@ -53,6 +50,7 @@ pub record ListVisit (T : Texts) (image places words : List ℕ) (owner at k : �
   pub nodes : Each (Under owner image) 1 at k
   pub inside : at + k ≤ 8192
   pub ready : Ready T image places words (rooms (nodesAt image at k)) (rowsAll (nodesAt image at k)) st b
+  pub fresh : Fresh (visitedAmong (nodesAt image at k)) (b .slots)
 
 abbrev pub ListVisited : Texts → (image words : List ℕ) → (at k : ℕ) → State → (b b′ : Lent) → Visit → Type 0
 ListVisited T image words at k st b b′ v =
@@ -76,6 +74,7 @@ pub record CaseVisit (T : Texts) (image places words : List ℕ) (n at : ℕ) (s
   pub body : Each (Under n image) 1 (at + 3) (wordAt image (at + 2))
   pub inside : at + 3 + wordAt image (at + 2) ≤ 8192
   pub ready : Ready T image places words (room (treeOf image (wordAt image (at + 1))) + rooms (caseBody image at)) (rows (treeOf image (wordAt image (at + 1))) + rowsAll (caseBody image at)) st b
+  pub fresh : Fresh (visitedFrom (treeOf image (wordAt image (at + 1))) ++ visitedAmong (caseBody image at)) (b .slots)
 
 abbrev pub CaseVisited : Texts → (image words : List ℕ) → (n at : ℕ) → State → (b b′ : Lent) → Visit → Type 0
 CaseVisited T image words n at st b b′ v =
@@ -86,22 +85,3 @@ CaseVisited T image words n at st b b′ v =
 
 abbrev pub valuesAt : (image : List ℕ) → (at k : ℕ) → Values
 valuesAt image at k = valuesFrom (treeOf image) image at k
-
--- Values from field k on: they are visited, the Record of all fields is opened, and their pairs are written into it.
-unfoldable pub pairsFrom : Ctx → (n fields k : ℕ) → Values → Walk ℕ
-pairsFrom c n fields k vs = do
-  pairs ← values c vs
-  w ← onTypes (opened n fields)
-  onTypes (paired k pairs w)
-
-pub record ValuesVisit (T : Texts) (image places words : List ℕ) (n at left k : ℕ) (st : State) (b : Lent) : Type 0 where
-  pub text : List ℕ
-  pub below : n < nodeCount image
-  pub values : Each (Pair text n image) 2 at left
-  pub inside : at + 2 * left ≤ 8192
-  pub few : k + left ≤ 8192
-  pub ready : Ready T image places words (valueRooms (valuesAt image at left)) (valueRows (valuesAt image at left)) st b
-
-abbrev pub ValuesVisited : Texts → (image words : List ℕ) → (n at left k : ℕ) → State → (b b′ : Lent) → Gave → Type 0
-ValuesVisited T image words n at left k st b b′ g =
-    Gives (pairsFrom (ctxIn T image words) n (k + left) k (valuesAt image at left)) (valueRooms (valuesAt image at left)) (valueRows (valuesAt image at left)) words st b b′ g

@@ -11,27 +11,25 @@ use Rattle.branches.proofs.compare_branches.Statement.{statement}
 use Rattle.branches.proofs.compare_branches.Tie as tie
 use Rattle.branches.proofs.compare_branches.Reads as reads
 use Rattle.branches.proofs.compare_branches.Lts as lts
-use Rattle.branches.proofs.body_slot.Reads as body-slot-reads
-use Rattle.branches.proofs.branch_answer.Reads as branch-answer-reads
-use Rattle.branches.proofs.flag_at.Reads as flag-at-reads
+use Rattle.branches.proofs.body_answer.Reads as body-answer-reads
 use Rattle.tok.proofs.wide.Reads as wide-reads
 use Rattle.tok.proofs.word_at.Reads as word-at-reads
 use Rattle.values.proofs.compare_branch.Reads as compare-branch-reads
 
 abbrev Inv-loop : tie.InvT-loop
-Inv-loop slots types diagnostics₀ messages₀ script library image places at count n poisoned default here₀ place₀ i₀ diagnostics messages here place i =
-    Compared (textsOf script library) n default image places poisoned at count slots types diagnostics₀ messages₀ here₀ i place diagnostics messages here × (length diagnostics ≡ length diagnostics₀) × (length messages ≡ length messages₀)
+Inv-loop slots types diagnostics₀ messages₀ script library image places at count n default here₀ place₀ i₀ diagnostics messages here place i =
+    Compared (textsOf script library) n default image places at count slots types diagnostics₀ messages₀ here₀ i place diagnostics messages here × (length diagnostics ≡ length diagnostics₀) × (length messages ≡ length messages₀)
 
 abbrev μ-loop : tie.MeasureT-loop
-μ-loop slots types diagnostics₀ messages₀ script library image places at count n poisoned default here₀ place₀ i₀ diagnostics messages here place i = count - i
+μ-loop slots types diagnostics₀ messages₀ script library image places at count n default here₀ place₀ i₀ diagnostics messages here place i = count - i
 
 -- src/lib.rt:149:5
 loop-holds : tie.Need-loop-holds Inv-loop μ-loop
-loop-holds c = (none-compared _ _ _ _ _ _ _ _ _ _ _ _ _ (c .before .before .before .before .before .before .before .before .before .pre), refl, refl)
+loop-holds c = (none-compared _ _ _ _ _ _ _ _ _ _ _ _ (c .before .before .before .before .before .before .before .before .pre), refl, refl)
 
 -- src/lib.rt:150:40
 add-word-at : tie.Need-add-word-at Inv-loop μ-loop
-add-word-at c = omega (arith, body-room _ _ _ _ _ _ _ _ _ _ _ _ _ (c .before .loop .inv .0) (c .loop-test .taken) refl)
+add-word-at c = omega (arith, body-room _ _ _ _ _ _ _ _ _ _ _ _ (c .before .loop .inv .0) (c .loop-test .taken) refl)
 
 -- src/lib.rt:150:25
 word-at-requires : tie.Need-word-at-requires Inv-loop μ-loop
@@ -41,25 +39,29 @@ word-at-requires c κs = search needs
 wide-requires : tie.Need-wide-requires Inv-loop μ-loop
 wide-requires c κs = search needs
 
--- src/lib.rt:151:48
-add-body-slot : tie.Need-add-body-slot Inv-loop μ-loop
-add-body-slot c = omega (arith, body-room _ _ _ _ _ _ _ _ _ _ _ _ _ (c .before .before .before .loop .inv .0) (c .before .before .loop-test .taken) (c .wide .ensures ∙ c .before .word-at .ensures))
+-- src/lib.rt:144:13
+body-answer-requires : tie.Need-body-answer-requires Inv-loop μ-loop
+body-answer-requires c κs = body-ready _ _ _ _ _ _ _ _ _ _ _ _ (c .before .before .before .loop .inv .0) (c .before .before .loop-test .taken) (c .wide .ensures ∙ c .before .word-at .ensures)
 
--- src/lib.rt:151:13
-body-slot-requires : tie.Need-body-slot-requires Inv-loop μ-loop
-body-slot-requires c κs = body-ready _ _ _ _ _ _ _ _ _ _ _ _ _ (c .before .before .before .loop .inv .0) (c .before .before .loop-test .taken) (c .wide .ensures ∙ c .before .word-at .ensures)
+-- src/lib.rt:144:59
+add-body-answer : tie.Need-add-body-answer Inv-loop μ-loop
+add-body-answer c = omega (arith, body-room _ _ _ _ _ _ _ _ _ _ _ _ (c .before .before .before .loop .inv .0) (c .before .before .loop-test .taken) (c .wide .ensures ∙ c .before .word-at .ensures))
+
+-- not asked any more:
+-- -- src/lib.rt:151:48
+
+-- not asked any more:
+-- -- src/lib.rt:151:13
 
 -- src/lib.rt:162:13
 word-at-requires-2 : tie.Need-word-at-requires-2 Inv-loop μ-loop
 word-at-requires-2 c κs = search needs
 
--- src/lib.rt:163:27
-flag-at-requires : tie.Need-flag-at-requires Inv-loop μ-loop
-flag-at-requires c κs = search needs
+-- not asked any more:
+-- -- src/lib.rt:163:27
 
--- src/lib.rt:163:13
-branch-answer-requires : tie.Need-branch-answer-requires Inv-loop μ-loop
-branch-answer-requires c κs = search needs
+-- not asked any more:
+-- -- src/lib.rt:163:13
 
 -- src/lib.rt:152:13
 compare-branch-requires : tie.Need-compare-branch-requires Inv-loop μ-loop
@@ -83,27 +85,27 @@ same-length-2 c = search needs
 
 -- src/lib.rt:166:13
 returns : tie.Need-returns Inv-loop μ-loop
-returns c = compared-stops _ _ _ _ _ _ _ _ _ _ _ _ _ (c .before .before .before .before .before .before .before .before .before .before .before .before .before .before .before .before .loop .inv .0) (c .before .before .before .before .before .before .before .before .before .before .before .before .before .before .before .loop-test .taken) (c .before .before .before .before .before .before .before .before .before .before .before .before .before .wide .ensures ∙ c .before .before .before .before .before .before .before .before .before .before .before .before .before .before .word-at .ensures) (c .before .before .before .before .before .before .before .before .before .before .before .before .body-slot .ensures) (c .before .before .before .before .before .before .before .before .before .word-at2 .ensures) (c .before .before .before .before .before .before .before .before .flag-at .ensures) (c .before .before .before .before .before .before .before .branch-answer .ensures) (c .before .before .before .before .before .before .compare-branch .ensures) (c .before .match .keys2)
+returns c = compared-stops _ _ _ _ _ _ _ _ _ _ _ _ (c .before .before .before .before .before .before .before .before .before .before .before .before .before .before .loop .inv .0) (c .before .before .before .before .before .before .before .before .before .before .before .before .before .loop-test .taken) (c .before .before .before .before .before .before .before .before .before .before .before .wide .ensures ∙ c .before .before .before .before .before .before .before .before .before .before .before .before .word-at .ensures) (c .before .before .before .before .before .before .before .word-at2 .ensures) (c .before .before .before .before .before .before .before .before .before .before .body-answer .ensures) (c .before .before .before .before .before .before .compare-branch .ensures) (c .before .match .keys2)
 
 -- src/lib.rt:169:17
 add-place : tie.Need-add-place Inv-loop μ-loop
-add-place c = omega (arith, body-room _ _ _ _ _ _ _ _ _ _ _ _ _ (c .before .before .before .before .before .before .before .before .before .before .before .before .before .before .before .before .before .loop .inv .0) (c .before .before .before .before .before .before .before .before .before .before .before .before .before .before .before .before .loop-test .taken) (c .before .before .before .before .before .before .before .before .before .before .before .before .before .before .wide .ensures ∙ c .before .before .before .before .before .before .before .before .before .before .before .before .before .before .before .word-at .ensures))
+add-place c = omega (arith, body-room _ _ _ _ _ _ _ _ _ _ _ _ (c .before .before .before .before .before .before .before .before .before .before .before .before .before .before .before .loop .inv .0) (c .before .before .before .before .before .before .before .before .before .before .before .before .before .before .loop-test .taken) (c .before .before .before .before .before .before .before .before .before .before .before .before .wide .ensures ∙ c .before .before .before .before .before .before .before .before .before .before .before .before .before .word-at .ensures))
 
 -- src/lib.rt:169:17
 add-place-2 : tie.Need-add-place-2 Inv-loop μ-loop
-add-place-2 c = omega (arith, body-room _ _ _ _ _ _ _ _ _ _ _ _ _ (c .before .before .before .before .before .before .before .before .before .before .before .before .before .before .before .before .before .loop .inv .0) (c .before .before .before .before .before .before .before .before .before .before .before .before .before .before .before .before .loop-test .taken) (c .before .before .before .before .before .before .before .before .before .before .before .before .before .before .wide .ensures ∙ c .before .before .before .before .before .before .before .before .before .before .before .before .before .before .before .word-at .ensures))
+add-place-2 c = omega (arith, body-room _ _ _ _ _ _ _ _ _ _ _ _ (c .before .before .before .before .before .before .before .before .before .before .before .before .before .before .before .loop .inv .0) (c .before .before .before .before .before .before .before .before .before .before .before .before .before .before .loop-test .taken) (c .before .before .before .before .before .before .before .before .before .before .before .before .wide .ensures ∙ c .before .before .before .before .before .before .before .before .before .before .before .before .before .word-at .ensures))
 
 -- src/lib.rt:170:9
 add-i : tie.Need-add-i Inv-loop μ-loop
-add-i c = omega (arith, c .before .before .before .before .before .before .before .before .before .before .before .before .before .before .before .before .loop-test .taken, c .before .before .before .before .before .before .before .before .before .before .before .before .before .before .before .before .before .before .before .before .before .before .before .before .before .before .before .fits .count)
+add-i c = omega (arith, c .before .before .before .before .before .before .before .before .before .before .before .before .before .before .loop-test .taken, c .before .before .before .before .before .before .before .before .before .before .before .before .before .before .before .before .before .before .before .before .before .before .before .before .fits .count)
 
 -- src/lib.rt:149:5
 loop-less : tie.Need-loop-less Inv-loop μ-loop
-loop-less c = omega (arith, c .before .before .before .before .before .before .before .before .before .before .before .before .before .before .before .before .loop-test .taken)
+loop-less c = omega (arith, c .before .before .before .before .before .before .before .before .before .before .before .before .before .before .loop-test .taken)
 
 -- src/lib.rt:149:5
 loop-again : tie.Need-loop-again Inv-loop μ-loop
-loop-again c = (more-compared _ _ _ _ _ _ _ _ _ _ _ _ _ (c .before .before .before .before .before .before .before .before .before .before .before .before .before .before .before .before .before .loop .inv .0) (c .before .before .before .before .before .before .before .before .before .before .before .before .before .before .before .before .loop-test .taken) (c .before .before .before .before .before .before .before .before .before .before .before .before .before .before .wide .ensures ∙ c .before .before .before .before .before .before .before .before .before .before .before .before .before .before .before .word-at .ensures) (c .before .before .before .before .before .before .before .before .before .before .before .before .before .body-slot .ensures) (c .before .before .before .before .before .before .before .before .before .before .word-at2 .ensures) (c .before .before .before .before .before .before .before .before .before .flag-at .ensures) (c .before .before .before .before .before .before .before .before .branch-answer .ensures) (c .before .before .before .before .before .before .before .compare-branch .ensures) (c .before .went .given .1), c .before .before .before .before .before .before .before .compare-branch .kept .1 .1 .0 ∙ c .before .before .before .before .before .before .before .before .before .before .before .before .before .before .before .before .before .loop .inv .1, c .before .before .before .before .before .before .before .compare-branch .kept .1 .1 .1 .0 ∙ c .before .before .before .before .before .before .before .before .before .before .before .before .before .before .before .before .before .loop .inv .2)
+loop-again c = (more-compared _ _ _ _ _ _ _ _ _ _ _ _ (c .before .before .before .before .before .before .before .before .before .before .before .before .before .before .before .loop .inv .0) (c .before .before .before .before .before .before .before .before .before .before .before .before .before .before .loop-test .taken) (c .before .before .before .before .before .before .before .before .before .before .before .before .wide .ensures ∙ c .before .before .before .before .before .before .before .before .before .before .before .before .before .word-at .ensures) (c .before .before .before .before .before .before .before .before .word-at2 .ensures) (c .before .before .before .before .before .before .before .before .before .before .before .body-answer .ensures) (c .before .before .before .before .before .before .before .compare-branch .ensures) (c .before .went .given .1), c .before .before .before .before .before .before .before .compare-branch .kept .1 .1 .0 ∙ c .before .before .before .before .before .before .before .before .before .before .before .before .before .before .before .loop .inv .1, c .before .before .before .before .before .before .before .compare-branch .kept .1 .1 .1 .0 ∙ c .before .before .before .before .before .before .before .before .before .before .before .before .before .before .before .loop .inv .2)
 
 -- src/lib.rt:126:1
 same-length-3 : tie.Need-same-length-3 Inv-loop μ-loop
@@ -115,7 +117,7 @@ same-length-4 c = search needs
 
 -- src/lib.rt:126:1
 returns-2 : tie.Need-returns-2 Inv-loop μ-loop
-returns-2 c = all-compared _ _ _ _ _ _ _ _ _ _ _ _ _ (c .before .loop .inv .0) (c .loop-test .left)
+returns-2 c = all-compared _ _ _ _ _ _ _ _ _ _ _ _ (c .before .loop .inv .0) (c .loop-test .left)
 
 pub compare-branches-spec : {M : Type 1} → statement M
 compare-branches-spec =
@@ -127,11 +129,9 @@ compare-branches-spec =
     add-word-at
     word-at-requires
     wide-requires
-    add-body-slot
-    body-slot-requires
+    add-body-answer
+    body-answer-requires
     word-at-requires-2
-    flag-at-requires
-    branch-answer-requires
     compare-branch-requires
     enum-known-went
     enum-told

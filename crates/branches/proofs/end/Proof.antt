@@ -27,11 +27,11 @@ enum-told c = search needs
 
 -- src/lib.rt:196:9
 returns : tie.Need-returns
-returns c = end-poisoned _ (c .before .before .before .before .before .before .before .before .before .before .before .args .n) _ _ (c .before .before .before .before .before .before .before .before .before .before .before .args .st) _ _ _ _ (c .enum-told .given .1)
+returns c = end-poisoned _ (c .before .before .before .before .before .before .before .before .before .before .args .n) _ _ (c .before .before .before .before .before .before .before .before .before .before .args .st) _ _ _ _ (c .enum-told .given .1)
 
 -- src/lib.rt:199:37
 add-word-at : tie.Need-add-word-at
-add-word-at c = omega (arith, place-low (c .before .before .before .before .before .before .before .before .before .before .before .before .before .pre))
+add-word-at c = omega (arith, place-low (c .before .before .before .before .before .before .before .before .before .before .before .before .pre))
 
 -- src/lib.rt:199:22
 word-at-requires : tie.Need-word-at-requires
@@ -43,11 +43,11 @@ wide-requires c κs = search needs
 
 -- src/lib.rt:209:9
 add-compare-branches : tie.Need-add-compare-branches
-add-compare-branches c = omega (arith, place-low (c .before .before .before .before .before .before .before .before .before .before .before .before .before .before .before .before .before .before .pre))
+add-compare-branches c = omega (arith, place-low (c .before .before .before .before .before .before .before .before .before .before .before .before .before .before .before .before .before .pre))
 
 -- src/lib.rt:200:9
 compare-branches-requires : tie.Need-compare-branches-requires
-compare-branches-requires c κs = cases-counted (c .before .before .before .before .before .before .before .before .before .before .before .before .before .before .before .before .before .before .pre) (c .before .before .before .wide .ensures ∙ c .before .before .before .before .word-at .ensures)
+compare-branches-requires c κs = cases-counted (c .before .before .before .before .before .before .before .before .before .before .before .before .before .before .before .before .before .pre) (c .before .before .before .wide .ensures ∙ c .before .before .before .before .word-at .ensures)
 
 -- src/lib.rt:217:18
 enum-known-went : tie.Need-enum-known-went
@@ -55,7 +55,7 @@ enum-known-went c = search needs
 
 -- src/lib.rt:218:38
 add-word-at-2 : tie.Need-add-word-at-2
-add-word-at-2 c = omega (arith, place-low (c .before .before .before .before .before .before .before .before .before .before .before .before .before .before .before .before .before .before .before .before .before .before .before .before .before .before .pre))
+add-word-at-2 c = omega (arith, place-low (c .before .before .before .before .before .before .before .before .before .before .before .before .before .before .before .before .before .before .before .before .before .before .before .before .before .pre))
 
 -- src/lib.rt:218:17
 word-at-requires-2 : tie.Need-word-at-requires-2
@@ -83,7 +83,7 @@ same-length-3 c = search needs
 
 -- src/lib.rt:219:13
 returns-2 : tie.Need-returns-2
-returns-2 c = end-compared _ (c .before .before .before .before .before .before .before .before .before .before .before .before .before .before .before .before .before .before .before .before .before .before .before .before .before .before .before .before .before .before .before .before .args .n) _ _ (c .before .before .before .before .before .before .before .before .before .before .before .before .before .before .before .before .before .before .before .before .before .before .before .before .before .before .before .before .before .before .before .before .args .st) _ _ _ _ (c .before .before .before .before .before .before .before .before .before .before .before .before .before .before .before .before .before .before .before .before .before .default .given .1) (ap (branchesFrom (now (c .before .before .before .before .before .before .before .before .before .before .before .before .before .before .before .before .before .before .before .before .before .before .before .before .before .before .before .before .before .before .before .before .args .image)) (now (c .before .before .before .before .before .before .before .before .before .before .before .before .before .before .before .before .before .before .before .before .before .before .before .before .before .before .before .before .before .before .before .before .args .poisoned)) 0 (c .before .before .before .before .before .before .before .before .before .before .before .before .before .before .before .before .before .before .before .before .before .before .before .before .before .before .before .before .before .before .before .before .args .at + 3)) (c .before .before .before .before .before .before .before .before .before .before .before .before .before .before .before .before .before .wide .ensures ∙ c .before .before .before .before .before .before .before .before .before .before .before .before .before .before .before .before .before .before .word-at .ensures)) (c .before .before .before .before .before .before .before .before .before .before .before .before .before .compare-branches .ensures) (c .before .before .before .before .before .before .before .went .given .1) (c .before .before .before .before .before .word-at2 .ensures) (c .before .before .before .alias .ensures) (c .answered .ensures)
+returns-2 c = end-compared _ (c .before .before .before .before .before .before .before .before .before .before .before .before .before .before .before .before .before .before .before .before .before .before .before .before .before .before .before .before .before .before .before .args .n) _ _ (c .before .before .before .before .before .before .before .before .before .before .before .before .before .before .before .before .before .before .before .before .before .before .before .before .before .before .before .before .before .before .before .args .st) _ _ _ _ (c .before .before .before .before .before .before .before .before .before .before .before .before .before .before .before .before .before .before .before .before .before .default .given .1) (ap (branchesFrom (now (c .before .before .before .before .before .before .before .before .before .before .before .before .before .before .before .before .before .before .before .before .before .before .before .before .before .before .before .before .before .before .before .args .image)) (now (c .before .before .before .before .before .before .before .before .before .before .before .before .before .before .before .before .before .before .before .before .before .before .before .before .before .before .before .before .before .before .before .args .slots)) (c .before .before .before .before .before .before .before .before .before .before .before .before .before .before .before .before .before .before .before .before .before .before .before .before .before .before .before .before .before .before .before .args .at + 3)) (c .before .before .before .before .before .before .before .before .before .before .before .before .before .before .before .before .before .wide .ensures ∙ c .before .before .before .before .before .before .before .before .before .before .before .before .before .before .before .before .before .before .word-at .ensures)) (c .before .before .before .before .before .before .before .before .before .before .before .before .before .compare-branches .ensures) (c .before .before .before .before .before .before .before .went .given .1) (c .before .before .before .before .before .word-at2 .ensures) (c .before .before .before .alias .ensures) (c .answered .ensures)
 
 -- src/lib.rt:221:23
 enum-known-went-2 : tie.Need-enum-known-went-2
@@ -103,7 +103,7 @@ same-length-6 c = search needs
 
 -- src/lib.rt:222:13
 returns-3 : tie.Need-returns-3
-returns-3 c = end-stops _ (c .before .before .before .before .before .before .before .before .before .before .before .before .before .before .before .before .before .before .before .before .before .before .before .before .before .before .args .n) _ _ (c .before .before .before .before .before .before .before .before .before .before .before .before .before .before .before .before .before .before .before .before .before .before .before .before .before .before .args .st) _ _ _ _ (c .before .before .before .before .before .before .before .before .before .before .before .before .before .before .before .default .given .1) (ap (branchesFrom (now (c .before .before .before .before .before .before .before .before .before .before .before .before .before .before .before .before .before .before .before .before .before .before .before .before .before .before .args .image)) (now (c .before .before .before .before .before .before .before .before .before .before .before .before .before .before .before .before .before .before .before .before .before .before .before .before .before .before .args .poisoned)) 0 (c .before .before .before .before .before .before .before .before .before .before .before .before .before .before .before .before .before .before .before .before .before .before .before .before .before .before .args .at + 3)) (c .before .before .before .before .before .before .before .before .before .before .before .wide .ensures ∙ c .before .before .before .before .before .before .before .before .before .before .before .before .word-at .ensures)) (c .before .before .before .before .before .before .before .compare-branches .ensures) (c .before .went2 .given .1)
+returns-3 c = end-stops _ (c .before .before .before .before .before .before .before .before .before .before .before .before .before .before .before .before .before .before .before .before .before .before .before .before .before .args .n) _ _ (c .before .before .before .before .before .before .before .before .before .before .before .before .before .before .before .before .before .before .before .before .before .before .before .before .before .args .st) _ _ _ _ (c .before .before .before .before .before .before .before .before .before .before .before .before .before .before .before .default .given .1) (ap (branchesFrom (now (c .before .before .before .before .before .before .before .before .before .before .before .before .before .before .before .before .before .before .before .before .before .before .before .before .before .args .image)) (now (c .before .before .before .before .before .before .before .before .before .before .before .before .before .before .before .before .before .before .before .before .before .before .before .before .before .args .slots)) (c .before .before .before .before .before .before .before .before .before .before .before .before .before .before .before .before .before .before .before .before .before .before .before .before .before .args .at + 3)) (c .before .before .before .before .before .before .before .before .before .before .before .wide .ensures ∙ c .before .before .before .before .before .before .before .before .before .before .before .before .word-at .ensures)) (c .before .before .before .before .before .before .before .compare-branches .ensures) (c .before .went2 .given .1)
 
 pub end-spec : {M : Type 1} → statement M
 end-spec =
