@@ -23,7 +23,8 @@ use Rattle.rules.specs.declared.Answer.the-variants.{Known}
 use Rattle.rules.specs.World.{World}
 use Rattle.rules.specs.Steps.{Done, skip}
 use Rattle.rules.specs.Rules.{last}
-use Rattle.rules.specs.Walk.{ctxOf, startOf, walk, walkOf}
+use Rattle.rules.specs.Walk.{ctxOf, emptySlots, startOf, walk, walkOf}
+use Rattle.rules.specs.Visited.{visitedAmong}
 use Rattle.rules.specs.Check.{Ended, refusedWith, zeros, zeroed, endOf, unlessRefused, checkOf}
 use Rattle.state.specs.Signatures.{entriesEnd}
 use Rattle.visit.specs.declared.State.{State}
@@ -35,7 +36,10 @@ use Rattle.visit.specs.Whole.{Lent, lent, whole, visited}
 use Rattle.visit.specs.Within.{Keeps, knows, poisons, refuses, Visits}
 use Rattle.visit.specs.Walks.{walkedIn}
 use Rattle.visit.specs.Free.{FreeRows}
+use Rattle.tworuns.specs.Accepted.{fresh-start}
 use Rattle.accepts.specs.Passed.{passed}
+use Rattle.accepts.specs.Fresh.{Fresh}
+use Rattle.accepts.specs.FreshRoots.{roots-fresh}
 use Rattle.room_laws.specs.Room.{rooms, rowsAll}
 use Rattle.places.specs.Places.{placesOf}
 use Rattle.ready.specs.Ready.{Ready}
@@ -126,12 +130,17 @@ module _ (script image text words s f t d m e : List ℕ) {s₁ t₁ : List ℕ}
       unfolding rootsOf firstRoots
       walk-roots hk q = walk-visits (roots-start .rows) (rw hk at q)
 
+      -- no slot has a type yet
+      no-types : Fresh (visitedAmong (nodesAt image 4 (rootCount image))) s₁
+      unfolding startOf rootsOf firstRoots
+      no-types = let p = passed inputs before accepted in rw (h .slots) (roots-fresh inputs before p (emptySlots (slotCount image) s) (fresh-start inputs before (p .slots) .empty))
+
       pub roots-ready : {places : List ℕ} {n k : ℕ} → places ≡ placesOf image → n ≡ nodeCount image → k ≡ rootCount image
           → ListVisit (textsOf script text) image places words n 4 k st (lent s₁ f t₁ d m e)
       unfolding rootsOf firstRoots
       roots-ready hp hn hk =
           let a = passed inputs before accepted .image in
-          rw (hp, hn, hk) (record { below = omega arith; nodes = a .roots; inside = omega (arith, a .most-roots); ready = roots-start })
+          rw (hp, hn, hk) (record { below = omega arith; nodes = a .roots; inside = omega (arith, a .most-roots); ready = roots-start; fresh = no-types })
 
 -- ── What is left in the buffers ──
 

@@ -6,7 +6,7 @@ ghost use Rattle.tok.specs.Text.{Texts, textsOf};
 ghost use Rattle.visit.specs.Whole.{lent};
 ghost use Rattle.ready.specs.Ready.{NodeVisit};
 ghost use Rattle.walking.specs.Kinds.{Operand, OneOperand, Listed, Sequence, Is};
-ghost use Rattle.walking.specs.Contracts.{ClassVisit, ListVisit, CaseVisit, ValuesVisit, NodeVisited, ListVisited, CaseVisited, ValuesVisited};
+ghost use Rattle.walking.specs.Contracts.{ClassVisit, ListVisit, CaseVisit, NodeVisited, ListVisited, CaseVisited};
 use bodies::Begun;
 use rules::Answer;
 use tok::kind;
@@ -617,24 +617,35 @@ fn case<'a>(
     let Walked::On(begun) = went else {
         return walking::halted(went);
     };
-    let body = nodes(
-        slots,
-        functions,
-        types,
-        diagnostics,
-        messages,
-        scratch,
-        script,
-        library,
-        image,
-        words,
-        places,
-        begun,
-        n,
-        at + 3,
-        wide(word_at(image, at + 2)),
-    );
-    visiting::leave(body, begun)
+    let mut answer = Answer::Known(word_at(image, 3));
+    let mut here = begun;
+    let mut place = at + 3;
+    let mut left = wide(word_at(image, at + 2));
+    while left > 0 {
+        let v = node(
+            slots,
+            functions,
+            types,
+            diagnostics,
+            messages,
+            scratch,
+            script,
+            library,
+            image,
+            words,
+            places,
+            here,
+            word_at(image, place),
+        );
+        let Onward::Goes(a, next) = visiting::after(v) else {
+            return v;
+        };
+        answer = a;
+        here = next;
+        place += 1;
+        left -= 1;
+    }
+    visiting::came(answer, visiting::left(here, begun))
 }
 
 // Node::Match: each case, then the default's body; then the cases are compared with it.
@@ -658,7 +669,6 @@ fn cases<'a>(
 {
     let at = places::node_place(places, n);
     let count = wide(word_at(image, at + 2));
-    let mut poisoned = branches::no_flags();
     let mut here = st;
     let mut place = at + 3;
     let mut i = 0;
@@ -679,35 +689,41 @@ fn cases<'a>(
             n,
             place,
         );
-        let Onward::Goes(a, next) = visiting::after(v) else {
+        let Onward::Goes(_, next) = visiting::after(v) else {
             return v;
         };
-        poisoned[i] = branches::is_poison(a);
         here = next;
         place = branches::case_end(image, place);
         i += 1;
     }
-    let v = nodes(
-        slots,
-        functions,
-        types,
-        diagnostics,
-        messages,
-        scratch,
-        script,
-        library,
-        image,
-        words,
-        places,
-        here,
-        n,
-        place + 1,
-        at + payload(word_at(image, at)) - (place + 1),
-    );
-    let last = visiting::leave(v, here);
-    let Onward::Goes(default, end) = visiting::after(last) else {
-        return last;
-    };
+    let mut default = Answer::Known(word_at(image, 3));
+    let mut end = here;
+    let mut next = place + 1;
+    let mut left = at + payload(word_at(image, at)) - next;
+    while left > 0 {
+        let v = node(
+            slots,
+            functions,
+            types,
+            diagnostics,
+            messages,
+            scratch,
+            script,
+            library,
+            image,
+            words,
+            places,
+            end,
+            word_at(image, next),
+        );
+        let Onward::Goes(a, on) = visiting::after(v) else {
+            return v;
+        };
+        default = a;
+        end = on;
+        next += 1;
+        left -= 1;
+    }
     branches::end(
         slots,
         &types[..],
@@ -718,9 +734,8 @@ fn cases<'a>(
         image,
         places,
         at,
-        end,
+        visiting::left(end, here),
         n,
-        &poisoned[..],
         default,
     )
 }
@@ -887,98 +902,31 @@ fn record_node<'a>(
 {
     let at = places::node_place(places, n);
     let count = (payload(word_at(image, at)) - 3) / 2;
-    let made = pairs(
-        slots,
-        functions,
-        types,
-        diagnostics,
-        messages,
-        scratch,
-        script,
-        library,
-        image,
-        words,
-        places,
-        st,
-        n,
-        at + 3,
-        count,
-        0,
-    );
-    let Gave::Word(word, end) = made else {
-        return walking::refused(made);
-    };
-    fields::close(slots, &types[..], image, at, end, n, word)
-}
-
-// The values of the Record n from word `at` on, of which `left` are left and k are done: they are visited on the way down, then the Record
-// of all fields is opened, and the pairs are set on the way back. Gives the Record's word, not measured yet.
-fn pairs<'a>(
-    slots: &mut [u32],
-    functions: &mut [u32],
-    types: &mut [u32],
-    diagnostics: &mut [u32],
-    messages: &mut [u8],
-    scratch: &mut [u32],
-    script: &'a [u8],
-    library: &'a [u8],
-    image: &[u32],
-    words: &[u32],
-    places: &[u16],
-    st: State,
-    n: u32,
-    at: usize,
-    left: usize,
-    k: usize,
-) -> Gave
-    requires { let T : Texts = textsOf (now script) (now library) in ⌜ ValuesVisit T (now image) (now places) (now words) n at left k st (lent (now slots) (now functions) (now types) (now diagnostics) (now messages) (now scratch)) ⌝ }
-    ensures { λ r. let T : Texts = textsOf (now (script .entry)) (now (library .entry)) in ⌜ ValuesVisited T (now (image .entry)) (now (words .entry)) n at left k st (lent (now (slots .entry)) (now (functions .entry)) (now (types .entry)) (now (diagnostics .entry)) (now (messages .entry)) (now (scratch .entry))) (lent (now (slots .exit)) (now (functions .exit)) (now (types .exit)) (now (diagnostics .exit)) (now (messages .exit)) (now (scratch .exit))) r ⌝ }
-{
-    if left == 0 {
-        return fields::open(types, st, n, k);
+    let mut here = st;
+    let mut i = 0;
+    while i < count {
+        let v = node(
+            slots,
+            functions,
+            types,
+            diagnostics,
+            messages,
+            scratch,
+            script,
+            library,
+            image,
+            words,
+            places,
+            here,
+            word_at(image, at + 4 + 2 * i),
+        );
+        let Onward::Goes(_, next) = visiting::after(v) else {
+            return v;
+        };
+        here = next;
+        i += 1;
     }
-    let v = node(
-        slots,
-        functions,
-        types,
-        diagnostics,
-        messages,
-        scratch,
-        script,
-        library,
-        image,
-        words,
-        places,
-        st,
-        word_at(image, at + 1),
-    );
-    let Onward::Goes(a, next) = visiting::after(v) else {
-        return walking::stopped(v);
-    };
-    let ty = values::value_type(&slots[..], a);
-    let made = pairs(
-        slots,
-        functions,
-        types,
-        diagnostics,
-        messages,
-        scratch,
-        script,
-        library,
-        image,
-        words,
-        places,
-        next,
-        n,
-        at + 2,
-        left - 1,
-        k + 1,
-    );
-    let Gave::Word(word, _) = made else {
-        return made;
-    };
-    add::set_pair(types, payload(word) + 1 + 2 * k, word_at(image, at), ty);
-    made
+    fields::make(slots, types, image, places, at, count, here, n)
 }
 
 // Node::Array: the members are compared with the first, each when it is visited; one that differs ends the visits.

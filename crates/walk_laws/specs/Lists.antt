@@ -10,7 +10,7 @@ use Rattle.ast.specs.Node.{Nodes, done, then, treeOf, nodesFrom}
 use Rattle.image_laws.specs.Many.{Each}
 use Rattle.image_laws.specs.RecordWords.{Under}
 use Rattle.rules.specs.declared.Answer.{Answer}
-use Rattle.rules.specs.declared.Answer.the-variants.{Known}
+use Rattle.rules.specs.declared.Answer.the-variants.{Known, Poison}
 use Rattle.rules.specs.Rules.{last}
 use Rattle.rules.specs.Visited.{visitedAmong}
 use Rattle.accepts.specs.Fresh.{visitedFrom, Fresh, fresh-first, fresh-rest}
@@ -18,7 +18,8 @@ use Rattle.room_laws.specs.Room.{room, rooms, rows, rowsAll}
 use Rattle.visit.specs.declared.State.{State}
 use Rattle.visit.specs.declared.Visit.{Visit}
 use Rattle.visit.specs.Whole.{Lent}
-use Rattle.visiting.specs.Then.{Came, Stopped, cameOf}
+use Rattle.visiting.specs.Then.{Came, as-known, as-poison, Stopped, at-refusal, cameOf, leftOf}
+use Rattle.visiting.specs.Blocks.{leaveOf}
 use Rattle.visiting.specs.Leads.{Beginning, Leads, leads-begin, leads-then, leads-stop, leads-return}
 use Rattle.ready.specs.Ready.{Ready, NodeVisit}
 use Rattle.ready.specs.Passes.{ready-less, ready-then}
@@ -98,3 +99,20 @@ module _ {T : Texts} {image places words : List ℕ} {owner at k : ℕ} {st : St
   turn-end l e =
       let z : left ≡ 0 = omega arith in
       leads-return answer (rw z at (h .leads)) e
+
+-- ── A block's end, where its nodes are visited in a loop ──
+
+-- "a block's end takes the old names again"
+pub leave-came : (a : Answer) (st before : State) → leaveOf (cameOf a st) before ≡ cameOf a (leftOf st before)
+unfolding leaveOf cameOf
+leave-came (Known slot) st before = refl
+leave-came Poison st before = refl
+
+pub leave-stopped : {v : Visit} (before : State) → Stopped v → v ≡ leaveOf v before
+unfolding leaveOf
+leave-stopped before at-refusal = refl
+
+pub came-so : (a : Answer) (st : State) → Came (cameOf a st) a st
+unfolding cameOf
+came-so (Known slot) st = as-known
+came-so Poison st = as-poison

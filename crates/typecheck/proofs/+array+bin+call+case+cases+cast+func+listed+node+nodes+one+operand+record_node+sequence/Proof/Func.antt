@@ -7,8 +7,8 @@ use Rattle.walk_laws.specs.Bodies.{fn-inside, body-inside, body-end, begin-read
 use borrow.Author.Needs.{needs}
 use Prim.Native.Nat.{ℕ}
 use Rattle.typecheck.proofs.func.Reads as func
-use Rattle.typecheck.proofs.+array+bin+call+case+cases+cast+func+listed+node+nodes+one+operand+pairs+record_node+sequence.Lts-func as func-lts
-use Rattle.typecheck.proofs.+array+bin+call+case+cases+cast+func+listed+node+nodes+one+operand+pairs+record_node+sequence.Proof.Shared.{func-at, func-claims}
+use Rattle.typecheck.proofs.+array+bin+call+case+cases+cast+func+listed+node+nodes+one+operand+record_node+sequence.Lts-func as func-lts
+use Rattle.typecheck.proofs.+array+bin+call+case+cases+cast+func+listed+node+nodes+one+operand+record_node+sequence.Proof.Shared.{func-at, func-claims}
 
 pub func-node-place-requires : (t : ℕ) → func-lts.Need-node-place-requires (func-claims t) (func-at t) func.Post
 func-node-place-requires t c κs = search needs

@@ -6,59 +6,51 @@ use borrow.Fn.Kinds.{In}
 use borrow.Fn.PlainCycle.{Measures, is, falls, and}
 use Rattle.typecheck.proofs.array.Reads as array
 use Rattle.typecheck.proofs.array.Kinds as array-kinds
-use Rattle.typecheck.proofs.+array+bin+call+case+cases+cast+func+listed+node+nodes+one+operand+pairs+record_node+sequence.Lts-array as array-lts
+use Rattle.typecheck.proofs.+array+bin+call+case+cases+cast+func+listed+node+nodes+one+operand+record_node+sequence.Lts-array as array-lts
 use Rattle.typecheck.proofs.bin.Reads as bin
 use Rattle.typecheck.proofs.bin.Kinds as bin-kinds
-use Rattle.typecheck.proofs.+array+bin+call+case+cases+cast+func+listed+node+nodes+one+operand+pairs+record_node+sequence.Lts-bin as bin-lts
+use Rattle.typecheck.proofs.+array+bin+call+case+cases+cast+func+listed+node+nodes+one+operand+record_node+sequence.Lts-bin as bin-lts
 use Rattle.typecheck.proofs.call.Reads as call
 use Rattle.typecheck.proofs.call.Kinds as call-kinds
-use Rattle.typecheck.proofs.+array+bin+call+case+cases+cast+func+listed+node+nodes+one+operand+pairs+record_node+sequence.Lts-call as call-lts
+use Rattle.typecheck.proofs.+array+bin+call+case+cases+cast+func+listed+node+nodes+one+operand+record_node+sequence.Lts-call as call-lts
 use Rattle.typecheck.proofs.case.Reads as case
 use Rattle.typecheck.proofs.case.Kinds as case-kinds
-use Rattle.typecheck.proofs.+array+bin+call+case+cases+cast+func+listed+node+nodes+one+operand+pairs+record_node+sequence.Lts-case as case-lts
+use Rattle.typecheck.proofs.+array+bin+call+case+cases+cast+func+listed+node+nodes+one+operand+record_node+sequence.Lts-case as case-lts
 use Rattle.typecheck.proofs.cases.Reads as cases
 use Rattle.typecheck.proofs.cases.Kinds as cases-kinds
-use Rattle.typecheck.proofs.+array+bin+call+case+cases+cast+func+listed+node+nodes+one+operand+pairs+record_node+sequence.Lts-cases as cases-lts
+use Rattle.typecheck.proofs.+array+bin+call+case+cases+cast+func+listed+node+nodes+one+operand+record_node+sequence.Lts-cases as cases-lts
 use Rattle.typecheck.proofs.cast.Reads as cast
 use Rattle.typecheck.proofs.cast.Kinds as cast-kinds
-use Rattle.typecheck.proofs.+array+bin+call+case+cases+cast+func+listed+node+nodes+one+operand+pairs+record_node+sequence.Lts-cast as cast-lts
+use Rattle.typecheck.proofs.+array+bin+call+case+cases+cast+func+listed+node+nodes+one+operand+record_node+sequence.Lts-cast as cast-lts
 use Rattle.typecheck.proofs.func.Reads as func
 use Rattle.typecheck.proofs.func.Kinds as func-kinds
-use Rattle.typecheck.proofs.+array+bin+call+case+cases+cast+func+listed+node+nodes+one+operand+pairs+record_node+sequence.Lts-func as func-lts
+use Rattle.typecheck.proofs.+array+bin+call+case+cases+cast+func+listed+node+nodes+one+operand+record_node+sequence.Lts-func as func-lts
 use Rattle.typecheck.proofs.listed.Reads as listed
 use Rattle.typecheck.proofs.listed.Kinds as listed-kinds
-use Rattle.typecheck.proofs.+array+bin+call+case+cases+cast+func+listed+node+nodes+one+operand+pairs+record_node+sequence.Lts-listed as listed-lts
+use Rattle.typecheck.proofs.+array+bin+call+case+cases+cast+func+listed+node+nodes+one+operand+record_node+sequence.Lts-listed as listed-lts
 use Rattle.typecheck.proofs.node.Reads as node
 use Rattle.typecheck.proofs.node.Kinds as node-kinds
-use Rattle.typecheck.proofs.+array+bin+call+case+cases+cast+func+listed+node+nodes+one+operand+pairs+record_node+sequence.Lts-node as node-lts
+use Rattle.typecheck.proofs.+array+bin+call+case+cases+cast+func+listed+node+nodes+one+operand+record_node+sequence.Lts-node as node-lts
 use Rattle.typecheck.proofs.nodes.Reads as nodes
 use Rattle.typecheck.proofs.nodes.Kinds as nodes-kinds
-use Rattle.typecheck.proofs.+array+bin+call+case+cases+cast+func+listed+node+nodes+one+operand+pairs+record_node+sequence.Lts-nodes as nodes-lts
+use Rattle.typecheck.proofs.+array+bin+call+case+cases+cast+func+listed+node+nodes+one+operand+record_node+sequence.Lts-nodes as nodes-lts
 use Rattle.typecheck.proofs.one.Reads as one
 use Rattle.typecheck.proofs.one.Kinds as one-kinds
-use Rattle.typecheck.proofs.+array+bin+call+case+cases+cast+func+listed+node+nodes+one+operand+pairs+record_node+sequence.Lts-one as one-lts
+use Rattle.typecheck.proofs.+array+bin+call+case+cases+cast+func+listed+node+nodes+one+operand+record_node+sequence.Lts-one as one-lts
 use Rattle.typecheck.proofs.operand.Reads as operand
 use Rattle.typecheck.proofs.operand.Kinds as operand-kinds
-use Rattle.typecheck.proofs.+array+bin+call+case+cases+cast+func+listed+node+nodes+one+operand+pairs+record_node+sequence.Lts-operand as operand-lts
-use Rattle.typecheck.proofs.pairs.Reads as pairs
-use Rattle.typecheck.proofs.pairs.Kinds as pairs-kinds
-use Rattle.typecheck.proofs.+array+bin+call+case+cases+cast+func+listed+node+nodes+one+operand+pairs+record_node+sequence.Lts-pairs as pairs-lts
+use Rattle.typecheck.proofs.+array+bin+call+case+cases+cast+func+listed+node+nodes+one+operand+record_node+sequence.Lts-operand as operand-lts
 use Rattle.typecheck.proofs.record_node.Reads as record-node
 use Rattle.typecheck.proofs.record_node.Kinds as record-node-kinds
-use Rattle.typecheck.proofs.+array+bin+call+case+cases+cast+func+listed+node+nodes+one+operand+pairs+record_node+sequence.Lts-record_node as record-node-lts
+use Rattle.typecheck.proofs.+array+bin+call+case+cases+cast+func+listed+node+nodes+one+operand+record_node+sequence.Lts-record_node as record-node-lts
 use Rattle.typecheck.proofs.sequence.Reads as sequence
 use Rattle.typecheck.proofs.sequence.Kinds as sequence-kinds
-use Rattle.typecheck.proofs.+array+bin+call+case+cases+cast+func+listed+node+nodes+one+operand+pairs+record_node+sequence.Lts-sequence as sequence-lts
-use Rattle.add.proofs.set_pair.Reads as set-pair-reads
+use Rattle.typecheck.proofs.+array+bin+call+case+cases+cast+func+listed+node+nodes+one+operand+record_node+sequence.Lts-sequence as sequence-lts
 use Rattle.bodies.proofs.begin.Reads as begin-reads
 use Rattle.bodies.proofs.end.Reads as end-reads
 use Rattle.branches.proofs.case_end.Reads as case-end-reads
 use Rattle.branches.proofs.condition.Reads as condition-reads
 use Rattle.branches.proofs.end.Reads as end-reads′
-use Rattle.branches.proofs.is_poison.Reads as is-poison-reads
-use Rattle.branches.proofs.no_flags.Reads as no-flags-reads
-use Rattle.fields.proofs.close.Reads as close-reads
-use Rattle.fields.proofs.open.Reads as open-reads
 use Rattle.leaves.proofs.leaf.Reads as leaf-reads
 use Rattle.members.proofs.empty.Reads as empty-reads
 use Rattle.members.proofs.end.Reads as end-reads′′
@@ -74,15 +66,14 @@ use Rattle.tok.proofs.kind.Reads as kind-reads
 use Rattle.tok.proofs.payload.Reads as payload-reads
 use Rattle.tok.proofs.wide.Reads as wide-reads
 use Rattle.tok.proofs.word_at.Reads as word-at-reads
-use Rattle.values.proofs.value_type.Reads as value-type-reads
 use Rattle.visiting.proofs.after.Reads as after-reads
 use Rattle.visiting.proofs.came.Reads as came-reads
-use Rattle.visiting.proofs.leave.Reads as leave-reads
+use Rattle.fields.proofs.make.Reads as make-reads
+use Rattle.visiting.proofs.left.Reads as left-reads
 use Rattle.walking.proofs.halted.Reads as halted-reads
 use Rattle.walking.proofs.has_operands.Reads as has-operands-reads
 use Rattle.walking.proofs.is_leaf.Reads as is-leaf-reads
 use Rattle.walking.proofs.refused.Reads as refused-reads
-use Rattle.walking.proofs.stopped.Reads as stopped-reads
 use Rattle.calls.proofs.or_poison.Reads as or-poison-reads
 use Rattle.calls.proofs.report_field.Reads as report-field-reads
 use Rattle.calls.proofs.resolve.Reads as resolve-reads
@@ -123,9 +114,6 @@ abbrev pub μ-one : Measures 10 one-kinds.ps ℕ
 
 abbrev pub μ-operand : Measures 10 operand-kinds.ps ℕ
 μ-operand κs a = M.μ-step (a .1 .1 .1 .1 .1 .1 .1 .1 .1 .1 .1 .1 .0)
-
-abbrev pub μ-pairs : Measures 10 pairs-kinds.ps ℕ
-μ-pairs κs a = M.μ-pairs (a .1 .1 .1 .1 .1 .1 .1 .1 .1 .1 .1 .1 .0) (a .1 .1 .1 .1 .1 .1 .1 .1 .1 .1 .1 .1 .1 .1 .0)
 
 abbrev pub μ-record-node : Measures 10 record-node-kinds.ps ℕ
 μ-record-node κs a = M.μ-rule (a .1 .1 .1 .1 .1 .1 .1 .1 .1 .1 .1 .1 .0)
@@ -205,12 +193,6 @@ operand-at t = and 10 operand-kinds.ps (is 10 operand-kinds.ps μ-operand t) ope
 abbrev pub operand-below : ℕ → In 10 operand-kinds.ps
 operand-below t = and 10 operand-kinds.ps (falls 10 operand-kinds.ps _<_ μ-operand t) operand.Pre
 
-abbrev pub pairs-at : ℕ → In 10 pairs-kinds.ps
-pairs-at t = and 10 pairs-kinds.ps (is 10 pairs-kinds.ps μ-pairs t) pairs.Pre
-
-abbrev pub pairs-below : ℕ → In 10 pairs-kinds.ps
-pairs-below t = and 10 pairs-kinds.ps (falls 10 pairs-kinds.ps _<_ μ-pairs t) pairs.Pre
-
 abbrev pub record-node-at : ℕ → In 10 record-node-kinds.ps
 record-node-at t =
     and 10 record-node-kinds.ps (is 10 record-node-kinds.ps μ-record-node t) record-node.Pre
@@ -233,10 +215,10 @@ abbrev pub bin-claims : ℕ → bin-lts.Claims
 bin-claims t = (node-place-reads.Asked, node-place-reads.Learnt, word-at-reads.Asked, word-at-reads.Learnt, node-below t, node.Post, after-reads.Asked, after-reads.Learnt, bin-end-reads.Asked, bin-end-reads.Learnt)
 
 abbrev pub case-claims : ℕ → case-lts.Claims
-case-claims t = (word-at-reads.Asked, word-at-reads.Learnt, node-below t, node.Post, after-reads.Asked, after-reads.Learnt, condition-reads.Asked, condition-reads.Learnt, halted-reads.Asked, halted-reads.Learnt, wide-reads.Asked, wide-reads.Learnt, nodes-below t, nodes.Post, leave-reads.Asked, leave-reads.Learnt)
+case-claims t = (word-at-reads.Asked, word-at-reads.Learnt, node-below t, node.Post, after-reads.Asked, after-reads.Learnt, condition-reads.Asked, condition-reads.Learnt, halted-reads.Asked, halted-reads.Learnt, wide-reads.Asked, wide-reads.Learnt, left-reads.Asked, left-reads.Learnt, came-reads.Asked, came-reads.Learnt)
 
 abbrev pub cases-claims : ℕ → cases-lts.Claims
-cases-claims t = (node-place-reads.Asked, node-place-reads.Learnt, word-at-reads.Asked, word-at-reads.Learnt, wide-reads.Asked, wide-reads.Learnt, no-flags-reads.Asked, no-flags-reads.Learnt, case-below t, case.Post, after-reads.Asked, after-reads.Learnt, is-poison-reads.Asked, is-poison-reads.Learnt, case-end-reads.Asked, case-end-reads.Learnt, payload-reads.Asked, payload-reads.Learnt, nodes-below t, nodes.Post, leave-reads.Asked, leave-reads.Learnt, end-reads′.Asked, end-reads′.Learnt)
+cases-claims t = (node-place-reads.Asked, node-place-reads.Learnt, word-at-reads.Asked, word-at-reads.Learnt, wide-reads.Asked, wide-reads.Learnt, case-below t, case.Post, after-reads.Asked, after-reads.Learnt, case-end-reads.Asked, case-end-reads.Learnt, payload-reads.Asked, payload-reads.Learnt, node-below t, node.Post, left-reads.Asked, left-reads.Learnt, end-reads′.Asked, end-reads′.Learnt)
 
 abbrev pub cast-claims : ℕ → cast-lts.Claims
 cast-claims t = (node-place-reads.Asked, node-place-reads.Learnt, cast-begin-reads.Asked, cast-begin-reads.Learnt, refused-reads.Asked, refused-reads.Learnt, word-at-reads.Asked, word-at-reads.Learnt, node-below t, node.Post, after-reads.Asked, after-reads.Learnt, cast-end-reads.Asked, cast-end-reads.Learnt)
@@ -259,11 +241,8 @@ one-claims t = (node-place-reads.Asked, node-place-reads.Learnt, operand-of-read
 abbrev pub operand-claims : ℕ → operand-lts.Claims
 operand-claims t = (node-place-reads.Asked, node-place-reads.Learnt, word-at-reads.Asked, word-at-reads.Learnt, kind-reads.Asked, kind-reads.Learnt, bin-below t, bin.Post, cast-below t, cast.Post, one-below t, one.Post)
 
-abbrev pub pairs-claims : ℕ → pairs-lts.Claims
-pairs-claims t = (open-reads.Asked, open-reads.Learnt, word-at-reads.Asked, word-at-reads.Learnt, node-below t, node.Post, after-reads.Asked, after-reads.Learnt, stopped-reads.Asked, stopped-reads.Learnt, value-type-reads.Asked, value-type-reads.Learnt, pairs-below t, pairs.Post, payload-reads.Asked, payload-reads.Learnt, set-pair-reads.Asked, set-pair-reads.Learnt)
-
 abbrev pub record-node-claims : ℕ → record-node-lts.Claims
-record-node-claims t = (node-place-reads.Asked, node-place-reads.Learnt, word-at-reads.Asked, word-at-reads.Learnt, payload-reads.Asked, payload-reads.Learnt, pairs-below t, pairs.Post, refused-reads.Asked, refused-reads.Learnt, close-reads.Asked, close-reads.Learnt)
+record-node-claims t = (node-place-reads.Asked, node-place-reads.Learnt, word-at-reads.Asked, word-at-reads.Learnt, payload-reads.Asked, payload-reads.Learnt, node-below t, node.Post, after-reads.Asked, after-reads.Learnt, make-reads.Asked, make-reads.Learnt)
 
 abbrev pub sequence-claims : ℕ → sequence-lts.Claims
 sequence-claims t = (node-place-reads.Asked, node-place-reads.Learnt, word-at-reads.Asked, word-at-reads.Learnt, kind-reads.Asked, kind-reads.Learnt, call-below t, call.Post, record-node-below t, record-node.Post, array-below t, array.Post)

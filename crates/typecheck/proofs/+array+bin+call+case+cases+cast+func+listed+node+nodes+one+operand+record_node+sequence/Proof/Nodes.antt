@@ -10,8 +10,8 @@ use Rattle.walk_laws.specs.Lists.{Turn, turn-begin, place-inside, part-under, t
 use borrow.Author.Needs.{needs}
 use Prim.Native.Nat.{ℕ}
 use Rattle.typecheck.proofs.nodes.Reads as nodes
-use Rattle.typecheck.proofs.+array+bin+call+case+cases+cast+func+listed+node+nodes+one+operand+pairs+record_node+sequence.Lts-nodes as nodes-lts
-use Rattle.typecheck.proofs.+array+bin+call+case+cases+cast+func+listed+node+nodes+one+operand+pairs+record_node+sequence.Proof.Shared.{nodes-at, nodes-claims}
+use Rattle.typecheck.proofs.+array+bin+call+case+cases+cast+func+listed+node+nodes+one+operand+record_node+sequence.Lts-nodes as nodes-lts
+use Rattle.typecheck.proofs.+array+bin+call+case+cases+cast+func+listed+node+nodes+one+operand+record_node+sequence.Proof.Shared.{nodes-at, nodes-claims}
 
 abbrev pub nodes-Inv-loop : nodes-lts.InvT-loop
 nodes-Inv-loop slots₀ functions₀ types₀ diagnostics₀ messages₀ scratch₀ script library image words places owner at k answer₀ here₀ place₀ left₀ slots functions types diagnostics messages scratch answer here place left =

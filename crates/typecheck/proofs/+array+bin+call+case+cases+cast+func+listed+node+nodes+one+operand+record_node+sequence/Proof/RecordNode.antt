@@ -1,0 +1,116 @@
+-- Node::Record: `typecheck::record_node` meets its contract (fields, `RecordVisits`). The loop's invariant, `Turn`: i values are done, as their
+-- slots tell, and the others lead on to the whole rule; the measure is how many are left. Assumes nothing.
+use Prim.Native.Nat.{ℕ, _-_}
+use mathlib.Core.Path.{_≡_, refl, ap, _∙_}
+use native.Mathlib.Omega.{arith}
+use denote.Ref.{now}
+use lib.ListN.{length}
+use Rattle.tok.specs.Text.{textsOf}
+use Rattle.visit.specs.Whole.{lent}
+use Rattle.visiting.specs.Then.{came-after, stopped-after}
+use Rattle.fields.specs.RecordVisits.{Turn, turn-begin, record-length, record-low, value-under, value-visit, turn-stops, turn-next, record-made}
+use borrow.Author.Needs.{needs}
+use Rattle.typecheck.proofs.record_node.Reads as record-node
+use Rattle.typecheck.proofs.+array+bin+call+case+cases+cast+func+listed+node+nodes+one+operand+record_node+sequence.Lts-record_node as record-node-lts
+use Rattle.typecheck.proofs.+array+bin+call+case+cases+cast+func+listed+node+nodes+one+operand+record_node+sequence.Proof.Shared.{record-node-at, record-node-claims}
+
+abbrev pub record-node-Inv-loop : record-node-lts.InvT-loop
+record-node-Inv-loop slots₀ functions₀ types₀ diagnostics₀ messages₀ scratch₀ script library image words places n at count here₀ i₀ slots functions types diagnostics messages scratch here i =
+    Turn (textsOf script library) image places words n at count here₀ (lent slots₀ functions₀ types₀ diagnostics₀ messages₀ scratch₀) here i (lent slots functions types diagnostics messages scratch) × (length slots ≡ length slots₀) × (length functions ≡ length functions₀) × (length types ≡ length types₀) × (length diagnostics ≡ length diagnostics₀) × (length messages ≡ length messages₀) × (length scratch ≡ length scratch₀)
+
+abbrev pub record-node-μ-loop : record-node-lts.MeasureT-loop
+record-node-μ-loop slots₀ functions₀ types₀ diagnostics₀ messages₀ scratch₀ script library image words places n at count here₀ i₀ slots functions types diagnostics messages scratch here i =
+    count - i
+
+pub record-node-node-place-requires : (t : ℕ) → record-node-lts.Need-node-place-requires (record-node-claims t) (record-node-at t) record-node.Post record-node-Inv-loop record-node-μ-loop
+record-node-node-place-requires t c κs = search needs
+
+pub record-node-word-at-requires : (t : ℕ) → record-node-lts.Need-word-at-requires (record-node-claims t) (record-node-at t) record-node.Post record-node-Inv-loop record-node-μ-loop
+record-node-word-at-requires t c κs = search needs
+
+pub record-node-payload-requires : (t : ℕ) → record-node-lts.Need-payload-requires (record-node-claims t) (record-node-at t) record-node.Post record-node-Inv-loop record-node-μ-loop
+record-node-payload-requires t c κs = search needs
+
+pub record-node-sub-count : (t : ℕ) → record-node-lts.Need-sub-count (record-node-claims t) (record-node-at t) record-node.Post record-node-Inv-loop record-node-μ-loop
+record-node-sub-count t c = record-length (c .before .before .before .before .before .before .before .before .before .before .before .before .before .before .pre .1) (c .before .before .node-place .ensures) (c .before .word-at .ensures) (c .payload .ensures)
+
+pub record-node-loop-holds : (t : ℕ) → record-node-lts.Need-loop-holds (record-node-claims t) (record-node-at t) record-node.Post record-node-Inv-loop record-node-μ-loop
+record-node-loop-holds t c = (turn-begin (c .before .before .before .before .before .before .before .before .before .before .before .before .before .before .pre .1) (c .before .before .node-place .ensures) (c .before .word-at .ensures) (c .payload .ensures) refl, refl, refl, refl, refl, refl, refl)
+
+pub record-node-add-word-at : (t : ℕ) → record-node-lts.Need-add-word-at (record-node-claims t) (record-node-at t) record-node.Post record-node-Inv-loop record-node-μ-loop
+record-node-add-word-at t c = omega (arith, c .before .before .before .before .before .before .loop-test .taken, c .before .before .before .before .before .before .before .loop .inv .0 .values .room)
+
+pub record-node-mul-word-at : (t : ℕ) → record-node-lts.Need-mul-word-at (record-node-claims t) (record-node-at t) record-node.Post record-node-Inv-loop record-node-μ-loop
+record-node-mul-word-at t c = omega (arith, c .before .before .before .before .before .before .loop-test .taken, c .before .before .before .before .before .before .before .loop .inv .0 .values .room)
+
+pub record-node-add-word-at-2 : (t : ℕ) → record-node-lts.Need-add-word-at-2 (record-node-claims t) (record-node-at t) record-node.Post record-node-Inv-loop record-node-μ-loop
+record-node-add-word-at-2 t c = omega (arith, c .before .before .before .before .before .before .loop-test .taken, c .before .before .before .before .before .before .before .loop .inv .0 .values .room)
+
+pub record-node-word-at-requires-2 : (t : ℕ) → record-node-lts.Need-word-at-requires-2 (record-node-claims t) (record-node-at t) record-node.Post record-node-Inv-loop record-node-μ-loop
+record-node-word-at-requires-2 t c κs = search needs
+
+pub record-node-node-requires : (t : ℕ) → record-node-lts.Need-node-requires (record-node-claims t) (record-node-at t) record-node.Post record-node-Inv-loop record-node-μ-loop
+record-node-node-requires t c κs = (omega (arith, c .before .before .before .before .before .before .before .before .before .before .before .before .before .before .before .before .before .before .before .before .before .before .before .pre .0, value-under (c .before .before .before .before .before .before .before .before .loop .inv .0) (c .before .before .before .before .before .before .before .loop-test .taken) (c .word-at2 .ensures)), value-visit (c .before .before .before .before .before .before .before .before .loop .inv .0) (c .before .before .before .before .before .before .before .loop-test .taken) (c .word-at2 .ensures))
+
+pub record-node-after-requires : (t : ℕ) → record-node-lts.Need-after-requires (record-node-claims t) (record-node-at t) record-node.Post record-node-Inv-loop record-node-μ-loop
+record-node-after-requires t c κs = search needs
+
+pub record-node-enum-known-next : (t : ℕ) → record-node-lts.Need-enum-known-next (record-node-claims t) (record-node-at t) record-node.Post record-node-Inv-loop record-node-μ-loop
+record-node-enum-known-next t c = search needs
+
+pub record-node-enum-told : (t : ℕ) → record-node-lts.Need-enum-told (record-node-claims t) (record-node-at t) record-node.Post record-node-Inv-loop record-node-μ-loop
+record-node-enum-told t c = search needs
+
+pub record-node-same-length : (t : ℕ) → record-node-lts.Need-same-length (record-node-claims t) (record-node-at t) record-node.Post record-node-Inv-loop record-node-μ-loop
+record-node-same-length t c = c .before .before .before .before .before .before .before .before .before .before .before .before .before .before .before .node .kept .0 ∙ c .before .before .before .before .before .before .before .before .before .before .before .before .before .before .before .before .before .before .before .before .before .before .before .before .loop .inv .1
+
+pub record-node-same-length-2 : (t : ℕ) → record-node-lts.Need-same-length-2 (record-node-claims t) (record-node-at t) record-node.Post record-node-Inv-loop record-node-μ-loop
+record-node-same-length-2 t c = c .before .before .before .before .before .before .before .before .before .before .before .before .before .before .before .node .kept .1 .0 ∙ c .before .before .before .before .before .before .before .before .before .before .before .before .before .before .before .before .before .before .before .before .before .before .before .before .loop .inv .2
+
+pub record-node-same-length-3 : (t : ℕ) → record-node-lts.Need-same-length-3 (record-node-claims t) (record-node-at t) record-node.Post record-node-Inv-loop record-node-μ-loop
+record-node-same-length-3 t c = c .before .before .before .before .before .before .before .before .before .before .before .before .before .before .before .node .kept .1 .1 .0 ∙ c .before .before .before .before .before .before .before .before .before .before .before .before .before .before .before .before .before .before .before .before .before .before .before .before .loop .inv .3
+
+pub record-node-same-length-4 : (t : ℕ) → record-node-lts.Need-same-length-4 (record-node-claims t) (record-node-at t) record-node.Post record-node-Inv-loop record-node-μ-loop
+record-node-same-length-4 t c = c .before .before .before .before .before .before .before .before .before .before .before .before .before .before .before .node .kept .1 .1 .1 .0 ∙ c .before .before .before .before .before .before .before .before .before .before .before .before .before .before .before .before .before .before .before .before .before .before .before .before .loop .inv .4
+
+pub record-node-same-length-5 : (t : ℕ) → record-node-lts.Need-same-length-5 (record-node-claims t) (record-node-at t) record-node.Post record-node-Inv-loop record-node-μ-loop
+record-node-same-length-5 t c = c .before .before .before .before .before .before .before .before .before .before .before .before .before .before .before .node .kept .1 .1 .1 .1 .0 ∙ c .before .before .before .before .before .before .before .before .before .before .before .before .before .before .before .before .before .before .before .before .before .before .before .before .loop .inv .5
+
+pub record-node-same-length-6 : (t : ℕ) → record-node-lts.Need-same-length-6 (record-node-claims t) (record-node-at t) record-node.Post record-node-Inv-loop record-node-μ-loop
+record-node-same-length-6 t c = c .before .before .before .before .before .before .before .before .before .before .before .before .before .before .before .node .kept .1 .1 .1 .1 .1 .0 ∙ c .before .before .before .before .before .before .before .before .before .before .before .before .before .before .before .before .before .before .before .before .before .before .before .before .loop .inv .6
+
+pub record-node-returns : (t : ℕ) → record-node-lts.Need-returns (record-node-claims t) (record-node-at t) record-node.Post record-node-Inv-loop record-node-μ-loop
+record-node-returns t c = turn-stops (c .before .before .before .before .before .before .before .before .before .before .before .before .before .before .before .before .before .before .before .before .before .before .before .before .loop .inv .0) (c .before .before .before .before .before .before .before .before .before .before .before .before .before .before .before .before .before .before .before .before .before .before .before .loop-test .taken) (c .before .before .before .before .before .before .before .before .before .before .before .before .before .before .before .before .word-at2 .ensures) (c .before .before .before .before .before .before .before .before .before .before .before .before .before .before .before .node .ensures) (stopped-after (c .before .before .before .before .before .before .before .before .before .before .before .before .before .before .before .node .result) (c .before .before .after .ensures) (c .enum-told .given .1))
+
+pub record-node-add-i : (t : ℕ) → record-node-lts.Need-add-i (record-node-claims t) (record-node-at t) record-node.Post record-node-Inv-loop record-node-μ-loop
+record-node-add-i t c = omega (arith, c .before .before .before .before .before .before .before .before .before .before .before .before .before .before .before .before .before .before .before .before .before .before .before .before .loop-test .taken, c .before .before .before .before .before .before .before .before .before .before .before .before .before .before .before .before .before .before .before .before .before .before .before .before .before .loop .inv .0 .values .room)
+
+pub record-node-loop-less : (t : ℕ) → record-node-lts.Need-loop-less (record-node-claims t) (record-node-at t) record-node.Post record-node-Inv-loop record-node-μ-loop
+record-node-loop-less t c = omega (arith, c .before .before .before .before .before .before .before .before .before .before .before .before .before .before .before .before .before .before .before .before .before .before .before .before .loop-test .taken)
+
+pub record-node-loop-again : (t : ℕ) → record-node-lts.Need-loop-again (record-node-claims t) (record-node-at t) record-node.Post record-node-Inv-loop record-node-μ-loop
+record-node-loop-again t c = (turn-next (c .before .before .before .before .before .before .before .before .before .before .before .before .before .before .before .before .before .before .before .before .before .before .before .before .before .loop .inv .0) (c .before .before .before .before .before .before .before .before .before .before .before .before .before .before .before .before .before .before .before .before .before .before .before .before .loop-test .taken) (c .before .before .before .before .before .before .before .before .before .before .before .before .before .before .before .before .before .word-at2 .ensures) (c .before .before .before .before .before .before .before .before .before .before .before .before .before .before .before .before .node .ensures) (came-after (c .before .before .before .before .before .before .before .before .before .before .before .before .before .before .before .before .node .result) (c .before .before .before .after .ensures) (c .before .next .given .1)), c .before .before .before .before .before .before .before .before .before .before .before .before .before .before .before .before .node .kept .0 ∙ c .before .before .before .before .before .before .before .before .before .before .before .before .before .before .before .before .before .before .before .before .before .before .before .before .before .loop .inv .1, c .before .before .before .before .before .before .before .before .before .before .before .before .before .before .before .before .node .kept .1 .0 ∙ c .before .before .before .before .before .before .before .before .before .before .before .before .before .before .before .before .before .before .before .before .before .before .before .before .before .loop .inv .2, c .before .before .before .before .before .before .before .before .before .before .before .before .before .before .before .before .node .kept .1 .1 .0 ∙ c .before .before .before .before .before .before .before .before .before .before .before .before .before .before .before .before .before .before .before .before .before .before .before .before .before .loop .inv .3, c .before .before .before .before .before .before .before .before .before .before .before .before .before .before .before .before .node .kept .1 .1 .1 .0 ∙ c .before .before .before .before .before .before .before .before .before .before .before .before .before .before .before .before .before .before .before .before .before .before .before .before .before .loop .inv .4, c .before .before .before .before .before .before .before .before .before .before .before .before .before .before .before .before .node .kept .1 .1 .1 .1 .0 ∙ c .before .before .before .before .before .before .before .before .before .before .before .before .before .before .before .before .before .before .before .before .before .before .before .before .before .loop .inv .5, c .before .before .before .before .before .before .before .before .before .before .before .before .before .before .before .before .node .kept .1 .1 .1 .1 .1 .0 ∙ c .before .before .before .before .before .before .before .before .before .before .before .before .before .before .before .before .before .before .before .before .before .before .before .before .before .loop .inv .6)
+
+pub record-node-make-requires : (t : ℕ) → record-node-lts.Need-make-requires (record-node-claims t) (record-node-at t) record-node.Post record-node-Inv-loop record-node-μ-loop
+record-node-make-requires t c κs = c .before .before .before .loop .inv .0 .values
+
+pub record-node-same-length-7 : (t : ℕ) → record-node-lts.Need-same-length-7 (record-node-claims t) (record-node-at t) record-node.Post record-node-Inv-loop record-node-μ-loop
+record-node-same-length-7 t c = c .before .before .before .before .make .kept .0 ∙ c .before .before .before .before .before .before .before .before .loop .inv .1
+
+pub record-node-same-length-8 : (t : ℕ) → record-node-lts.Need-same-length-8 (record-node-claims t) (record-node-at t) record-node.Post record-node-Inv-loop record-node-μ-loop
+record-node-same-length-8 t c = c .before .before .before .before .before .before .before .before .loop .inv .2
+
+pub record-node-same-length-9 : (t : ℕ) → record-node-lts.Need-same-length-9 (record-node-claims t) (record-node-at t) record-node.Post record-node-Inv-loop record-node-μ-loop
+record-node-same-length-9 t c = c .before .before .before .before .make .kept .1 .0 ∙ c .before .before .before .before .before .before .before .before .loop .inv .3
+
+pub record-node-same-length-10 : (t : ℕ) → record-node-lts.Need-same-length-10 (record-node-claims t) (record-node-at t) record-node.Post record-node-Inv-loop record-node-μ-loop
+record-node-same-length-10 t c = c .before .before .before .before .before .before .before .before .loop .inv .4
+
+pub record-node-same-length-11 : (t : ℕ) → record-node-lts.Need-same-length-11 (record-node-claims t) (record-node-at t) record-node.Post record-node-Inv-loop record-node-μ-loop
+record-node-same-length-11 t c = c .before .before .before .before .before .before .before .before .loop .inv .5
+
+pub record-node-same-length-12 : (t : ℕ) → record-node-lts.Need-same-length-12 (record-node-claims t) (record-node-at t) record-node.Post record-node-Inv-loop record-node-μ-loop
+record-node-same-length-12 t c = c .before .before .before .before .before .before .before .before .loop .inv .6
+
+pub record-node-returns-2 : (t : ℕ) → record-node-lts.Need-returns-2 (record-node-claims t) (record-node-at t) record-node.Post record-node-Inv-loop record-node-μ-loop
+record-node-returns-2 t c = record-made (c .before .before .before .before .before .before .before .before .loop .inv .0) (c .before .before .before .before .before .before .before .loop-test .left) (c .before .before .before .before .make .ensures (textsOf (now (c .before .before .before .before .before .before .before .before .before .before .before .before .before .before .before .before .before .before .before .before .before .before .before .args .script)) (now (c .before .before .before .before .before .before .before .before .before .before .before .before .before .before .before .before .before .before .before .before .before .before .before .args .library))) _ _ _ _ _)
