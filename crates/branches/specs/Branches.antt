@@ -1,7 +1,7 @@
 -- What the branches of a Match answered, as image and slots tell it once all are visited: a rule answers its node's own slot, and where it
 -- is poisoned leaves no type in it, or Unknown where it read a field of that type (laws, `Told`). Definitions, and laws of lists of them.
 -- Assumes nothing.
-use Prim.Native.Nat.{ℕ, zero, suc, _+_, _≤_}
+use Prim.Native.Nat.{ℕ, zero, suc, _+_, _*_, _≤_}
 use mathlib.Core.Path.{_≡_, refl, ap, _∙_}
 use mathlib.Core.Bool.{Bool, cond}
 use mathlib.Core.List.{List, [], _∷_, _++_}
@@ -11,6 +11,8 @@ use lib.Dec.{eqb}
 use Rattle.tok.specs.Word.{kindOf}
 use Rattle.ast.specs.Image.{wordAt, slotCount, nodePlace, recordKind}
 use Rattle.ast.specs.Node.{Node, nodesFrom, casesFrom, casesEnd, treeOf, slotOf}
+use Rattle.ast.specs.Outline.{Counts}
+use Rattle.image_laws.specs.RecordWords.{CasesWords, defaultWords, caseWords}
 use Rattle.laws.specs.SlotsOf.{lastNode}
 use Rattle.rules.specs.declared.Answer.{Answer}
 use Rattle.rules.specs.declared.Answer.the-variants.{Known, Poison}
@@ -48,6 +50,11 @@ branchesFrom image slots at zero = []
 branchesFrom image slots at (suc k) = branchAt image slots at ∷ branchesFrom image slots (at + 3 + wordAt image (at + 2)) k
 
 -- ── Laws ──
+
+-- three words each at least
+pub cases-few : {c : Counts} {image : List ℕ} {n end at k : ℕ} → CasesWords c image n end at k → at + 3 * k + 1 ≤ end
+cases-few (defaultWords t l b) = omega arith
+cases-few (caseWords t q body others) = let l = cases-few others in omega arith
 
 module _ (image : List ℕ) where
   -- the word after one more case

@@ -39,7 +39,7 @@ use Rattle.ready.specs.Asked.{match-cases, default-nodes}
 use Rattle.walking.specs.Kinds.{Is}
 use Rattle.walking.specs.Contracts.{ctxIn, NodeVisited, ClassVisit, nodesAt, ListVisit, ListVisited, caseBody, caseRule, CaseVisit, CaseVisited}
 use Rattle.walking.specs.Blocks.{block-visits}
-use Rattle.branches.specs.Branches.{branchAt, branchesFrom, end-more, branches-more, branches-still}
+use Rattle.branches.specs.Branches.{branchAt, branchesFrom, cases-few, end-more, branches-more, branches-still}
 use Rattle.branches.specs.Case.{case-apart, case-told, after-case}
 
 -- ── Rules that are alike ──
@@ -166,6 +166,9 @@ module _ {T : Texts} {image places words : List ℕ} {n at : ℕ} {st : State} {
 
 module _ {T : Texts} {image places words : List ℕ} {n at count : ℕ} {st : State} {b : Lent} {here : State} {place i : ℕ} {b′ : Lent}
     (h : Turn T image places words n at count st b here place i b′) where
+  pub few : 3 * count + 4 ≤ 8192
+  few = let l = cases-few (h .facts .cases) in omega (arith, record-room (h .ready-node) (h .at-is), h .counted)
+
   module _ (l : i < count) where
     left : 0 < count - i
     left = omega arith

@@ -185,4 +185,4 @@ pub case-same-length-24 : (t : ℕ) → case-lts.Need-same-length-24 (case-claim
 case-same-length-24 t c = c .before .before .before .loop .inv .6 ∙ c .before .before .before .before .before .before .before .before .before .before .before .before .before .before .before .before .before .before .before .before .before .before .before .before .before .before .before .before .before .before .before .before .before .before .before .node .kept .1 .1 .1 .1 .1 .0
 
 pub case-returns-4 : (t : ℕ) → case-lts.Need-returns-4 (case-claims t) (case-at t) case.Post case-Inv-loop case-μ-loop
-case-returns-4 t c = case-ends (c .before .before .before .before .before .before .before .before .before .before .before .before .before .before .before .before .before .before .before .before .before .before .before .before .before .before .before .before .before .before .before .before .before .before .before .before .before .before .before .before .before .before .before .before .before .before .before .before .before .before .before .before .before .before .pre .1) (c .before .before .before .before .before .before .before .before .before .before .before .before .before .before .before .before .before .before .before .before .before .before .before .before .before .before .before .before .before .before .before .before .before .before .before .before .word-at .ensures) (c .before .before .before .before .before .before .before .before .before .before .before .before .before .before .before .before .before .before .before .before .before .before .before .before .before .before .before .before .before .before .before .before .before .before .before .node .ensures) (came-after (c .before .before .before .before .before .before .before .before .before .before .before .before .before .before .before .before .before .before .before .before .before .before .before .before .before .before .before .before .before .before .before .before .before .before .before .node .result) (c .before .before .before .before .before .before .before .before .before .before .before .before .before .before .before .before .before .before .before .before .before .before .after .ensures) (c .before .before .before .before .before .before .before .before .before .before .before .before .before .before .before .before .before .before .before .before .a .given .1)) (c .before .before .before .before .before .before .before .before .before .before .before .before .before .before .condition .ensures _ _ _ _ _) (c .before .before .before .before .before .before .before .before .went .given .1) (c .before .before .before .before .wide .ensures ∙ c .before .before .before .before .before .word-at3 .ensures) (turn-end (c .before .before .before .loop .inv .0) (c .before .before .loop-test .left) refl) (c .came .ensures ∙ ap (cameOf (c .before .before .before .loop .answer)) (#«left» .ensures) ∙ sym (leave-came (c .before .before .before .loop .answer) (c .before .before .before .loop .here) (c .before .before .before .before .before .before .before .before .went .given .0 .0)))
+case-returns-4 t c = case-ends (c .before .before .before .before .before .before .before .before .before .before .before .before .before .before .before .before .before .before .before .before .before .before .before .before .before .before .before .before .before .before .before .before .before .before .before .before .before .before .before .before .before .before .before .before .before .before .before .before .before .before .before .before .before .before .pre .1) (c .before .before .before .before .before .before .before .before .before .before .before .before .before .before .before .before .before .before .before .before .before .before .before .before .before .before .before .before .before .before .before .before .before .before .before .before .word-at .ensures) (c .before .before .before .before .before .before .before .before .before .before .before .before .before .before .before .before .before .before .before .before .before .before .before .before .before .before .before .before .before .before .before .before .before .before .before .node .ensures) (came-after (c .before .before .before .before .before .before .before .before .before .before .before .before .before .before .before .before .before .before .before .before .before .before .before .before .before .before .before .before .before .before .before .before .before .before .before .node .result) (c .before .before .before .before .before .before .before .before .before .before .before .before .before .before .before .before .before .before .before .before .before .before .after .ensures) (c .before .before .before .before .before .before .before .before .before .before .before .before .before .before .before .before .before .before .before .before .a .given .1)) (c .before .before .before .before .before .before .before .before .before .before .before .before .before .before .condition .ensures _ _ _ _ _) (c .before .before .before .before .before .before .before .before .went .given .1) (c .before .before .before .before .wide .ensures ∙ c .before .before .before .before .before .word-at3 .ensures) (turn-end (c .before .before .before .loop .inv .0) (c .before .before .loop-test .left) refl) (c .came .ensures ∙ ap (cameOf (c .before .before .before .loop .answer)) (c .before .left .ensures) ∙ sym (leave-came (c .before .before .before .loop .answer) (c .before .before .before .loop .here) (c .before .before .before .before .before .before .before .before .went .given .0 .0)))

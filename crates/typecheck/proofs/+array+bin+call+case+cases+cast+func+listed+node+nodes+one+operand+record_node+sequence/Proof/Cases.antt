@@ -9,7 +9,7 @@ use Rattle.tok.specs.Text.{textsOf}
 use Rattle.tok.specs.Word.{payloadOf}
 use Rattle.visit.specs.Whole.{lent}
 use Rattle.visiting.specs.Then.{came-after, stopped-after, cameOf}
-use Rattle.branches.specs.Cases.{Turn, place-room, turn-begin, place-inside, turn-case, turn-stops, turn-next, default-inside, record-inside, default-visit, default-stops, match-ends, end-cases}
+use Rattle.branches.specs.Cases.{Turn, few, place-room, turn-begin, place-inside, turn-case, turn-stops, turn-next, default-inside, record-inside, default-visit, default-stops, match-ends, end-cases}
 use Rattle.walk_laws.specs.Lists as L
 use borrow.Author.Needs.{needs}
 use Rattle.typecheck.proofs.cases.Reads as cases
@@ -87,7 +87,7 @@ pub cases-case-end-requires : (t : ℕ) → cases-lts.Need-case-end-requires (ca
 cases-case-end-requires t c κs = omega (arith, place-inside (c .before .before .before .before .before .before .before .before .before .before .before .before .before .before .before .before .before .before .before .before .before .before .before .before .loop .inv .0) (c .before .before .before .before .before .before .before .before .before .before .before .before .before .before .before .before .before .before .before .before .before .before .before .loop-test .taken))
 
 pub cases-add-i : (t : ℕ) → cases-lts.Need-add-i (cases-claims t) (cases-at t) cases.Post cases-Inv-loop cases-μ-loop cases-Inv-loop2 cases-μ-loop2
-cases-add-i t c = omega (arith, place-inside (c .before .before .before .before .before .before .before .before .before .before .before .before .before .before .before .before .before .before .before .before .before .before .before .before .before .loop .inv .0) (c .before .before .before .before .before .before .before .before .before .before .before .before .before .before .before .before .before .before .before .before .before .before .before .before .loop-test .taken), c .before .before .before .before .before .before .before .before .before .before .before .before .before .before .before .before .before .before .before .before .before .before .before .before .loop-test .taken, c .before .before .before .before .before .before .before .before .before .before .before .before .before .before .before .before .before .before .before .before .before .before .before .before .before .before .before .before .before .before .before .before .before .before .before .before .before .before .before .before .fits .count)
+cases-add-i t c = omega (arith, few (c .before .before .before .before .before .before .before .before .before .before .before .before .before .before .before .before .before .before .before .before .before .before .before .before .before .loop .inv .0), c .before .before .before .before .before .before .before .before .before .before .before .before .before .before .before .before .before .before .before .before .before .before .before .before .loop-test .taken)
 
 pub cases-loop-less : (t : ℕ) → cases-lts.Need-loop-less (cases-claims t) (cases-at t) cases.Post cases-Inv-loop cases-μ-loop cases-Inv-loop2 cases-μ-loop2
 cases-loop-less t c = omega (arith, c .before .before .before .before .before .before .before .before .before .before .before .before .before .before .before .before .before .before .before .before .before .before .before .before .loop-test .taken)
@@ -171,7 +171,7 @@ pub cases-end-requires : (t : ℕ) → cases-lts.Need-end-requires (cases-claims
 cases-end-requires t c κs = end-cases (c .before .before .before .before .before .before .before .before .before .before .before .loop .inv .0) (c .before .before .before .before .before .before .before .before .before .before .loop-test .left)
 
 pub cases-same-length-13 : (t : ℕ) → cases-lts.Need-same-length-13 (cases-claims t) (cases-at t) cases.Post cases-Inv-loop cases-μ-loop cases-Inv-loop2 cases-μ-loop2
-cases-same-length-13 t c = #«end» .kept .0 ∙ c .before .before .before .before .before .before .before .before .before .before .before .before .before .loop2 .inv .1 ∙ c .before .before .before .before .before .before .before .before .before .before .before .before .before .before .before .before .before .before .loop .inv .1
+cases-same-length-13 t c = c .before .before .before .before .before .before .end .kept .0 ∙ c .before .before .before .before .before .before .before .before .before .before .before .before .before .loop2 .inv .1 ∙ c .before .before .before .before .before .before .before .before .before .before .before .before .before .before .before .before .before .before .loop .inv .1
 
 pub cases-same-length-14 : (t : ℕ) → cases-lts.Need-same-length-14 (cases-claims t) (cases-at t) cases.Post cases-Inv-loop cases-μ-loop cases-Inv-loop2 cases-μ-loop2
 cases-same-length-14 t c = c .before .before .before .before .before .before .before .before .before .before .before .before .before .loop2 .inv .2 ∙ c .before .before .before .before .before .before .before .before .before .before .before .before .before .before .before .before .before .before .loop .inv .2
@@ -180,13 +180,13 @@ pub cases-same-length-15 : (t : ℕ) → cases-lts.Need-same-length-15 (cases-cl
 cases-same-length-15 t c = c .before .before .before .before .before .before .before .before .before .before .before .before .before .loop2 .inv .3 ∙ c .before .before .before .before .before .before .before .before .before .before .before .before .before .before .before .before .before .before .loop .inv .3
 
 pub cases-same-length-16 : (t : ℕ) → cases-lts.Need-same-length-16 (cases-claims t) (cases-at t) cases.Post cases-Inv-loop cases-μ-loop cases-Inv-loop2 cases-μ-loop2
-cases-same-length-16 t c = #«end» .kept .1 .1 .0 ∙ c .before .before .before .before .before .before .before .before .before .before .before .before .before .loop2 .inv .4 ∙ c .before .before .before .before .before .before .before .before .before .before .before .before .before .before .before .before .before .before .loop .inv .4
+cases-same-length-16 t c = c .before .before .before .before .before .before .end .kept .1 .1 .0 ∙ c .before .before .before .before .before .before .before .before .before .before .before .before .before .loop2 .inv .4 ∙ c .before .before .before .before .before .before .before .before .before .before .before .before .before .before .before .before .before .before .loop .inv .4
 
 pub cases-same-length-17 : (t : ℕ) → cases-lts.Need-same-length-17 (cases-claims t) (cases-at t) cases.Post cases-Inv-loop cases-μ-loop cases-Inv-loop2 cases-μ-loop2
-cases-same-length-17 t c = #«end» .kept .1 .1 .1 .0 ∙ c .before .before .before .before .before .before .before .before .before .before .before .before .before .loop2 .inv .5 ∙ c .before .before .before .before .before .before .before .before .before .before .before .before .before .before .before .before .before .before .loop .inv .5
+cases-same-length-17 t c = c .before .before .before .before .before .before .end .kept .1 .1 .1 .0 ∙ c .before .before .before .before .before .before .before .before .before .before .before .before .before .loop2 .inv .5 ∙ c .before .before .before .before .before .before .before .before .before .before .before .before .before .before .before .before .before .before .loop .inv .5
 
 pub cases-same-length-18 : (t : ℕ) → cases-lts.Need-same-length-18 (cases-claims t) (cases-at t) cases.Post cases-Inv-loop cases-μ-loop cases-Inv-loop2 cases-μ-loop2
 cases-same-length-18 t c = c .before .before .before .before .before .before .before .before .before .before .before .before .before .loop2 .inv .6 ∙ c .before .before .before .before .before .before .before .before .before .before .before .before .before .before .before .before .before .before .loop .inv .6
 
 pub cases-returns-3 : (t : ℕ) → cases-lts.Need-returns-3 (cases-claims t) (cases-at t) cases.Post cases-Inv-loop cases-μ-loop cases-Inv-loop2 cases-μ-loop2
-cases-returns-3 t c = match-ends (c .before .before .before .before .before .before .before .before .before .before .before .before .before .before .before .before .before .before .loop .inv .0) (c .before .before .before .before .before .before .before .before .before .before .before .before .before .before .before .before .before .loop-test .left) (ap (λ x. c .before .before .before .before .before .before .before .before .before .before .before .before .before .before .before .before .before .before .before .before .before .node-place .result + x - (c .before .before .before .before .before .before .before .before .before .before .before .before .before .before .before .before .before .before .loop .place + 1)) (c .before .before .before .before .before .before .before .before .before .before .before .before .before .before .payload .ensures ∙ ap payloadOf (c .before .before .before .before .before .before .before .before .before .before .before .before .before .before .before .word-at3 .ensures))) (L.turn-end (c .before .before .before .before .before .before .before .before .before .before .before .before .before .loop2 .inv .0) (c .before .before .before .before .before .before .before .before .before .before .before .before .loop2-test .left) refl) (ap (cameOf (c .before .before .before .before .before .before .before .before .before .before .before .before .before .loop2 .default)) (#«left» .ensures) ∙ sym (L.leave-came (c .before .before .before .before .before .before .before .before .before .before .before .before .before .loop2 .default) (c .before .before .before .before .before .before .before .before .before .before .before .before .before .loop2 .end) (c .before .before .before .before .before .before .before .before .before .before .before .before .before .before .before .before .before .before .loop .here))) (L.came-so (c .before .before .before .before .before .before .before .before .before .before .before .before .before .loop2 .default) (#«left» .result)) (#«end» .ensures _ _ _ _ _)
+cases-returns-3 t c = match-ends (c .before .before .before .before .before .before .before .before .before .before .before .before .before .before .before .before .before .before .loop .inv .0) (c .before .before .before .before .before .before .before .before .before .before .before .before .before .before .before .before .before .loop-test .left) (ap (λ x. c .before .before .before .before .before .before .before .before .before .before .before .before .before .before .before .before .before .before .before .before .before .node-place .result + x - (c .before .before .before .before .before .before .before .before .before .before .before .before .before .before .before .before .before .before .loop .place + 1)) (c .before .before .before .before .before .before .before .before .before .before .before .before .before .before .payload .ensures ∙ ap payloadOf (c .before .before .before .before .before .before .before .before .before .before .before .before .before .before .before .word-at3 .ensures))) (L.turn-end (c .before .before .before .before .before .before .before .before .before .before .before .before .before .loop2 .inv .0) (c .before .before .before .before .before .before .before .before .before .before .before .before .loop2-test .left) refl) (ap (cameOf (c .before .before .before .before .before .before .before .before .before .before .before .before .before .loop2 .default)) (c .before .before .before .before .before .before .before .left .ensures) ∙ sym (L.leave-came (c .before .before .before .before .before .before .before .before .before .before .before .before .before .loop2 .default) (c .before .before .before .before .before .before .before .before .before .before .before .before .before .loop2 .end) (c .before .before .before .before .before .before .before .before .before .before .before .before .before .before .before .before .before .before .loop .here))) (L.came-so (c .before .before .before .before .before .before .before .before .before .before .before .before .before .loop2 .default) (c .before .before .before .before .before .before .before .left .result)) (c .before .before .before .before .before .before .end .ensures _ _ _ _ _)
