@@ -98,5 +98,5 @@ module _ (image : List ℕ) where
         let body : List Node = visitedAmong (nodesFrom (treeOf image) image (at + 3) (wordAt image (at + 2))) in
         let rest : List Node = visitedInCases (casesFrom (treeOf image) image (at + 3 + wordAt image (at + 2)) k) in
         let both : (a : ℕ) → owned a (x ++ body ++ rest) ≡ owned a x + owned a body + owned a rest = λ a.
-            omega (arith, total-append (λ y. count a (slotsOf y)) (x ++ body) rest, total-append (λ y. count a (slotsOf y)) x body) in
+        omega (arith, total-append (λ y. count a (slotsOf y)) (x ++ body) rest, total-append (λ y. count a (slotsOf y)) x body) in
         rw (body-still (at + 3) (wordAt image (at + 2)) (λ a l. h a (omega (arith, both a))), branches-still (at + 3 + wordAt image (at + 2)) k (λ a l. h a (omega (arith, both a)))) refl

@@ -102,7 +102,6 @@ pub record Turn (T : Texts) (image places words : List ℕ) (n at count : ℕ) (
   pub fresh : Fresh (leftOver image at place (count - i)) (b′ .slots)
   pub apart : (a : ℕ) → owned a (visitedInCases (casesAt image (at + 3) i)) + owned a (leftOver image at place (count - i)) ≤ 1
 
-
 -- one more case is done
 done-more : (image : List ℕ) (a at k : ℕ) → owned a (visitedInCases (casesAt image at (k + 1)))
     ≡ owned a (visitedInCases (casesAt image at k)) + owned a (visitedFrom (treeOf image (wordAt image (casesEnd image at k + 1))) ++ visitedAmong (caseBody image (casesEnd image at k)))

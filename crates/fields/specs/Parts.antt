@@ -57,4 +57,3 @@ module _ (T : Texts) (n slot fields : ℕ) where
       again : (r : Result World Refusal ℕ) → next (next r (λ a. onTypes (measured T n a))) (λ w. setKnown slot w) ≡ next r (recordEnd T n slot)
       again (ok a t) = refl
       again (refused x) = refl
-

@@ -160,7 +160,7 @@ module _ {T : Texts} {image places words : List ℕ} {n at count : ℕ} {st : St
         unfolding visitedInValues
         told =
             let o : (a : ℕ) → owned a (visitedInValues (leftAt image at count i)) ≡ owned a (visitedFrom (treeOf image part)) + owned a (visitedInValues others) = λ a.
-                ap (λ vs. owned a (visitedInValues vs)) all-values ∙ total-append (λ y. N.count a (slotsOf y)) (visitedFrom (treeOf image part)) (visitedInValues others) in
+            ap (λ vs. owned a (visitedInValues vs)) all-values ∙ total-append (λ y. N.count a (slotsOf y)) (visitedFrom (treeOf image part)) (visitedInValues others) in
             ap (λ ps. ps ++ (getD image (placeOf at i) 0 ∷ nodeValue image (b₁ .slots) part ∷ []))
             (sym (read-still image (visit-apart (ctxIn T image words) (treeOf image part) x k) (at + 3) i (λ a q. omega (arith, h .apart a, o a))))
             ∙ ap (λ p. pairsRead image (b₁ .slots) (at + 3) i ++ (getD image (placeOf at i) 0 ∷ nodeValue image (b₁ .slots) p ∷ [])) part-is

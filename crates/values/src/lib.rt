@@ -11,7 +11,7 @@ ghost use Rattle.library.specs.Package.{Package};
 ghost use Rattle.ast.specs.TypeExpr.{TypeExpr, typeToken};
 ghost use Rattle.err.specs.Message.{emptyArray};
 ghost use Rattle.rules.specs.Steps.{poison};
-ghost use Rattle.rules.specs.Rules.{findField, fieldType, field, valueType, memberTypes, member, arrayOf, condition, letBinding, checkReturn};
+ghost use Rattle.rules.specs.Rules.{findField, fieldType, field, memberTypes, member, arrayOf, condition, letBinding, checkReturn};
 ghost use Rattle.state.specs.Context.{ctx};
 ghost use Rattle.state.specs.declared.Used.{Used};
 ghost use Rattle.state.specs.World.{Rest, world, Steps, Goes};
@@ -143,16 +143,6 @@ pub fn field<'a>(
         return state::poisoned(n, used, none);
     };
     field_type(slots, used, slot, t)
-}
-
-// The type word of a record's value: Unknown where it is poisoned.
-pub fn value_type(slots: &[u32], answer: Answer) -> u32
-    ensures { λ r. ⌜ ((rest : Rest) (t d m : List ℕ) (u : Used) → valueType answer (world rest (now (slots .entry)) t d m u) ≡ ok r (world rest (now (slots .entry)) t d m u)) ⌝ }
-{
-    let Answer::Known(slot) = answer else {
-        return UNKNOWN_WORD;
-    };
-    word_at(slots, wide(slot))
 }
 
 // Arrays.

@@ -5,7 +5,7 @@ use visit::Visit;
 ghost use mathlib.Core.Path.{_≡_};
 ghost use Prim.Native.Nat.{_+_, _<_, _^_};
 ghost use Rattle.visiting.specs.Then.{afterOf, cameOf, leftOf};
-ghost use Rattle.visiting.specs.Blocks.{leaveOf, innerOf};
+ghost use Rattle.visiting.specs.Blocks.{innerOf};
 
 // An answer and the state after it, or that a refusal ends the walk.
 pub enum Onward {
@@ -55,23 +55,6 @@ pub fn left(st: State, before: State) -> State
         held: st.held,
         packages: st.packages,
         functions: st.functions,
-    }
-}
-
-// A visit's end, where a block ends with it.
-pub fn leave(v: Visit, before: State) -> Visit
-    ensures { λ r. ⌜ r ≡ leaveOf v before ⌝ }
-{
-    match v {
-        Visit::Known(slot, st) => {
-            return Visit::Known(slot, left(st, before));
-        }
-        Visit::Poison(st) => {
-            return Visit::Poison(left(st, before));
-        }
-        Visit::Refused(_, _) => {
-            return v;
-        }
     }
 }
 

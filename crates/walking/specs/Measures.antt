@@ -4,7 +4,7 @@ use Prim.Native.Nat.{ℕ, _+_, _*_, _-_, _<_, _≤_}
 use mathlib.Core.Path.{_≡_}
 use native.Mathlib.Omega.{arith}
 
--- a node of number n, by its kind in two steps; its own rule; a case of it; its values, of which some are left; its nodes in a row
+-- a node of number n, by its kind in two steps; its own rule; a case of it; its nodes in a row
 abbrev pub μ-node : ℕ → ℕ
 μ-node n = 8192 * n + 8005
 
@@ -23,9 +23,6 @@ abbrev pub μ-case : ℕ → ℕ
 abbrev pub μ-nodes : ℕ → ℕ
 μ-nodes n = 8192 * n + 1
 
-abbrev pub μ-pairs : (n left : ℕ) → ℕ
-μ-pairs n left = 8192 * n + 2 + left
-
 -- a part's visit, from any of them
 pub part-falls : {part n : ℕ} → part < n → μ-node part < μ-nodes n
 part-falls h = omega (arith, h)
@@ -35,12 +32,3 @@ rule-part h = omega (arith, h)
 
 pub case-part : {part n : ℕ} → part < n → μ-node part < μ-case n
 case-part h = omega (arith, h)
-
-pub pairs-part : {part n : ℕ} (left : ℕ) → part < n → μ-node part < μ-pairs n left
-pairs-part left h = omega (arith, h)
-
-pub pairs-fall : (n left : ℕ) → (left ≡ 0 → ⊥) → μ-pairs n (left - 1) < μ-pairs n left
-pairs-fall n left h = omega (arith, h)
-
-pub record-pairs : (n : ℕ) {left : ℕ} → left ≤ 4096 → μ-pairs n left < μ-rule n
-record-pairs n h = omega (arith, h)

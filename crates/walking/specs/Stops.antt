@@ -18,11 +18,6 @@ unfoldable pub haltedOf : Walked → Visit
 haltedOf (W.On st) = X.Refused 0 0
 haltedOf (W.Refused number place) = X.Refused number place
 
-unfoldable pub stoppedOf : Visit → Gave
-stoppedOf (X.Known slot st) = G.Refused 0 0
-stoppedOf (X.Poison st) = G.Refused 0 0
-stoppedOf (X.Refused number place) = G.Refused number place
-
 -- what the code answers, by cases
 pub refused-word : {g : Gave} {w : ℕ} {st : State} → g ≡ G.Word w st → X.Refused 0 0 ≡ refusedOf g
 unfolding refusedOf
@@ -39,15 +34,3 @@ halted-on e = rw e refl
 pub halted-walked : {g : Walked} {number place : ℕ} → g ≡ W.Refused number place → X.Refused number place ≡ haltedOf g
 unfolding haltedOf
 halted-walked e = rw e refl
-
-pub stopped-known : {v : Visit} {slot : ℕ} {st : State} → v ≡ X.Known slot st → G.Refused 0 0 ≡ stoppedOf v
-unfolding stoppedOf
-stopped-known e = rw e refl
-
-pub stopped-poison : {v : Visit} {st : State} → v ≡ X.Poison st → G.Refused 0 0 ≡ stoppedOf v
-unfolding stoppedOf
-stopped-poison e = rw e refl
-
-pub stopped-refused : {v : Visit} {number place : ℕ} → v ≡ X.Refused number place → G.Refused number place ≡ stoppedOf v
-unfolding stoppedOf
-stopped-refused e = rw e refl

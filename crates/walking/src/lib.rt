@@ -3,7 +3,7 @@ use visit::Gave;
 use visit::Visit;
 use visit::Walked;
 ghost use mathlib.Core.Path.{_≡_};
-ghost use Rattle.walking.specs.Stops.{refusedOf, haltedOf, stoppedOf};
+ghost use Rattle.walking.specs.Stops.{refusedOf, haltedOf};
 ghost use Rattle.walking.specs.Kinds.{isLeaf, hasOne, hasOperands};
 
 // Of a step that gives a type's word.
@@ -30,23 +30,6 @@ pub fn halted(went: Walked) -> Visit
         }
         Walked::Refused(number, node) => {
             return Visit::Refused(number, node);
-        }
-    }
-}
-
-// Of a visit, where a type's word is to be given.
-pub fn stopped(v: Visit) -> Gave
-    ensures { λ r. ⌜ r ≡ stoppedOf v ⌝ }
-{
-    match v {
-        Visit::Known(_, _) => {
-            return Gave::Refused(0, 0);
-        }
-        Visit::Poison(_) => {
-            return Gave::Refused(0, 0);
-        }
-        Visit::Refused(number, place) => {
-            return Gave::Refused(number, place);
         }
     }
 }
