@@ -28,6 +28,8 @@ BOUND = 196608
 # The measured most is at least this part of the sum.
 NEAR = 0.85
 PAGE = 4096
+# For all shapes in a row: they take well below one second of processor time.
+SECONDS = 120
 BENCH = os.path.join(HERE, "..", "..", "target", "bin", "bench")
 
 
@@ -47,7 +49,7 @@ def batch(made, cases):
 
 def painted(driver, made, cases):
     """(bytes, number, place) of each."""
-    out = subprocess.run([driver, "painted", batch(made, cases)], stdout=subprocess.PIPE, check=True, text=True, env={}).stdout
+    out = subprocess.run([driver, "painted", batch(made, cases)], stdout=subprocess.PIPE, check=True, text=True, env={}, timeout=SECONDS).stdout
     return [tuple(map(int, l.split())) for l in out.splitlines()]
 
 
@@ -57,8 +59,8 @@ def ends(command, kilobytes, stdin=None):
         resource.setrlimit(resource.RLIMIT_STACK, (1024 * kilobytes, resource.RLIM_INFINITY))
         resource.setrlimit(resource.RLIMIT_CORE, (0, 0))
     try:
-        run = subprocess.run(command, input=stdin, stdout=subprocess.DEVNULL, stderr=subprocess.DEVNULL, env={}, preexec_fn=limited)
-    except OSError:
+        run = subprocess.run(command, input=stdin, stdout=subprocess.DEVNULL, stderr=subprocess.DEVNULL, env={}, preexec_fn=limited, timeout=SECONDS)
+    except (OSError, subprocess.TimeoutExpired):
         return False
     return run.returncode == 0
 

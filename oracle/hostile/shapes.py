@@ -24,19 +24,19 @@ class Shape:
         for n in range(TALL - 1):
             tall, open_tall, other = (l.wrap(6 + n % 2, inner) for inner in (tall, open_tall, other))
             fields, open_fields = l.record([(x, fields)]), l.record([(x, open_fields)])
-        wrapped, doubled = t, INT
+        wrapped, tall_pairs = t, INT
         for n in range(TALL - 1):
-            wrapped, doubled = l.wrap(7, wrapped), l.record([(x, doubled), (w("y"), doubled)])
+            wrapped, tall_pairs = l.wrap(7, wrapped), l.record([(x, tall_pairs), (w("y"), INT)])
         inner = l.record([(x, INT)])
         wide = l.record([(x, inner)] * 60)
         self.functions = [
-            (w("wide"), [], wide, 0), (w("doubled"), [], doubled, 0), (w("wrap"), [(x, t)], wrapped, 1), (w("wide_too"), [(x, wide)], INT, 0),
+            (w("wide"), [], wide, 0), (w("tall_pairs"), [], tall_pairs, 0), (w("wrap"), [(x, t)], wrapped, 1), (w("wide_too"), [(x, wide)], INT, 0),
             (w("tall"), [], tall, 0), (w("fields"), [], fields, 0), (w("int"), [(x, INT)], INT, 0), (w("take"), [(x, tall)], INT, 0),
             (w("slotted"), [(x, open_tall)], open_tall, 1), (w("records"), [(x, open_fields)], open_fields, 1), (w("two"), [(x, t), (w("y"), t)], t, 1),
             (w("g"), [(x, other)], INT, 0), (w("g"), [(x, fields)], INT, 0), (w("g"), [(x, tall)], INT, 0)]
         i.root(i.imports(i.text.word("p")))
         i.root(i.fn(i.text.word("f"), [(i.text.word("x"), i.plain())], i.plain(), [i.atom()]))
-        for name in ("tall", "fields", "wide", "doubled"):
+        for name in ("tall", "fields", "wide", "tall_pairs"):
             i.root(i.let(i.text.word(name), self.of(name)))
 
     def of(self, name, *args):
@@ -123,10 +123,10 @@ BOTTOMS = {
     "slot conflict": call("two", "fields", "tall"),
     "wrapped, wide": call("wrap", "wide"),
     "wrapped, wide, made there": lambda s: (s.of("wrap", s.of("wide")), 4),
-    "wrapped, too deep": call("wrap", "doubled"),
-    "wrapped, too deep, made there": lambda s: (s.of("wrap", s.of("doubled")), 4),
+    "wrapped, too deep": call("wrap", "tall_pairs"),
+    "wrapped, too deep, made there": lambda s: (s.of("wrap", s.of("tall_pairs")), 4),
     "wide argument": call("wide_too", "wide"),
-    "array of a tall type": lambda s: (s.i.array(s.value("doubled")), 2),
+    "array of a tall type": lambda s: (s.i.array(s.value("tall_pairs")), 2),
     "slotted, made there": lambda s: (s.of("records", s.of("fields")), 4),
     "tall field": lambda s: (s.i.field(s.value("fields"), s.i.text.word("none")), 2),
     "tall span": tall_span,
