@@ -14,7 +14,10 @@ word-at-requires : tie.Need-word-at-requires
 word-at-requires c κs = search needs
 
 returns : tie.Need-returns
-returns c = no-body (now (c .before .before .before .before .before .args .image)) (now (c .before .before .before .before .before .args .slots)) (c .before .before .before .before .before .args .at) (c .before .if1 .taken) (c .word-at .ensures)
+returns c =
+    let c1 = c .before in
+    let c2 = c1 .before .before .before .before in
+    no-body (now (c2 .args .image)) (now (c2 .args .slots)) (c2 .args .at) (c1 .if1 .taken) (c .word-at .ensures)
 
 sub-word-at : tie.Need-sub-word-at
 sub-word-at c = search needs
@@ -26,10 +29,17 @@ word-at-requires-2 : tie.Need-word-at-requires-2
 word-at-requires-2 c κs = search needs
 
 node-answer-requires : tie.Need-node-answer-requires
-node-answer-requires c κs = last-ready (now (c .before .before .before .before .before .args .image)) (now (c .before .before .before .before .before .args .slots)) (c .before .before .before .before .before .args .at) (c .before .if1 .left) (c .word-at2 .ensures) (c .before .before .before .before .before .pre)
+node-answer-requires c κs =
+    let c1 = c .before in
+    let c2 = c1 .before .before .before .before in
+    last-ready (now (c2 .args .image)) (now (c2 .args .slots)) (c2 .args .at) (c1 .if1 .left) (c .word-at2 .ensures) (c2 .pre)
 
 returns-2 : tie.Need-returns-2
-returns-2 c = last-answer (now (c .before .before .before .before .before .before .args .image)) (now (c .before .before .before .before .before .before .args .slots)) (c .before .before .before .before .before .before .args .at) (c .before .before .if1 .left) (c .before .word-at2 .ensures) (c .node-answer .ensures)
+returns-2 c =
+    let c1 = c .before in
+    let c2 = c1 .before in
+    let c3 = c2 .before .before .before .before in
+    last-answer (now (c3 .args .image)) (now (c3 .args .slots)) (c3 .args .at) (c2 .if1 .left) (c1 .word-at2 .ensures) (c .node-answer .ensures)
 
 pub body-answer-spec : {M : Type 1} → statement M
 body-answer-spec =

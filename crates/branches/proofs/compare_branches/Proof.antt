@@ -41,11 +41,19 @@ wide-requires c κs = search needs
 
 -- src/lib.rt:144:13
 body-answer-requires : tie.Need-body-answer-requires Inv-loop μ-loop
-body-answer-requires c κs = body-ready _ _ _ _ _ _ _ _ _ _ _ _ (c .before .before .before .loop .inv .0) (c .before .before .loop-test .taken) (c .wide .ensures ∙ c .before .word-at .ensures)
+body-answer-requires c κs =
+    let c1 = c .before in
+    let c2 = c1 .before in
+    let c3 = c2 .before in
+    body-ready _ _ _ _ _ _ _ _ _ _ _ _ (c3 .loop .inv .0) (c2 .loop-test .taken) (c .wide .ensures ∙ c1 .word-at .ensures)
 
 -- src/lib.rt:144:59
 add-body-answer : tie.Need-add-body-answer Inv-loop μ-loop
-add-body-answer c = omega (arith, body-room _ _ _ _ _ _ _ _ _ _ _ _ (c .before .before .before .loop .inv .0) (c .before .before .loop-test .taken) (c .wide .ensures ∙ c .before .word-at .ensures))
+add-body-answer c =
+    let c1 = c .before in
+    let c2 = c1 .before in
+    let c3 = c2 .before in
+    omega (arith, body-room _ _ _ _ _ _ _ _ _ _ _ _ (c3 .loop .inv .0) (c2 .loop-test .taken) (c .wide .ensures ∙ c1 .word-at .ensures))
 
 -- not asked any more:
 -- -- src/lib.rt:151:48
@@ -85,15 +93,34 @@ same-length-2 c = search needs
 
 -- src/lib.rt:166:13
 returns : tie.Need-returns Inv-loop μ-loop
-returns c = compared-stops _ _ _ _ _ _ _ _ _ _ _ _ (c .before .before .before .before .before .before .before .before .before .before .before .before .before .before .loop .inv .0) (c .before .before .before .before .before .before .before .before .before .before .before .before .before .loop-test .taken) (c .before .before .before .before .before .before .before .before .before .before .before .wide .ensures ∙ c .before .before .before .before .before .before .before .before .before .before .before .before .word-at .ensures) (c .before .before .before .before .before .before .before .word-at2 .ensures) (c .before .before .before .before .before .before .before .before .before .before .body-answer .ensures) (c .before .before .before .before .before .before .compare-branch .ensures) (c .before .match .keys2)
+returns c =
+    let c1 = c .before in
+    let c2 = c1 .before .before .before .before .before in
+    let c3 = c2 .before in
+    let c4 = c3 .before .before .before in
+    let c5 = c4 .before in
+    let c6 = c5 .before in
+    let c7 = c6 .before in
+    let c8 = c7 .before in
+    compared-stops _ _ _ _ _ _ _ _ _ _ _ _ (c8 .loop .inv .0) (c7 .loop-test .taken) (c5 .wide .ensures ∙ c6 .word-at .ensures) (c3 .word-at2 .ensures) (c4 .body-answer .ensures) (c2 .compare-branch .ensures) (c1 .match .keys2)
 
 -- src/lib.rt:169:17
 add-place : tie.Need-add-place Inv-loop μ-loop
-add-place c = omega (arith, body-room _ _ _ _ _ _ _ _ _ _ _ _ (c .before .before .before .before .before .before .before .before .before .before .before .before .before .before .before .loop .inv .0) (c .before .before .before .before .before .before .before .before .before .before .before .before .before .before .loop-test .taken) (c .before .before .before .before .before .before .before .before .before .before .before .before .wide .ensures ∙ c .before .before .before .before .before .before .before .before .before .before .before .before .before .word-at .ensures))
+add-place c =
+    let c1 = c .before .before .before .before .before .before .before .before .before .before .before .before in
+    let c2 = c1 .before in
+    let c3 = c2 .before in
+    let c4 = c3 .before in
+    omega (arith, body-room _ _ _ _ _ _ _ _ _ _ _ _ (c4 .loop .inv .0) (c3 .loop-test .taken) (c1 .wide .ensures ∙ c2 .word-at .ensures))
 
 -- src/lib.rt:169:17
 add-place-2 : tie.Need-add-place-2 Inv-loop μ-loop
-add-place-2 c = omega (arith, body-room _ _ _ _ _ _ _ _ _ _ _ _ (c .before .before .before .before .before .before .before .before .before .before .before .before .before .before .before .loop .inv .0) (c .before .before .before .before .before .before .before .before .before .before .before .before .before .before .loop-test .taken) (c .before .before .before .before .before .before .before .before .before .before .before .before .wide .ensures ∙ c .before .before .before .before .before .before .before .before .before .before .before .before .before .word-at .ensures))
+add-place-2 c =
+    let c1 = c .before .before .before .before .before .before .before .before .before .before .before .before in
+    let c2 = c1 .before in
+    let c3 = c2 .before in
+    let c4 = c3 .before in
+    omega (arith, body-room _ _ _ _ _ _ _ _ _ _ _ _ (c4 .loop .inv .0) (c3 .loop-test .taken) (c1 .wide .ensures ∙ c2 .word-at .ensures))
 
 -- src/lib.rt:170:9
 add-i : tie.Need-add-i Inv-loop μ-loop
@@ -105,7 +132,16 @@ loop-less c = omega (arith, c .before .before .before .before .before .before .b
 
 -- src/lib.rt:149:5
 loop-again : tie.Need-loop-again Inv-loop μ-loop
-loop-again c = (more-compared _ _ _ _ _ _ _ _ _ _ _ _ (c .before .before .before .before .before .before .before .before .before .before .before .before .before .before .before .loop .inv .0) (c .before .before .before .before .before .before .before .before .before .before .before .before .before .before .loop-test .taken) (c .before .before .before .before .before .before .before .before .before .before .before .before .wide .ensures ∙ c .before .before .before .before .before .before .before .before .before .before .before .before .before .word-at .ensures) (c .before .before .before .before .before .before .before .before .word-at2 .ensures) (c .before .before .before .before .before .before .before .before .before .before .before .body-answer .ensures) (c .before .before .before .before .before .before .before .compare-branch .ensures) (c .before .went .given .1), c .before .before .before .before .before .before .before .compare-branch .kept .1 .1 .0 ∙ c .before .before .before .before .before .before .before .before .before .before .before .before .before .before .before .loop .inv .1, c .before .before .before .before .before .before .before .compare-branch .kept .1 .1 .1 .0 ∙ c .before .before .before .before .before .before .before .before .before .before .before .before .before .before .before .loop .inv .2)
+loop-again c =
+    let c1 = c .before in
+    let c2 = c1 .before .before .before .before .before .before in
+    let c3 = c2 .before in
+    let c4 = c3 .before .before .before in
+    let c5 = c4 .before in
+    let c6 = c5 .before in
+    let c7 = c6 .before in
+    let c8 = c7 .before in
+    (more-compared _ _ _ _ _ _ _ _ _ _ _ _ (c8 .loop .inv .0) (c7 .loop-test .taken) (c5 .wide .ensures ∙ c6 .word-at .ensures) (c3 .word-at2 .ensures) (c4 .body-answer .ensures) (c2 .compare-branch .ensures) (c1 .went .given .1), c2 .compare-branch .kept .1 .1 .0 ∙ c8 .loop .inv .1, c2 .compare-branch .kept .1 .1 .1 .0 ∙ c8 .loop .inv .2)
 
 -- src/lib.rt:126:1
 same-length-3 : tie.Need-same-length-3 Inv-loop μ-loop

@@ -32,7 +32,11 @@ same-length-2 c = search needs
 
 -- src/lib.rt:33:1
 returns : tie.Need-returns
-returns c = condition-walks _ (now (c .before .before .before .before .before .before .before .before .before .before .before .before .before .before .before .before .before .args .image)) (c .before .before .before .before .before .before .before .before .before .before .before .before .before .before .before .before .before .args .n) (c .before .before .before .before .before .before .before .before .before .before .before .before .before .before .before .before .before .args .at) (c .before .before .before .before .before .before .before .before .before .before .before .before .before .before .before .before .before .args .answer) (c .before .before .before .before .before .before .before .before .before .before .before .before .before .before .before .before .before .args .st) (c .before .before .before .before .before .before .before .before .word-at .ensures) (c .before .before .before .before .before .condition .ensures) (c .went-on .ensures)
+returns c =
+    let c1 = c .before .before .before .before .before in
+    let c2 = c1 .before .before .before in
+    let c3 = c2 .before .before .before .before .before .before .before .before .before in
+    condition-walks _ (now (c3 .args .image)) (c3 .args .n) (c3 .args .at) (c3 .args .answer) (c3 .args .st) (c2 .word-at .ensures) (c1 .condition .ensures) (c .went-on .ensures)
 
 pub condition-spec : {M : Type 1} → statement M
 condition-spec =

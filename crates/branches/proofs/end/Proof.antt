@@ -47,7 +47,11 @@ add-compare-branches c = omega (arith, place-low (c .before .before .before .bef
 
 -- src/lib.rt:200:9
 compare-branches-requires : tie.Need-compare-branches-requires
-compare-branches-requires c κs = cases-counted (c .before .before .before .before .before .before .before .before .before .before .before .before .before .before .before .before .before .pre) (c .before .before .before .wide .ensures ∙ c .before .before .before .before .word-at .ensures)
+compare-branches-requires c κs =
+    let c1 = c .before .before .before in
+    let c2 = c1 .before in
+    let c3 = c2 .before .before .before .before .before .before .before .before .before .before .before .before .before in
+    cases-counted (c3 .pre) (c1 .wide .ensures ∙ c2 .word-at .ensures)
 
 -- src/lib.rt:217:18
 enum-known-went : tie.Need-enum-known-went
@@ -83,7 +87,16 @@ same-length-3 c = search needs
 
 -- src/lib.rt:219:13
 returns-2 : tie.Need-returns-2
-returns-2 c = end-compared _ (c .before .before .before .before .before .before .before .before .before .before .before .before .before .before .before .before .before .before .before .before .before .before .before .before .before .before .before .before .before .before .before .args .n) _ _ (c .before .before .before .before .before .before .before .before .before .before .before .before .before .before .before .before .before .before .before .before .before .before .before .before .before .before .before .before .before .before .before .args .st) _ _ _ _ (c .before .before .before .before .before .before .before .before .before .before .before .before .before .before .before .before .before .before .before .before .before .default .given .1) (ap (branchesFrom (now (c .before .before .before .before .before .before .before .before .before .before .before .before .before .before .before .before .before .before .before .before .before .before .before .before .before .before .before .before .before .before .before .args .image)) (now (c .before .before .before .before .before .before .before .before .before .before .before .before .before .before .before .before .before .before .before .before .before .before .before .before .before .before .before .before .before .before .before .args .slots)) (c .before .before .before .before .before .before .before .before .before .before .before .before .before .before .before .before .before .before .before .before .before .before .before .before .before .before .before .before .before .before .before .args .at + 3)) (c .before .before .before .before .before .before .before .before .before .before .before .before .before .before .before .before .before .wide .ensures ∙ c .before .before .before .before .before .before .before .before .before .before .before .before .before .before .before .before .before .before .word-at .ensures)) (c .before .before .before .before .before .before .before .before .before .before .before .before .before .compare-branches .ensures) (c .before .before .before .before .before .before .before .went .given .1) (c .before .before .before .before .before .word-at2 .ensures) (c .before .before .before .alias .ensures) (c .answered .ensures)
+returns-2 c =
+    let c1 = c .before .before .before in
+    let c2 = c1 .before .before in
+    let c3 = c2 .before .before in
+    let c4 = c3 .before .before .before .before .before .before in
+    let c5 = c4 .before .before .before .before in
+    let c6 = c5 .before in
+    let c7 = c6 .before .before .before in
+    let c8 = c7 .before .before .before .before .before .before .before .before .before .before in
+    end-compared _ (c8 .args .n) _ _ (c8 .args .st) _ _ _ _ (c7 .default .given .1) (ap (branchesFrom (now (c8 .args .image)) (now (c8 .args .slots)) (c8 .args .at + 3)) (c5 .wide .ensures ∙ c6 .word-at .ensures)) (c4 .compare-branches .ensures) (c3 .went .given .1) (c2 .word-at2 .ensures) (c1 .alias .ensures) (c .answered .ensures)
 
 -- src/lib.rt:221:23
 enum-known-went-2 : tie.Need-enum-known-went-2
@@ -103,7 +116,14 @@ same-length-6 c = search needs
 
 -- src/lib.rt:222:13
 returns-3 : tie.Need-returns-3
-returns-3 c = end-stops _ (c .before .before .before .before .before .before .before .before .before .before .before .before .before .before .before .before .before .before .before .before .before .before .before .before .before .args .n) _ _ (c .before .before .before .before .before .before .before .before .before .before .before .before .before .before .before .before .before .before .before .before .before .before .before .before .before .args .st) _ _ _ _ (c .before .before .before .before .before .before .before .before .before .before .before .before .before .before .before .default .given .1) (ap (branchesFrom (now (c .before .before .before .before .before .before .before .before .before .before .before .before .before .before .before .before .before .before .before .before .before .before .before .before .before .args .image)) (now (c .before .before .before .before .before .before .before .before .before .before .before .before .before .before .before .before .before .before .before .before .before .before .before .before .before .args .slots)) (c .before .before .before .before .before .before .before .before .before .before .before .before .before .before .before .before .before .before .before .before .before .before .before .before .before .args .at + 3)) (c .before .before .before .before .before .before .before .before .before .before .before .wide .ensures ∙ c .before .before .before .before .before .before .before .before .before .before .before .before .word-at .ensures)) (c .before .before .before .before .before .before .before .compare-branches .ensures) (c .before .went2 .given .1)
+returns-3 c =
+    let c1 = c .before in
+    let c2 = c1 .before .before .before .before .before .before in
+    let c3 = c2 .before .before .before .before in
+    let c4 = c3 .before in
+    let c5 = c4 .before .before .before in
+    let c6 = c5 .before .before .before .before .before .before .before .before .before .before in
+    end-stops _ (c6 .args .n) _ _ (c6 .args .st) _ _ _ _ (c5 .default .given .1) (ap (branchesFrom (now (c6 .args .image)) (now (c6 .args .slots)) (c6 .args .at + 3)) (c3 .wide .ensures ∙ c4 .word-at .ensures)) (c2 .compare-branches .ensures) (c1 .went2 .given .1)
 
 pub end-spec : {M : Type 1} → statement M
 end-spec =

@@ -20,7 +20,11 @@ kind-requires : tie.Need-kind-requires
 kind-requires c κs = search needs
 
 returns : tie.Need-returns
-returns c = kind-field (now (c .before .before .before .before .before .args .image)) (c .before .before .before .before .before .args .n) (c .before .before .before .before .before .pre) (c .before .before .node-place .ensures) (c .before .word-at .ensures) (c .kind .ensures)
+returns c =
+    let c1 = c .before in
+    let c2 = c1 .before in
+    let c3 = c2 .before .before .before in
+    kind-field (now (c3 .args .image)) (c3 .args .n) (c3 .pre) (c2 .node-place .ensures) (c1 .word-at .ensures) (c .kind .ensures)
 
 pub is-field-spec : {M : Type 1} → statement M
 is-field-spec = tie.close (tie.spec node-place-requires word-at-requires kind-requires returns)

@@ -23,7 +23,12 @@ word-at-requires : tie.Need-word-at-requires
 word-at-requires c κs = search needs
 
 returns : tie.Need-returns
-returns c = no-type (now (c .before .before .before .before .before .before .before .args .image)) (now (c .before .before .before .before .before .before .before .args .slots)) (c .before .before .before .before .before .before .before .args .n) (c .before .before .before .slot-of .ensures) (c .before .before .wide .ensures) (c .before .word-at .ensures) (c .if1 .taken)
+returns c =
+    let c1 = c .before in
+    let c2 = c1 .before in
+    let c3 = c2 .before in
+    let c4 = c3 .before .before .before .before in
+    no-type (now (c4 .args .image)) (now (c4 .args .slots)) (c4 .args .n) (c3 .slot-of .ensures) (c2 .wide .ensures) (c1 .word-at .ensures) (c .if1 .taken)
 
 kind-requires : tie.Need-kind-requires
 kind-requires c κs = search needs
@@ -32,13 +37,38 @@ is-field-requires : tie.Need-is-field-requires
 is-field-requires c κs = search needs
 
 returns-2 : tie.Need-returns-2
-returns-2 c = read-unknown (now (c .before .before .before .before .before .before .before .before .before .before .before .args .image)) (now (c .before .before .before .before .before .before .before .before .before .before .before .args .slots)) (c .before .before .before .before .before .before .before .before .before .before .before .args .n) (c .before .before .before .before .before .before .before .slot-of .ensures) (c .before .before .before .before .before .before .wide .ensures) (c .before .before .before .before .before .word-at .ensures) (c .before .before .before .before .if1 .left) (sym (c .before .before .before .kind .ensures) ∙ c .before .before .if2 .taken) (sym (c .before .is-field .ensures) ∙ c .if3 .taken)
+returns-2 c =
+    let c1 = c .before in
+    let c2 = c1 .before in
+    let c3 = c2 .before in
+    let c4 = c3 .before in
+    let c5 = c4 .before in
+    let c6 = c5 .before in
+    let c7 = c6 .before in
+    let c8 = c7 .before .before .before .before in
+    read-unknown (now (c8 .args .image)) (now (c8 .args .slots)) (c8 .args .n) (c7 .slot-of .ensures) (c6 .wide .ensures) (c5 .word-at .ensures) (c4 .if1 .left) (sym (c3 .kind .ensures) ∙ c2 .if2 .taken) (sym (c1 .is-field .ensures) ∙ c .if3 .taken)
 
 returns-3 : tie.Need-returns-3
-returns-3 c = had-unknown (now (c .before .before .before .before .before .before .before .before .before .before .before .args .image)) (now (c .before .before .before .before .before .before .before .before .before .before .before .args .slots)) (c .before .before .before .before .before .before .before .before .before .before .before .args .n) (c .before .before .before .before .before .before .before .slot-of .ensures) (c .before .before .before .before .before .before .wide .ensures) (c .before .before .before .before .before .word-at .ensures) (c .before .before .before .before .if1 .left) (sym (c .before .before .before .kind .ensures) ∙ c .before .before .if2 .taken) (sym (c .before .is-field .ensures) ∙ c .if3 .left)
+returns-3 c =
+    let c1 = c .before in
+    let c2 = c1 .before in
+    let c3 = c2 .before in
+    let c4 = c3 .before in
+    let c5 = c4 .before in
+    let c6 = c5 .before in
+    let c7 = c6 .before in
+    let c8 = c7 .before .before .before .before in
+    had-unknown (now (c8 .args .image)) (now (c8 .args .slots)) (c8 .args .n) (c7 .slot-of .ensures) (c6 .wide .ensures) (c5 .word-at .ensures) (c4 .if1 .left) (sym (c3 .kind .ensures) ∙ c2 .if2 .taken) (sym (c1 .is-field .ensures) ∙ c .if3 .left)
 
 returns-4 : tie.Need-returns-4
-returns-4 c = had-type (now (c .before .before .before .before .before .before .before .before .before .args .image)) (now (c .before .before .before .before .before .before .before .before .before .args .slots)) (c .before .before .before .before .before .before .before .before .before .args .n) (c .before .before .before .before .before .slot-of .ensures) (c .before .before .before .before .wide .ensures) (c .before .before .before .word-at .ensures) (c .before .before .if1 .left) (λ q. c .if2 .left (c .before .kind .ensures ∙ q))
+returns-4 c =
+    let c1 = c .before in
+    let c2 = c1 .before in
+    let c3 = c2 .before in
+    let c4 = c3 .before in
+    let c5 = c4 .before in
+    let c6 = c5 .before .before .before .before in
+    had-type (now (c6 .args .image)) (now (c6 .args .slots)) (c6 .args .n) (c5 .slot-of .ensures) (c4 .wide .ensures) (c3 .word-at .ensures) (c2 .if1 .left) (λ q. c .if2 .left (c1 .kind .ensures ∙ q))
 
 pub node-answer-spec : {M : Type 1} → statement M
 node-answer-spec = tie.close (tie.spec slot-of-requires wide-requires word-at-requires returns kind-requires is-field-requires returns-2 returns-3 returns-4)

@@ -49,7 +49,14 @@ same-length-2 c = search needs
 
 -- src/lib.rt:137:13
 returns : tie.Need-returns
-returns c = made-closed (c .before .before .before .before .before .before .before .before .before .before .before .before .before .before .before .before .before .before .before .before .before .before .args .n) (c .before .before .before .before .before .before .before .before .before .before .before .before .before .before .before .before .before .before .before .before .before .before .args .count) (c .before .before .before .before .before .before .before .before .before .before .before .before .before .before .before .before .before .before .before .before .before .before .args .st) (now (c .before .before .before .before .before .before .before .before .before .before .before .before .before .before .before .before .before .before .before .before .before .before .args .image)) _ (c .before .before .before .before .before .before .before .before .before .before .before .before .before .before .before .before .before .before .before .before .before .before .args .at) (c .before .before .before .before .before .before .before .before .before .before .before .before .before .before .before .before .«open» .ensures) _ (c .before .before .before .before .before .before .before .before .before .before .before .before .opened .given .1) (c .before .before .before .before .before .before .before .before .before .before .payload .ensures) (c .before .before .before .before .before .before .before .set-pairs .ensures) (c .before .before .close .ensures)
+returns c =
+    let c1 = c .before .before in
+    let c2 = c1 .before .before .before .before .before in
+    let c3 = c2 .before .before .before in
+    let c4 = c3 .before .before in
+    let c5 = c4 .before .before .before .before in
+    let c6 = c5 .before .before .before .before .before .before in
+    made-closed (c6 .args .n) (c6 .args .count) (c6 .args .st) (now (c6 .args .image)) _ (c6 .args .at) (c5 .«open» .ensures) _ (c4 .opened .given .1) (c3 .payload .ensures) (c2 .set-pairs .ensures) (c1 .close .ensures)
 
 -- src/lib.rt:139:23
 enum-known-opened-2 : tie.Need-enum-known-opened-2
@@ -61,7 +68,11 @@ same-length-3 c = search needs
 
 -- src/lib.rt:140:13
 returns-2 : tie.Need-returns-2
-returns-2 c = made-refused (c .before .before .before .before .before .before .before .before .before .before .before .args .n) (c .before .before .before .before .before .before .before .before .before .before .before .args .count) (c .before .before .before .before .before .before .before .before .before .before .before .args .st) (now (c .before .before .before .before .before .before .before .before .before .before .before .args .image)) _ (c .before .before .before .before .before .before .before .before .before .before .before .args .at) (c .before .before .before .before .before .«open» .ensures) _ (c .before .opened2 .given .1)
+returns-2 c =
+    let c1 = c .before in
+    let c2 = c1 .before .before .before .before in
+    let c3 = c2 .before .before .before .before .before .before in
+    made-refused (c3 .args .n) (c3 .args .count) (c3 .args .st) (now (c3 .args .image)) _ (c3 .args .at) (c2 .«open» .ensures) _ (c1 .opened2 .given .1)
 
 pub make-spec : {M : Type 1} → statement M
 make-spec =

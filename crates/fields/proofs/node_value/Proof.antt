@@ -20,10 +20,20 @@ word-at-requires : tie.Need-word-at-requires
 word-at-requires c κs = search needs
 
 returns : tie.Need-returns
-returns c = no-value (now (c .before .before .before .before .before .before .before .args .image)) (now (c .before .before .before .before .before .before .before .args .slots)) (c .before .before .before .before .before .before .before .args .n) (c .before .before .before .slot-of .ensures) (c .before .before .wide .ensures) (c .before .word-at .ensures) (c .if1 .taken)
+returns c =
+    let c1 = c .before in
+    let c2 = c1 .before in
+    let c3 = c2 .before in
+    let c4 = c3 .before .before .before .before in
+    no-value (now (c4 .args .image)) (now (c4 .args .slots)) (c4 .args .n) (c3 .slot-of .ensures) (c2 .wide .ensures) (c1 .word-at .ensures) (c .if1 .taken)
 
 returns-2 : tie.Need-returns-2
-returns-2 c = has-value (now (c .before .before .before .before .before .before .before .args .image)) (now (c .before .before .before .before .before .before .before .args .slots)) (c .before .before .before .before .before .before .before .args .n) (c .before .before .before .slot-of .ensures) (c .before .before .wide .ensures) (c .before .word-at .ensures) (c .if1 .left)
+returns-2 c =
+    let c1 = c .before in
+    let c2 = c1 .before in
+    let c3 = c2 .before in
+    let c4 = c3 .before .before .before .before in
+    has-value (now (c4 .args .image)) (now (c4 .args .slots)) (c4 .args .n) (c3 .slot-of .ensures) (c2 .wide .ensures) (c1 .word-at .ensures) (c .if1 .left)
 
 pub node-value-spec : {M : Type 1} → statement M
 node-value-spec =

@@ -51,7 +51,10 @@ mul-set-pair : tie.Need-mul-set-pair Inv-loop μ-loop
 mul-set-pair c = omega (arith, c .before .before .before .before .loop-test .taken, c .before .before .before .before .before .before .before .before .before .before .pre .1 .room)
 
 add-set-pair : tie.Need-add-set-pair Inv-loop μ-loop
-add-set-pair c = omega (arith, c .before .before .before .before .loop-test .taken, c .before .before .before .before .before .before .before .before .before .before .pre .1 .room, c .before .before .before .before .before .before .before .before .before .before .pre .0)
+add-set-pair c =
+    let c1 = c .before .before .before .before in
+    let c2 = c1 .before .before .before .before .before .before in
+    omega (arith, c1 .loop-test .taken, c2 .pre .1 .room, c2 .pre .0)
 
 set-pair-requires : tie.Need-set-pair-requires Inv-loop μ-loop
 set-pair-requires c κs = search needs
@@ -63,7 +66,14 @@ loop-less : tie.Need-loop-less Inv-loop μ-loop
 loop-less c = omega (arith, c .before .before .before .before .before .before .before .loop-test .taken)
 
 loop-again : tie.Need-loop-again Inv-loop μ-loop
-loop-again c = (one-set _ _ _ _ _ (c .before .before .before .before .before .before .before .before .loop .inv .0) (c .before .before .before .before .before .before .word-at .ensures) (c .before .before .before .before .before .word-at2 .ensures) (c .before .before .before .before .node-value .ensures) (c .before .before .set-pair .ensures), omega (arith, c .before .before .before .before .before .before .before .loop-test .taken), c .before .before .set-pair .kept .0 ∙ c .before .before .before .before .before .before .before .before .loop .inv .2)
+loop-again c =
+    let c1 = c .before .before in
+    let c2 = c1 .before .before in
+    let c3 = c2 .before in
+    let c4 = c3 .before in
+    let c5 = c4 .before in
+    let c6 = c5 .before in
+    (one-set _ _ _ _ _ (c6 .loop .inv .0) (c4 .word-at .ensures) (c3 .word-at2 .ensures) (c2 .node-value .ensures) (c1 .set-pair .ensures), omega (arith, c5 .loop-test .taken), c1 .set-pair .kept .0 ∙ c6 .loop .inv .2)
 
 same-length : tie.Need-same-length Inv-loop μ-loop
 same-length c = c .before .loop .inv .2
