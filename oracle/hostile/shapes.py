@@ -30,13 +30,13 @@ class Shape:
         inner = l.record([(x, INT)])
         wide = l.record([(x, inner)] * 60)
         self.functions = [
-            (w("wide"), [], wide, 0), (w("tall_pairs"), [], tall_pairs, 0), (w("wrap"), [(x, t)], wrapped, 1), (w("wide_too"), [(x, wide)], INT, 0),
+            (w("flat"), [], wide, 0), (w("tall_pairs"), [], tall_pairs, 0), (w("wrap"), [(x, t)], wrapped, 1), (w("wide_too"), [(x, wide)], INT, 0),
             (w("tall"), [], tall, 0), (w("fields"), [], fields, 0), (w("int"), [(x, INT)], INT, 0), (w("take"), [(x, tall)], INT, 0),
             (w("slotted"), [(x, open_tall)], open_tall, 1), (w("records"), [(x, open_fields)], open_fields, 1), (w("two"), [(x, t), (w("y"), t)], t, 1),
             (w("g"), [(x, other)], INT, 0), (w("g"), [(x, fields)], INT, 0), (w("g"), [(x, tall)], INT, 0)]
         i.root(i.imports(i.text.word("p")))
         i.root(i.fn(i.text.word("f"), [(i.text.word("x"), i.plain())], i.plain(), [i.atom()]))
-        for name in ("tall", "fields", "wide", "tall_pairs"):
+        for name in ("tall", "fields", "flat", "tall_pairs"):
             i.root(i.let(i.text.word(name), self.of(name)))
 
     def of(self, name, *args):
@@ -121,11 +121,11 @@ BOTTOMS = {
     "slotted, records": call("records", "fields"),
     "slotted, wrong": call("slotted", "fields"),
     "slot conflict": call("two", "fields", "tall"),
-    "wrapped, wide": call("wrap", "wide"),
-    "wrapped, wide, made there": lambda s: (s.of("wrap", s.of("wide")), 4),
+    "wrapped, wide": call("wrap", "flat"),
+    "wrapped, wide, made there": lambda s: (s.of("wrap", s.of("flat")), 4),
     "wrapped, too deep": call("wrap", "tall_pairs"),
     "wrapped, too deep, made there": lambda s: (s.of("wrap", s.of("tall_pairs")), 4),
-    "wide argument": call("wide_too", "wide"),
+    "wide argument": call("wide_too", "flat"),
     "array of a tall type": lambda s: (s.i.array(s.value("tall_pairs")), 2),
     "slotted, made there": lambda s: (s.of("records", s.of("fields")), 4),
     "tall field": lambda s: (s.i.field(s.value("fields"), s.i.text.word("none")), 2),
