@@ -36,16 +36,21 @@ pub fn type_token(image: &[u32], places: &[u16], t: u32) -> u32
     requires { ⌜ TypeReady (now image) (now places) t ⌝ }
     ensures { λ r. ⌜ r ≡ typeToken (typeOf (now (image .entry)) t) ⌝ }
 {
-    let at = type_place(places, t);
-    let k = kind(word_at(image, at));
-    let w = word_at(image, at + 1);
-    if k == OPTION {
-        return type_token(image, places, w);
+    let mut here = t;
+    loop {
+        let at = type_place(places, here);
+        let k = kind(word_at(image, at));
+        let w = word_at(image, at + 1);
+        if k == OPTION {
+            here = w;
+            continue;
+        }
+        if k == ARRAY {
+            here = w;
+            continue;
+        }
+        return w;
     }
-    if k == ARRAY {
-        return type_token(image, places, w);
-    }
-    w
 }
 
 // The word of a type with nothing inside and no name.
