@@ -73,6 +73,7 @@ fn apply_within<'a>(
     if depth == 0 {
         return Added::Put(w, used);
     }
+    let below = depth - 1;
     let k = kind(w);
     if k == SLOT {
         return Added::Put(slot_type(script, library, pairs, count, w), used);
@@ -82,17 +83,7 @@ fn apply_within<'a>(
     }
     if wraps(k) {
         let x = inner(&types[0..base], w);
-        let r = apply_within(
-            types,
-            base,
-            used,
-            script,
-            library,
-            pairs,
-            count,
-            x,
-            depth - 1,
-        );
+        let r = apply_within(types, base, used, script, library, pairs, count, x, below);
         let Added::Put(new, u) = r else {
             return r;
         };
@@ -111,7 +102,7 @@ fn apply_within<'a>(
             count,
             at,
             n,
-            depth - 1,
+            below,
         );
         return add::close_record(&types[..], r);
     }

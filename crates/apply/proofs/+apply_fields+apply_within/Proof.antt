@@ -146,6 +146,9 @@ apply-within-claims t = (kind-reads.Asked, kind-reads.Learnt, slot-type-reads.As
 apply-within-returns : (t : ℕ) → apply-within-lts.Need-returns (apply-within-claims t) (apply-within-at t) apply-within.Post
 apply-within-returns t c = λ n. apply-none _ _ _ _ _ _ _ _ (c .if1 .taken)
 
+apply-within-sub-below : (t : ℕ) → apply-within-lts.Need-sub-below (apply-within-claims t) (apply-within-at t) apply-within.Post
+apply-within-sub-below t c = search needs
+
 apply-within-kind-requires : (t : ℕ) → apply-within-lts.Need-kind-requires (apply-within-claims t) (apply-within-at t) apply-within.Post
 apply-within-kind-requires t c κs = search needs
 
@@ -188,9 +191,6 @@ apply-within-part-inner-end t c = omega (arith, c .before .before .before .befor
 apply-within-inner-requires : (t : ℕ) → apply-within-lts.Need-inner-requires (apply-within-claims t) (apply-within-at t) apply-within.Post
 apply-within-inner-requires t c κs = search needs
 
-apply-within-sub-apply-within : (t : ℕ) → apply-within-lts.Need-sub-apply-within (apply-within-claims t) (apply-within-at t) apply-within.Post
-apply-within-sub-apply-within t c = search needs
-
 apply-within-apply-within-requires : (t : ℕ) → apply-within-lts.Need-apply-within-requires (apply-within-claims t) (apply-within-at t) apply-within.Post
 apply-within-apply-within-requires t c κs = (omega (arith, c .before .before .before .before .before .before .before .before .before .before .before .before .before .before .before .before .before .pre .0, c .before .before .before .before .before .before .before .before .before .before .before .before .if1 .left), (c .before .before .before .before .before .before .before .before .before .before .before .before .before .before .before .before .before .pre .1 .0, omega (arith, c .before .before .before .before .before .before .before .before .before .before .before .before .before .before .before .before .before .pre .1 .1)))
 
@@ -229,9 +229,6 @@ apply-within-payload-requires t c κs = search needs
 
 apply-within-add-at : (t : ℕ) → apply-within-lts.Need-add-at (apply-within-claims t) (apply-within-at t) apply-within.Post
 apply-within-add-at t c = search needs
-
-apply-within-sub-apply-fields : (t : ℕ) → apply-within-lts.Need-sub-apply-fields (apply-within-claims t) (apply-within-at t) apply-within.Post
-apply-within-sub-apply-fields t c = search needs
 
 apply-within-apply-fields-requires : (t : ℕ) → apply-within-lts.Need-apply-fields-requires (apply-within-claims t) (apply-within-at t) apply-within.Post
 apply-within-apply-fields-requires t c κs = (omega (arith, c .before .before .before .before .before .before .before .before .before .before .before .before .before .before .before .before .before .before .before .pre .0, c .before .before .before .before .before .before .before .before .before .before .before .before .before .before .if1 .left), ((c .before .before .before .before .before .before .before .before .before .before .before .before .before .before .before .before .before .before .before .pre .1 .0, omega (arith, c .before .before .before .before .before .before .before .before .before .before .before .before .before .before .before .before .before .before .before .pre .1 .1)), omega (arith, c .before .payload .ensures, c .before .before .field-count .ensures)))
@@ -283,6 +280,7 @@ pub +apply-fields+apply-within-spec : {M : Type 1} → statement M
     (apply-within-at t)
     apply-within.Post
     (apply-within-returns t)
+    (apply-within-sub-below t)
     (apply-within-kind-requires t)
     (apply-within-slot-type-requires t)
     (apply-within-returns-2 t)
@@ -297,7 +295,6 @@ pub +apply-fields+apply-within-spec : {M : Type 1} → statement M
     (apply-within-part-inner-start t)
     (apply-within-part-inner-end t)
     (apply-within-inner-requires t)
-    (apply-within-sub-apply-within t)
     (apply-within-apply-within-requires t)
     (apply-within-enum-known-r t)
     (apply-within-same-length-2 t)
@@ -311,7 +308,6 @@ pub +apply-fields+apply-within-spec : {M : Type 1} → statement M
     (apply-within-field-count-requires t)
     (apply-within-payload-requires t)
     (apply-within-add-at t)
-    (apply-within-sub-apply-fields t)
     (apply-within-apply-fields-requires t)
     (apply-within-close-record-requires t)
     (apply-within-same-length-4 t)
