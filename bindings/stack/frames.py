@@ -20,11 +20,10 @@ RINGS = [(name, most, why) for names, most, why in (
     ("spans::span_of", 1, "a level of a part's span stands in place of a level of the walk, which takes more"),
     ("ptype::same_type_within ptype::stands_in ptype::depth_within ptype::room_after ptype::same_fields ptype::stands_among ptype::deepest_of "
      "ptype::room_after_fields ptype::contains ptype::depth_of display::show_within display::show_fields slots::bind_within", 34, LEVELS),
-    ("apply::apply_within apply::applied_size slots::has_bound_slot_within slots::bound_slot_in slots::any_bound_slot", 34, LEVELS),
-    ("type_expr::type_from_type_expr type_expr::type_size type_expr::type_word type_expr::sizes type_expr::type_token", 512, "type expressions in each other"),
+    ("apply::apply_within apply::applied_size apply::applied_sizes slots::has_bound_slot_within slots::bound_slot_in slots::any_bound_slot", 34, LEVELS),
+    ("type_expr::build type_expr::fields_from_exprs type_expr::type_size type_expr::sizes type_expr::is_deeper type_expr::any_deeper", 34,
+     "type expressions are followed 33 levels deep: a deeper one is refused"),
     ("display::put_digits", 11, "digits"),
-    ("typecheck::pairs", 2047, "values of a Record, each a node"),
-    ("slots::bind_fields apply::apply_fields type_expr::fields_from_exprs", 4096, "fields of records in each other, in 8,192 words"),
 ) for name in names.split()]
 ORDER = [name for name, _, _ in RINGS]
 ACTIVE = {name: (most, why) for name, most, why in RINGS}
