@@ -10,7 +10,7 @@ use types.Run.{OneOf}
 use denote.Enum.Declared.{tagOf}
 use borrow.Author.Tests.{eqb-false}
 use Rattle.tok.specs.Step.{Result, ok, refused, Refusal, refusal, next}
-use Rattle.tok.specs.Text.{textsOf}
+use Rattle.tok.specs.Text.{Texts, textsOf}
 use Rattle.library.specs.Package.{poolOf}
 use Rattle.ast.specs.Image.{nodeCount, rootCount, slotCount}
 use Rattle.ast.specs.Node.{firstRoots, rootsOf}
@@ -141,6 +141,16 @@ module _ (script image text words s f t d m e : List ℕ) {s₁ t₁ : List ℕ}
       roots-ready hp hn hk =
           let a = passed inputs before accepted .image in
           rw (hp, hn, hk) (record { below = omega arith; nodes = a .roots; inside = omega (arith, a .most-roots); ready = roots-start; fresh = no-types })
+
+pub roots-visited : (T : Texts) (image : List ℕ) {words : List ℕ} {st : State} {b b′ : Lent} {k : ℕ} {v : Visit} → k ≡ rootCount image
+    → ListVisited T image words 4 k st b b′ v → ListVisited T image words 4 (rootCount image) st b b′ v
+roots-visited T image hk q = rw hk at q
+
+-- the roots' visits, with the places and counts that the code found
+module _ {T : Texts} {image words : List ℕ} {st : State} {b : Lent} where
+  pub roots-counted : {places : List ℕ} {n k : ℕ} → ListVisit T image (placesOf image) words (nodeCount image) 4 (rootCount image) st b
+      → places ≡ placesOf image → n ≡ nodeCount image → k ≡ rootCount image → ListVisit T image places words n 4 k st b
+  roots-counted h hp hn hk = rw (hp, hn, hk) h
 
 -- ── What is left in the buffers ──
 

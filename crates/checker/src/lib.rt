@@ -9,7 +9,11 @@ ghost use Rattle.refusals.specs.Refusals.{refusalOf};
 ghost use Rattle.refuse.specs.Answer.{inputsOf, buffersOf};
 ghost use Rattle.rules.specs.Check.{endOf, checkOf};
 ghost use Rattle.state.specs.Signatures.{entriesEnd};
-ghost use Rattle.visit.specs.Whole.{lent};
+ghost use Rattle.tok.specs.Text.{Texts, textsOf};
+ghost use Rattle.ast.specs.Image.{nodeCount, rootCount};
+ghost use Rattle.places.specs.Places.{placesOf};
+ghost use Rattle.visit.specs.Whole.{Lent, lent};
+ghost use Rattle.walking.specs.Contracts.{ListVisit, ListVisited};
 ghost use Rattle.checker.specs.Ended.{endedOf, beforeOf, Answers, overOf, RoomAfter, WalkEnds};
 use refuse::Before;
 use visit::State;
@@ -114,6 +118,52 @@ fn finish(
     }
 }
 
+// The roots, in order. The places of the image's records are found here, once, and lent to all visits; the library is measured before, so
+// that the two arrays do not stand on the stack at the same time.
+fn visit_roots<'a>(
+    slots: &mut [u32],
+    functions: &mut [u32],
+    types: &mut [u32],
+    diagnostics: &mut [u32],
+    messages: &mut [u8],
+    scratch: &mut [u32],
+    script: &'a [u8],
+    text: &'a [u8],
+    image: &[u32],
+    library: &[u32],
+    st: State,
+) -> Visit
+    requires { let T : Texts = textsOf (now script) (now text) in let I : List ℕ = now image in
+        let b : Lent = lent (now slots) (now functions) (now types) (now diagnostics) (now messages) (now scratch) in
+        ⌜ ListVisit T I (placesOf I) (now library) (nodeCount I) 4 (rootCount I) st b ⌝ }
+    ensures { λ r. let T : Texts = textsOf (now (script .entry)) (now (text .entry)) in let I : List ℕ = now (image .entry) in
+        let b : Lent = lent (now (slots .entry)) (now (functions .entry)) (now (types .entry)) (now (diagnostics .entry)) (now (messages .entry)) (now (scratch .entry)) in
+        let b′ : Lent = lent (now (slots .exit)) (now (functions .exit)) (now (types .exit)) (now (diagnostics .exit)) (now (messages .exit)) (now (scratch .exit)) in
+        ⌜ ListVisited T I (now (library .entry)) 4 (rootCount I) st b b′ r ⌝ }
+{
+    let mut places = [0u16; 2560];
+    places::record_places(&mut places, image);
+    let nodes = tok::word_at(image, 0);
+    let roots = tok::wide(tok::word_at(image, 2));
+    typecheck::nodes(
+        slots,
+        functions,
+        types,
+        diagnostics,
+        messages,
+        scratch,
+        script,
+        text,
+        image,
+        library,
+        &places[..],
+        st,
+        nodes,
+        4,
+        roots,
+    )
+}
+
 // The walk of accepted inputs: its beginning, and then the roots.
 fn walk<'a>(
     slots: &mut [u32],
@@ -130,16 +180,12 @@ fn walk<'a>(
     requires { ⌜ refusalOf (inputsOf (now script) (now image) (now text) (now library)) (buffersOf (now slots) (now functions) (now types) (now diagnostics) (now messages) (now scratch)) ≡ none ⌝ }
     ensures { λ r. ⌜ WalkEnds (inputsOf (now (script .entry)) (now (image .entry)) (now (text .entry)) (now (library .entry))) (buffersOf (now (slots .entry)) (now (functions .entry)) (now (types .entry)) (now (diagnostics .entry)) (now (messages .entry)) (now (scratch .entry))) (lent (now (slots .exit)) (now (functions .exit)) (now (types .exit)) (now (diagnostics .exit)) (now (messages .exit)) (now (scratch .exit))) r ⌝ }
 {
-    let mut places = [0u16; 2560];
-    places::record_places(&mut places, image);
     match start::begin(slots, types, image, library) {
         Walked::Refused(number, place) => {
             return Visit::Refused(number, place);
         }
         Walked::On(st) => {
-            let nodes = tok::word_at(image, 0);
-            let roots = tok::wide(tok::word_at(image, 2));
-            return typecheck::nodes(
+            return visit_roots(
                 slots,
                 functions,
                 types,
@@ -150,11 +196,7 @@ fn walk<'a>(
                 text,
                 image,
                 library,
-                &places[..],
                 st,
-                nodes,
-                4,
-                roots,
             );
         }
     }
