@@ -1,3 +1,2 @@
 mod Returns
 mod FieldReturns
-mod DeepReturns
