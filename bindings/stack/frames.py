@@ -21,8 +21,8 @@ RINGS = [(name, most, why) for names, most, why in (
     ("ptype::same_type_within ptype::stands_in ptype::depth_within ptype::room_after ptype::same_fields ptype::stands_among ptype::deepest_of "
      "ptype::room_after_fields ptype::contains ptype::depth_of display::show_within display::show_fields slots::bind_within", 34, LEVELS),
     ("apply::apply_within apply::applied_size apply::applied_sizes slots::has_bound_slot_within slots::bound_slot_in slots::any_bound_slot", 34, LEVELS),
-    ("type_expr::build type_expr::fields_from_exprs type_expr::type_size type_expr::sizes type_expr::is_deeper type_expr::any_deeper", 34,
-     "type expressions are followed 33 levels deep: a deeper one is refused"),
+    ("type_expr::type_from_type_expr type_expr::fields_from_exprs", 512, "type expressions in each other: inner ones are made before the depth of 33 is met"),
+    ("type_expr::type_size type_expr::sizes", 34, "asked of types that were made: at most 32 levels"),
     ("display::put_digits", 11, "digits"),
 ) for name in names.split()]
 ORDER = [name for name, _, _ in RINGS]
