@@ -15,13 +15,13 @@ from collections import namedtuple
 # that would do, the first here is taken. A ring that goes through none is an error.
 LEVELS = "types are followed 33 levels deep, and stop at the 34th"
 RINGS = [(name, most, why) for names, most, why in (
-    ("typecheck::node typecheck::nodes typecheck::func typecheck::cases typecheck::case typecheck::sequence typecheck::call typecheck::array "
+    ("typecheck::node typecheck::part typecheck::func typecheck::cases typecheck::case typecheck::sequence typecheck::call typecheck::array "
      "typecheck::record_node typecheck::listed typecheck::operand typecheck::bin typecheck::one typecheck::cast", 64, "node depth"),
     ("spans::span_of", 1, "a level of a part's span stands in place of a level of the walk, which takes more"),
     ("ptype::same_type_within ptype::stands_in ptype::depth_within ptype::room_after ptype::same_fields ptype::stands_among ptype::deepest_of "
      "ptype::room_after_fields ptype::contains ptype::depth_of display::show_within display::show_fields slots::bind_within", 34, LEVELS),
     ("apply::apply_within apply::applied_size apply::applied_sizes slots::has_bound_slot_within slots::bound_slot_in slots::any_bound_slot", 34, LEVELS),
-    ("type_expr::type_from_type_expr type_expr::fields_from_exprs", 512, "type expressions in each other: inner ones are made before the depth of 33 is met"),
+    ("type_expr::build type_expr::fields_from_exprs", 33, "it is called for type expressions of at most 33 levels"),
     ("type_expr::type_size type_expr::sizes", 34, "asked of types that were made: at most 32 levels"),
     ("display::put_digits", 11, "digits"),
 ) for name in names.split()]

@@ -23,10 +23,8 @@ import frames  # noqa: E402
 from bench_case import batch_of  # noqa: E402
 from shapes import shapes  # noqa: E402
 
-# Bytes of stack that the check may take, whatever it is given: the most is for type expressions of 500 levels, which are refused in the end.
-BOUND = 360448
-# And for inputs that are answered. (196,608 is aimed at for all.)
-ANSWERED = 204800
+# Bytes of stack that the check may take, whatever it is given.
+BOUND = 196608
 # The measured most is at least this part of the sum.
 NEAR = 0.85
 PAGE = 4096
@@ -122,8 +120,6 @@ def main():
     faults = []
     if most > BOUND:
         faults.append("%s takes %s bytes, more than %s" % (worst, format(most, ","), format(BOUND, ",")))
-    if answered > ANSWERED:
-        faults.append("an answered input takes %s bytes, more than %s" % (format(answered, ","), format(ANSWERED, ",")))
     if not within:
         faults.append("the shapes do not all end under `ulimit -s` %d" % (own + BOUND // 1024))
     if summed > BOUND:

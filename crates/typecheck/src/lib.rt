@@ -102,6 +102,43 @@ pub fn node<'a>(
     )
 }
 
+// A part of a node: `node` of it. It only hands over. The compiler puts it into each rule in place of its calls, and what several visits in one
+// rule copy of the lent slices then shares its room in the rule's frame (docs/PERFORMANCE.md, "Stack").
+fn part<'a>(
+    slots: &mut [u32],
+    functions: &mut [u32],
+    types: &mut [u32],
+    diagnostics: &mut [u32],
+    messages: &mut [u8],
+    scratch: &mut [u32],
+    script: &'a [u8],
+    library: &'a [u8],
+    image: &[u32],
+    words: &[u32],
+    places: &[u16],
+    st: State,
+    n: u32,
+) -> Visit
+    requires { let T : Texts = textsOf (now script) (now library) in ⌜ NodeVisit T (now image) (now places) (now words) n st (lent (now slots) (now functions) (now types) (now diagnostics) (now messages) (now scratch)) ⌝ }
+    ensures { λ r. let T : Texts = textsOf (now (script .entry)) (now (library .entry)) in ⌜ NodeVisited T (now (image .entry)) (now (words .entry)) n st (lent (now (slots .entry)) (now (functions .entry)) (now (types .entry)) (now (diagnostics .entry)) (now (messages .entry)) (now (scratch .entry))) (lent (now (slots .exit)) (now (functions .exit)) (now (types .exit)) (now (diagnostics .exit)) (now (messages .exit)) (now (scratch .exit))) r ⌝ }
+{
+    node(
+        slots,
+        functions,
+        types,
+        diagnostics,
+        messages,
+        scratch,
+        script,
+        library,
+        image,
+        words,
+        places,
+        st,
+        n,
+    )
+}
+
 // A node of one or two operands.
 fn operand<'a>(
     slots: &mut [u32],
@@ -193,7 +230,7 @@ fn bin<'a>(
     ensures { λ r. let T : Texts = textsOf (now (script .entry)) (now (library .entry)) in ⌜ NodeVisited T (now (image .entry)) (now (words .entry)) n st (lent (now (slots .entry)) (now (functions .entry)) (now (types .entry)) (now (diagnostics .entry)) (now (messages .entry)) (now (scratch .entry))) (lent (now (slots .exit)) (now (functions .exit)) (now (types .exit)) (now (diagnostics .exit)) (now (messages .exit)) (now (scratch .exit))) r ⌝ }
 {
     let at = places::node_place(places, n);
-    let left = node(
+    let left = part(
         slots,
         functions,
         types,
@@ -211,7 +248,7 @@ fn bin<'a>(
     let Onward::Goes(l, between) = visiting::after(left) else {
         return left;
     };
-    let right = node(
+    let right = part(
         slots,
         functions,
         types,
@@ -265,8 +302,8 @@ fn one<'a>(
     ensures { λ r. let T : Texts = textsOf (now (script .entry)) (now (library .entry)) in ⌜ NodeVisited T (now (image .entry)) (now (words .entry)) n st (lent (now (slots .entry)) (now (functions .entry)) (now (types .entry)) (now (diagnostics .entry)) (now (messages .entry)) (now (scratch .entry))) (lent (now (slots .exit)) (now (functions .exit)) (now (types .exit)) (now (diagnostics .exit)) (now (messages .exit)) (now (scratch .exit))) r ⌝ }
 {
     let at = places::node_place(places, n);
-    let part = operands::operand_of(image, at);
-    let v = node(
+    let value = operands::operand_of(image, at);
+    let v = part(
         slots,
         functions,
         types,
@@ -279,7 +316,7 @@ fn one<'a>(
         words,
         places,
         st,
-        part,
+        value,
     );
     let Onward::Goes(a, end) = visiting::after(v) else {
         return v;
@@ -324,7 +361,7 @@ fn cast<'a>(
     let Gave::Word(to, begun) = made else {
         return walking::refused(made);
     };
-    let v = node(
+    let v = part(
         slots,
         functions,
         types,
@@ -523,26 +560,34 @@ fn func<'a>(
         }
         Begun::Body(ret, inner) => {
             let long = payload(word_at(image, at));
-            let v = nodes(
-                slots,
-                functions,
-                types,
-                diagnostics,
-                messages,
-                scratch,
-                script,
-                library,
-                image,
-                words,
-                places,
-                inner,
-                n,
-                at + 5 + 2 * count,
-                long - (5 + 2 * count),
-            );
-            let Onward::Goes(computed, inside) = visiting::after(v) else {
-                return v;
-            };
+            let mut computed = Answer::Known(word_at(image, 3));
+            let mut inside = inner;
+            let mut place = at + 5 + 2 * count;
+            let mut left = long - (5 + 2 * count);
+            while left > 0 {
+                let v = part(
+                    slots,
+                    functions,
+                    types,
+                    diagnostics,
+                    messages,
+                    scratch,
+                    script,
+                    library,
+                    image,
+                    words,
+                    places,
+                    inside,
+                    word_at(image, place),
+                );
+                let Onward::Goes(a, next) = visiting::after(v) else {
+                    return v;
+                };
+                computed = a;
+                inside = next;
+                place += 1;
+                left -= 1;
+            }
             return bodies::end(
                 slots,
                 &types[..],
@@ -583,7 +628,7 @@ fn case<'a>(
     requires { let T : Texts = textsOf (now script) (now library) in ⌜ CaseVisit T (now image) (now places) (now words) n at st (lent (now slots) (now functions) (now types) (now diagnostics) (now messages) (now scratch)) ⌝ }
     ensures { λ r. let T : Texts = textsOf (now (script .entry)) (now (library .entry)) in ⌜ CaseVisited T (now (image .entry)) (now (words .entry)) n at st (lent (now (slots .entry)) (now (functions .entry)) (now (types .entry)) (now (diagnostics .entry)) (now (messages .entry)) (now (scratch .entry))) (lent (now (slots .exit)) (now (functions .exit)) (now (types .exit)) (now (diagnostics .exit)) (now (messages .exit)) (now (scratch .exit))) r ⌝ }
 {
-    let v = node(
+    let v = part(
         slots,
         functions,
         types,
@@ -622,7 +667,7 @@ fn case<'a>(
     let mut place = at + 3;
     let mut left = wide(word_at(image, at + 2));
     while left > 0 {
-        let v = node(
+        let v = part(
             slots,
             functions,
             types,
@@ -701,7 +746,7 @@ fn cases<'a>(
     let mut next = place + 1;
     let mut left = at + payload(word_at(image, at)) - next;
     while left > 0 {
-        let v = node(
+        let v = part(
             slots,
             functions,
             types,
@@ -839,7 +884,7 @@ fn call<'a>(
     let mut here = st;
     let mut i = 0;
     while i < count {
-        let v = node(
+        let v = part(
             slots,
             functions,
             types,
@@ -905,7 +950,7 @@ fn record_node<'a>(
     let mut here = st;
     let mut i = 0;
     while i < count {
-        let v = node(
+        let v = part(
             slots,
             functions,
             types,
@@ -953,7 +998,7 @@ fn array<'a>(
     if count == 0 {
         return members::empty(diagnostics, messages, image, at, st, n);
     }
-    let v = node(
+    let v = part(
         slots,
         functions,
         types,
@@ -975,8 +1020,8 @@ fn array<'a>(
     let mut here = begun;
     let mut i = 1;
     while i < count {
-        let part = word_at(image, at + 3 + i);
-        let v = node(
+        let member = word_at(image, at + 3 + i);
+        let v = part(
             slots,
             functions,
             types,
@@ -989,7 +1034,7 @@ fn array<'a>(
             words,
             places,
             here,
-            part,
+            member,
         );
         let Onward::Goes(a, next) = visiting::after(v) else {
             return v;
@@ -1005,7 +1050,7 @@ fn array<'a>(
             places,
             next,
             n,
-            part,
+            member,
             first,
             a,
             poisoned,

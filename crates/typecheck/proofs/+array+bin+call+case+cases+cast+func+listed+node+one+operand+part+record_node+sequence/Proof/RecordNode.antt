@@ -11,8 +11,8 @@ use Rattle.visiting.specs.Then.{came-after, stopped-after}
 use Rattle.fields.specs.RecordVisits.{Turn, turn-begin, record-length, record-low, value-under, value-visit, turn-stops, turn-next, record-made}
 use borrow.Author.Needs.{needs}
 use Rattle.typecheck.proofs.record_node.Reads as record-node
-use Rattle.typecheck.proofs.+array+bin+call+case+cases+cast+func+listed+node+nodes+one+operand+record_node+sequence.Lts-record_node as record-node-lts
-use Rattle.typecheck.proofs.+array+bin+call+case+cases+cast+func+listed+node+nodes+one+operand+record_node+sequence.Proof.Shared.{record-node-at, record-node-claims}
+use Rattle.typecheck.proofs.+array+bin+call+case+cases+cast+func+listed+node+one+operand+part+record_node+sequence.Lts-record_node as record-node-lts
+use Rattle.typecheck.proofs.+array+bin+call+case+cases+cast+func+listed+node+one+operand+part+record_node+sequence.Proof.Shared.{record-node-at, record-node-claims}
 
 abbrev pub record-node-Inv-loop : record-node-lts.InvT-loop
 record-node-Inv-loop slots₀ functions₀ types₀ diagnostics₀ messages₀ scratch₀ script library image words places n at count here₀ i₀ slots functions types diagnostics messages scratch here i =
@@ -49,8 +49,8 @@ record-node-add-word-at-2 t c = omega (arith, c .before .before .before .before 
 pub record-node-word-at-requires-2 : (t : ℕ) → record-node-lts.Need-word-at-requires-2 (record-node-claims t) (record-node-at t) record-node.Post record-node-Inv-loop record-node-μ-loop
 record-node-word-at-requires-2 t c κs = search needs
 
-pub record-node-node-requires : (t : ℕ) → record-node-lts.Need-node-requires (record-node-claims t) (record-node-at t) record-node.Post record-node-Inv-loop record-node-μ-loop
-record-node-node-requires t c κs = (omega (arith, c .before .before .before .before .before .before .before .before .before .before .before .before .before .before .before .before .before .before .before .before .before .before .before .pre .0, value-under (c .before .before .before .before .before .before .before .before .loop .inv .0) (c .before .before .before .before .before .before .before .loop-test .taken) (c .word-at2 .ensures)), value-visit (c .before .before .before .before .before .before .before .before .loop .inv .0) (c .before .before .before .before .before .before .before .loop-test .taken) (c .word-at2 .ensures))
+pub record-node-part-requires : (t : ℕ) → record-node-lts.Need-part-requires (record-node-claims t) (record-node-at t) record-node.Post record-node-Inv-loop record-node-μ-loop
+record-node-part-requires t c κs = (omega (arith, c .before .before .before .before .before .before .before .before .before .before .before .before .before .before .before .before .before .before .before .before .before .before .before .pre .0, value-under (c .before .before .before .before .before .before .before .before .loop .inv .0) (c .before .before .before .before .before .before .before .loop-test .taken) (c .word-at2 .ensures)), value-visit (c .before .before .before .before .before .before .before .before .loop .inv .0) (c .before .before .before .before .before .before .before .loop-test .taken) (c .word-at2 .ensures))
 
 pub record-node-after-requires : (t : ℕ) → record-node-lts.Need-after-requires (record-node-claims t) (record-node-at t) record-node.Post record-node-Inv-loop record-node-μ-loop
 record-node-after-requires t c κs = search needs
@@ -62,25 +62,25 @@ pub record-node-enum-told : (t : ℕ) → record-node-lts.Need-enum-told (record
 record-node-enum-told t c = search needs
 
 pub record-node-same-length : (t : ℕ) → record-node-lts.Need-same-length (record-node-claims t) (record-node-at t) record-node.Post record-node-Inv-loop record-node-μ-loop
-record-node-same-length t c = c .before .before .before .before .before .before .before .before .before .before .before .before .before .before .before .node .kept .0 ∙ c .before .before .before .before .before .before .before .before .before .before .before .before .before .before .before .before .before .before .before .before .before .before .before .before .loop .inv .1
+record-node-same-length t c = c .before .before .before .before .before .before .before .before .before .before .before .before .before .before .before .part .kept .0 ∙ c .before .before .before .before .before .before .before .before .before .before .before .before .before .before .before .before .before .before .before .before .before .before .before .before .loop .inv .1
 
 pub record-node-same-length-2 : (t : ℕ) → record-node-lts.Need-same-length-2 (record-node-claims t) (record-node-at t) record-node.Post record-node-Inv-loop record-node-μ-loop
-record-node-same-length-2 t c = c .before .before .before .before .before .before .before .before .before .before .before .before .before .before .before .node .kept .1 .0 ∙ c .before .before .before .before .before .before .before .before .before .before .before .before .before .before .before .before .before .before .before .before .before .before .before .before .loop .inv .2
+record-node-same-length-2 t c = c .before .before .before .before .before .before .before .before .before .before .before .before .before .before .before .part .kept .1 .0 ∙ c .before .before .before .before .before .before .before .before .before .before .before .before .before .before .before .before .before .before .before .before .before .before .before .before .loop .inv .2
 
 pub record-node-same-length-3 : (t : ℕ) → record-node-lts.Need-same-length-3 (record-node-claims t) (record-node-at t) record-node.Post record-node-Inv-loop record-node-μ-loop
-record-node-same-length-3 t c = c .before .before .before .before .before .before .before .before .before .before .before .before .before .before .before .node .kept .1 .1 .0 ∙ c .before .before .before .before .before .before .before .before .before .before .before .before .before .before .before .before .before .before .before .before .before .before .before .before .loop .inv .3
+record-node-same-length-3 t c = c .before .before .before .before .before .before .before .before .before .before .before .before .before .before .before .part .kept .1 .1 .0 ∙ c .before .before .before .before .before .before .before .before .before .before .before .before .before .before .before .before .before .before .before .before .before .before .before .before .loop .inv .3
 
 pub record-node-same-length-4 : (t : ℕ) → record-node-lts.Need-same-length-4 (record-node-claims t) (record-node-at t) record-node.Post record-node-Inv-loop record-node-μ-loop
-record-node-same-length-4 t c = c .before .before .before .before .before .before .before .before .before .before .before .before .before .before .before .node .kept .1 .1 .1 .0 ∙ c .before .before .before .before .before .before .before .before .before .before .before .before .before .before .before .before .before .before .before .before .before .before .before .before .loop .inv .4
+record-node-same-length-4 t c = c .before .before .before .before .before .before .before .before .before .before .before .before .before .before .before .part .kept .1 .1 .1 .0 ∙ c .before .before .before .before .before .before .before .before .before .before .before .before .before .before .before .before .before .before .before .before .before .before .before .before .loop .inv .4
 
 pub record-node-same-length-5 : (t : ℕ) → record-node-lts.Need-same-length-5 (record-node-claims t) (record-node-at t) record-node.Post record-node-Inv-loop record-node-μ-loop
-record-node-same-length-5 t c = c .before .before .before .before .before .before .before .before .before .before .before .before .before .before .before .node .kept .1 .1 .1 .1 .0 ∙ c .before .before .before .before .before .before .before .before .before .before .before .before .before .before .before .before .before .before .before .before .before .before .before .before .loop .inv .5
+record-node-same-length-5 t c = c .before .before .before .before .before .before .before .before .before .before .before .before .before .before .before .part .kept .1 .1 .1 .1 .0 ∙ c .before .before .before .before .before .before .before .before .before .before .before .before .before .before .before .before .before .before .before .before .before .before .before .before .loop .inv .5
 
 pub record-node-same-length-6 : (t : ℕ) → record-node-lts.Need-same-length-6 (record-node-claims t) (record-node-at t) record-node.Post record-node-Inv-loop record-node-μ-loop
-record-node-same-length-6 t c = c .before .before .before .before .before .before .before .before .before .before .before .before .before .before .before .node .kept .1 .1 .1 .1 .1 .0 ∙ c .before .before .before .before .before .before .before .before .before .before .before .before .before .before .before .before .before .before .before .before .before .before .before .before .loop .inv .6
+record-node-same-length-6 t c = c .before .before .before .before .before .before .before .before .before .before .before .before .before .before .before .part .kept .1 .1 .1 .1 .1 .0 ∙ c .before .before .before .before .before .before .before .before .before .before .before .before .before .before .before .before .before .before .before .before .before .before .before .before .loop .inv .6
 
 pub record-node-returns : (t : ℕ) → record-node-lts.Need-returns (record-node-claims t) (record-node-at t) record-node.Post record-node-Inv-loop record-node-μ-loop
-record-node-returns t c = turn-stops (c .before .before .before .before .before .before .before .before .before .before .before .before .before .before .before .before .before .before .before .before .before .before .before .before .loop .inv .0) (c .before .before .before .before .before .before .before .before .before .before .before .before .before .before .before .before .before .before .before .before .before .before .before .loop-test .taken) (c .before .before .before .before .before .before .before .before .before .before .before .before .before .before .before .before .word-at2 .ensures) (c .before .before .before .before .before .before .before .before .before .before .before .before .before .before .before .node .ensures) (stopped-after (c .before .before .before .before .before .before .before .before .before .before .before .before .before .before .before .node .result) (c .before .before .after .ensures) (c .enum-told .given .1))
+record-node-returns t c = turn-stops (c .before .before .before .before .before .before .before .before .before .before .before .before .before .before .before .before .before .before .before .before .before .before .before .before .loop .inv .0) (c .before .before .before .before .before .before .before .before .before .before .before .before .before .before .before .before .before .before .before .before .before .before .before .loop-test .taken) (c .before .before .before .before .before .before .before .before .before .before .before .before .before .before .before .before .word-at2 .ensures) (c .before .before .before .before .before .before .before .before .before .before .before .before .before .before .before .part .ensures) (stopped-after (c .before .before .before .before .before .before .before .before .before .before .before .before .before .before .before .part .result) (c .before .before .after .ensures) (c .enum-told .given .1))
 
 pub record-node-add-i : (t : ℕ) → record-node-lts.Need-add-i (record-node-claims t) (record-node-at t) record-node.Post record-node-Inv-loop record-node-μ-loop
 record-node-add-i t c = omega (arith, c .before .before .before .before .before .before .before .before .before .before .before .before .before .before .before .before .before .before .before .before .before .before .before .before .loop-test .taken, c .before .before .before .before .before .before .before .before .before .before .before .before .before .before .before .before .before .before .before .before .before .before .before .before .before .loop .inv .0 .values .room)
@@ -89,7 +89,7 @@ pub record-node-loop-less : (t : ℕ) → record-node-lts.Need-loop-less (record
 record-node-loop-less t c = omega (arith, c .before .before .before .before .before .before .before .before .before .before .before .before .before .before .before .before .before .before .before .before .before .before .before .before .loop-test .taken)
 
 pub record-node-loop-again : (t : ℕ) → record-node-lts.Need-loop-again (record-node-claims t) (record-node-at t) record-node.Post record-node-Inv-loop record-node-μ-loop
-record-node-loop-again t c = (turn-next (c .before .before .before .before .before .before .before .before .before .before .before .before .before .before .before .before .before .before .before .before .before .before .before .before .before .loop .inv .0) (c .before .before .before .before .before .before .before .before .before .before .before .before .before .before .before .before .before .before .before .before .before .before .before .before .loop-test .taken) (c .before .before .before .before .before .before .before .before .before .before .before .before .before .before .before .before .before .word-at2 .ensures) (c .before .before .before .before .before .before .before .before .before .before .before .before .before .before .before .before .node .ensures) (came-after (c .before .before .before .before .before .before .before .before .before .before .before .before .before .before .before .before .node .result) (c .before .before .before .after .ensures) (c .before .next .given .1)), c .before .before .before .before .before .before .before .before .before .before .before .before .before .before .before .before .node .kept .0 ∙ c .before .before .before .before .before .before .before .before .before .before .before .before .before .before .before .before .before .before .before .before .before .before .before .before .before .loop .inv .1, c .before .before .before .before .before .before .before .before .before .before .before .before .before .before .before .before .node .kept .1 .0 ∙ c .before .before .before .before .before .before .before .before .before .before .before .before .before .before .before .before .before .before .before .before .before .before .before .before .before .loop .inv .2, c .before .before .before .before .before .before .before .before .before .before .before .before .before .before .before .before .node .kept .1 .1 .0 ∙ c .before .before .before .before .before .before .before .before .before .before .before .before .before .before .before .before .before .before .before .before .before .before .before .before .before .loop .inv .3, c .before .before .before .before .before .before .before .before .before .before .before .before .before .before .before .before .node .kept .1 .1 .1 .0 ∙ c .before .before .before .before .before .before .before .before .before .before .before .before .before .before .before .before .before .before .before .before .before .before .before .before .before .loop .inv .4, c .before .before .before .before .before .before .before .before .before .before .before .before .before .before .before .before .node .kept .1 .1 .1 .1 .0 ∙ c .before .before .before .before .before .before .before .before .before .before .before .before .before .before .before .before .before .before .before .before .before .before .before .before .before .loop .inv .5, c .before .before .before .before .before .before .before .before .before .before .before .before .before .before .before .before .node .kept .1 .1 .1 .1 .1 .0 ∙ c .before .before .before .before .before .before .before .before .before .before .before .before .before .before .before .before .before .before .before .before .before .before .before .before .before .loop .inv .6)
+record-node-loop-again t c = (turn-next (c .before .before .before .before .before .before .before .before .before .before .before .before .before .before .before .before .before .before .before .before .before .before .before .before .before .loop .inv .0) (c .before .before .before .before .before .before .before .before .before .before .before .before .before .before .before .before .before .before .before .before .before .before .before .before .loop-test .taken) (c .before .before .before .before .before .before .before .before .before .before .before .before .before .before .before .before .before .word-at2 .ensures) (c .before .before .before .before .before .before .before .before .before .before .before .before .before .before .before .before .part .ensures) (came-after (c .before .before .before .before .before .before .before .before .before .before .before .before .before .before .before .before .part .result) (c .before .before .before .after .ensures) (c .before .next .given .1)), c .before .before .before .before .before .before .before .before .before .before .before .before .before .before .before .before .part .kept .0 ∙ c .before .before .before .before .before .before .before .before .before .before .before .before .before .before .before .before .before .before .before .before .before .before .before .before .before .loop .inv .1, c .before .before .before .before .before .before .before .before .before .before .before .before .before .before .before .before .part .kept .1 .0 ∙ c .before .before .before .before .before .before .before .before .before .before .before .before .before .before .before .before .before .before .before .before .before .before .before .before .before .loop .inv .2, c .before .before .before .before .before .before .before .before .before .before .before .before .before .before .before .before .part .kept .1 .1 .0 ∙ c .before .before .before .before .before .before .before .before .before .before .before .before .before .before .before .before .before .before .before .before .before .before .before .before .before .loop .inv .3, c .before .before .before .before .before .before .before .before .before .before .before .before .before .before .before .before .part .kept .1 .1 .1 .0 ∙ c .before .before .before .before .before .before .before .before .before .before .before .before .before .before .before .before .before .before .before .before .before .before .before .before .before .loop .inv .4, c .before .before .before .before .before .before .before .before .before .before .before .before .before .before .before .before .part .kept .1 .1 .1 .1 .0 ∙ c .before .before .before .before .before .before .before .before .before .before .before .before .before .before .before .before .before .before .before .before .before .before .before .before .before .loop .inv .5, c .before .before .before .before .before .before .before .before .before .before .before .before .before .before .before .before .part .kept .1 .1 .1 .1 .1 .0 ∙ c .before .before .before .before .before .before .before .before .before .before .before .before .before .before .before .before .before .before .before .before .before .before .before .before .before .loop .inv .6)
 
 pub record-node-make-requires : (t : ℕ) → record-node-lts.Need-make-requires (record-node-claims t) (record-node-at t) record-node.Post record-node-Inv-loop record-node-μ-loop
 record-node-make-requires t c κs = c .before .before .before .loop .inv .0 .values

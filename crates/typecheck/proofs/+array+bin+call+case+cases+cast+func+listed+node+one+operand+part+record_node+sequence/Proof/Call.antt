@@ -11,8 +11,8 @@ use Rattle.calls.specs.CallVisits.{Argued, argued-start, argued-next, some-left
 use borrow.Author.Needs.{needs}
 use Prim.Native.Nat.{ℕ, _-_}
 use Rattle.typecheck.proofs.call.Reads as call
-use Rattle.typecheck.proofs.+array+bin+call+case+cases+cast+func+listed+node+nodes+one+operand+record_node+sequence.Lts-call as call-lts
-use Rattle.typecheck.proofs.+array+bin+call+case+cases+cast+func+listed+node+nodes+one+operand+record_node+sequence.Proof.Shared.{call-at, call-claims}
+use Rattle.typecheck.proofs.+array+bin+call+case+cases+cast+func+listed+node+one+operand+part+record_node+sequence.Lts-call as call-lts
+use Rattle.typecheck.proofs.+array+bin+call+case+cases+cast+func+listed+node+one+operand+part+record_node+sequence.Proof.Shared.{call-at, call-claims}
 
 abbrev pub call-Inv-loop : call-lts.InvT-loop
 call-Inv-loop slots₀ functions₀ types₀ diagnostics₀ messages₀ scratch₀ script library image words places n at count poisoned₀ here₀ i₀ slots functions types diagnostics messages scratch poisoned here i =
@@ -75,8 +75,8 @@ pub call-word-at-requires-2 : (t : ℕ) → call-lts.Need-word-at-requires-2 (ca
 call-word-at-requires-2 t c κs = search needs
 
 -- src/lib.rt:77:13
-pub call-node-requires : (t : ℕ) → call-lts.Need-node-requires (call-claims t) (call-at t) call.Post call-Inv-loop call-μ-loop
-call-node-requires t c κs = (omega (arith, c .before .before .before .before .before .before .before .before .before .before .before .before .before .before .before .before .before .before .before .before .before .before .before .before .before .pre .0, argument-under (c .before .before .before .before .before .before .before .before .before .before .before .before .before .before .before .before .before .before .before .before .before .before .before .before .before .pre .1) (c .before .before .before .before .before .before .before .before .before .before .before .before .before .node-place .ensures) (c .before .before .before .before .before .before .before .before .before .before .word-at .ensures) (c .before .before .before .before .before .before .before .before .before .payload .ensures) (c .before .before .before .before .before .before .before .loop-test .taken) (c .word-at2 .ensures)), argument-visit (c .before .before .before .before .before .before .before .before .loop .inv .0 .on _ _ (arguing-first (c .before .before .before .before .before .before .before .before .before .before .before .before .before .before .before .before .before .before .before .before .before .before .before .before .before .pre .1) (c .before .before .before .before .before .before .before .before .before .before .before .before .before .node-place .ensures) (c .before .before .before .before .before .before .before .before .before .before .word-at .ensures) (c .before .before .before .before .before .before .before .before .before .payload .ensures) (sym (c .before .before .before .before .before .before .before .before .before .before .before .before .through-field .ensures) ∙ c .before .before .before .before .before .before .before .before .before .before .before .if1 .left))) (some-left (c .before .before .before .before .before .before .before .loop-test .taken)) (c .word-at2 .ensures) (argument-below (c .before .before .before .before .before .before .before .before .before .before .before .before .before .before .before .before .before .before .before .before .before .before .before .before .before .pre .1) (c .before .before .before .before .before .before .before .before .before .before .before .before .before .node-place .ensures) (c .before .before .before .before .before .before .before .before .before .before .word-at .ensures) (c .before .before .before .before .before .before .before .before .before .payload .ensures) (c .before .before .before .before .before .before .before .loop-test .taken) (c .word-at2 .ensures)))
+pub call-part-requires : (t : ℕ) → call-lts.Need-part-requires (call-claims t) (call-at t) call.Post call-Inv-loop call-μ-loop
+call-part-requires t c κs = (omega (arith, c .before .before .before .before .before .before .before .before .before .before .before .before .before .before .before .before .before .before .before .before .before .before .before .before .before .pre .0, argument-under (c .before .before .before .before .before .before .before .before .before .before .before .before .before .before .before .before .before .before .before .before .before .before .before .before .before .pre .1) (c .before .before .before .before .before .before .before .before .before .before .before .before .before .node-place .ensures) (c .before .before .before .before .before .before .before .before .before .before .word-at .ensures) (c .before .before .before .before .before .before .before .before .before .payload .ensures) (c .before .before .before .before .before .before .before .loop-test .taken) (c .word-at2 .ensures)), argument-visit (c .before .before .before .before .before .before .before .before .loop .inv .0 .on _ _ (arguing-first (c .before .before .before .before .before .before .before .before .before .before .before .before .before .before .before .before .before .before .before .before .before .before .before .before .before .pre .1) (c .before .before .before .before .before .before .before .before .before .before .before .before .before .node-place .ensures) (c .before .before .before .before .before .before .before .before .before .before .word-at .ensures) (c .before .before .before .before .before .before .before .before .before .payload .ensures) (sym (c .before .before .before .before .before .before .before .before .before .before .before .before .through-field .ensures) ∙ c .before .before .before .before .before .before .before .before .before .before .before .if1 .left))) (some-left (c .before .before .before .before .before .before .before .loop-test .taken)) (c .word-at2 .ensures) (argument-below (c .before .before .before .before .before .before .before .before .before .before .before .before .before .before .before .before .before .before .before .before .before .before .before .before .before .pre .1) (c .before .before .before .before .before .before .before .before .before .before .before .before .before .node-place .ensures) (c .before .before .before .before .before .before .before .before .before .before .word-at .ensures) (c .before .before .before .before .before .before .before .before .before .payload .ensures) (c .before .before .before .before .before .before .before .loop-test .taken) (c .word-at2 .ensures)))
 
 -- src/lib.rt:92:37
 pub call-after-requires : (t : ℕ) → call-lts.Need-after-requires (call-claims t) (call-at t) call.Post call-Inv-loop call-μ-loop
@@ -92,31 +92,31 @@ call-enum-told t c = search needs
 
 -- src/lib.rt:93:13
 pub call-same-length-3 : (t : ℕ) → call-lts.Need-same-length-3 (call-claims t) (call-at t) call.Post call-Inv-loop call-μ-loop
-call-same-length-3 t c = c .before .before .before .before .before .before .before .before .before .before .before .before .before .before .before .node .kept .0 ∙ c .before .before .before .before .before .before .before .before .before .before .before .before .before .before .before .before .before .before .before .before .before .before .before .before .loop .inv .1
+call-same-length-3 t c = c .before .before .before .before .before .before .before .before .before .before .before .before .before .before .before .part .kept .0 ∙ c .before .before .before .before .before .before .before .before .before .before .before .before .before .before .before .before .before .before .before .before .before .before .before .before .loop .inv .1
 
 -- src/lib.rt:93:13
 pub call-same-length-4 : (t : ℕ) → call-lts.Need-same-length-4 (call-claims t) (call-at t) call.Post call-Inv-loop call-μ-loop
-call-same-length-4 t c = c .before .before .before .before .before .before .before .before .before .before .before .before .before .before .before .node .kept .1 .0 ∙ c .before .before .before .before .before .before .before .before .before .before .before .before .before .before .before .before .before .before .before .before .before .before .before .before .loop .inv .2
+call-same-length-4 t c = c .before .before .before .before .before .before .before .before .before .before .before .before .before .before .before .part .kept .1 .0 ∙ c .before .before .before .before .before .before .before .before .before .before .before .before .before .before .before .before .before .before .before .before .before .before .before .before .loop .inv .2
 
 -- src/lib.rt:93:13
 pub call-same-length-5 : (t : ℕ) → call-lts.Need-same-length-5 (call-claims t) (call-at t) call.Post call-Inv-loop call-μ-loop
-call-same-length-5 t c = c .before .before .before .before .before .before .before .before .before .before .before .before .before .before .before .node .kept .1 .1 .0 ∙ c .before .before .before .before .before .before .before .before .before .before .before .before .before .before .before .before .before .before .before .before .before .before .before .before .loop .inv .3
+call-same-length-5 t c = c .before .before .before .before .before .before .before .before .before .before .before .before .before .before .before .part .kept .1 .1 .0 ∙ c .before .before .before .before .before .before .before .before .before .before .before .before .before .before .before .before .before .before .before .before .before .before .before .before .loop .inv .3
 
 -- src/lib.rt:93:13
 pub call-same-length-6 : (t : ℕ) → call-lts.Need-same-length-6 (call-claims t) (call-at t) call.Post call-Inv-loop call-μ-loop
-call-same-length-6 t c = c .before .before .before .before .before .before .before .before .before .before .before .before .before .before .before .node .kept .1 .1 .1 .0 ∙ c .before .before .before .before .before .before .before .before .before .before .before .before .before .before .before .before .before .before .before .before .before .before .before .before .loop .inv .4
+call-same-length-6 t c = c .before .before .before .before .before .before .before .before .before .before .before .before .before .before .before .part .kept .1 .1 .1 .0 ∙ c .before .before .before .before .before .before .before .before .before .before .before .before .before .before .before .before .before .before .before .before .before .before .before .before .loop .inv .4
 
 -- src/lib.rt:93:13
 pub call-same-length-7 : (t : ℕ) → call-lts.Need-same-length-7 (call-claims t) (call-at t) call.Post call-Inv-loop call-μ-loop
-call-same-length-7 t c = c .before .before .before .before .before .before .before .before .before .before .before .before .before .before .before .node .kept .1 .1 .1 .1 .0 ∙ c .before .before .before .before .before .before .before .before .before .before .before .before .before .before .before .before .before .before .before .before .before .before .before .before .loop .inv .5
+call-same-length-7 t c = c .before .before .before .before .before .before .before .before .before .before .before .before .before .before .before .part .kept .1 .1 .1 .1 .0 ∙ c .before .before .before .before .before .before .before .before .before .before .before .before .before .before .before .before .before .before .before .before .before .before .before .before .loop .inv .5
 
 -- src/lib.rt:93:13
 pub call-same-length-8 : (t : ℕ) → call-lts.Need-same-length-8 (call-claims t) (call-at t) call.Post call-Inv-loop call-μ-loop
-call-same-length-8 t c = c .before .before .before .before .before .before .before .before .before .before .before .before .before .before .before .node .kept .1 .1 .1 .1 .1 .0 ∙ c .before .before .before .before .before .before .before .before .before .before .before .before .before .before .before .before .before .before .before .before .before .before .before .before .loop .inv .6
+call-same-length-8 t c = c .before .before .before .before .before .before .before .before .before .before .before .before .before .before .before .part .kept .1 .1 .1 .1 .1 .0 ∙ c .before .before .before .before .before .before .before .before .before .before .before .before .before .before .before .before .before .before .before .before .before .before .before .before .loop .inv .6
 
 -- src/lib.rt:93:13
 pub call-returns-2 : (t : ℕ) → call-lts.Need-returns-2 (call-claims t) (call-at t) call.Post call-Inv-loop call-μ-loop
-call-returns-2 t c = argument-stopped (c .before .before .before .before .before .before .before .before .before .before .before .before .before .before .before .before .before .before .before .before .before .before .before .before .loop .inv .0 .on _ _ (arguing-first (c .before .before .before .before .before .before .before .before .before .before .before .before .before .before .before .before .before .before .before .before .before .before .before .before .before .before .before .before .before .before .before .before .before .before .before .before .before .before .before .before .before .pre .1) (c .before .before .before .before .before .before .before .before .before .before .before .before .before .before .before .before .before .before .before .before .before .before .before .before .before .before .before .before .before .node-place .ensures) (c .before .before .before .before .before .before .before .before .before .before .before .before .before .before .before .before .before .before .before .before .before .before .before .before .before .before .word-at .ensures) (c .before .before .before .before .before .before .before .before .before .before .before .before .before .before .before .before .before .before .before .before .before .before .before .before .before .payload .ensures) (sym (c .before .before .before .before .before .before .before .before .before .before .before .before .before .before .before .before .before .before .before .before .before .before .before .before .before .before .before .before .through-field .ensures) ∙ c .before .before .before .before .before .before .before .before .before .before .before .before .before .before .before .before .before .before .before .before .before .before .before .before .before .before .before .if1 .left))) (some-left (c .before .before .before .before .before .before .before .before .before .before .before .before .before .before .before .before .before .before .before .before .before .before .before .loop-test .taken)) (c .before .before .before .before .before .before .before .before .before .before .before .before .before .before .before .before .word-at2 .ensures) (c .before .before .before .before .before .before .before .before .before .before .before .before .before .before .before .node .ensures) (stopped-after (c .before .before .before .before .before .before .before .before .before .before .before .before .before .before .before .node .result) (c .before .before .after .ensures) (c .enum-told .given .1))
+call-returns-2 t c = argument-stopped (c .before .before .before .before .before .before .before .before .before .before .before .before .before .before .before .before .before .before .before .before .before .before .before .before .loop .inv .0 .on _ _ (arguing-first (c .before .before .before .before .before .before .before .before .before .before .before .before .before .before .before .before .before .before .before .before .before .before .before .before .before .before .before .before .before .before .before .before .before .before .before .before .before .before .before .before .before .pre .1) (c .before .before .before .before .before .before .before .before .before .before .before .before .before .before .before .before .before .before .before .before .before .before .before .before .before .before .before .before .before .node-place .ensures) (c .before .before .before .before .before .before .before .before .before .before .before .before .before .before .before .before .before .before .before .before .before .before .before .before .before .before .word-at .ensures) (c .before .before .before .before .before .before .before .before .before .before .before .before .before .before .before .before .before .before .before .before .before .before .before .before .before .payload .ensures) (sym (c .before .before .before .before .before .before .before .before .before .before .before .before .before .before .before .before .before .before .before .before .before .before .before .before .before .before .before .before .through-field .ensures) ∙ c .before .before .before .before .before .before .before .before .before .before .before .before .before .before .before .before .before .before .before .before .before .before .before .before .before .before .before .if1 .left))) (some-left (c .before .before .before .before .before .before .before .before .before .before .before .before .before .before .before .before .before .before .before .before .before .before .before .loop-test .taken)) (c .before .before .before .before .before .before .before .before .before .before .before .before .before .before .before .before .word-at2 .ensures) (c .before .before .before .before .before .before .before .before .before .before .before .before .before .before .before .part .ensures) (stopped-after (c .before .before .before .before .before .before .before .before .before .before .before .before .before .before .before .part .result) (c .before .before .after .ensures) (c .enum-told .given .1))
 
 -- src/lib.rt:95:9
 pub call-or-poison-requires : (t : ℕ) → call-lts.Need-or-poison-requires (call-claims t) (call-at t) call.Post call-Inv-loop call-μ-loop
@@ -132,7 +132,7 @@ call-loop-less t c = omega (arith, c .before .before .before .before .before .be
 
 -- src/lib.rt:76:5
 pub call-loop-again : (t : ℕ) → call-lts.Need-loop-again (call-claims t) (call-at t) call.Post call-Inv-loop call-μ-loop
-call-loop-again t c = (argued-next (c .before .before .before .before .before .before .before .before .before .before .before .before .before .before .before .before .before .before .before .before .before .before .before .before .before .before .loop .inv .0) (c .before .before .before .before .before .before .before .before .before .before .before .before .before .before .before .before .before .before .before .before .before .before .before .before .before .loop-test .taken) (c .before .before .before .before .before .before .before .before .before .before .before .before .before .before .before .before .before .before .word-at2 .ensures) (c .before .before .before .before .before .before .before .before .before .before .before .before .before .before .before .before .before .node .ensures) (argument-below (c .before .before .before .before .before .before .before .before .before .before .before .before .before .before .before .before .before .before .before .before .before .before .before .before .before .before .before .before .before .before .before .before .before .before .before .before .before .before .before .before .before .before .before .pre .1) (c .before .before .before .before .before .before .before .before .before .before .before .before .before .before .before .before .before .before .before .before .before .before .before .before .before .before .before .before .before .before .before .node-place .ensures) (c .before .before .before .before .before .before .before .before .before .before .before .before .before .before .before .before .before .before .before .before .before .before .before .before .before .before .before .before .word-at .ensures) (c .before .before .before .before .before .before .before .before .before .before .before .before .before .before .before .before .before .before .before .before .before .before .before .before .before .before .before .payload .ensures) (c .before .before .before .before .before .before .before .before .before .before .before .before .before .before .before .before .before .before .before .before .before .before .before .before .before .loop-test .taken) (c .before .before .before .before .before .before .before .before .before .before .before .before .before .before .before .before .before .before .word-at2 .ensures)) (came-after (c .before .before .before .before .before .before .before .before .before .before .before .before .before .before .before .before .before .node .result) (c .before .before .before .before .after .ensures) (c .before .before .a .given .1)) (c .or-poison .ensures), c .before .before .before .before .before .before .before .before .before .before .before .before .before .before .before .before .before .node .kept .0 ∙ c .before .before .before .before .before .before .before .before .before .before .before .before .before .before .before .before .before .before .before .before .before .before .before .before .before .before .loop .inv .1, c .before .before .before .before .before .before .before .before .before .before .before .before .before .before .before .before .before .node .kept .1 .0 ∙ c .before .before .before .before .before .before .before .before .before .before .before .before .before .before .before .before .before .before .before .before .before .before .before .before .before .before .loop .inv .2, c .before .before .before .before .before .before .before .before .before .before .before .before .before .before .before .before .before .node .kept .1 .1 .0 ∙ c .before .before .before .before .before .before .before .before .before .before .before .before .before .before .before .before .before .before .before .before .before .before .before .before .before .before .loop .inv .3, c .before .before .before .before .before .before .before .before .before .before .before .before .before .before .before .before .before .node .kept .1 .1 .1 .0 ∙ c .before .before .before .before .before .before .before .before .before .before .before .before .before .before .before .before .before .before .before .before .before .before .before .before .before .before .loop .inv .4, c .before .before .before .before .before .before .before .before .before .before .before .before .before .before .before .before .before .node .kept .1 .1 .1 .1 .0 ∙ c .before .before .before .before .before .before .before .before .before .before .before .before .before .before .before .before .before .before .before .before .before .before .before .before .before .before .loop .inv .5, c .before .before .before .before .before .before .before .before .before .before .before .before .before .before .before .before .before .node .kept .1 .1 .1 .1 .1 .0 ∙ c .before .before .before .before .before .before .before .before .before .before .before .before .before .before .before .before .before .before .before .before .before .before .before .before .before .before .loop .inv .6)
+call-loop-again t c = (argued-next (c .before .before .before .before .before .before .before .before .before .before .before .before .before .before .before .before .before .before .before .before .before .before .before .before .before .before .loop .inv .0) (c .before .before .before .before .before .before .before .before .before .before .before .before .before .before .before .before .before .before .before .before .before .before .before .before .before .loop-test .taken) (c .before .before .before .before .before .before .before .before .before .before .before .before .before .before .before .before .before .before .word-at2 .ensures) (c .before .before .before .before .before .before .before .before .before .before .before .before .before .before .before .before .before .part .ensures) (argument-below (c .before .before .before .before .before .before .before .before .before .before .before .before .before .before .before .before .before .before .before .before .before .before .before .before .before .before .before .before .before .before .before .before .before .before .before .before .before .before .before .before .before .before .before .pre .1) (c .before .before .before .before .before .before .before .before .before .before .before .before .before .before .before .before .before .before .before .before .before .before .before .before .before .before .before .before .before .before .before .node-place .ensures) (c .before .before .before .before .before .before .before .before .before .before .before .before .before .before .before .before .before .before .before .before .before .before .before .before .before .before .before .before .word-at .ensures) (c .before .before .before .before .before .before .before .before .before .before .before .before .before .before .before .before .before .before .before .before .before .before .before .before .before .before .before .payload .ensures) (c .before .before .before .before .before .before .before .before .before .before .before .before .before .before .before .before .before .before .before .before .before .before .before .before .before .loop-test .taken) (c .before .before .before .before .before .before .before .before .before .before .before .before .before .before .before .before .before .before .word-at2 .ensures)) (came-after (c .before .before .before .before .before .before .before .before .before .before .before .before .before .before .before .before .before .part .result) (c .before .before .before .before .after .ensures) (c .before .before .a .given .1)) (c .or-poison .ensures), c .before .before .before .before .before .before .before .before .before .before .before .before .before .before .before .before .before .part .kept .0 ∙ c .before .before .before .before .before .before .before .before .before .before .before .before .before .before .before .before .before .before .before .before .before .before .before .before .before .before .loop .inv .1, c .before .before .before .before .before .before .before .before .before .before .before .before .before .before .before .before .before .part .kept .1 .0 ∙ c .before .before .before .before .before .before .before .before .before .before .before .before .before .before .before .before .before .before .before .before .before .before .before .before .before .before .loop .inv .2, c .before .before .before .before .before .before .before .before .before .before .before .before .before .before .before .before .before .part .kept .1 .1 .0 ∙ c .before .before .before .before .before .before .before .before .before .before .before .before .before .before .before .before .before .before .before .before .before .before .before .before .before .before .loop .inv .3, c .before .before .before .before .before .before .before .before .before .before .before .before .before .before .before .before .before .part .kept .1 .1 .1 .0 ∙ c .before .before .before .before .before .before .before .before .before .before .before .before .before .before .before .before .before .before .before .before .before .before .before .before .before .before .loop .inv .4, c .before .before .before .before .before .before .before .before .before .before .before .before .before .before .before .before .before .part .kept .1 .1 .1 .1 .0 ∙ c .before .before .before .before .before .before .before .before .before .before .before .before .before .before .before .before .before .before .before .before .before .before .before .before .before .before .loop .inv .5, c .before .before .before .before .before .before .before .before .before .before .before .before .before .before .before .before .before .part .kept .1 .1 .1 .1 .1 .0 ∙ c .before .before .before .before .before .before .before .before .before .before .before .before .before .before .before .before .before .before .before .before .before .before .before .before .before .before .loop .inv .6)
 
 -- src/lib.rt:99:5
 pub call-resolve-requires : (t : ℕ) → call-lts.Need-resolve-requires (call-claims t) (call-at t) call.Post call-Inv-loop call-μ-loop

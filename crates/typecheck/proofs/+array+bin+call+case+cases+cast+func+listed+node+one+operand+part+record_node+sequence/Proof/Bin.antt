@@ -6,8 +6,8 @@ use Rattle.operand_visits.specs.Bin.{bin-low, left-under, right-under, left-vis
 use borrow.Author.Needs.{needs}
 use Prim.Native.Nat.{ℕ}
 use Rattle.typecheck.proofs.bin.Reads as bin
-use Rattle.typecheck.proofs.+array+bin+call+case+cases+cast+func+listed+node+nodes+one+operand+record_node+sequence.Lts-bin as bin-lts
-use Rattle.typecheck.proofs.+array+bin+call+case+cases+cast+func+listed+node+nodes+one+operand+record_node+sequence.Proof.Shared.{bin-at, bin-claims}
+use Rattle.typecheck.proofs.+array+bin+call+case+cases+cast+func+listed+node+one+operand+part+record_node+sequence.Lts-bin as bin-lts
+use Rattle.typecheck.proofs.+array+bin+call+case+cases+cast+func+listed+node+one+operand+part+record_node+sequence.Proof.Shared.{bin-at, bin-claims}
 
 pub bin-node-place-requires : (t : ℕ) → bin-lts.Need-node-place-requires (bin-claims t) (bin-at t) bin.Post
 bin-node-place-requires t c κs = search needs
@@ -18,8 +18,8 @@ bin-add-word-at t c = omega (arith, bin-low (c .before .before .before .before .
 pub bin-word-at-requires : (t : ℕ) → bin-lts.Need-word-at-requires (bin-claims t) (bin-at t) bin.Post
 bin-word-at-requires t c κs = search needs
 
-pub bin-node-requires : (t : ℕ) → bin-lts.Need-node-requires (bin-claims t) (bin-at t) bin.Post
-bin-node-requires t c κs = (omega (arith, c .before .before .before .before .before .before .before .before .before .before .before .before .before .before .before .before .before .before .before .pre .0, left-under (c .before .before .before .before .before .before .before .before .before .before .before .before .before .before .before .before .before .before .before .pre .1) (c .before .before .before .before .before .before .before .node-place .ensures) (c .word-at .ensures)), left-visit (c .before .before .before .before .before .before .before .before .before .before .before .before .before .before .before .before .before .before .before .pre .1) (c .before .before .before .before .before .before .before .node-place .ensures) (c .word-at .ensures))
+pub bin-part-requires : (t : ℕ) → bin-lts.Need-part-requires (bin-claims t) (bin-at t) bin.Post
+bin-part-requires t c κs = (omega (arith, c .before .before .before .before .before .before .before .before .before .before .before .before .before .before .before .before .before .before .before .pre .0, left-under (c .before .before .before .before .before .before .before .before .before .before .before .before .before .before .before .before .before .before .before .pre .1) (c .before .before .before .before .before .before .before .node-place .ensures) (c .word-at .ensures)), left-visit (c .before .before .before .before .before .before .before .before .before .before .before .before .before .before .before .before .before .before .before .pre .1) (c .before .before .before .before .before .before .before .node-place .ensures) (c .word-at .ensures))
 
 pub bin-after-requires : (t : ℕ) → bin-lts.Need-after-requires (bin-claims t) (bin-at t) bin.Post
 bin-after-requires t c κs = search needs
@@ -49,7 +49,7 @@ pub bin-same-length-6 : (t : ℕ) → bin-lts.Need-same-length-6 (bin-claims t) 
 bin-same-length-6 t c = c .before .before .before .before .scratch .given
 
 pub bin-returns : (t : ℕ) → bin-lts.Need-returns (bin-claims t) (bin-at t) bin.Post
-bin-returns t c = left-stops (c .before .before .before .before .before .before .before .before .before .before .before .before .before .before .before .before .before .before .before .before .before .before .before .before .before .before .before .before .before .before .before .before .before .before .before .pre .1) (c .before .before .before .before .before .before .before .before .before .before .before .before .before .before .before .before .before .before .before .before .before .before .before .node-place .ensures) (c .before .before .before .before .before .before .before .before .before .before .before .before .before .before .before .before .word-at .ensures) (c .before .before .before .before .before .before .before .before .before .before .before .before .before .before .before .node .ensures) (stopped-after (c .before .before .before .before .before .before .before .before .before .before .before .before .before .before .before .node .result) (c .before .before .after .ensures) (c .enum-told .given .1))
+bin-returns t c = left-stops (c .before .before .before .before .before .before .before .before .before .before .before .before .before .before .before .before .before .before .before .before .before .before .before .before .before .before .before .before .before .before .before .before .before .before .before .pre .1) (c .before .before .before .before .before .before .before .before .before .before .before .before .before .before .before .before .before .before .before .before .before .before .before .node-place .ensures) (c .before .before .before .before .before .before .before .before .before .before .before .before .before .before .before .before .word-at .ensures) (c .before .before .before .before .before .before .before .before .before .before .before .before .before .before .before .part .ensures) (stopped-after (c .before .before .before .before .before .before .before .before .before .before .before .before .before .before .before .part .result) (c .before .before .after .ensures) (c .enum-told .given .1))
 
 pub bin-add-word-at-2 : (t : ℕ) → bin-lts.Need-add-word-at-2 (bin-claims t) (bin-at t) bin.Post
 bin-add-word-at-2 t c = omega (arith, bin-low (c .before .before .before .before .before .before .before .before .before .before .before .before .before .before .before .before .before .before .before .before .before .before .before .before .before .before .before .before .before .before .before .before .before .before .before .before .before .before .before .before .before .before .pre .1) (c .before .before .before .before .before .before .before .before .before .before .before .before .before .before .before .before .before .before .before .before .before .before .before .before .before .before .before .before .before .before .node-place .ensures))
@@ -57,8 +57,8 @@ bin-add-word-at-2 t c = omega (arith, bin-low (c .before .before .before .before
 pub bin-word-at-requires-2 : (t : ℕ) → bin-lts.Need-word-at-requires-2 (bin-claims t) (bin-at t) bin.Post
 bin-word-at-requires-2 t c κs = search needs
 
-pub bin-node-requires-2 : (t : ℕ) → bin-lts.Need-node-requires-2 (bin-claims t) (bin-at t) bin.Post
-bin-node-requires-2 t c κs = (omega (arith, c .before .before .before .before .before .before .before .before .before .before .before .before .before .before .before .before .before .before .before .before .before .before .before .before .before .before .before .before .before .before .before .before .before .before .before .before .before .before .before .before .before .before .before .pre .0, right-under (c .before .before .before .before .before .before .before .before .before .before .before .before .before .before .before .before .before .before .before .before .before .before .before .before .before .before .before .before .before .before .before .before .before .before .before .before .before .before .before .before .before .before .before .pre .1) (c .before .before .before .before .before .before .before .before .before .before .before .before .before .before .before .before .before .before .before .before .before .before .before .before .before .before .before .before .before .before .before .node-place .ensures) (c .word-at2 .ensures)), right-visit (c .before .before .before .before .before .before .before .before .before .before .before .before .before .before .before .before .before .before .before .before .before .before .before .before .before .before .before .before .before .before .before .before .before .before .before .before .before .before .before .before .before .before .before .pre .1) (c .before .before .before .before .before .before .before .before .before .before .before .before .before .before .before .before .before .before .before .before .before .before .before .before .before .before .before .before .before .before .before .node-place .ensures) (c .before .before .before .before .before .before .before .before .before .before .before .before .before .before .before .before .before .before .before .before .before .before .before .before .word-at .ensures) (c .before .before .before .before .before .before .before .before .before .before .before .before .before .before .before .before .before .before .before .before .before .before .before .node .ensures) (came-after (c .before .before .before .before .before .before .before .before .before .before .before .before .before .before .before .before .before .before .before .before .before .before .before .node .result) (c .before .before .before .before .before .before .before .before .before .before .after .ensures) (c .before .before .before .before .before .before .before .before .l .given .1)) (c .word-at2 .ensures))
+pub bin-part-requires-2 : (t : ℕ) → bin-lts.Need-part-requires-2 (bin-claims t) (bin-at t) bin.Post
+bin-part-requires-2 t c κs = (omega (arith, c .before .before .before .before .before .before .before .before .before .before .before .before .before .before .before .before .before .before .before .before .before .before .before .before .before .before .before .before .before .before .before .before .before .before .before .before .before .before .before .before .before .before .before .pre .0, right-under (c .before .before .before .before .before .before .before .before .before .before .before .before .before .before .before .before .before .before .before .before .before .before .before .before .before .before .before .before .before .before .before .before .before .before .before .before .before .before .before .before .before .before .before .pre .1) (c .before .before .before .before .before .before .before .before .before .before .before .before .before .before .before .before .before .before .before .before .before .before .before .before .before .before .before .before .before .before .before .node-place .ensures) (c .word-at2 .ensures)), right-visit (c .before .before .before .before .before .before .before .before .before .before .before .before .before .before .before .before .before .before .before .before .before .before .before .before .before .before .before .before .before .before .before .before .before .before .before .before .before .before .before .before .before .before .before .pre .1) (c .before .before .before .before .before .before .before .before .before .before .before .before .before .before .before .before .before .before .before .before .before .before .before .before .before .before .before .before .before .before .before .node-place .ensures) (c .before .before .before .before .before .before .before .before .before .before .before .before .before .before .before .before .before .before .before .before .before .before .before .before .word-at .ensures) (c .before .before .before .before .before .before .before .before .before .before .before .before .before .before .before .before .before .before .before .before .before .before .before .part .ensures) (came-after (c .before .before .before .before .before .before .before .before .before .before .before .before .before .before .before .before .before .before .before .before .before .before .before .part .result) (c .before .before .before .before .before .before .before .before .before .before .after .ensures) (c .before .before .before .before .before .before .before .before .l .given .1)) (c .word-at2 .ensures))
 
 pub bin-after-requires-2 : (t : ℕ) → bin-lts.Need-after-requires-2 (bin-claims t) (bin-at t) bin.Post
 bin-after-requires-2 t c κs = search needs
@@ -88,7 +88,7 @@ pub bin-same-length-12 : (t : ℕ) → bin-lts.Need-same-length-12 (bin-claims t
 bin-same-length-12 t c = c .before .before .before .before .scratch2 .given ∙ c .before .before .before .before .before .before .before .before .before .before .before .before .before .before .before .before .before .before .before .before .before .before .before .before .before .before .before .before .scratch .given
 
 pub bin-returns-2 : (t : ℕ) → bin-lts.Need-returns-2 (bin-claims t) (bin-at t) bin.Post
-bin-returns-2 t c = right-stops (c .before .before .before .before .before .before .before .before .before .before .before .before .before .before .before .before .before .before .before .before .before .before .before .before .before .before .before .before .before .before .before .before .before .before .before .before .before .before .before .before .before .before .before .before .before .before .before .before .before .before .before .before .before .before .before .before .before .before .before .pre .1) (c .before .before .before .before .before .before .before .before .before .before .before .before .before .before .before .before .before .before .before .before .before .before .before .before .before .before .before .before .before .before .before .before .before .before .before .before .before .before .before .before .before .before .before .before .before .before .before .node-place .ensures) (c .before .before .before .before .before .before .before .before .before .before .before .before .before .before .before .before .before .before .before .before .before .before .before .before .before .before .before .before .before .before .before .before .before .before .before .before .before .before .before .before .word-at .ensures) (c .before .before .before .before .before .before .before .before .before .before .before .before .before .before .before .before .before .before .before .before .before .before .before .before .before .before .before .before .before .before .before .before .before .before .before .before .before .before .before .node .ensures) (came-after (c .before .before .before .before .before .before .before .before .before .before .before .before .before .before .before .before .before .before .before .before .before .before .before .before .before .before .before .before .before .before .before .before .before .before .before .before .before .before .before .node .result) (c .before .before .before .before .before .before .before .before .before .before .before .before .before .before .before .before .before .before .before .before .before .before .before .before .before .before .after .ensures) (c .before .before .before .before .before .before .before .before .before .before .before .before .before .before .before .before .before .before .before .before .before .before .before .before .l .given .1)) (c .before .before .before .before .before .before .before .before .before .before .before .before .before .before .before .before .word-at2 .ensures) (c .before .before .before .before .before .before .before .before .before .before .before .before .before .before .before .node2 .ensures) (stopped-after (c .before .before .before .before .before .before .before .before .before .before .before .before .before .before .before .node2 .result) (c .before .before .after2 .ensures) (c .enum-told2 .given .1))
+bin-returns-2 t c = right-stops (c .before .before .before .before .before .before .before .before .before .before .before .before .before .before .before .before .before .before .before .before .before .before .before .before .before .before .before .before .before .before .before .before .before .before .before .before .before .before .before .before .before .before .before .before .before .before .before .before .before .before .before .before .before .before .before .before .before .before .before .pre .1) (c .before .before .before .before .before .before .before .before .before .before .before .before .before .before .before .before .before .before .before .before .before .before .before .before .before .before .before .before .before .before .before .before .before .before .before .before .before .before .before .before .before .before .before .before .before .before .before .node-place .ensures) (c .before .before .before .before .before .before .before .before .before .before .before .before .before .before .before .before .before .before .before .before .before .before .before .before .before .before .before .before .before .before .before .before .before .before .before .before .before .before .before .before .word-at .ensures) (c .before .before .before .before .before .before .before .before .before .before .before .before .before .before .before .before .before .before .before .before .before .before .before .before .before .before .before .before .before .before .before .before .before .before .before .before .before .before .before .part .ensures) (came-after (c .before .before .before .before .before .before .before .before .before .before .before .before .before .before .before .before .before .before .before .before .before .before .before .before .before .before .before .before .before .before .before .before .before .before .before .before .before .before .before .part .result) (c .before .before .before .before .before .before .before .before .before .before .before .before .before .before .before .before .before .before .before .before .before .before .before .before .before .before .after .ensures) (c .before .before .before .before .before .before .before .before .before .before .before .before .before .before .before .before .before .before .before .before .before .before .before .before .l .given .1)) (c .before .before .before .before .before .before .before .before .before .before .before .before .before .before .before .before .word-at2 .ensures) (c .before .before .before .before .before .before .before .before .before .before .before .before .before .before .before .part2 .ensures) (stopped-after (c .before .before .before .before .before .before .before .before .before .before .before .before .before .before .before .part2 .result) (c .before .before .after2 .ensures) (c .enum-told2 .given .1))
 
 pub bin-bin-end-requires : (t : ℕ) → bin-lts.Need-bin-end-requires (bin-claims t) (bin-at t) bin.Post
 bin-bin-end-requires t c κs = omega (arith, bin-low (c .before .before .before .before .before .before .before .before .before .before .before .before .before .before .before .before .before .before .before .before .before .before .before .before .before .before .before .before .before .before .before .before .before .before .before .before .before .before .before .before .before .before .before .before .before .before .before .before .before .before .before .before .before .before .before .before .before .before .before .before .before .before .before .before .pre .1) (c .before .before .before .before .before .before .before .before .before .before .before .before .before .before .before .before .before .before .before .before .before .before .before .before .before .before .before .before .before .before .before .before .before .before .before .before .before .before .before .before .before .before .before .before .before .before .before .before .before .before .before .before .node-place .ensures))
@@ -112,4 +112,4 @@ pub bin-same-length-18 : (t : ℕ) → bin-lts.Need-same-length-18 (bin-claims t
 bin-same-length-18 t c = c .before .before .before .before .before .before .before .before .before .before .before .before .before .before .before .before .scratch2 .given ∙ c .before .before .before .before .before .before .before .before .before .before .before .before .before .before .before .before .before .before .before .before .before .before .before .before .before .before .before .before .before .before .before .before .before .before .before .before .before .before .before .before .scratch .given
 
 pub bin-returns-3 : (t : ℕ) → bin-lts.Need-returns-3 (bin-claims t) (bin-at t) bin.Post
-bin-returns-3 t c = bin-ends (c .before .before .before .before .before .before .before .before .before .before .before .before .before .before .before .before .before .before .before .before .before .before .before .before .before .before .before .before .before .before .before .before .before .before .before .before .before .before .before .before .before .before .before .before .before .before .before .before .before .before .before .before .before .before .before .before .before .before .before .before .before .before .before .before .before .before .before .before .before .before .before .pre .1) (c .before .before .before .before .before .before .before .before .before .before .before .before .before .before .before .before .before .before .before .before .before .before .before .before .before .before .before .before .before .before .before .before .before .before .before .before .before .before .before .before .before .before .before .before .before .before .before .before .before .before .before .before .before .before .before .before .before .before .before .node-place .ensures) (c .before .before .before .before .before .before .before .before .before .before .before .before .before .before .before .before .before .before .before .before .before .before .before .before .before .before .before .before .before .before .before .before .before .before .before .before .before .before .before .before .before .before .before .before .before .before .before .before .before .before .before .before .word-at .ensures) (c .before .before .before .before .before .before .before .before .before .before .before .before .before .before .before .before .before .before .before .before .before .before .before .before .before .before .before .before .before .before .before .before .before .before .before .before .before .before .before .before .before .before .before .before .before .before .before .before .before .before .before .node .ensures) (came-after (c .before .before .before .before .before .before .before .before .before .before .before .before .before .before .before .before .before .before .before .before .before .before .before .before .before .before .before .before .before .before .before .before .before .before .before .before .before .before .before .before .before .before .before .before .before .before .before .before .before .before .before .node .result) (c .before .before .before .before .before .before .before .before .before .before .before .before .before .before .before .before .before .before .before .before .before .before .before .before .before .before .before .before .before .before .before .before .before .before .before .before .before .before .after .ensures) (c .before .before .before .before .before .before .before .before .before .before .before .before .before .before .before .before .before .before .before .before .before .before .before .before .before .before .before .before .before .before .before .before .before .before .before .before .l .given .1)) (c .before .before .before .before .before .before .before .before .before .before .before .before .before .before .before .before .before .before .before .before .before .before .before .before .before .before .before .before .word-at2 .ensures) (c .before .before .before .before .before .before .before .before .before .before .before .before .before .before .before .before .before .before .before .before .before .before .before .before .before .before .before .node2 .ensures) (came-after (c .before .before .before .before .before .before .before .before .before .before .before .before .before .before .before .before .before .before .before .before .before .before .before .before .before .before .before .node2 .result) (c .before .before .before .before .before .before .before .before .before .before .before .before .before .before .after2 .ensures) (c .before .before .before .before .before .before .before .before .before .before .before .before .r .given .1)) (c .before .before .before .before .before .before .bin-end .ensures _ _ _ _ _)
+bin-returns-3 t c = bin-ends (c .before .before .before .before .before .before .before .before .before .before .before .before .before .before .before .before .before .before .before .before .before .before .before .before .before .before .before .before .before .before .before .before .before .before .before .before .before .before .before .before .before .before .before .before .before .before .before .before .before .before .before .before .before .before .before .before .before .before .before .before .before .before .before .before .before .before .before .before .before .before .before .pre .1) (c .before .before .before .before .before .before .before .before .before .before .before .before .before .before .before .before .before .before .before .before .before .before .before .before .before .before .before .before .before .before .before .before .before .before .before .before .before .before .before .before .before .before .before .before .before .before .before .before .before .before .before .before .before .before .before .before .before .before .before .node-place .ensures) (c .before .before .before .before .before .before .before .before .before .before .before .before .before .before .before .before .before .before .before .before .before .before .before .before .before .before .before .before .before .before .before .before .before .before .before .before .before .before .before .before .before .before .before .before .before .before .before .before .before .before .before .before .word-at .ensures) (c .before .before .before .before .before .before .before .before .before .before .before .before .before .before .before .before .before .before .before .before .before .before .before .before .before .before .before .before .before .before .before .before .before .before .before .before .before .before .before .before .before .before .before .before .before .before .before .before .before .before .before .part .ensures) (came-after (c .before .before .before .before .before .before .before .before .before .before .before .before .before .before .before .before .before .before .before .before .before .before .before .before .before .before .before .before .before .before .before .before .before .before .before .before .before .before .before .before .before .before .before .before .before .before .before .before .before .before .before .part .result) (c .before .before .before .before .before .before .before .before .before .before .before .before .before .before .before .before .before .before .before .before .before .before .before .before .before .before .before .before .before .before .before .before .before .before .before .before .before .before .after .ensures) (c .before .before .before .before .before .before .before .before .before .before .before .before .before .before .before .before .before .before .before .before .before .before .before .before .before .before .before .before .before .before .before .before .before .before .before .before .l .given .1)) (c .before .before .before .before .before .before .before .before .before .before .before .before .before .before .before .before .before .before .before .before .before .before .before .before .before .before .before .before .word-at2 .ensures) (c .before .before .before .before .before .before .before .before .before .before .before .before .before .before .before .before .before .before .before .before .before .before .before .before .before .before .before .part2 .ensures) (came-after (c .before .before .before .before .before .before .before .before .before .before .before .before .before .before .before .before .before .before .before .before .before .before .before .before .before .before .before .part2 .result) (c .before .before .before .before .before .before .before .before .before .before .before .before .before .before .after2 .ensures) (c .before .before .before .before .before .before .before .before .before .before .before .before .r .given .1)) (c .before .before .before .before .before .before .bin-end .ensures _ _ _ _ _)

@@ -1,51 +1,51 @@
 -- The measure of each function that visits, and what each asks for and learns of the others. Assumes nothing.
 use Rattle.walking.specs.Measures as M
 use borrow.Author.Needs.{needs}
-use Prim.Native.Nat.{ℕ, _<_}
+use Prim.Native.Nat.{ℕ, _+_, _<_}
 use borrow.Fn.Kinds.{In}
 use borrow.Fn.PlainCycle.{Measures, is, falls, and}
 use Rattle.typecheck.proofs.array.Reads as array
 use Rattle.typecheck.proofs.array.Kinds as array-kinds
-use Rattle.typecheck.proofs.+array+bin+call+case+cases+cast+func+listed+node+nodes+one+operand+record_node+sequence.Lts-array as array-lts
+use Rattle.typecheck.proofs.+array+bin+call+case+cases+cast+func+listed+node+one+operand+part+record_node+sequence.Lts-array as array-lts
 use Rattle.typecheck.proofs.bin.Reads as bin
 use Rattle.typecheck.proofs.bin.Kinds as bin-kinds
-use Rattle.typecheck.proofs.+array+bin+call+case+cases+cast+func+listed+node+nodes+one+operand+record_node+sequence.Lts-bin as bin-lts
+use Rattle.typecheck.proofs.+array+bin+call+case+cases+cast+func+listed+node+one+operand+part+record_node+sequence.Lts-bin as bin-lts
 use Rattle.typecheck.proofs.call.Reads as call
 use Rattle.typecheck.proofs.call.Kinds as call-kinds
-use Rattle.typecheck.proofs.+array+bin+call+case+cases+cast+func+listed+node+nodes+one+operand+record_node+sequence.Lts-call as call-lts
+use Rattle.typecheck.proofs.+array+bin+call+case+cases+cast+func+listed+node+one+operand+part+record_node+sequence.Lts-call as call-lts
 use Rattle.typecheck.proofs.case.Reads as case
 use Rattle.typecheck.proofs.case.Kinds as case-kinds
-use Rattle.typecheck.proofs.+array+bin+call+case+cases+cast+func+listed+node+nodes+one+operand+record_node+sequence.Lts-case as case-lts
+use Rattle.typecheck.proofs.+array+bin+call+case+cases+cast+func+listed+node+one+operand+part+record_node+sequence.Lts-case as case-lts
 use Rattle.typecheck.proofs.cases.Reads as cases
 use Rattle.typecheck.proofs.cases.Kinds as cases-kinds
-use Rattle.typecheck.proofs.+array+bin+call+case+cases+cast+func+listed+node+nodes+one+operand+record_node+sequence.Lts-cases as cases-lts
+use Rattle.typecheck.proofs.+array+bin+call+case+cases+cast+func+listed+node+one+operand+part+record_node+sequence.Lts-cases as cases-lts
 use Rattle.typecheck.proofs.cast.Reads as cast
 use Rattle.typecheck.proofs.cast.Kinds as cast-kinds
-use Rattle.typecheck.proofs.+array+bin+call+case+cases+cast+func+listed+node+nodes+one+operand+record_node+sequence.Lts-cast as cast-lts
+use Rattle.typecheck.proofs.+array+bin+call+case+cases+cast+func+listed+node+one+operand+part+record_node+sequence.Lts-cast as cast-lts
 use Rattle.typecheck.proofs.func.Reads as func
 use Rattle.typecheck.proofs.func.Kinds as func-kinds
-use Rattle.typecheck.proofs.+array+bin+call+case+cases+cast+func+listed+node+nodes+one+operand+record_node+sequence.Lts-func as func-lts
+use Rattle.typecheck.proofs.+array+bin+call+case+cases+cast+func+listed+node+one+operand+part+record_node+sequence.Lts-func as func-lts
 use Rattle.typecheck.proofs.listed.Reads as listed
 use Rattle.typecheck.proofs.listed.Kinds as listed-kinds
-use Rattle.typecheck.proofs.+array+bin+call+case+cases+cast+func+listed+node+nodes+one+operand+record_node+sequence.Lts-listed as listed-lts
+use Rattle.typecheck.proofs.+array+bin+call+case+cases+cast+func+listed+node+one+operand+part+record_node+sequence.Lts-listed as listed-lts
 use Rattle.typecheck.proofs.node.Reads as node
 use Rattle.typecheck.proofs.node.Kinds as node-kinds
-use Rattle.typecheck.proofs.+array+bin+call+case+cases+cast+func+listed+node+nodes+one+operand+record_node+sequence.Lts-node as node-lts
-use Rattle.typecheck.proofs.nodes.Reads as nodes
-use Rattle.typecheck.proofs.nodes.Kinds as nodes-kinds
-use Rattle.typecheck.proofs.+array+bin+call+case+cases+cast+func+listed+node+nodes+one+operand+record_node+sequence.Lts-nodes as nodes-lts
+use Rattle.typecheck.proofs.+array+bin+call+case+cases+cast+func+listed+node+one+operand+part+record_node+sequence.Lts-node as node-lts
 use Rattle.typecheck.proofs.one.Reads as one
 use Rattle.typecheck.proofs.one.Kinds as one-kinds
-use Rattle.typecheck.proofs.+array+bin+call+case+cases+cast+func+listed+node+nodes+one+operand+record_node+sequence.Lts-one as one-lts
+use Rattle.typecheck.proofs.+array+bin+call+case+cases+cast+func+listed+node+one+operand+part+record_node+sequence.Lts-one as one-lts
 use Rattle.typecheck.proofs.operand.Reads as operand
 use Rattle.typecheck.proofs.operand.Kinds as operand-kinds
-use Rattle.typecheck.proofs.+array+bin+call+case+cases+cast+func+listed+node+nodes+one+operand+record_node+sequence.Lts-operand as operand-lts
+use Rattle.typecheck.proofs.+array+bin+call+case+cases+cast+func+listed+node+one+operand+part+record_node+sequence.Lts-operand as operand-lts
+use Rattle.typecheck.proofs.part.Reads as part
+use Rattle.typecheck.proofs.part.Kinds as part-kinds
+use Rattle.typecheck.proofs.+array+bin+call+case+cases+cast+func+listed+node+one+operand+part+record_node+sequence.Lts-part as part-lts
 use Rattle.typecheck.proofs.record_node.Reads as record-node
 use Rattle.typecheck.proofs.record_node.Kinds as record-node-kinds
-use Rattle.typecheck.proofs.+array+bin+call+case+cases+cast+func+listed+node+nodes+one+operand+record_node+sequence.Lts-record_node as record-node-lts
+use Rattle.typecheck.proofs.+array+bin+call+case+cases+cast+func+listed+node+one+operand+part+record_node+sequence.Lts-record_node as record-node-lts
 use Rattle.typecheck.proofs.sequence.Reads as sequence
 use Rattle.typecheck.proofs.sequence.Kinds as sequence-kinds
-use Rattle.typecheck.proofs.+array+bin+call+case+cases+cast+func+listed+node+nodes+one+operand+record_node+sequence.Lts-sequence as sequence-lts
+use Rattle.typecheck.proofs.+array+bin+call+case+cases+cast+func+listed+node+one+operand+part+record_node+sequence.Lts-sequence as sequence-lts
 use Rattle.bodies.proofs.begin.Reads as begin-reads
 use Rattle.bodies.proofs.end.Reads as end-reads
 use Rattle.branches.proofs.case_end.Reads as case-end-reads
@@ -106,14 +106,14 @@ abbrev pub μ-listed : Measures 10 listed-kinds.ps ℕ
 abbrev pub μ-node : Measures 10 node-kinds.ps ℕ
 μ-node κs a = M.μ-node (a .1 .1 .1 .1 .1 .1 .1 .1 .1 .1 .1 .1 .0)
 
-abbrev pub μ-nodes : Measures 10 nodes-kinds.ps ℕ
-μ-nodes κs a = M.μ-nodes (a .1 .1 .1 .1 .1 .1 .1 .1 .1 .1 .1 .1 .0)
-
 abbrev pub μ-one : Measures 10 one-kinds.ps ℕ
 μ-one κs a = M.μ-rule (a .1 .1 .1 .1 .1 .1 .1 .1 .1 .1 .1 .1 .0)
 
 abbrev pub μ-operand : Measures 10 operand-kinds.ps ℕ
 μ-operand κs a = M.μ-step (a .1 .1 .1 .1 .1 .1 .1 .1 .1 .1 .1 .1 .0)
+
+abbrev pub μ-part : Measures 10 part-kinds.ps ℕ
+μ-part κs a = 1 + M.μ-node (a .1 .1 .1 .1 .1 .1 .1 .1 .1 .1 .1 .1 .0)
 
 abbrev pub μ-record-node : Measures 10 record-node-kinds.ps ℕ
 μ-record-node κs a = M.μ-rule (a .1 .1 .1 .1 .1 .1 .1 .1 .1 .1 .1 .1 .0)
@@ -175,12 +175,6 @@ node-at t = and 10 node-kinds.ps (is 10 node-kinds.ps μ-node t) node.Pre
 abbrev pub node-below : ℕ → In 10 node-kinds.ps
 node-below t = and 10 node-kinds.ps (falls 10 node-kinds.ps _<_ μ-node t) node.Pre
 
-abbrev pub nodes-at : ℕ → In 10 nodes-kinds.ps
-nodes-at t = and 10 nodes-kinds.ps (is 10 nodes-kinds.ps μ-nodes t) nodes.Pre
-
-abbrev pub nodes-below : ℕ → In 10 nodes-kinds.ps
-nodes-below t = and 10 nodes-kinds.ps (falls 10 nodes-kinds.ps _<_ μ-nodes t) nodes.Pre
-
 abbrev pub one-at : ℕ → In 10 one-kinds.ps
 one-at t = and 10 one-kinds.ps (is 10 one-kinds.ps μ-one t) one.Pre
 
@@ -192,6 +186,12 @@ operand-at t = and 10 operand-kinds.ps (is 10 operand-kinds.ps μ-operand t) ope
 
 abbrev pub operand-below : ℕ → In 10 operand-kinds.ps
 operand-below t = and 10 operand-kinds.ps (falls 10 operand-kinds.ps _<_ μ-operand t) operand.Pre
+
+abbrev pub part-at : ℕ → In 10 part-kinds.ps
+part-at t = and 10 part-kinds.ps (is 10 part-kinds.ps μ-part t) part.Pre
+
+abbrev pub part-below : ℕ → In 10 part-kinds.ps
+part-below t = and 10 part-kinds.ps (falls 10 part-kinds.ps _<_ μ-part t) part.Pre
 
 abbrev pub record-node-at : ℕ → In 10 record-node-kinds.ps
 record-node-at t =
@@ -209,22 +209,22 @@ sequence-below t =
     and 10 sequence-kinds.ps (falls 10 sequence-kinds.ps _<_ μ-sequence t) sequence.Pre
 
 abbrev pub array-claims : ℕ → array-lts.Claims
-array-claims t = (node-place-reads.Asked, node-place-reads.Learnt, word-at-reads.Asked, word-at-reads.Learnt, payload-reads.Asked, payload-reads.Learnt, empty-reads.Asked, empty-reads.Learnt, node-below t, node.Post, after-reads.Asked, after-reads.Learnt, member-reads.Asked, member-reads.Learnt, ended-reads.Asked, ended-reads.Learnt, end-reads′′.Asked, end-reads′′.Learnt)
+array-claims t = (node-place-reads.Asked, node-place-reads.Learnt, word-at-reads.Asked, word-at-reads.Learnt, payload-reads.Asked, payload-reads.Learnt, empty-reads.Asked, empty-reads.Learnt, part-below t, part.Post, after-reads.Asked, after-reads.Learnt, member-reads.Asked, member-reads.Learnt, ended-reads.Asked, ended-reads.Learnt, end-reads′′.Asked, end-reads′′.Learnt)
 
 abbrev pub bin-claims : ℕ → bin-lts.Claims
-bin-claims t = (node-place-reads.Asked, node-place-reads.Learnt, word-at-reads.Asked, word-at-reads.Learnt, node-below t, node.Post, after-reads.Asked, after-reads.Learnt, bin-end-reads.Asked, bin-end-reads.Learnt)
+bin-claims t = (node-place-reads.Asked, node-place-reads.Learnt, word-at-reads.Asked, word-at-reads.Learnt, part-below t, part.Post, after-reads.Asked, after-reads.Learnt, bin-end-reads.Asked, bin-end-reads.Learnt)
 
 abbrev pub case-claims : ℕ → case-lts.Claims
-case-claims t = (word-at-reads.Asked, word-at-reads.Learnt, node-below t, node.Post, after-reads.Asked, after-reads.Learnt, condition-reads.Asked, condition-reads.Learnt, halted-reads.Asked, halted-reads.Learnt, wide-reads.Asked, wide-reads.Learnt, left-reads.Asked, left-reads.Learnt, came-reads.Asked, came-reads.Learnt)
+case-claims t = (word-at-reads.Asked, word-at-reads.Learnt, part-below t, part.Post, after-reads.Asked, after-reads.Learnt, condition-reads.Asked, condition-reads.Learnt, halted-reads.Asked, halted-reads.Learnt, wide-reads.Asked, wide-reads.Learnt, left-reads.Asked, left-reads.Learnt, came-reads.Asked, came-reads.Learnt)
 
 abbrev pub cases-claims : ℕ → cases-lts.Claims
-cases-claims t = (node-place-reads.Asked, node-place-reads.Learnt, word-at-reads.Asked, word-at-reads.Learnt, wide-reads.Asked, wide-reads.Learnt, case-below t, case.Post, after-reads.Asked, after-reads.Learnt, case-end-reads.Asked, case-end-reads.Learnt, payload-reads.Asked, payload-reads.Learnt, node-below t, node.Post, left-reads.Asked, left-reads.Learnt, end-reads′.Asked, end-reads′.Learnt)
+cases-claims t = (node-place-reads.Asked, node-place-reads.Learnt, word-at-reads.Asked, word-at-reads.Learnt, wide-reads.Asked, wide-reads.Learnt, case-below t, case.Post, after-reads.Asked, after-reads.Learnt, case-end-reads.Asked, case-end-reads.Learnt, payload-reads.Asked, payload-reads.Learnt, part-below t, part.Post, left-reads.Asked, left-reads.Learnt, end-reads′.Asked, end-reads′.Learnt)
 
 abbrev pub cast-claims : ℕ → cast-lts.Claims
-cast-claims t = (node-place-reads.Asked, node-place-reads.Learnt, cast-begin-reads.Asked, cast-begin-reads.Learnt, refused-reads.Asked, refused-reads.Learnt, word-at-reads.Asked, word-at-reads.Learnt, node-below t, node.Post, after-reads.Asked, after-reads.Learnt, cast-end-reads.Asked, cast-end-reads.Learnt)
+cast-claims t = (node-place-reads.Asked, node-place-reads.Learnt, cast-begin-reads.Asked, cast-begin-reads.Learnt, refused-reads.Asked, refused-reads.Learnt, word-at-reads.Asked, word-at-reads.Learnt, part-below t, part.Post, after-reads.Asked, after-reads.Learnt, cast-end-reads.Asked, cast-end-reads.Learnt)
 
 abbrev pub func-claims : ℕ → func-lts.Claims
-func-claims t = (node-place-reads.Asked, node-place-reads.Learnt, word-at-reads.Asked, word-at-reads.Learnt, wide-reads.Asked, wide-reads.Learnt, begin-reads.Asked, begin-reads.Learnt, payload-reads.Asked, payload-reads.Learnt, nodes-below t, nodes.Post, after-reads.Asked, after-reads.Learnt, end-reads.Asked, end-reads.Learnt)
+func-claims t = (node-place-reads.Asked, node-place-reads.Learnt, word-at-reads.Asked, word-at-reads.Learnt, wide-reads.Asked, wide-reads.Learnt, begin-reads.Asked, begin-reads.Learnt, payload-reads.Asked, payload-reads.Learnt, part-below t, part.Post, after-reads.Asked, after-reads.Learnt, end-reads.Asked, end-reads.Learnt)
 
 abbrev pub listed-claims : ℕ → listed-lts.Claims
 listed-claims t = (node-place-reads.Asked, node-place-reads.Learnt, word-at-reads.Asked, word-at-reads.Learnt, kind-reads.Asked, kind-reads.Learnt, func-below t, func.Post, cases-below t, cases.Post, sequence-below t, sequence.Post)
@@ -232,20 +232,20 @@ listed-claims t = (node-place-reads.Asked, node-place-reads.Learnt, word-at-read
 abbrev pub node-claims : ℕ → node-lts.Claims
 node-claims t = (node-place-reads.Asked, node-place-reads.Learnt, word-at-reads.Asked, word-at-reads.Learnt, kind-reads.Asked, kind-reads.Learnt, is-leaf-reads.Asked, is-leaf-reads.Learnt, leaf-reads.Asked, leaf-reads.Learnt, has-operands-reads.Asked, has-operands-reads.Learnt, operand-below t, operand.Post, listed-below t, listed.Post)
 
-abbrev pub nodes-claims : ℕ → nodes-lts.Claims
-nodes-claims t = (word-at-reads.Asked, word-at-reads.Learnt, node-below t, node.Post, after-reads.Asked, after-reads.Learnt, came-reads.Asked, came-reads.Learnt)
-
 abbrev pub one-claims : ℕ → one-lts.Claims
-one-claims t = (node-place-reads.Asked, node-place-reads.Learnt, operand-of-reads.Asked, operand-of-reads.Learnt, node-below t, node.Post, after-reads.Asked, after-reads.Learnt, one-end-reads.Asked, one-end-reads.Learnt)
+one-claims t = (node-place-reads.Asked, node-place-reads.Learnt, operand-of-reads.Asked, operand-of-reads.Learnt, part-below t, part.Post, after-reads.Asked, after-reads.Learnt, one-end-reads.Asked, one-end-reads.Learnt)
 
 abbrev pub operand-claims : ℕ → operand-lts.Claims
 operand-claims t = (node-place-reads.Asked, node-place-reads.Learnt, word-at-reads.Asked, word-at-reads.Learnt, kind-reads.Asked, kind-reads.Learnt, bin-below t, bin.Post, cast-below t, cast.Post, one-below t, one.Post)
 
+abbrev pub part-claims : ℕ → part-lts.Claims
+part-claims t = (node-below t, node.Post)
+
 abbrev pub record-node-claims : ℕ → record-node-lts.Claims
-record-node-claims t = (node-place-reads.Asked, node-place-reads.Learnt, word-at-reads.Asked, word-at-reads.Learnt, payload-reads.Asked, payload-reads.Learnt, node-below t, node.Post, after-reads.Asked, after-reads.Learnt, make-reads.Asked, make-reads.Learnt)
+record-node-claims t = (node-place-reads.Asked, node-place-reads.Learnt, word-at-reads.Asked, word-at-reads.Learnt, payload-reads.Asked, payload-reads.Learnt, part-below t, part.Post, after-reads.Asked, after-reads.Learnt, make-reads.Asked, make-reads.Learnt)
 
 abbrev pub sequence-claims : ℕ → sequence-lts.Claims
 sequence-claims t = (node-place-reads.Asked, node-place-reads.Learnt, word-at-reads.Asked, word-at-reads.Learnt, kind-reads.Asked, kind-reads.Learnt, call-below t, call.Post, record-node-below t, record-node.Post, array-below t, array.Post)
 
 abbrev pub call-claims : ℕ → call-lts.Claims
-call-claims t = (node-place-reads.Asked, node-place-reads.Learnt, through-field-reads.Asked, through-field-reads.Learnt, report-field-reads.Asked, report-field-reads.Learnt, word-at-reads.Asked, word-at-reads.Learnt, payload-reads.Asked, payload-reads.Learnt, node-below t, node.Post, after-reads.Asked, after-reads.Learnt, or-poison-reads.Asked, or-poison-reads.Learnt, resolve-reads.Asked, resolve-reads.Learnt)
+call-claims t = (node-place-reads.Asked, node-place-reads.Learnt, through-field-reads.Asked, through-field-reads.Learnt, report-field-reads.Asked, report-field-reads.Learnt, word-at-reads.Asked, word-at-reads.Learnt, payload-reads.Asked, payload-reads.Learnt, part-below t, part.Post, after-reads.Asked, after-reads.Learnt, or-poison-reads.Asked, or-poison-reads.Learnt, resolve-reads.Asked, resolve-reads.Learnt)

@@ -13,8 +13,8 @@ use Rattle.branches.specs.Cases.{Turn, few, place-room, turn-begin, place-insid
 use Rattle.walk_laws.specs.Lists as L
 use borrow.Author.Needs.{needs}
 use Rattle.typecheck.proofs.cases.Reads as cases
-use Rattle.typecheck.proofs.+array+bin+call+case+cases+cast+func+listed+node+nodes+one+operand+record_node+sequence.Lts-cases as cases-lts
-use Rattle.typecheck.proofs.+array+bin+call+case+cases+cast+func+listed+node+nodes+one+operand+record_node+sequence.Proof.Shared.{cases-at, cases-claims}
+use Rattle.typecheck.proofs.+array+bin+call+case+cases+cast+func+listed+node+one+operand+part+record_node+sequence.Lts-cases as cases-lts
+use Rattle.typecheck.proofs.+array+bin+call+case+cases+cast+func+listed+node+one+operand+part+record_node+sequence.Proof.Shared.{cases-at, cases-claims}
 
 abbrev pub cases-Inv-loop : cases-lts.InvT-loop
 cases-Inv-loop slots₀ functions₀ types₀ diagnostics₀ messages₀ scratch₀ script library image words places n at count here₀ place₀ i₀ slots functions types diagnostics messages scratch here place i =
@@ -119,8 +119,8 @@ cases-loop2-holds t c = (L.turn-begin (default-visit (c .before .before .before 
 pub cases-word-at-requires-4 : (t : ℕ) → cases-lts.Need-word-at-requires-4 (cases-claims t) (cases-at t) cases.Post cases-Inv-loop cases-μ-loop cases-Inv-loop2 cases-μ-loop2
 cases-word-at-requires-4 t c κs = search needs
 
-pub cases-node-requires : (t : ℕ) → cases-lts.Need-node-requires (cases-claims t) (cases-at t) cases.Post cases-Inv-loop cases-μ-loop cases-Inv-loop2 cases-μ-loop2
-cases-node-requires t c κs = (omega (arith, c .before .before .before .before .before .before .before .before .before .before .before .before .before .before .before .before .before .before .before .before .before .before .before .before .before .before .before .before .pre .0, L.part-under (c .before .before .before .before .before .before .before .before .loop2 .inv .0) (c .before .before .before .before .before .before .before .loop2-test .taken) (c .word-at4 .ensures)), L.turn-visit (c .before .before .before .before .before .before .before .before .loop2 .inv .0) (c .before .before .before .before .before .before .before .loop2-test .taken) (c .word-at4 .ensures))
+pub cases-part-requires : (t : ℕ) → cases-lts.Need-part-requires (cases-claims t) (cases-at t) cases.Post cases-Inv-loop cases-μ-loop cases-Inv-loop2 cases-μ-loop2
+cases-part-requires t c κs = (omega (arith, c .before .before .before .before .before .before .before .before .before .before .before .before .before .before .before .before .before .before .before .before .before .before .before .before .before .before .before .before .pre .0, L.part-under (c .before .before .before .before .before .before .before .before .loop2 .inv .0) (c .before .before .before .before .before .before .before .loop2-test .taken) (c .word-at4 .ensures)), L.turn-visit (c .before .before .before .before .before .before .before .before .loop2 .inv .0) (c .before .before .before .before .before .before .before .loop2-test .taken) (c .word-at4 .ensures))
 
 pub cases-after-requires-2 : (t : ℕ) → cases-lts.Need-after-requires-2 (cases-claims t) (cases-at t) cases.Post cases-Inv-loop cases-μ-loop cases-Inv-loop2 cases-μ-loop2
 cases-after-requires-2 t c κs = search needs
@@ -132,25 +132,25 @@ pub cases-enum-told-2 : (t : ℕ) → cases-lts.Need-enum-told-2 (cases-claims t
 cases-enum-told-2 t c = search needs
 
 pub cases-same-length-7 : (t : ℕ) → cases-lts.Need-same-length-7 (cases-claims t) (cases-at t) cases.Post cases-Inv-loop cases-μ-loop cases-Inv-loop2 cases-μ-loop2
-cases-same-length-7 t c = c .before .before .before .before .before .before .before .before .before .before .before .before .before .before .before .node .kept .0 ∙ c .before .before .before .before .before .before .before .before .before .before .before .before .before .before .before .before .before .before .before .before .before .before .before .before .loop2 .inv .1 ∙ c .before .before .before .before .before .before .before .before .before .before .before .before .before .before .before .before .before .before .before .before .before .before .before .before .before .before .before .before .before .loop .inv .1
+cases-same-length-7 t c = c .before .before .before .before .before .before .before .before .before .before .before .before .before .before .before .part .kept .0 ∙ c .before .before .before .before .before .before .before .before .before .before .before .before .before .before .before .before .before .before .before .before .before .before .before .before .loop2 .inv .1 ∙ c .before .before .before .before .before .before .before .before .before .before .before .before .before .before .before .before .before .before .before .before .before .before .before .before .before .before .before .before .before .loop .inv .1
 
 pub cases-same-length-8 : (t : ℕ) → cases-lts.Need-same-length-8 (cases-claims t) (cases-at t) cases.Post cases-Inv-loop cases-μ-loop cases-Inv-loop2 cases-μ-loop2
-cases-same-length-8 t c = c .before .before .before .before .before .before .before .before .before .before .before .before .before .before .before .node .kept .1 .0 ∙ c .before .before .before .before .before .before .before .before .before .before .before .before .before .before .before .before .before .before .before .before .before .before .before .before .loop2 .inv .2 ∙ c .before .before .before .before .before .before .before .before .before .before .before .before .before .before .before .before .before .before .before .before .before .before .before .before .before .before .before .before .before .loop .inv .2
+cases-same-length-8 t c = c .before .before .before .before .before .before .before .before .before .before .before .before .before .before .before .part .kept .1 .0 ∙ c .before .before .before .before .before .before .before .before .before .before .before .before .before .before .before .before .before .before .before .before .before .before .before .before .loop2 .inv .2 ∙ c .before .before .before .before .before .before .before .before .before .before .before .before .before .before .before .before .before .before .before .before .before .before .before .before .before .before .before .before .before .loop .inv .2
 
 pub cases-same-length-9 : (t : ℕ) → cases-lts.Need-same-length-9 (cases-claims t) (cases-at t) cases.Post cases-Inv-loop cases-μ-loop cases-Inv-loop2 cases-μ-loop2
-cases-same-length-9 t c = c .before .before .before .before .before .before .before .before .before .before .before .before .before .before .before .node .kept .1 .1 .0 ∙ c .before .before .before .before .before .before .before .before .before .before .before .before .before .before .before .before .before .before .before .before .before .before .before .before .loop2 .inv .3 ∙ c .before .before .before .before .before .before .before .before .before .before .before .before .before .before .before .before .before .before .before .before .before .before .before .before .before .before .before .before .before .loop .inv .3
+cases-same-length-9 t c = c .before .before .before .before .before .before .before .before .before .before .before .before .before .before .before .part .kept .1 .1 .0 ∙ c .before .before .before .before .before .before .before .before .before .before .before .before .before .before .before .before .before .before .before .before .before .before .before .before .loop2 .inv .3 ∙ c .before .before .before .before .before .before .before .before .before .before .before .before .before .before .before .before .before .before .before .before .before .before .before .before .before .before .before .before .before .loop .inv .3
 
 pub cases-same-length-10 : (t : ℕ) → cases-lts.Need-same-length-10 (cases-claims t) (cases-at t) cases.Post cases-Inv-loop cases-μ-loop cases-Inv-loop2 cases-μ-loop2
-cases-same-length-10 t c = c .before .before .before .before .before .before .before .before .before .before .before .before .before .before .before .node .kept .1 .1 .1 .0 ∙ c .before .before .before .before .before .before .before .before .before .before .before .before .before .before .before .before .before .before .before .before .before .before .before .before .loop2 .inv .4 ∙ c .before .before .before .before .before .before .before .before .before .before .before .before .before .before .before .before .before .before .before .before .before .before .before .before .before .before .before .before .before .loop .inv .4
+cases-same-length-10 t c = c .before .before .before .before .before .before .before .before .before .before .before .before .before .before .before .part .kept .1 .1 .1 .0 ∙ c .before .before .before .before .before .before .before .before .before .before .before .before .before .before .before .before .before .before .before .before .before .before .before .before .loop2 .inv .4 ∙ c .before .before .before .before .before .before .before .before .before .before .before .before .before .before .before .before .before .before .before .before .before .before .before .before .before .before .before .before .before .loop .inv .4
 
 pub cases-same-length-11 : (t : ℕ) → cases-lts.Need-same-length-11 (cases-claims t) (cases-at t) cases.Post cases-Inv-loop cases-μ-loop cases-Inv-loop2 cases-μ-loop2
-cases-same-length-11 t c = c .before .before .before .before .before .before .before .before .before .before .before .before .before .before .before .node .kept .1 .1 .1 .1 .0 ∙ c .before .before .before .before .before .before .before .before .before .before .before .before .before .before .before .before .before .before .before .before .before .before .before .before .loop2 .inv .5 ∙ c .before .before .before .before .before .before .before .before .before .before .before .before .before .before .before .before .before .before .before .before .before .before .before .before .before .before .before .before .before .loop .inv .5
+cases-same-length-11 t c = c .before .before .before .before .before .before .before .before .before .before .before .before .before .before .before .part .kept .1 .1 .1 .1 .0 ∙ c .before .before .before .before .before .before .before .before .before .before .before .before .before .before .before .before .before .before .before .before .before .before .before .before .loop2 .inv .5 ∙ c .before .before .before .before .before .before .before .before .before .before .before .before .before .before .before .before .before .before .before .before .before .before .before .before .before .before .before .before .before .loop .inv .5
 
 pub cases-same-length-12 : (t : ℕ) → cases-lts.Need-same-length-12 (cases-claims t) (cases-at t) cases.Post cases-Inv-loop cases-μ-loop cases-Inv-loop2 cases-μ-loop2
-cases-same-length-12 t c = c .before .before .before .before .before .before .before .before .before .before .before .before .before .before .before .node .kept .1 .1 .1 .1 .1 .0 ∙ c .before .before .before .before .before .before .before .before .before .before .before .before .before .before .before .before .before .before .before .before .before .before .before .before .loop2 .inv .6 ∙ c .before .before .before .before .before .before .before .before .before .before .before .before .before .before .before .before .before .before .before .before .before .before .before .before .before .before .before .before .before .loop .inv .6
+cases-same-length-12 t c = c .before .before .before .before .before .before .before .before .before .before .before .before .before .before .before .part .kept .1 .1 .1 .1 .1 .0 ∙ c .before .before .before .before .before .before .before .before .before .before .before .before .before .before .before .before .before .before .before .before .before .before .before .before .loop2 .inv .6 ∙ c .before .before .before .before .before .before .before .before .before .before .before .before .before .before .before .before .before .before .before .before .before .before .before .before .before .before .before .before .before .loop .inv .6
 
 pub cases-returns-2 : (t : ℕ) → cases-lts.Need-returns-2 (cases-claims t) (cases-at t) cases.Post cases-Inv-loop cases-μ-loop cases-Inv-loop2 cases-μ-loop2
-cases-returns-2 t c = default-stops (c .before .before .before .before .before .before .before .before .before .before .before .before .before .before .before .before .before .before .before .before .before .before .before .before .before .before .before .before .before .loop .inv .0) (c .before .before .before .before .before .before .before .before .before .before .before .before .before .before .before .before .before .before .before .before .before .before .before .before .before .before .before .before .loop-test .left) (ap (λ x. c .before .before .before .before .before .before .before .before .before .before .before .before .before .before .before .before .before .before .before .before .before .before .before .before .before .before .before .before .before .before .before .before .node-place .result + x - (c .before .before .before .before .before .before .before .before .before .before .before .before .before .before .before .before .before .before .before .before .before .before .before .before .before .before .before .before .before .loop .place + 1)) (c .before .before .before .before .before .before .before .before .before .before .before .before .before .before .before .before .before .before .before .before .before .before .before .before .before .payload .ensures ∙ ap payloadOf (c .before .before .before .before .before .before .before .before .before .before .before .before .before .before .before .before .before .before .before .before .before .before .before .before .before .before .word-at3 .ensures))) (L.turn-stops (c .before .before .before .before .before .before .before .before .before .before .before .before .before .before .before .before .before .before .before .before .before .before .before .before .loop2 .inv .0) (c .before .before .before .before .before .before .before .before .before .before .before .before .before .before .before .before .before .before .before .before .before .before .before .loop2-test .taken) (c .before .before .before .before .before .before .before .before .before .before .before .before .before .before .before .before .word-at4 .ensures) (c .before .before .before .before .before .before .before .before .before .before .before .before .before .before .before .node .ensures) (stopped-after (c .before .before .before .before .before .before .before .before .before .before .before .before .before .before .before .node .result) (c .before .before .after2 .ensures) (c .enum-told2 .given .1))) (L.leave-stopped _ (stopped-after (c .before .before .before .before .before .before .before .before .before .before .before .before .before .before .before .node .result) (c .before .before .after2 .ensures) (c .enum-told2 .given .1))) (stopped-after (c .before .before .before .before .before .before .before .before .before .before .before .before .before .before .before .node .result) (c .before .before .after2 .ensures) (c .enum-told2 .given .1))
+cases-returns-2 t c = default-stops (c .before .before .before .before .before .before .before .before .before .before .before .before .before .before .before .before .before .before .before .before .before .before .before .before .before .before .before .before .before .loop .inv .0) (c .before .before .before .before .before .before .before .before .before .before .before .before .before .before .before .before .before .before .before .before .before .before .before .before .before .before .before .before .loop-test .left) (ap (λ x. c .before .before .before .before .before .before .before .before .before .before .before .before .before .before .before .before .before .before .before .before .before .before .before .before .before .before .before .before .before .before .before .before .node-place .result + x - (c .before .before .before .before .before .before .before .before .before .before .before .before .before .before .before .before .before .before .before .before .before .before .before .before .before .before .before .before .before .loop .place + 1)) (c .before .before .before .before .before .before .before .before .before .before .before .before .before .before .before .before .before .before .before .before .before .before .before .before .before .payload .ensures ∙ ap payloadOf (c .before .before .before .before .before .before .before .before .before .before .before .before .before .before .before .before .before .before .before .before .before .before .before .before .before .before .word-at3 .ensures))) (L.turn-stops (c .before .before .before .before .before .before .before .before .before .before .before .before .before .before .before .before .before .before .before .before .before .before .before .before .loop2 .inv .0) (c .before .before .before .before .before .before .before .before .before .before .before .before .before .before .before .before .before .before .before .before .before .before .before .loop2-test .taken) (c .before .before .before .before .before .before .before .before .before .before .before .before .before .before .before .before .word-at4 .ensures) (c .before .before .before .before .before .before .before .before .before .before .before .before .before .before .before .part .ensures) (stopped-after (c .before .before .before .before .before .before .before .before .before .before .before .before .before .before .before .part .result) (c .before .before .after2 .ensures) (c .enum-told2 .given .1))) (L.leave-stopped _ (stopped-after (c .before .before .before .before .before .before .before .before .before .before .before .before .before .before .before .part .result) (c .before .before .after2 .ensures) (c .enum-told2 .given .1))) (stopped-after (c .before .before .before .before .before .before .before .before .before .before .before .before .before .before .before .part .result) (c .before .before .after2 .ensures) (c .enum-told2 .given .1))
 
 pub cases-add-next-2 : (t : ℕ) → cases-lts.Need-add-next-2 (cases-claims t) (cases-at t) cases.Post cases-Inv-loop cases-μ-loop cases-Inv-loop2 cases-μ-loop2
 cases-add-next-2 t c = omega (arith, L.place-inside (c .before .before .before .before .before .before .before .before .before .before .before .before .before .before .before .before .before .before .before .before .before .before .before .before .before .loop2 .inv .0))
@@ -162,7 +162,7 @@ pub cases-loop2-less : (t : ℕ) → cases-lts.Need-loop2-less (cases-claims t) 
 cases-loop2-less t c = search needs
 
 pub cases-loop2-again : (t : ℕ) → cases-lts.Need-loop2-again (cases-claims t) (cases-at t) cases.Post cases-Inv-loop cases-μ-loop cases-Inv-loop2 cases-μ-loop2
-cases-loop2-again t c = (L.turn-next (c .before .before .before .before .before .before .before .before .before .before .before .before .before .before .before .before .before .before .before .before .before .before .before .before .before .loop2 .inv .0) (c .before .before .before .before .before .before .before .before .before .before .before .before .before .before .before .before .before .before .before .before .before .before .before .before .loop2-test .taken) (c .before .before .before .before .before .before .before .before .before .before .before .before .before .before .before .before .before .word-at4 .ensures) (c .before .before .before .before .before .before .before .before .before .before .before .before .before .before .before .before .node .ensures) (came-after (c .before .before .before .before .before .before .before .before .before .before .before .before .before .before .before .before .node .result) (c .before .before .before .after2 .ensures) (c .before .a .given .1)), c .before .before .before .before .before .before .before .before .before .before .before .before .before .before .before .before .node .kept .0 ∙ c .before .before .before .before .before .before .before .before .before .before .before .before .before .before .before .before .before .before .before .before .before .before .before .before .before .loop2 .inv .1, c .before .before .before .before .before .before .before .before .before .before .before .before .before .before .before .before .node .kept .1 .0 ∙ c .before .before .before .before .before .before .before .before .before .before .before .before .before .before .before .before .before .before .before .before .before .before .before .before .before .loop2 .inv .2, c .before .before .before .before .before .before .before .before .before .before .before .before .before .before .before .before .node .kept .1 .1 .0 ∙ c .before .before .before .before .before .before .before .before .before .before .before .before .before .before .before .before .before .before .before .before .before .before .before .before .before .loop2 .inv .3, c .before .before .before .before .before .before .before .before .before .before .before .before .before .before .before .before .node .kept .1 .1 .1 .0 ∙ c .before .before .before .before .before .before .before .before .before .before .before .before .before .before .before .before .before .before .before .before .before .before .before .before .before .loop2 .inv .4, c .before .before .before .before .before .before .before .before .before .before .before .before .before .before .before .before .node .kept .1 .1 .1 .1 .0 ∙ c .before .before .before .before .before .before .before .before .before .before .before .before .before .before .before .before .before .before .before .before .before .before .before .before .before .loop2 .inv .5, c .before .before .before .before .before .before .before .before .before .before .before .before .before .before .before .before .node .kept .1 .1 .1 .1 .1 .0 ∙ c .before .before .before .before .before .before .before .before .before .before .before .before .before .before .before .before .before .before .before .before .before .before .before .before .before .loop2 .inv .6)
+cases-loop2-again t c = (L.turn-next (c .before .before .before .before .before .before .before .before .before .before .before .before .before .before .before .before .before .before .before .before .before .before .before .before .before .loop2 .inv .0) (c .before .before .before .before .before .before .before .before .before .before .before .before .before .before .before .before .before .before .before .before .before .before .before .before .loop2-test .taken) (c .before .before .before .before .before .before .before .before .before .before .before .before .before .before .before .before .before .word-at4 .ensures) (c .before .before .before .before .before .before .before .before .before .before .before .before .before .before .before .before .part .ensures) (came-after (c .before .before .before .before .before .before .before .before .before .before .before .before .before .before .before .before .part .result) (c .before .before .before .after2 .ensures) (c .before .a .given .1)), c .before .before .before .before .before .before .before .before .before .before .before .before .before .before .before .before .part .kept .0 ∙ c .before .before .before .before .before .before .before .before .before .before .before .before .before .before .before .before .before .before .before .before .before .before .before .before .before .loop2 .inv .1, c .before .before .before .before .before .before .before .before .before .before .before .before .before .before .before .before .part .kept .1 .0 ∙ c .before .before .before .before .before .before .before .before .before .before .before .before .before .before .before .before .before .before .before .before .before .before .before .before .before .loop2 .inv .2, c .before .before .before .before .before .before .before .before .before .before .before .before .before .before .before .before .part .kept .1 .1 .0 ∙ c .before .before .before .before .before .before .before .before .before .before .before .before .before .before .before .before .before .before .before .before .before .before .before .before .before .loop2 .inv .3, c .before .before .before .before .before .before .before .before .before .before .before .before .before .before .before .before .part .kept .1 .1 .1 .0 ∙ c .before .before .before .before .before .before .before .before .before .before .before .before .before .before .before .before .before .before .before .before .before .before .before .before .before .loop2 .inv .4, c .before .before .before .before .before .before .before .before .before .before .before .before .before .before .before .before .part .kept .1 .1 .1 .1 .0 ∙ c .before .before .before .before .before .before .before .before .before .before .before .before .before .before .before .before .before .before .before .before .before .before .before .before .before .loop2 .inv .5, c .before .before .before .before .before .before .before .before .before .before .before .before .before .before .before .before .part .kept .1 .1 .1 .1 .1 .0 ∙ c .before .before .before .before .before .before .before .before .before .before .before .before .before .before .before .before .before .before .before .before .before .before .before .before .before .loop2 .inv .6)
 
 pub cases-left-requires : (t : ℕ) → cases-lts.Need-left-requires (cases-claims t) (cases-at t) cases.Post cases-Inv-loop cases-μ-loop cases-Inv-loop2 cases-μ-loop2
 cases-left-requires t c κs = search needs
