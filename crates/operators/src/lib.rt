@@ -53,7 +53,7 @@ fn plain_word(kind: u32) -> u32
 // row: no operator takes them.
 
 // "+ - * / take Int, Int or Double, Double"
-const ARITHMETIC: [[u32; 6]; 6] = [
+const ARITHMETIC: [[u8; 6]; 6] = [
     [0, 0, 0, 0, 0, 0],
     [0, 0, 0, 0, 0, 0],
     [0, 0, 0, 0, 0, 0],
@@ -63,7 +63,7 @@ const ARITHMETIC: [[u32; 6]; 6] = [
 ];
 
 // "% Int, Int"
-const REMAINDER: [[u32; 6]; 6] = [
+const REMAINDER: [[u8; 6]; 6] = [
     [0, 0, 0, 0, 0, 0],
     [0, 0, 0, 0, 0, 0],
     [0, 0, 0, 0, 0, 0],
@@ -73,7 +73,7 @@ const REMAINDER: [[u32; 6]; 6] = [
 ];
 
 // "== and != two Int, two Bool or two Str"
-const EQUALITY: [[u32; 6]; 6] = [
+const EQUALITY: [[u8; 6]; 6] = [
     [0, 0, 0, 0, 0, 0],
     [0, 0, 0, 0, 0, 0],
     [0, 0, 2, 0, 0, 0],
@@ -83,7 +83,7 @@ const EQUALITY: [[u32; 6]; 6] = [
 ];
 
 // "< and > as +"
-const ORDER: [[u32; 6]; 6] = [
+const ORDER: [[u8; 6]; 6] = [
     [0, 0, 0, 0, 0, 0],
     [0, 0, 0, 0, 0, 0],
     [0, 0, 0, 0, 0, 0],
@@ -93,7 +93,14 @@ const ORDER: [[u32; 6]; 6] = [
 ];
 
 // "a table of tables": by the class of the operator.
-const TABLES: [[[u32; 6]; 6]; 4] = [ARITHMETIC, REMAINDER, EQUALITY, ORDER];
+const TABLES: [[[u8; 6]; 6]; 4] = [ARITHMETIC, REMAINDER, EQUALITY, ORDER];
+
+// A kind in the tables, which keep it in a byte: each operator's visit holds a copy of them in its frame.
+fn widened(kind: u8) -> u32
+    ensures { λ r. ⌜ r ≡ kind ⌝ }
+{
+    kind as u32
+}
 
 // The kind of an operator's result, by the kinds of its operands; 0 where it does not take them.
 fn result_kind(op: u32, left: u32, right: u32) -> u32
@@ -111,7 +118,7 @@ fn result_kind(op: u32, left: u32, right: u32) -> u32
     if r >= 6 {
         return 0;
     }
-    TABLES[class][l][r]
+    widened(TABLES[class][l][r])
 }
 
 // Typechecker::fuse, of two slots: the table's type; else 4 where both types are equal, 5 where they differ.

@@ -1,6 +1,7 @@
 -- `operators::result_kind` meets its contract: the table's entry, and 0 past its ends. Assumes nothing.
 use Rattle.operators.proofs.KindLaws.{kind-is, no-class, no-left, no-right}
 use Rattle.rules.specs.Operators.{operatorTables, arithmetic, remainder, equality, order}
+use mathlib.Core.Path.{_∙_}
 use borrow.Author.Needs.{needs}
 use Rattle.operators.proofs.result_kind.Statement.{statement}
 use Rattle.operators.proofs.result_kind.Tie as tie
@@ -23,27 +24,27 @@ returns-2 c = no-left (c .before .before .before .before .before .args .op) (c .
 returns-3 : tie.Need-returns-3
 returns-3 c = no-right (c .before .before .before .before .before .before .args .op) (c .before .before .before .before .before .before .args .left) (c .before .before .before .before .before .before .args .right) (c .before .before .before .before .before .class-of .ensures) (c .before .before .before .before .wide .ensures) (c .before .before .before .wide2 .ensures) (c .if3 .taken)
 
-mul-result : tie.Need-mul-result
-mul-result c = search needs
+mul-widened : tie.Need-mul-widened
+mul-widened c = search needs
 
-mul-result-2 : tie.Need-mul-result-2
-mul-result-2 c = search needs
+mul-widened-2 : tie.Need-mul-widened-2
+mul-widened-2 c = search needs
 
-mul-result-3 : tie.Need-mul-result-3
-mul-result-3 c = search needs
+index-1-widened : tie.Need-index-1-widened
+index-1-widened c = search needs
 
-index-1-result : tie.Need-index-1-result
-index-1-result c = search needs
+index-2-widened : tie.Need-index-2-widened
+index-2-widened c = search needs
 
-index-2-result : tie.Need-index-2-result
-index-2-result c = search needs
+index-3-widened : tie.Need-index-3-widened
+index-3-widened c = search needs
 
-index-3-result : tie.Need-index-3-result
-index-3-result c = search needs
+widened-requires : tie.Need-widened-requires
+widened-requires c κs = search needs
 
 returns-4 : tie.Need-returns-4
 unfolding operatorTables arithmetic remainder equality order
-returns-4 c = kind-is (c .before .before .before .before .before .before .before .args .op) (c .before .before .before .before .before .before .before .args .left) (c .before .before .before .before .before .before .before .args .right) (c .before .before .before .before .before .before .class-of .ensures) (c .before .before .before .before .before .wide .ensures) (c .before .before .before .before .wide2 .ensures)
+returns-4 c = c .widened .ensures ∙ kind-is (c .before .before .before .before .before .before .before .before .args .op) (c .before .before .before .before .before .before .before .before .args .left) (c .before .before .before .before .before .before .before .before .args .right) (c .before .before .before .before .before .before .before .class-of .ensures) (c .before .before .before .before .before .before .wide .ensures) (c .before .before .before .before .before .wide2 .ensures)
 
 pub result-kind-spec : {M : Type 1} → statement M
 result-kind-spec =
@@ -55,10 +56,10 @@ result-kind-spec =
     returns
     returns-2
     returns-3
-    mul-result
-    mul-result-2
-    mul-result-3
-    index-1-result
-    index-2-result
-    index-3-result
+    mul-widened
+    mul-widened-2
+    index-1-widened
+    index-2-widened
+    index-3-widened
+    widened-requires
     returns-4)
