@@ -1,10 +1,11 @@
--- Why the calls of the walk's functions come to an end: "A part's number is smaller than its owner's". One number for each function, and why
--- it falls at each call. Assumes nothing.
-use Prim.Native.Nat.{ℕ, _+_, _*_, _-_, _<_, _≤_}
-use mathlib.Core.Path.{_≡_}
-use native.Mathlib.Omega.{arith}
+-- Why the calls of the walk's functions come to an end: "A part's number is smaller than its owner's". One number for each function; it
+-- falls at each call. Definitions.
+use Prim.Native.Nat.{ℕ, _+_, _*_}
 
--- a node of number n, by its kind in two steps; its own rule; a case of it; its nodes in a row
+-- a part of number n; the node, by its kind in two steps; its own rule; a case of it
+abbrev pub μ-part : ℕ → ℕ
+μ-part n = 8192 * n + 8006
+
 abbrev pub μ-node : ℕ → ℕ
 μ-node n = 8192 * n + 8005
 
@@ -19,16 +20,3 @@ abbrev pub μ-rule : ℕ → ℕ
 
 abbrev pub μ-case : ℕ → ℕ
 μ-case n = 8192 * n + 8001
-
-abbrev pub μ-nodes : ℕ → ℕ
-μ-nodes n = 8192 * n + 1
-
--- a part's visit, from any of them
-pub part-falls : {part n : ℕ} → part < n → μ-node part < μ-nodes n
-part-falls h = omega (arith, h)
-
-pub rule-part : {part n : ℕ} → part < n → μ-node part < μ-rule n
-rule-part h = omega (arith, h)
-
-pub case-part : {part n : ℕ} → part < n → μ-node part < μ-case n
-case-part h = omega (arith, h)

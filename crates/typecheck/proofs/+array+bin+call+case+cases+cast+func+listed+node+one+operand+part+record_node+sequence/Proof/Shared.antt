@@ -1,7 +1,7 @@
 -- The measure of each function that visits, and what each asks for and learns of the others. Assumes nothing.
 use Rattle.walking.specs.Measures as M
 use borrow.Author.Needs.{needs}
-use Prim.Native.Nat.{ℕ, _+_, _<_}
+use Prim.Native.Nat.{ℕ, _<_}
 use borrow.Fn.Kinds.{In}
 use borrow.Fn.PlainCycle.{Measures, is, falls, and}
 use Rattle.typecheck.proofs.array.Reads as array
@@ -113,7 +113,7 @@ abbrev pub μ-operand : Measures 10 operand-kinds.ps ℕ
 μ-operand κs a = M.μ-step (a .1 .1 .1 .1 .1 .1 .1 .1 .1 .1 .1 .1 .0)
 
 abbrev pub μ-part : Measures 10 part-kinds.ps ℕ
-μ-part κs a = 1 + M.μ-node (a .1 .1 .1 .1 .1 .1 .1 .1 .1 .1 .1 .1 .0)
+μ-part κs a = M.μ-part (a .1 .1 .1 .1 .1 .1 .1 .1 .1 .1 .1 .1 .0)
 
 abbrev pub μ-record-node : Measures 10 record-node-kinds.ps ℕ
 μ-record-node κs a = M.μ-rule (a .1 .1 .1 .1 .1 .1 .1 .1 .1 .1 .1 .1 .0)
