@@ -395,7 +395,8 @@ fn cast<'a>(
     )
 }
 
-// Nodes one after the other: the last one's answer, or slot V where there is none. Parts of the node `owner`, or roots.
+// The roots, one after the other. As `block`, but a function of its own: the compiler puts `block` in place of its one call, and it takes no
+// frame.
 pub fn nodes<'a>(
     slots: &mut [u32],
     functions: &mut [u32],
@@ -422,6 +423,58 @@ pub fn nodes<'a>(
     let mut left = k;
     while left > 0 {
         let v = node(
+            slots,
+            functions,
+            types,
+            diagnostics,
+            messages,
+            scratch,
+            script,
+            library,
+            image,
+            words,
+            places,
+            here,
+            word_at(image, place),
+        );
+        let Onward::Goes(a, next) = visiting::after(v) else {
+            return v;
+        };
+        answer = a;
+        here = next;
+        place += 1;
+        left -= 1;
+    }
+    visiting::came(answer, here)
+}
+
+// Typechecker::block_type: parts of the node `owner`, one after the other; the last one's answer, or slot V where there is none.
+fn block<'a>(
+    slots: &mut [u32],
+    functions: &mut [u32],
+    types: &mut [u32],
+    diagnostics: &mut [u32],
+    messages: &mut [u8],
+    scratch: &mut [u32],
+    script: &'a [u8],
+    library: &'a [u8],
+    image: &[u32],
+    words: &[u32],
+    places: &[u16],
+    st: State,
+    owner: u32,
+    at: usize,
+    k: usize,
+) -> Visit
+    requires { let T : Texts = textsOf (now script) (now library) in ⌜ ListVisit T (now image) (now places) (now words) owner at k st (lent (now slots) (now functions) (now types) (now diagnostics) (now messages) (now scratch)) ⌝ }
+    ensures { λ r. let T : Texts = textsOf (now (script .entry)) (now (library .entry)) in ⌜ ListVisited T (now (image .entry)) (now (words .entry)) at k st (lent (now (slots .entry)) (now (functions .entry)) (now (types .entry)) (now (diagnostics .entry)) (now (messages .entry)) (now (scratch .entry))) (lent (now (slots .exit)) (now (functions .exit)) (now (types .exit)) (now (diagnostics .exit)) (now (messages .exit)) (now (scratch .exit))) r ⌝ }
+{
+    let mut answer = Answer::Known(word_at(image, 3));
+    let mut here = st;
+    let mut place = at;
+    let mut left = k;
+    while left > 0 {
+        let v = part(
             slots,
             functions,
             types,
@@ -560,34 +613,26 @@ fn func<'a>(
         }
         Begun::Body(ret, inner) => {
             let long = payload(word_at(image, at));
-            let mut computed = Answer::Known(word_at(image, 3));
-            let mut inside = inner;
-            let mut place = at + 5 + 2 * count;
-            let mut left = long - (5 + 2 * count);
-            while left > 0 {
-                let v = part(
-                    slots,
-                    functions,
-                    types,
-                    diagnostics,
-                    messages,
-                    scratch,
-                    script,
-                    library,
-                    image,
-                    words,
-                    places,
-                    inside,
-                    word_at(image, place),
-                );
-                let Onward::Goes(a, next) = visiting::after(v) else {
-                    return v;
-                };
-                computed = a;
-                inside = next;
-                place += 1;
-                left -= 1;
-            }
+            let v = block(
+                slots,
+                functions,
+                types,
+                diagnostics,
+                messages,
+                scratch,
+                script,
+                library,
+                image,
+                words,
+                places,
+                inner,
+                n,
+                at + 5 + 2 * count,
+                long - (5 + 2 * count),
+            );
+            let Onward::Goes(computed, inside) = visiting::after(v) else {
+                return v;
+            };
             return bodies::end(
                 slots,
                 &types[..],

@@ -2,7 +2,7 @@
 -- falls at each call. Definitions.
 use Prim.Native.Nat.{ℕ, _+_, _*_}
 
--- a part of number n; the node, by its kind in two steps; its own rule; a case of it
+-- a part of number n; the node, by its kind in two steps; its own rule; a case of it, or its block
 abbrev pub μ-part : ℕ → ℕ
 μ-part n = 8192 * n + 8006
 
@@ -20,3 +20,6 @@ abbrev pub μ-rule : ℕ → ℕ
 
 abbrev pub μ-case : ℕ → ℕ
 μ-case n = 8192 * n + 8001
+
+abbrev pub μ-block : ℕ → ℕ
+μ-block n = 8192 * n + 8001

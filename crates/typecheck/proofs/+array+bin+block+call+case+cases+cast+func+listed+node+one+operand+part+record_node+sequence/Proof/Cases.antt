@@ -13,8 +13,8 @@ use Rattle.branches.specs.Cases.{Turn, few, place-room, turn-begin, place-insid
 use Rattle.walk_laws.specs.Lists as L
 use borrow.Author.Needs.{needs}
 use Rattle.typecheck.proofs.cases.Reads as cases
-use Rattle.typecheck.proofs.+array+bin+call+case+cases+cast+func+listed+node+one+operand+part+record_node+sequence.Lts-cases as cases-lts
-use Rattle.typecheck.proofs.+array+bin+call+case+cases+cast+func+listed+node+one+operand+part+record_node+sequence.Proof.Shared.{cases-at, cases-claims}
+use Rattle.typecheck.proofs.+array+bin+block+call+case+cases+cast+func+listed+node+one+operand+part+record_node+sequence.Lts-cases as cases-lts
+use Rattle.typecheck.proofs.+array+bin+block+call+case+cases+cast+func+listed+node+one+operand+part+record_node+sequence.Proof.Shared.{cases-at, cases-claims}
 
 abbrev pub cases-Inv-loop : cases-lts.InvT-loop
 cases-Inv-loop slots₀ functions₀ types₀ diagnostics₀ messages₀ scratch₀ script library image words places n at count here₀ place₀ i₀ slots functions types diagnostics messages scratch here place i =

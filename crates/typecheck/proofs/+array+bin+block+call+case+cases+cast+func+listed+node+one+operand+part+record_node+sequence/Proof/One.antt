@@ -6,8 +6,8 @@ use Rattle.operand_visits.specs.One.{one-low, operand-under, operand-visit, ope
 use borrow.Author.Needs.{needs}
 use Prim.Native.Nat.{ℕ}
 use Rattle.typecheck.proofs.one.Reads as one
-use Rattle.typecheck.proofs.+array+bin+call+case+cases+cast+func+listed+node+one+operand+part+record_node+sequence.Lts-one as one-lts
-use Rattle.typecheck.proofs.+array+bin+call+case+cases+cast+func+listed+node+one+operand+part+record_node+sequence.Proof.Shared.{one-at, one-claims}
+use Rattle.typecheck.proofs.+array+bin+block+call+case+cases+cast+func+listed+node+one+operand+part+record_node+sequence.Lts-one as one-lts
+use Rattle.typecheck.proofs.+array+bin+block+call+case+cases+cast+func+listed+node+one+operand+part+record_node+sequence.Proof.Shared.{one-at, one-claims}
 
 pub one-node-place-requires : (t : ℕ) → one-lts.Need-node-place-requires (one-claims t) (one-at t) one.Post
 one-node-place-requires t c κs = search needs

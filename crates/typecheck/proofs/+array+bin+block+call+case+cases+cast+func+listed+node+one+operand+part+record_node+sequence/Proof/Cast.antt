@@ -6,8 +6,8 @@ use Rattle.operand_visits.specs.Cast.{cast-low, cast-ready, operand-under, type
 use borrow.Author.Needs.{needs}
 use Prim.Native.Nat.{ℕ}
 use Rattle.typecheck.proofs.cast.Reads as cast
-use Rattle.typecheck.proofs.+array+bin+call+case+cases+cast+func+listed+node+one+operand+part+record_node+sequence.Lts-cast as cast-lts
-use Rattle.typecheck.proofs.+array+bin+call+case+cases+cast+func+listed+node+one+operand+part+record_node+sequence.Proof.Shared.{cast-at, cast-claims}
+use Rattle.typecheck.proofs.+array+bin+block+call+case+cases+cast+func+listed+node+one+operand+part+record_node+sequence.Lts-cast as cast-lts
+use Rattle.typecheck.proofs.+array+bin+block+call+case+cases+cast+func+listed+node+one+operand+part+record_node+sequence.Proof.Shared.{cast-at, cast-claims}
 
 pub cast-node-place-requires : (t : ℕ) → cast-lts.Need-node-place-requires (cast-claims t) (cast-at t) cast.Post
 cast-node-place-requires t c κs = search needs

@@ -11,8 +11,8 @@ use Rattle.calls.specs.CallVisits.{Argued, argued-start, argued-next, some-left
 use borrow.Author.Needs.{needs}
 use Prim.Native.Nat.{ℕ, _-_}
 use Rattle.typecheck.proofs.call.Reads as call
-use Rattle.typecheck.proofs.+array+bin+call+case+cases+cast+func+listed+node+one+operand+part+record_node+sequence.Lts-call as call-lts
-use Rattle.typecheck.proofs.+array+bin+call+case+cases+cast+func+listed+node+one+operand+part+record_node+sequence.Proof.Shared.{call-at, call-claims}
+use Rattle.typecheck.proofs.+array+bin+block+call+case+cases+cast+func+listed+node+one+operand+part+record_node+sequence.Lts-call as call-lts
+use Rattle.typecheck.proofs.+array+bin+block+call+case+cases+cast+func+listed+node+one+operand+part+record_node+sequence.Proof.Shared.{call-at, call-claims}
 
 abbrev pub call-Inv-loop : call-lts.InvT-loop
 call-Inv-loop slots₀ functions₀ types₀ diagnostics₀ messages₀ scratch₀ script library image words places n at count poisoned₀ here₀ i₀ slots functions types diagnostics messages scratch poisoned here i =

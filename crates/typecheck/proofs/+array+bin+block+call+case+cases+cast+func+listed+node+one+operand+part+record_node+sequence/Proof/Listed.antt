@@ -4,8 +4,8 @@ use Rattle.walk_laws.specs.Dispatch.{to-fn, to-match, to-sequence}
 use borrow.Author.Needs.{needs}
 use Prim.Native.Nat.{ℕ}
 use Rattle.typecheck.proofs.listed.Reads as listed
-use Rattle.typecheck.proofs.+array+bin+call+case+cases+cast+func+listed+node+one+operand+part+record_node+sequence.Lts-listed as listed-lts
-use Rattle.typecheck.proofs.+array+bin+call+case+cases+cast+func+listed+node+one+operand+part+record_node+sequence.Proof.Shared.{listed-at, listed-claims}
+use Rattle.typecheck.proofs.+array+bin+block+call+case+cases+cast+func+listed+node+one+operand+part+record_node+sequence.Lts-listed as listed-lts
+use Rattle.typecheck.proofs.+array+bin+block+call+case+cases+cast+func+listed+node+one+operand+part+record_node+sequence.Proof.Shared.{listed-at, listed-claims}
 
 pub listed-node-place-requires : (t : ℕ) → listed-lts.Need-node-place-requires (listed-claims t) (listed-at t) listed.Post
 listed-node-place-requires t c κs = search needs

@@ -6,8 +6,8 @@ use Rattle.operand_visits.specs.Bin.{bin-low, left-under, right-under, left-vis
 use borrow.Author.Needs.{needs}
 use Prim.Native.Nat.{ℕ}
 use Rattle.typecheck.proofs.bin.Reads as bin
-use Rattle.typecheck.proofs.+array+bin+call+case+cases+cast+func+listed+node+one+operand+part+record_node+sequence.Lts-bin as bin-lts
-use Rattle.typecheck.proofs.+array+bin+call+case+cases+cast+func+listed+node+one+operand+part+record_node+sequence.Proof.Shared.{bin-at, bin-claims}
+use Rattle.typecheck.proofs.+array+bin+block+call+case+cases+cast+func+listed+node+one+operand+part+record_node+sequence.Lts-bin as bin-lts
+use Rattle.typecheck.proofs.+array+bin+block+call+case+cases+cast+func+listed+node+one+operand+part+record_node+sequence.Proof.Shared.{bin-at, bin-claims}
 
 pub bin-node-place-requires : (t : ℕ) → bin-lts.Need-node-place-requires (bin-claims t) (bin-at t) bin.Post
 bin-node-place-requires t c κs = search needs

@@ -4,8 +4,8 @@ use Rattle.walk_laws.specs.Dispatch.{to-call, to-record, to-array}
 use borrow.Author.Needs.{needs}
 use Prim.Native.Nat.{ℕ}
 use Rattle.typecheck.proofs.sequence.Reads as sequence
-use Rattle.typecheck.proofs.+array+bin+call+case+cases+cast+func+listed+node+one+operand+part+record_node+sequence.Lts-sequence as sequence-lts
-use Rattle.typecheck.proofs.+array+bin+call+case+cases+cast+func+listed+node+one+operand+part+record_node+sequence.Proof.Shared.{sequence-at, sequence-claims}
+use Rattle.typecheck.proofs.+array+bin+block+call+case+cases+cast+func+listed+node+one+operand+part+record_node+sequence.Lts-sequence as sequence-lts
+use Rattle.typecheck.proofs.+array+bin+block+call+case+cases+cast+func+listed+node+one+operand+part+record_node+sequence.Proof.Shared.{sequence-at, sequence-claims}
 
 pub sequence-node-place-requires : (t : ℕ) → sequence-lts.Need-node-place-requires (sequence-claims t) (sequence-at t) sequence.Post
 sequence-node-place-requires t c κs = search needs

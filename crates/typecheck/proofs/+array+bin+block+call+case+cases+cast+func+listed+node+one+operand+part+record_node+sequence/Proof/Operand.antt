@@ -4,8 +4,8 @@ use Rattle.walk_laws.specs.Dispatch.{to-bin, to-cast, to-one}
 use borrow.Author.Needs.{needs}
 use Prim.Native.Nat.{ℕ}
 use Rattle.typecheck.proofs.operand.Reads as operand
-use Rattle.typecheck.proofs.+array+bin+call+case+cases+cast+func+listed+node+one+operand+part+record_node+sequence.Lts-operand as operand-lts
-use Rattle.typecheck.proofs.+array+bin+call+case+cases+cast+func+listed+node+one+operand+part+record_node+sequence.Proof.Shared.{operand-at, operand-claims}
+use Rattle.typecheck.proofs.+array+bin+block+call+case+cases+cast+func+listed+node+one+operand+part+record_node+sequence.Lts-operand as operand-lts
+use Rattle.typecheck.proofs.+array+bin+block+call+case+cases+cast+func+listed+node+one+operand+part+record_node+sequence.Proof.Shared.{operand-at, operand-claims}
 
 pub operand-node-place-requires : (t : ℕ) → operand-lts.Need-node-place-requires (operand-claims t) (operand-at t) operand.Post
 operand-node-place-requires t c κs = search needs

@@ -6,46 +6,49 @@ use borrow.Fn.Kinds.{In}
 use borrow.Fn.PlainCycle.{Measures, is, falls, and}
 use Rattle.typecheck.proofs.array.Reads as array
 use Rattle.typecheck.proofs.array.Kinds as array-kinds
-use Rattle.typecheck.proofs.+array+bin+call+case+cases+cast+func+listed+node+one+operand+part+record_node+sequence.Lts-array as array-lts
+use Rattle.typecheck.proofs.+array+bin+block+call+case+cases+cast+func+listed+node+one+operand+part+record_node+sequence.Lts-array as array-lts
 use Rattle.typecheck.proofs.bin.Reads as bin
 use Rattle.typecheck.proofs.bin.Kinds as bin-kinds
-use Rattle.typecheck.proofs.+array+bin+call+case+cases+cast+func+listed+node+one+operand+part+record_node+sequence.Lts-bin as bin-lts
+use Rattle.typecheck.proofs.+array+bin+block+call+case+cases+cast+func+listed+node+one+operand+part+record_node+sequence.Lts-bin as bin-lts
+use Rattle.typecheck.proofs.block.Reads as block
+use Rattle.typecheck.proofs.block.Kinds as block-kinds
+use Rattle.typecheck.proofs.+array+bin+block+call+case+cases+cast+func+listed+node+one+operand+part+record_node+sequence.Lts-block as block-lts
 use Rattle.typecheck.proofs.call.Reads as call
 use Rattle.typecheck.proofs.call.Kinds as call-kinds
-use Rattle.typecheck.proofs.+array+bin+call+case+cases+cast+func+listed+node+one+operand+part+record_node+sequence.Lts-call as call-lts
+use Rattle.typecheck.proofs.+array+bin+block+call+case+cases+cast+func+listed+node+one+operand+part+record_node+sequence.Lts-call as call-lts
 use Rattle.typecheck.proofs.case.Reads as case
 use Rattle.typecheck.proofs.case.Kinds as case-kinds
-use Rattle.typecheck.proofs.+array+bin+call+case+cases+cast+func+listed+node+one+operand+part+record_node+sequence.Lts-case as case-lts
+use Rattle.typecheck.proofs.+array+bin+block+call+case+cases+cast+func+listed+node+one+operand+part+record_node+sequence.Lts-case as case-lts
 use Rattle.typecheck.proofs.cases.Reads as cases
 use Rattle.typecheck.proofs.cases.Kinds as cases-kinds
-use Rattle.typecheck.proofs.+array+bin+call+case+cases+cast+func+listed+node+one+operand+part+record_node+sequence.Lts-cases as cases-lts
+use Rattle.typecheck.proofs.+array+bin+block+call+case+cases+cast+func+listed+node+one+operand+part+record_node+sequence.Lts-cases as cases-lts
 use Rattle.typecheck.proofs.cast.Reads as cast
 use Rattle.typecheck.proofs.cast.Kinds as cast-kinds
-use Rattle.typecheck.proofs.+array+bin+call+case+cases+cast+func+listed+node+one+operand+part+record_node+sequence.Lts-cast as cast-lts
+use Rattle.typecheck.proofs.+array+bin+block+call+case+cases+cast+func+listed+node+one+operand+part+record_node+sequence.Lts-cast as cast-lts
 use Rattle.typecheck.proofs.func.Reads as func
 use Rattle.typecheck.proofs.func.Kinds as func-kinds
-use Rattle.typecheck.proofs.+array+bin+call+case+cases+cast+func+listed+node+one+operand+part+record_node+sequence.Lts-func as func-lts
+use Rattle.typecheck.proofs.+array+bin+block+call+case+cases+cast+func+listed+node+one+operand+part+record_node+sequence.Lts-func as func-lts
 use Rattle.typecheck.proofs.listed.Reads as listed
 use Rattle.typecheck.proofs.listed.Kinds as listed-kinds
-use Rattle.typecheck.proofs.+array+bin+call+case+cases+cast+func+listed+node+one+operand+part+record_node+sequence.Lts-listed as listed-lts
+use Rattle.typecheck.proofs.+array+bin+block+call+case+cases+cast+func+listed+node+one+operand+part+record_node+sequence.Lts-listed as listed-lts
 use Rattle.typecheck.proofs.node.Reads as node
 use Rattle.typecheck.proofs.node.Kinds as node-kinds
-use Rattle.typecheck.proofs.+array+bin+call+case+cases+cast+func+listed+node+one+operand+part+record_node+sequence.Lts-node as node-lts
+use Rattle.typecheck.proofs.+array+bin+block+call+case+cases+cast+func+listed+node+one+operand+part+record_node+sequence.Lts-node as node-lts
 use Rattle.typecheck.proofs.one.Reads as one
 use Rattle.typecheck.proofs.one.Kinds as one-kinds
-use Rattle.typecheck.proofs.+array+bin+call+case+cases+cast+func+listed+node+one+operand+part+record_node+sequence.Lts-one as one-lts
+use Rattle.typecheck.proofs.+array+bin+block+call+case+cases+cast+func+listed+node+one+operand+part+record_node+sequence.Lts-one as one-lts
 use Rattle.typecheck.proofs.operand.Reads as operand
 use Rattle.typecheck.proofs.operand.Kinds as operand-kinds
-use Rattle.typecheck.proofs.+array+bin+call+case+cases+cast+func+listed+node+one+operand+part+record_node+sequence.Lts-operand as operand-lts
+use Rattle.typecheck.proofs.+array+bin+block+call+case+cases+cast+func+listed+node+one+operand+part+record_node+sequence.Lts-operand as operand-lts
 use Rattle.typecheck.proofs.part.Reads as part
 use Rattle.typecheck.proofs.part.Kinds as part-kinds
-use Rattle.typecheck.proofs.+array+bin+call+case+cases+cast+func+listed+node+one+operand+part+record_node+sequence.Lts-part as part-lts
+use Rattle.typecheck.proofs.+array+bin+block+call+case+cases+cast+func+listed+node+one+operand+part+record_node+sequence.Lts-part as part-lts
 use Rattle.typecheck.proofs.record_node.Reads as record-node
 use Rattle.typecheck.proofs.record_node.Kinds as record-node-kinds
-use Rattle.typecheck.proofs.+array+bin+call+case+cases+cast+func+listed+node+one+operand+part+record_node+sequence.Lts-record_node as record-node-lts
+use Rattle.typecheck.proofs.+array+bin+block+call+case+cases+cast+func+listed+node+one+operand+part+record_node+sequence.Lts-record_node as record-node-lts
 use Rattle.typecheck.proofs.sequence.Reads as sequence
 use Rattle.typecheck.proofs.sequence.Kinds as sequence-kinds
-use Rattle.typecheck.proofs.+array+bin+call+case+cases+cast+func+listed+node+one+operand+part+record_node+sequence.Lts-sequence as sequence-lts
+use Rattle.typecheck.proofs.+array+bin+block+call+case+cases+cast+func+listed+node+one+operand+part+record_node+sequence.Lts-sequence as sequence-lts
 use Rattle.bodies.proofs.begin.Reads as begin-reads
 use Rattle.bodies.proofs.end.Reads as end-reads
 use Rattle.branches.proofs.case_end.Reads as case-end-reads
@@ -84,6 +87,9 @@ abbrev pub μ-array : Measures 10 array-kinds.ps ℕ
 
 abbrev pub μ-bin : Measures 10 bin-kinds.ps ℕ
 μ-bin κs a = M.μ-rule (a .1 .1 .1 .1 .1 .1 .1 .1 .1 .1 .1 .1 .0)
+
+abbrev pub μ-block : Measures 10 block-kinds.ps ℕ
+μ-block κs a = M.μ-block (a .1 .1 .1 .1 .1 .1 .1 .1 .1 .1 .1 .1 .0)
 
 abbrev pub μ-call : Measures 10 call-kinds.ps ℕ
 μ-call κs a = M.μ-rule (a .1 .1 .1 .1 .1 .1 .1 .1 .1 .1 .1 .1 .0)
@@ -132,6 +138,12 @@ bin-at t = and 10 bin-kinds.ps (is 10 bin-kinds.ps μ-bin t) bin.Pre
 
 abbrev pub bin-below : ℕ → In 10 bin-kinds.ps
 bin-below t = and 10 bin-kinds.ps (falls 10 bin-kinds.ps _<_ μ-bin t) bin.Pre
+
+abbrev pub block-at : ℕ → In 10 block-kinds.ps
+block-at t = and 10 block-kinds.ps (is 10 block-kinds.ps μ-block t) block.Pre
+
+abbrev pub block-below : ℕ → In 10 block-kinds.ps
+block-below t = and 10 block-kinds.ps (falls 10 block-kinds.ps _<_ μ-block t) block.Pre
 
 abbrev pub call-at : ℕ → In 10 call-kinds.ps
 call-at t = and 10 call-kinds.ps (is 10 call-kinds.ps μ-call t) call.Pre
@@ -214,6 +226,9 @@ array-claims t = (node-place-reads.Asked, node-place-reads.Learnt, word-at-reads
 abbrev pub bin-claims : ℕ → bin-lts.Claims
 bin-claims t = (node-place-reads.Asked, node-place-reads.Learnt, word-at-reads.Asked, word-at-reads.Learnt, part-below t, part.Post, after-reads.Asked, after-reads.Learnt, bin-end-reads.Asked, bin-end-reads.Learnt)
 
+abbrev pub block-claims : ℕ → block-lts.Claims
+block-claims t = (word-at-reads.Asked, word-at-reads.Learnt, part-below t, part.Post, after-reads.Asked, after-reads.Learnt, came-reads.Asked, came-reads.Learnt)
+
 abbrev pub case-claims : ℕ → case-lts.Claims
 case-claims t = (word-at-reads.Asked, word-at-reads.Learnt, part-below t, part.Post, after-reads.Asked, after-reads.Learnt, condition-reads.Asked, condition-reads.Learnt, halted-reads.Asked, halted-reads.Learnt, wide-reads.Asked, wide-reads.Learnt, left-reads.Asked, left-reads.Learnt, came-reads.Asked, came-reads.Learnt)
 
@@ -224,7 +239,7 @@ abbrev pub cast-claims : ℕ → cast-lts.Claims
 cast-claims t = (node-place-reads.Asked, node-place-reads.Learnt, cast-begin-reads.Asked, cast-begin-reads.Learnt, refused-reads.Asked, refused-reads.Learnt, word-at-reads.Asked, word-at-reads.Learnt, part-below t, part.Post, after-reads.Asked, after-reads.Learnt, cast-end-reads.Asked, cast-end-reads.Learnt)
 
 abbrev pub func-claims : ℕ → func-lts.Claims
-func-claims t = (node-place-reads.Asked, node-place-reads.Learnt, word-at-reads.Asked, word-at-reads.Learnt, wide-reads.Asked, wide-reads.Learnt, begin-reads.Asked, begin-reads.Learnt, payload-reads.Asked, payload-reads.Learnt, part-below t, part.Post, after-reads.Asked, after-reads.Learnt, end-reads.Asked, end-reads.Learnt)
+func-claims t = (node-place-reads.Asked, node-place-reads.Learnt, word-at-reads.Asked, word-at-reads.Learnt, wide-reads.Asked, wide-reads.Learnt, begin-reads.Asked, begin-reads.Learnt, payload-reads.Asked, payload-reads.Learnt, block-below t, block.Post, after-reads.Asked, after-reads.Learnt, end-reads.Asked, end-reads.Learnt)
 
 abbrev pub listed-claims : ℕ → listed-lts.Claims
 listed-claims t = (node-place-reads.Asked, node-place-reads.Learnt, word-at-reads.Asked, word-at-reads.Learnt, kind-reads.Asked, kind-reads.Learnt, func-below t, func.Post, cases-below t, cases.Post, sequence-below t, sequence.Post)

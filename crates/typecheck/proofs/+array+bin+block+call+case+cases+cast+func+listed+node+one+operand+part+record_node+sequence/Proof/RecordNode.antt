@@ -11,8 +11,8 @@ use Rattle.visiting.specs.Then.{came-after, stopped-after}
 use Rattle.fields.specs.RecordVisits.{Turn, turn-begin, record-length, record-low, value-under, value-visit, turn-stops, turn-next, record-made}
 use borrow.Author.Needs.{needs}
 use Rattle.typecheck.proofs.record_node.Reads as record-node
-use Rattle.typecheck.proofs.+array+bin+call+case+cases+cast+func+listed+node+one+operand+part+record_node+sequence.Lts-record_node as record-node-lts
-use Rattle.typecheck.proofs.+array+bin+call+case+cases+cast+func+listed+node+one+operand+part+record_node+sequence.Proof.Shared.{record-node-at, record-node-claims}
+use Rattle.typecheck.proofs.+array+bin+block+call+case+cases+cast+func+listed+node+one+operand+part+record_node+sequence.Lts-record_node as record-node-lts
+use Rattle.typecheck.proofs.+array+bin+block+call+case+cases+cast+func+listed+node+one+operand+part+record_node+sequence.Proof.Shared.{record-node-at, record-node-claims}
 
 abbrev pub record-node-Inv-loop : record-node-lts.InvT-loop
 record-node-Inv-loop slots₀ functions₀ types₀ diagnostics₀ messages₀ scratch₀ script library image words places n at count here₀ i₀ slots functions types diagnostics messages scratch here i =

@@ -3,8 +3,8 @@ use native.Mathlib.Omega.{arith}
 use borrow.Author.Needs.{needs}
 use Prim.Native.Nat.{ℕ}
 use Rattle.typecheck.proofs.part.Reads as part
-use Rattle.typecheck.proofs.+array+bin+call+case+cases+cast+func+listed+node+one+operand+part+record_node+sequence.Lts-part as part-lts
-use Rattle.typecheck.proofs.+array+bin+call+case+cases+cast+func+listed+node+one+operand+part+record_node+sequence.Proof.Shared.{part-at, part-claims}
+use Rattle.typecheck.proofs.+array+bin+block+call+case+cases+cast+func+listed+node+one+operand+part+record_node+sequence.Lts-part as part-lts
+use Rattle.typecheck.proofs.+array+bin+block+call+case+cases+cast+func+listed+node+one+operand+part+record_node+sequence.Proof.Shared.{part-at, part-claims}
 
 pub part-node-requires : (t : ℕ) → part-lts.Need-node-requires (part-claims t) (part-at t) part.Post
 part-node-requires t c κs = (omega (arith, c .before .before .before .before .before .before .before .before .before .before .before .before .before .before .before .before .before .pre .0), c .before .before .before .before .before .before .before .before .before .before .before .before .before .before .before .before .before .pre .1)

@@ -4,8 +4,8 @@ use Rattle.walk_laws.specs.Dispatch.{to-leaf, to-operand, to-listed}
 use borrow.Author.Needs.{needs}
 use Prim.Native.Nat.{ℕ}
 use Rattle.typecheck.proofs.node.Reads as node
-use Rattle.typecheck.proofs.+array+bin+call+case+cases+cast+func+listed+node+one+operand+part+record_node+sequence.Lts-node as node-lts
-use Rattle.typecheck.proofs.+array+bin+call+case+cases+cast+func+listed+node+one+operand+part+record_node+sequence.Proof.Shared.{node-at, node-claims}
+use Rattle.typecheck.proofs.+array+bin+block+call+case+cases+cast+func+listed+node+one+operand+part+record_node+sequence.Lts-node as node-lts
+use Rattle.typecheck.proofs.+array+bin+block+call+case+cases+cast+func+listed+node+one+operand+part+record_node+sequence.Proof.Shared.{node-at, node-claims}
 
 pub node-node-place-requires : (t : ℕ) → node-lts.Need-node-place-requires (node-claims t) (node-at t) node.Post
 node-node-place-requires t c κs = search needs

@@ -11,8 +11,8 @@ use Rattle.walk_laws.specs.Lists.{Turn, turn-begin, place-inside, part-under, t
 use borrow.Author.Needs.{needs}
 use Prim.Native.Nat.{ℕ, _+_}
 use Rattle.typecheck.proofs.case.Reads as case
-use Rattle.typecheck.proofs.+array+bin+call+case+cases+cast+func+listed+node+one+operand+part+record_node+sequence.Lts-case as case-lts
-use Rattle.typecheck.proofs.+array+bin+call+case+cases+cast+func+listed+node+one+operand+part+record_node+sequence.Proof.Shared.{case-at, case-claims}
+use Rattle.typecheck.proofs.+array+bin+block+call+case+cases+cast+func+listed+node+one+operand+part+record_node+sequence.Lts-case as case-lts
+use Rattle.typecheck.proofs.+array+bin+block+call+case+cases+cast+func+listed+node+one+operand+part+record_node+sequence.Proof.Shared.{case-at, case-claims}
 
 abbrev pub case-Inv-loop : case-lts.InvT-loop
 case-Inv-loop slots₀ functions₀ types₀ diagnostics₀ messages₀ scratch₀ script library image words places n at begun answer₀ here₀ place₀ left₀ slots functions types diagnostics messages scratch answer here place left =

@@ -1,6 +1,7 @@
 mod Shared
 mod Array
 mod Bin
+mod Block
 mod Call
 mod Case
 mod Cases
@@ -19,46 +20,49 @@ use borrow.Fn.Kinds.{In}
 use borrow.Fn.PlainCycle.{Measures, is, falls, and}
 use Rattle.typecheck.proofs.array.Reads as array
 use Rattle.typecheck.proofs.array.Kinds as array-kinds
-use Rattle.typecheck.proofs.+array+bin+call+case+cases+cast+func+listed+node+one+operand+part+record_node+sequence.Lts-array as array-lts
+use Rattle.typecheck.proofs.+array+bin+block+call+case+cases+cast+func+listed+node+one+operand+part+record_node+sequence.Lts-array as array-lts
 use Rattle.typecheck.proofs.bin.Reads as bin
 use Rattle.typecheck.proofs.bin.Kinds as bin-kinds
-use Rattle.typecheck.proofs.+array+bin+call+case+cases+cast+func+listed+node+one+operand+part+record_node+sequence.Lts-bin as bin-lts
+use Rattle.typecheck.proofs.+array+bin+block+call+case+cases+cast+func+listed+node+one+operand+part+record_node+sequence.Lts-bin as bin-lts
+use Rattle.typecheck.proofs.block.Reads as block
+use Rattle.typecheck.proofs.block.Kinds as block-kinds
+use Rattle.typecheck.proofs.+array+bin+block+call+case+cases+cast+func+listed+node+one+operand+part+record_node+sequence.Lts-block as block-lts
 use Rattle.typecheck.proofs.call.Reads as call
 use Rattle.typecheck.proofs.call.Kinds as call-kinds
-use Rattle.typecheck.proofs.+array+bin+call+case+cases+cast+func+listed+node+one+operand+part+record_node+sequence.Lts-call as call-lts
+use Rattle.typecheck.proofs.+array+bin+block+call+case+cases+cast+func+listed+node+one+operand+part+record_node+sequence.Lts-call as call-lts
 use Rattle.typecheck.proofs.case.Reads as case
 use Rattle.typecheck.proofs.case.Kinds as case-kinds
-use Rattle.typecheck.proofs.+array+bin+call+case+cases+cast+func+listed+node+one+operand+part+record_node+sequence.Lts-case as case-lts
+use Rattle.typecheck.proofs.+array+bin+block+call+case+cases+cast+func+listed+node+one+operand+part+record_node+sequence.Lts-case as case-lts
 use Rattle.typecheck.proofs.cases.Reads as cases
 use Rattle.typecheck.proofs.cases.Kinds as cases-kinds
-use Rattle.typecheck.proofs.+array+bin+call+case+cases+cast+func+listed+node+one+operand+part+record_node+sequence.Lts-cases as cases-lts
+use Rattle.typecheck.proofs.+array+bin+block+call+case+cases+cast+func+listed+node+one+operand+part+record_node+sequence.Lts-cases as cases-lts
 use Rattle.typecheck.proofs.cast.Reads as cast
 use Rattle.typecheck.proofs.cast.Kinds as cast-kinds
-use Rattle.typecheck.proofs.+array+bin+call+case+cases+cast+func+listed+node+one+operand+part+record_node+sequence.Lts-cast as cast-lts
+use Rattle.typecheck.proofs.+array+bin+block+call+case+cases+cast+func+listed+node+one+operand+part+record_node+sequence.Lts-cast as cast-lts
 use Rattle.typecheck.proofs.func.Reads as func
 use Rattle.typecheck.proofs.func.Kinds as func-kinds
-use Rattle.typecheck.proofs.+array+bin+call+case+cases+cast+func+listed+node+one+operand+part+record_node+sequence.Lts-func as func-lts
+use Rattle.typecheck.proofs.+array+bin+block+call+case+cases+cast+func+listed+node+one+operand+part+record_node+sequence.Lts-func as func-lts
 use Rattle.typecheck.proofs.listed.Reads as listed
 use Rattle.typecheck.proofs.listed.Kinds as listed-kinds
-use Rattle.typecheck.proofs.+array+bin+call+case+cases+cast+func+listed+node+one+operand+part+record_node+sequence.Lts-listed as listed-lts
+use Rattle.typecheck.proofs.+array+bin+block+call+case+cases+cast+func+listed+node+one+operand+part+record_node+sequence.Lts-listed as listed-lts
 use Rattle.typecheck.proofs.node.Reads as node
 use Rattle.typecheck.proofs.node.Kinds as node-kinds
-use Rattle.typecheck.proofs.+array+bin+call+case+cases+cast+func+listed+node+one+operand+part+record_node+sequence.Lts-node as node-lts
+use Rattle.typecheck.proofs.+array+bin+block+call+case+cases+cast+func+listed+node+one+operand+part+record_node+sequence.Lts-node as node-lts
 use Rattle.typecheck.proofs.one.Reads as one
 use Rattle.typecheck.proofs.one.Kinds as one-kinds
-use Rattle.typecheck.proofs.+array+bin+call+case+cases+cast+func+listed+node+one+operand+part+record_node+sequence.Lts-one as one-lts
+use Rattle.typecheck.proofs.+array+bin+block+call+case+cases+cast+func+listed+node+one+operand+part+record_node+sequence.Lts-one as one-lts
 use Rattle.typecheck.proofs.operand.Reads as operand
 use Rattle.typecheck.proofs.operand.Kinds as operand-kinds
-use Rattle.typecheck.proofs.+array+bin+call+case+cases+cast+func+listed+node+one+operand+part+record_node+sequence.Lts-operand as operand-lts
+use Rattle.typecheck.proofs.+array+bin+block+call+case+cases+cast+func+listed+node+one+operand+part+record_node+sequence.Lts-operand as operand-lts
 use Rattle.typecheck.proofs.part.Reads as part
 use Rattle.typecheck.proofs.part.Kinds as part-kinds
-use Rattle.typecheck.proofs.+array+bin+call+case+cases+cast+func+listed+node+one+operand+part+record_node+sequence.Lts-part as part-lts
+use Rattle.typecheck.proofs.+array+bin+block+call+case+cases+cast+func+listed+node+one+operand+part+record_node+sequence.Lts-part as part-lts
 use Rattle.typecheck.proofs.record_node.Reads as record-node
 use Rattle.typecheck.proofs.record_node.Kinds as record-node-kinds
-use Rattle.typecheck.proofs.+array+bin+call+case+cases+cast+func+listed+node+one+operand+part+record_node+sequence.Lts-record_node as record-node-lts
+use Rattle.typecheck.proofs.+array+bin+block+call+case+cases+cast+func+listed+node+one+operand+part+record_node+sequence.Lts-record_node as record-node-lts
 use Rattle.typecheck.proofs.sequence.Reads as sequence
 use Rattle.typecheck.proofs.sequence.Kinds as sequence-kinds
-use Rattle.typecheck.proofs.+array+bin+call+case+cases+cast+func+listed+node+one+operand+part+record_node+sequence.Lts-sequence as sequence-lts
+use Rattle.typecheck.proofs.+array+bin+block+call+case+cases+cast+func+listed+node+one+operand+part+record_node+sequence.Lts-sequence as sequence-lts
 use Rattle.bodies.proofs.begin.Reads as begin-reads
 use Rattle.bodies.proofs.end.Reads as end-reads
 use Rattle.branches.proofs.case_end.Reads as case-end-reads
@@ -91,33 +95,35 @@ use Rattle.walking.proofs.halted.Reads as halted-reads
 use Rattle.walking.proofs.has_operands.Reads as has-operands-reads
 use Rattle.walking.proofs.is_leaf.Reads as is-leaf-reads
 use Rattle.walking.proofs.refused.Reads as refused-reads
-use Rattle.typecheck.proofs.+array+bin+call+case+cases+cast+func+listed+node+one+operand+part+record_node+sequence.{
+use Rattle.typecheck.proofs.+array+bin+block+call+case+cases+cast+func+listed+node+one+operand+part+record_node+sequence.{
   statement,
 }
-use Rattle.typecheck.proofs.+array+bin+call+case+cases+cast+func+listed+node+one+operand+part+record_node+sequence.Tie.{
+use Rattle.typecheck.proofs.+array+bin+block+call+case+cases+cast+func+listed+node+one+operand+part+record_node+sequence.Tie.{
   close,
 }
-use Rattle.typecheck.proofs.+array+bin+call+case+cases+cast+func+listed+node+one+operand+part+record_node+sequence.Proof.Shared.{call-claims, μ-array, μ-bin, μ-call, μ-case, μ-cases, μ-cast, μ-func, μ-listed, μ-node, μ-one, μ-operand, μ-part, μ-record-node, μ-sequence, array-at, bin-at, call-at, case-at, cases-at, cast-at, func-at, listed-at, node-at, one-at, operand-at, part-at, record-node-at, sequence-at, node-below, array-claims, bin-claims, case-claims, cases-claims, cast-claims, func-claims, listed-claims, node-claims, one-claims, operand-claims, part-claims, record-node-claims, sequence-claims}
-use Rattle.typecheck.proofs.+array+bin+call+case+cases+cast+func+listed+node+one+operand+part+record_node+sequence.Proof.Array.{array-Inv-loop, array-μ-loop, array-node-place-requires, array-word-at-requires, array-payload-requires, array-sub-count, array-empty-requires, array-same-length, array-same-length-2, array-returns, array-add-word-at, array-word-at-requires-2, array-part-requires, array-after-requires, array-enum-known-first, array-enum-told, array-same-length-3, array-same-length-4, array-same-length-5, array-same-length-6, array-same-length-7, array-same-length-8, array-returns-2, array-loop-holds, array-add-word-at-2, array-add-word-at-3, array-word-at-requires-3, array-part-requires-2, array-after-requires-2, array-enum-known-a, array-enum-told-2, array-same-length-9, array-same-length-10, array-same-length-11, array-same-length-12, array-same-length-13, array-same-length-14, array-returns-3, array-member-requires, array-enum-known-turn, array-ended-requires, array-same-length-15, array-same-length-16, array-same-length-17, array-same-length-18, array-same-length-19, array-same-length-20, array-returns-4, array-add-i, array-loop-less, array-loop-again, array-end-requires, array-same-length-21, array-same-length-22, array-same-length-23, array-same-length-24, array-same-length-25, array-same-length-26, array-returns-5}
-use Rattle.typecheck.proofs.+array+bin+call+case+cases+cast+func+listed+node+one+operand+part+record_node+sequence.Proof.Bin.{bin-node-place-requires, bin-add-word-at, bin-word-at-requires, bin-part-requires, bin-after-requires, bin-enum-known-l, bin-enum-told, bin-same-length, bin-same-length-2, bin-same-length-3, bin-same-length-4, bin-same-length-5, bin-same-length-6, bin-returns, bin-add-word-at-2, bin-word-at-requires-2, bin-part-requires-2, bin-after-requires-2, bin-enum-known-r, bin-enum-told-2, bin-same-length-7, bin-same-length-8, bin-same-length-9, bin-same-length-10, bin-same-length-11, bin-same-length-12, bin-returns-2, bin-bin-end-requires, bin-same-length-13, bin-same-length-14, bin-same-length-15, bin-same-length-16, bin-same-length-17, bin-same-length-18, bin-returns-3}
-use Rattle.typecheck.proofs.+array+bin+call+case+cases+cast+func+listed+node+one+operand+part+record_node+sequence.Proof.Call.{call-Inv-loop, call-μ-loop, call-node-place-requires, call-through-field-requires, call-report-field-requires, call-same-length, call-same-length-2, call-returns, call-word-at-requires, call-payload-requires, call-sub-count, call-loop-holds, call-add-word-at, call-add-word-at-2, call-word-at-requires-2, call-part-requires, call-after-requires, call-enum-known-a, call-enum-told, call-same-length-3, call-same-length-4, call-same-length-5, call-same-length-6, call-same-length-7, call-same-length-8, call-returns-2, call-or-poison-requires, call-add-i, call-loop-less, call-loop-again, call-resolve-requires, call-same-length-9, call-same-length-10, call-same-length-11, call-same-length-12, call-same-length-13, call-same-length-14, call-returns-3}
-use Rattle.typecheck.proofs.+array+bin+call+case+cases+cast+func+listed+node+one+operand+part+record_node+sequence.Proof.Case.{case-Inv-loop, case-μ-loop, case-add-word-at, case-word-at-requires, case-part-requires, case-after-requires, case-enum-known-a, case-enum-told, case-same-length, case-same-length-2, case-same-length-3, case-same-length-4, case-same-length-5, case-same-length-6, case-returns, case-condition-requires, case-enum-known-went, case-enum-told-2, case-halted-requires, case-same-length-7, case-same-length-8, case-same-length-9, case-same-length-10, case-same-length-11, case-same-length-12, case-returns-2, case-word-at-requires-2, case-add-place, case-add-word-at-2, case-word-at-requires-3, case-wide-requires, case-loop-holds, case-word-at-requires-4, case-part-requires-2, case-after-requires-2, case-enum-known-a-2, case-enum-told-3, case-same-length-13, case-same-length-14, case-same-length-15, case-same-length-16, case-same-length-17, case-same-length-18, case-returns-3, case-add-place-2, case-sub-left, case-loop-less, case-loop-again, case-left-requires, case-came-requires, case-same-length-19, case-same-length-20, case-same-length-21, case-same-length-22, case-same-length-23, case-same-length-24, case-returns-4}
-use Rattle.typecheck.proofs.+array+bin+call+case+cases+cast+func+listed+node+one+operand+part+record_node+sequence.Proof.Cases.{cases-Inv-loop, cases-μ-loop, cases-Inv-loop2, cases-μ-loop2, cases-node-place-requires, cases-add-word-at, cases-word-at-requires, cases-wide-requires, cases-add-place, cases-loop-holds, cases-case-requires, cases-after-requires, cases-enum-known-next, cases-enum-told, cases-same-length, cases-same-length-2, cases-same-length-3, cases-same-length-4, cases-same-length-5, cases-same-length-6, cases-returns, cases-case-end-requires, cases-add-i, cases-loop-less, cases-loop-again, cases-word-at-requires-2, cases-add-next, cases-word-at-requires-3, cases-payload-requires, cases-add-left, cases-sub-left, cases-loop2-holds, cases-word-at-requires-4, cases-part-requires, cases-after-requires-2, cases-enum-known-a, cases-enum-told-2, cases-same-length-7, cases-same-length-8, cases-same-length-9, cases-same-length-10, cases-same-length-11, cases-same-length-12, cases-returns-2, cases-add-next-2, cases-sub-left-2, cases-loop2-less, cases-loop2-again, cases-left-requires, cases-end-requires, cases-same-length-13, cases-same-length-14, cases-same-length-15, cases-same-length-16, cases-same-length-17, cases-same-length-18, cases-returns-3}
-use Rattle.typecheck.proofs.+array+bin+call+case+cases+cast+func+listed+node+one+operand+part+record_node+sequence.Proof.Cast.{cast-node-place-requires, cast-cast-begin-requires, cast-enum-known-made, cast-enum-told, cast-refused-requires, cast-same-length, cast-returns, cast-add-word-at, cast-word-at-requires, cast-part-requires, cast-after-requires, cast-enum-known-a, cast-enum-told-2, cast-same-length-2, cast-same-length-3, cast-same-length-4, cast-same-length-5, cast-same-length-6, cast-same-length-7, cast-returns-2, cast-cast-end-requires, cast-same-length-8, cast-same-length-9, cast-same-length-10, cast-same-length-11, cast-same-length-12, cast-same-length-13, cast-returns-3}
-use Rattle.typecheck.proofs.+array+bin+call+case+cases+cast+func+listed+node+one+operand+part+record_node+sequence.Proof.Func.{func-Inv-loop, func-μ-loop, func-node-place-requires, func-add-word-at, func-word-at-requires, func-wide-requires, func-begin-requires, func-enum-known-begun, func-same-length, func-same-length-2, func-same-length-3, func-same-length-4, func-same-length-5, func-same-length-6, func-returns, func-enum-known-begun-2, func-word-at-requires-2, func-payload-requires, func-word-at-requires-3, func-add-place, func-mul-place, func-add-place-2, func-mul-left, func-add-left, func-sub-left, func-loop-holds, func-word-at-requires-4, func-part-requires, func-after-requires, func-enum-known-a, func-enum-told, func-same-length-7, func-same-length-8, func-same-length-9, func-same-length-10, func-same-length-11, func-same-length-12, func-returns-2, func-add-place-3, func-sub-left-2, func-loop-less, func-loop-again, func-end-requires, func-same-length-13, func-same-length-14, func-same-length-15, func-same-length-16, func-same-length-17, func-same-length-18, func-returns-3}
-use Rattle.typecheck.proofs.+array+bin+call+case+cases+cast+func+listed+node+one+operand+part+record_node+sequence.Proof.Listed.{listed-node-place-requires, listed-word-at-requires, listed-kind-requires, listed-func-requires, listed-same-length, listed-same-length-2, listed-same-length-3, listed-same-length-4, listed-same-length-5, listed-same-length-6, listed-returns, listed-cases-requires, listed-same-length-7, listed-same-length-8, listed-same-length-9, listed-same-length-10, listed-same-length-11, listed-same-length-12, listed-returns-2, listed-sequence-requires, listed-same-length-13, listed-same-length-14, listed-same-length-15, listed-same-length-16, listed-same-length-17, listed-same-length-18, listed-returns-3}
-use Rattle.typecheck.proofs.+array+bin+call+case+cases+cast+func+listed+node+one+operand+part+record_node+sequence.Proof.Node.{node-node-place-requires, node-word-at-requires, node-kind-requires, node-is-leaf-requires, node-leaf-requires, node-same-length, node-same-length-2, node-same-length-3, node-same-length-4, node-same-length-5, node-returns, node-has-operands-requires, node-operand-requires, node-same-length-6, node-same-length-7, node-same-length-8, node-same-length-9, node-same-length-10, node-same-length-11, node-returns-2, node-listed-requires, node-same-length-12, node-same-length-13, node-same-length-14, node-same-length-15, node-same-length-16, node-same-length-17, node-returns-3}
-use Rattle.typecheck.proofs.+array+bin+call+case+cases+cast+func+listed+node+one+operand+part+record_node+sequence.Proof.One.{one-node-place-requires, one-operand-of-requires, one-part-requires, one-after-requires, one-enum-known-a, one-enum-told, one-same-length, one-same-length-2, one-same-length-3, one-same-length-4, one-same-length-5, one-same-length-6, one-returns, one-one-end-requires, one-same-length-7, one-same-length-8, one-same-length-9, one-same-length-10, one-same-length-11, one-same-length-12, one-returns-2}
-use Rattle.typecheck.proofs.+array+bin+call+case+cases+cast+func+listed+node+one+operand+part+record_node+sequence.Proof.Operand.{operand-node-place-requires, operand-word-at-requires, operand-kind-requires, operand-bin-requires, operand-same-length, operand-same-length-2, operand-same-length-3, operand-same-length-4, operand-same-length-5, operand-same-length-6, operand-returns, operand-cast-requires, operand-same-length-7, operand-same-length-8, operand-same-length-9, operand-same-length-10, operand-same-length-11, operand-same-length-12, operand-returns-2, operand-one-requires, operand-same-length-13, operand-same-length-14, operand-same-length-15, operand-same-length-16, operand-same-length-17, operand-same-length-18, operand-returns-3}
-use Rattle.typecheck.proofs.+array+bin+call+case+cases+cast+func+listed+node+one+operand+part+record_node+sequence.Proof.Part.{part-node-requires, part-same-length, part-same-length-2, part-same-length-3, part-same-length-4, part-same-length-5, part-same-length-6, part-returns}
-use Rattle.typecheck.proofs.+array+bin+call+case+cases+cast+func+listed+node+one+operand+part+record_node+sequence.Proof.RecordNode.{record-node-Inv-loop, record-node-μ-loop, record-node-node-place-requires, record-node-word-at-requires, record-node-payload-requires, record-node-sub-count, record-node-loop-holds, record-node-add-word-at, record-node-mul-word-at, record-node-add-word-at-2, record-node-word-at-requires-2, record-node-part-requires, record-node-after-requires, record-node-enum-known-next, record-node-enum-told, record-node-same-length, record-node-same-length-2, record-node-same-length-3, record-node-same-length-4, record-node-same-length-5, record-node-same-length-6, record-node-returns, record-node-add-i, record-node-loop-less, record-node-loop-again, record-node-make-requires, record-node-same-length-7, record-node-same-length-8, record-node-same-length-9, record-node-same-length-10, record-node-same-length-11, record-node-same-length-12, record-node-returns-2}
-use Rattle.typecheck.proofs.+array+bin+call+case+cases+cast+func+listed+node+one+operand+part+record_node+sequence.Proof.Sequence.{sequence-node-place-requires, sequence-word-at-requires, sequence-kind-requires, sequence-call-requires, sequence-same-length, sequence-same-length-2, sequence-same-length-3, sequence-same-length-4, sequence-same-length-5, sequence-same-length-6, sequence-returns, sequence-record-node-requires, sequence-same-length-7, sequence-same-length-8, sequence-same-length-9, sequence-same-length-10, sequence-same-length-11, sequence-same-length-12, sequence-returns-2, sequence-array-requires, sequence-same-length-13, sequence-same-length-14, sequence-same-length-15, sequence-same-length-16, sequence-same-length-17, sequence-same-length-18, sequence-returns-3}
+use Rattle.typecheck.proofs.+array+bin+block+call+case+cases+cast+func+listed+node+one+operand+part+record_node+sequence.Proof.Shared.{μ-array, μ-bin, μ-block, μ-call, μ-case, μ-cases, μ-cast, μ-func, μ-listed, μ-node, μ-one, μ-operand, μ-part, μ-record-node, μ-sequence, array-at, bin-at, block-at, call-at, case-at, cases-at, cast-at, func-at, listed-at, node-at, one-at, operand-at, part-at, record-node-at, sequence-at, array-claims, bin-claims, block-claims, call-claims, case-claims, cases-claims, cast-claims, func-claims, listed-claims, node-claims, one-claims, operand-claims, part-claims, record-node-claims, sequence-claims}
+use Rattle.typecheck.proofs.+array+bin+block+call+case+cases+cast+func+listed+node+one+operand+part+record_node+sequence.Proof.Array.{array-Inv-loop, array-μ-loop, array-node-place-requires, array-word-at-requires, array-payload-requires, array-sub-count, array-empty-requires, array-same-length, array-same-length-2, array-returns, array-add-word-at, array-word-at-requires-2, array-part-requires, array-after-requires, array-enum-known-first, array-enum-told, array-same-length-3, array-same-length-4, array-same-length-5, array-same-length-6, array-same-length-7, array-same-length-8, array-returns-2, array-loop-holds, array-add-word-at-2, array-add-word-at-3, array-word-at-requires-3, array-part-requires-2, array-after-requires-2, array-enum-known-a, array-enum-told-2, array-same-length-9, array-same-length-10, array-same-length-11, array-same-length-12, array-same-length-13, array-same-length-14, array-returns-3, array-member-requires, array-enum-known-turn, array-ended-requires, array-same-length-15, array-same-length-16, array-same-length-17, array-same-length-18, array-same-length-19, array-same-length-20, array-returns-4, array-add-i, array-loop-less, array-loop-again, array-end-requires, array-same-length-21, array-same-length-22, array-same-length-23, array-same-length-24, array-same-length-25, array-same-length-26, array-returns-5}
+use Rattle.typecheck.proofs.+array+bin+block+call+case+cases+cast+func+listed+node+one+operand+part+record_node+sequence.Proof.Bin.{bin-node-place-requires, bin-add-word-at, bin-word-at-requires, bin-part-requires, bin-after-requires, bin-enum-known-l, bin-enum-told, bin-same-length, bin-same-length-2, bin-same-length-3, bin-same-length-4, bin-same-length-5, bin-same-length-6, bin-returns, bin-add-word-at-2, bin-word-at-requires-2, bin-part-requires-2, bin-after-requires-2, bin-enum-known-r, bin-enum-told-2, bin-same-length-7, bin-same-length-8, bin-same-length-9, bin-same-length-10, bin-same-length-11, bin-same-length-12, bin-returns-2, bin-bin-end-requires, bin-same-length-13, bin-same-length-14, bin-same-length-15, bin-same-length-16, bin-same-length-17, bin-same-length-18, bin-returns-3}
+use Rattle.typecheck.proofs.+array+bin+block+call+case+cases+cast+func+listed+node+one+operand+part+record_node+sequence.Proof.Block.{block-Inv-loop, block-μ-loop, block-word-at-requires, block-loop-holds, block-word-at-requires-2, block-part-requires, block-after-requires, block-enum-known-a, block-enum-told, block-same-length, block-same-length-2, block-same-length-3, block-same-length-4, block-same-length-5, block-same-length-6, block-returns, block-add-place, block-sub-left, block-loop-less, block-loop-again, block-came-requires, block-same-length-7, block-same-length-8, block-same-length-9, block-same-length-10, block-same-length-11, block-same-length-12, block-returns-2}
+use Rattle.typecheck.proofs.+array+bin+block+call+case+cases+cast+func+listed+node+one+operand+part+record_node+sequence.Proof.Call.{call-Inv-loop, call-μ-loop, call-node-place-requires, call-through-field-requires, call-report-field-requires, call-same-length, call-same-length-2, call-returns, call-word-at-requires, call-payload-requires, call-sub-count, call-loop-holds, call-add-word-at, call-add-word-at-2, call-word-at-requires-2, call-part-requires, call-after-requires, call-enum-known-a, call-enum-told, call-same-length-3, call-same-length-4, call-same-length-5, call-same-length-6, call-same-length-7, call-same-length-8, call-returns-2, call-or-poison-requires, call-add-i, call-loop-less, call-loop-again, call-resolve-requires, call-same-length-9, call-same-length-10, call-same-length-11, call-same-length-12, call-same-length-13, call-same-length-14, call-returns-3}
+use Rattle.typecheck.proofs.+array+bin+block+call+case+cases+cast+func+listed+node+one+operand+part+record_node+sequence.Proof.Case.{case-Inv-loop, case-μ-loop, case-add-word-at, case-word-at-requires, case-part-requires, case-after-requires, case-enum-known-a, case-enum-told, case-same-length, case-same-length-2, case-same-length-3, case-same-length-4, case-same-length-5, case-same-length-6, case-returns, case-condition-requires, case-enum-known-went, case-enum-told-2, case-halted-requires, case-same-length-7, case-same-length-8, case-same-length-9, case-same-length-10, case-same-length-11, case-same-length-12, case-returns-2, case-word-at-requires-2, case-add-place, case-add-word-at-2, case-word-at-requires-3, case-wide-requires, case-loop-holds, case-word-at-requires-4, case-part-requires-2, case-after-requires-2, case-enum-known-a-2, case-enum-told-3, case-same-length-13, case-same-length-14, case-same-length-15, case-same-length-16, case-same-length-17, case-same-length-18, case-returns-3, case-add-place-2, case-sub-left, case-loop-less, case-loop-again, case-left-requires, case-came-requires, case-same-length-19, case-same-length-20, case-same-length-21, case-same-length-22, case-same-length-23, case-same-length-24, case-returns-4}
+use Rattle.typecheck.proofs.+array+bin+block+call+case+cases+cast+func+listed+node+one+operand+part+record_node+sequence.Proof.Cases.{cases-Inv-loop, cases-μ-loop, cases-Inv-loop2, cases-μ-loop2, cases-node-place-requires, cases-add-word-at, cases-word-at-requires, cases-wide-requires, cases-add-place, cases-loop-holds, cases-case-requires, cases-after-requires, cases-enum-known-next, cases-enum-told, cases-same-length, cases-same-length-2, cases-same-length-3, cases-same-length-4, cases-same-length-5, cases-same-length-6, cases-returns, cases-case-end-requires, cases-add-i, cases-loop-less, cases-loop-again, cases-word-at-requires-2, cases-add-next, cases-word-at-requires-3, cases-payload-requires, cases-add-left, cases-sub-left, cases-loop2-holds, cases-word-at-requires-4, cases-part-requires, cases-after-requires-2, cases-enum-known-a, cases-enum-told-2, cases-same-length-7, cases-same-length-8, cases-same-length-9, cases-same-length-10, cases-same-length-11, cases-same-length-12, cases-returns-2, cases-add-next-2, cases-sub-left-2, cases-loop2-less, cases-loop2-again, cases-left-requires, cases-end-requires, cases-same-length-13, cases-same-length-14, cases-same-length-15, cases-same-length-16, cases-same-length-17, cases-same-length-18, cases-returns-3}
+use Rattle.typecheck.proofs.+array+bin+block+call+case+cases+cast+func+listed+node+one+operand+part+record_node+sequence.Proof.Cast.{cast-node-place-requires, cast-cast-begin-requires, cast-enum-known-made, cast-enum-told, cast-refused-requires, cast-same-length, cast-returns, cast-add-word-at, cast-word-at-requires, cast-part-requires, cast-after-requires, cast-enum-known-a, cast-enum-told-2, cast-same-length-2, cast-same-length-3, cast-same-length-4, cast-same-length-5, cast-same-length-6, cast-same-length-7, cast-returns-2, cast-cast-end-requires, cast-same-length-8, cast-same-length-9, cast-same-length-10, cast-same-length-11, cast-same-length-12, cast-same-length-13, cast-returns-3}
+use Rattle.typecheck.proofs.+array+bin+block+call+case+cases+cast+func+listed+node+one+operand+part+record_node+sequence.Proof.Func.{func-node-place-requires, func-add-word-at, func-word-at-requires, func-wide-requires, func-begin-requires, func-enum-known-begun, func-same-length, func-same-length-2, func-same-length-3, func-same-length-4, func-same-length-5, func-same-length-6, func-returns, func-enum-known-begun-2, func-word-at-requires-2, func-payload-requires, func-add-block, func-mul-block, func-add-block-2, func-mul-block-2, func-add-block-3, func-sub-block, func-block-requires, func-after-requires, func-enum-known-computed, func-enum-told, func-same-length-7, func-same-length-8, func-same-length-9, func-same-length-10, func-same-length-11, func-same-length-12, func-returns-2, func-end-requires, func-same-length-13, func-same-length-14, func-same-length-15, func-same-length-16, func-same-length-17, func-same-length-18, func-returns-3}
+use Rattle.typecheck.proofs.+array+bin+block+call+case+cases+cast+func+listed+node+one+operand+part+record_node+sequence.Proof.Listed.{listed-node-place-requires, listed-word-at-requires, listed-kind-requires, listed-func-requires, listed-same-length, listed-same-length-2, listed-same-length-3, listed-same-length-4, listed-same-length-5, listed-same-length-6, listed-returns, listed-cases-requires, listed-same-length-7, listed-same-length-8, listed-same-length-9, listed-same-length-10, listed-same-length-11, listed-same-length-12, listed-returns-2, listed-sequence-requires, listed-same-length-13, listed-same-length-14, listed-same-length-15, listed-same-length-16, listed-same-length-17, listed-same-length-18, listed-returns-3}
+use Rattle.typecheck.proofs.+array+bin+block+call+case+cases+cast+func+listed+node+one+operand+part+record_node+sequence.Proof.Node.{node-node-place-requires, node-word-at-requires, node-kind-requires, node-is-leaf-requires, node-leaf-requires, node-same-length, node-same-length-2, node-same-length-3, node-same-length-4, node-same-length-5, node-returns, node-has-operands-requires, node-operand-requires, node-same-length-6, node-same-length-7, node-same-length-8, node-same-length-9, node-same-length-10, node-same-length-11, node-returns-2, node-listed-requires, node-same-length-12, node-same-length-13, node-same-length-14, node-same-length-15, node-same-length-16, node-same-length-17, node-returns-3}
+use Rattle.typecheck.proofs.+array+bin+block+call+case+cases+cast+func+listed+node+one+operand+part+record_node+sequence.Proof.One.{one-node-place-requires, one-operand-of-requires, one-part-requires, one-after-requires, one-enum-known-a, one-enum-told, one-same-length, one-same-length-2, one-same-length-3, one-same-length-4, one-same-length-5, one-same-length-6, one-returns, one-one-end-requires, one-same-length-7, one-same-length-8, one-same-length-9, one-same-length-10, one-same-length-11, one-same-length-12, one-returns-2}
+use Rattle.typecheck.proofs.+array+bin+block+call+case+cases+cast+func+listed+node+one+operand+part+record_node+sequence.Proof.Operand.{operand-node-place-requires, operand-word-at-requires, operand-kind-requires, operand-bin-requires, operand-same-length, operand-same-length-2, operand-same-length-3, operand-same-length-4, operand-same-length-5, operand-same-length-6, operand-returns, operand-cast-requires, operand-same-length-7, operand-same-length-8, operand-same-length-9, operand-same-length-10, operand-same-length-11, operand-same-length-12, operand-returns-2, operand-one-requires, operand-same-length-13, operand-same-length-14, operand-same-length-15, operand-same-length-16, operand-same-length-17, operand-same-length-18, operand-returns-3}
+use Rattle.typecheck.proofs.+array+bin+block+call+case+cases+cast+func+listed+node+one+operand+part+record_node+sequence.Proof.Part.{part-node-requires, part-same-length, part-same-length-2, part-same-length-3, part-same-length-4, part-same-length-5, part-same-length-6, part-returns}
+use Rattle.typecheck.proofs.+array+bin+block+call+case+cases+cast+func+listed+node+one+operand+part+record_node+sequence.Proof.RecordNode.{record-node-Inv-loop, record-node-μ-loop, record-node-node-place-requires, record-node-word-at-requires, record-node-payload-requires, record-node-sub-count, record-node-loop-holds, record-node-add-word-at, record-node-mul-word-at, record-node-add-word-at-2, record-node-word-at-requires-2, record-node-part-requires, record-node-after-requires, record-node-enum-known-next, record-node-enum-told, record-node-same-length, record-node-same-length-2, record-node-same-length-3, record-node-same-length-4, record-node-same-length-5, record-node-same-length-6, record-node-returns, record-node-add-i, record-node-loop-less, record-node-loop-again, record-node-make-requires, record-node-same-length-7, record-node-same-length-8, record-node-same-length-9, record-node-same-length-10, record-node-same-length-11, record-node-same-length-12, record-node-returns-2}
+use Rattle.typecheck.proofs.+array+bin+block+call+case+cases+cast+func+listed+node+one+operand+part+record_node+sequence.Proof.Sequence.{sequence-node-place-requires, sequence-word-at-requires, sequence-kind-requires, sequence-call-requires, sequence-same-length, sequence-same-length-2, sequence-same-length-3, sequence-same-length-4, sequence-same-length-5, sequence-same-length-6, sequence-returns, sequence-record-node-requires, sequence-same-length-7, sequence-same-length-8, sequence-same-length-9, sequence-same-length-10, sequence-same-length-11, sequence-same-length-12, sequence-returns-2, sequence-array-requires, sequence-same-length-13, sequence-same-length-14, sequence-same-length-15, sequence-same-length-16, sequence-same-length-17, sequence-same-length-18, sequence-returns-3}
 
-pub +array+bin+call+case+cases+cast+func+listed+node+one+operand+part+record-node+sequence-spec : {M : Type 1} → statement M
-+array+bin+call+case+cases+cast+func+listed+node+one+operand+part+record-node+sequence-spec =
+pub +array+bin+block+call+case+cases+cast+func+listed+node+one+operand+part+record-node+sequence-spec : {M : Type 1} → statement M
++array+bin+block+call+case+cases+cast+func+listed+node+one+operand+part+record-node+sequence-spec =
     close
     μ-array
     μ-bin
+    μ-block
     μ-call
     μ-case
     μ-cases
@@ -230,6 +236,37 @@ pub +array+bin+call+case+cases+cast+func+listed+node+one+operand+part+record-nod
     (bin-same-length-17 t)
     (bin-same-length-18 t)
     (bin-returns-3 t))
+    (λ t. block-lts.spec (block-claims t)
+    (block-at t)
+    block.Post
+    block-Inv-loop
+    block-μ-loop
+    (block-word-at-requires t)
+    (block-loop-holds t)
+    (block-word-at-requires-2 t)
+    (block-part-requires t)
+    (block-after-requires t)
+    (block-enum-known-a t)
+    (block-enum-told t)
+    (block-same-length t)
+    (block-same-length-2 t)
+    (block-same-length-3 t)
+    (block-same-length-4 t)
+    (block-same-length-5 t)
+    (block-same-length-6 t)
+    (block-returns t)
+    (block-add-place t)
+    (block-sub-left t)
+    (block-loop-less t)
+    (block-loop-again t)
+    (block-came-requires t)
+    (block-same-length-7 t)
+    (block-same-length-8 t)
+    (block-same-length-9 t)
+    (block-same-length-10 t)
+    (block-same-length-11 t)
+    (block-same-length-12 t)
+    (block-returns-2 t))
     (λ t. call-lts.spec (call-claims t)
     (call-at t)
     call.Post
@@ -425,8 +462,6 @@ pub +array+bin+call+case+cases+cast+func+listed+node+one+operand+part+record-nod
     (λ t. func-lts.spec (func-claims t)
     (func-at t)
     func.Post
-    func-Inv-loop
-    func-μ-loop
     (func-node-place-requires t)
     (func-add-word-at t)
     (func-word-at-requires t)
@@ -443,18 +478,15 @@ pub +array+bin+call+case+cases+cast+func+listed+node+one+operand+part+record-nod
     (func-enum-known-begun-2 t)
     (func-word-at-requires-2 t)
     (func-payload-requires t)
-    (func-word-at-requires-3 t)
-    (func-add-place t)
-    (func-mul-place t)
-    (func-add-place-2 t)
-    (func-mul-left t)
-    (func-add-left t)
-    (func-sub-left t)
-    (func-loop-holds t)
-    (func-word-at-requires-4 t)
-    (func-part-requires t)
+    (func-add-block t)
+    (func-mul-block t)
+    (func-add-block-2 t)
+    (func-mul-block-2 t)
+    (func-add-block-3 t)
+    (func-sub-block t)
+    (func-block-requires t)
     (func-after-requires t)
-    (func-enum-known-a t)
+    (func-enum-known-computed t)
     (func-enum-told t)
     (func-same-length-7 t)
     (func-same-length-8 t)
@@ -463,10 +495,6 @@ pub +array+bin+call+case+cases+cast+func+listed+node+one+operand+part+record-nod
     (func-same-length-11 t)
     (func-same-length-12 t)
     (func-returns-2 t)
-    (func-add-place-3 t)
-    (func-sub-left-2 t)
-    (func-loop-less t)
-    (func-loop-again t)
     (func-end-requires t)
     (func-same-length-13 t)
     (func-same-length-14 t)
