@@ -141,7 +141,7 @@ fn visit_roots<'a>(
         let b′ : Lent = lent (now (slots .exit)) (now (functions .exit)) (now (types .exit)) (now (diagnostics .exit)) (now (messages .exit)) (now (scratch .exit)) in
         ⌜ ListVisited T I (now (library .entry)) 4 (rootCount I) st b b′ r ⌝ }
 {
-    let mut places = [0u16; 2560];
+    let mut places = [0u16; 3072];
     places::record_places(&mut places, image);
     let nodes = tok::word_at(image, 0);
     let roots = tok::wide(tok::word_at(image, 2));

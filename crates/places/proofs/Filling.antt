@@ -4,7 +4,7 @@ use mathlib.Core.Path.{_≡_, refl, sym, ap, _∙_}
 use mathlib.Core.List.{List}
 use native.Mathlib.Omega.{arith}
 use lib.ListN.{length, getD, set, length-set}
-use Rattle.places.specs.Places.{clipped, placeAfter, placeLast, fill, Filled, placesIn}
+use Rattle.places.specs.Places.{clipped, placeAfter, placeLast, fill, Filled, fillLevels, placesIn}
 
 -- `left` records are left, the next of them at `at`; its place goes to index i
 pub record Filling (image : List ℕ) (index count first : ℕ) (old : List ℕ) (i left at : ℕ) (new : List ℕ) : Type 0 where
@@ -39,11 +39,11 @@ module _ {image : List ℕ} {index count first : ℕ} {old : List ℕ} where
           places = ap (λ k. fill image i k at new) (sym z) ∙ h .places;
         }
 
--- the nodes and then the types, counted and begun as the image's head says
-pub all-filled : (image : List ℕ) {a b c a′ b′ c′ nodes types first next last : ℕ} {old new new′ : List ℕ}
+-- the nodes, then the types, and then their levels, counted and begun as the image's head says
+pub all-filled : (image : List ℕ) {a b c a′ b′ c′ nodes types first next last : ℕ} {old new new′ new″ : List ℕ}
     → a ≡ getD image 0 0 → a′ ≡ a → nodes ≡ min a′ 2048
     → b ≡ getD image 1 0 → b′ ≡ b → types ≡ min b′ 512
     → c ≡ getD image 2 0 → c′ ≡ c → first ≡ clipped (4 + c′)
-    → Filled image 0 nodes first old next new → Filled image 2048 types next new last new′ → new′ ≡ placesIn image old
-all-filled image ea ea′ en eb eb′ et ec ec′ ef f g =
-    g .places ∙ rw (f .last, f .places, et, en, ef, eb′, eb, ea′, ea, ec′, ec)
+    → Filled image 0 nodes first old next new → Filled image 2048 types next new last new′ → new″ ≡ fillLevels image 0 types new′ → new″ ≡ placesIn image old
+all-filled image ea ea′ en eb eb′ et ec ec′ ef f g l =
+    l ∙ rw (g .places, f .last, f .places, et, en, ef, eb′, eb, ea′, ea, ec′, ec)

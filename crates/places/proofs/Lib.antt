@@ -1,1 +1,2 @@
 mod Filling
+mod Levelling

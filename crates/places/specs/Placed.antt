@@ -1,4 +1,4 @@
--- In an accepted image each record stands where the array says. Assumes nothing.
+-- In an accepted image each record stands where the array says, and each type has as many levels as it says. Assumes nothing.
 use Prim.Native.Nat.{ℕ, zero, suc, _+_, _≤_, _<_, min}
 use mathlib.Core.Path.{_≡_, refl, _∙_}
 use mathlib.Core.List.{List}
@@ -7,13 +7,17 @@ use native.Mathlib.Nat.{add-zero, zero-add}
 use lib.ListN.{length, getD, set, length-set, length-replicate}
 use lib.Seq.{getD-set-same, getD-set-other}
 use Rattle.ast.specs.Image.{nodeCount, typeCount, rootCount, recordLength, recordAfter, nodePlace, typePlace}
+use Rattle.ast.specs.TypeExpr.{typeOf}
 use Rattle.image_laws.specs.Accepted.{Accepted}
-use Rattle.places.specs.Places.{clipped, placeAfter, placeLast, fill, noPlaces, placesOf}
+use Rattle.places.specs.Levels.{levelsOf}
+use Rattle.places.specs.Places.{clipped, placeAfter, placeLast, fill, fillLevels, noPlaces, placesOf}
+use Rattle.places.specs.LevelsPlaced.{Levelled, levels-filled}
 
--- the array has the place of every node and of every type
+-- the array has the place of every node and of every type, and the levels of every type
 pub record Placed (image places : List ℕ) : Type 0 where
   pub nodes : (n : ℕ) → n < nodeCount image → getD places n 0 ≡ nodePlace image n
   pub types : (t : ℕ) → t < typeCount image → getD places (2048 + t) 0 ≡ typePlace image t
+  pub levels : (t : ℕ) → t < typeCount image → getD places (2560 + t) 0 ≡ levelsOf (typeOf image t)
 
 module _ (image : List ℕ) where
   -- records stand one after the other
@@ -77,24 +81,50 @@ module _ {text image : List ℕ} (a : Accepted text image) where
   unfolding nodePlace
   nodes-end = omega (arith, whole, after-more image (typeCount image) (nodePlace image (nodeCount image)))
 
-  none-length : length noPlaces ≡ 2560
+  none-length : length noPlaces ≡ 3072
   unfolding noPlaces
-  none-length = length-replicate {A = ℕ} 2560 0
+  none-length = length-replicate {A = ℕ} 3072 0
+
+  -- what stands in the array when the places are filled in
+  abbrev nodesFilled : List ℕ
+  nodesFilled = fill image 0 (nodeCount image) (4 + rootCount image) noPlaces
+
+  abbrev typesFrom : ℕ
+  typesFrom = recordAfter image (nodeCount image) (4 + rootCount image)
+
+  abbrev filled : List ℕ
+  filled = fill image 2048 (typeCount image) typesFrom nodesFilled
+
+  filled-length : length filled ≡ 3072
+  filled-length = fill-length image 2048 (typeCount image) typesFrom nodesFilled ∙ fill-length image 0 (nodeCount image) (4 + rootCount image) noPlaces ∙ none-length
+
+  nodes-filled : (n : ℕ) → n < nodeCount image → getD filled n 0 ≡ nodePlace image n
+  unfolding nodePlace
+  nodes-filled n h =
+      let l : 0 + nodeCount image ≤ length noPlaces = omega (arith, none-length, a .most-nodes) in
+      fill-before image 2048 (typeCount image) typesFrom nodesFilled n (omega (arith, a .most-nodes))
+      ∙ (rw zero-add at (fill-at image 0 (nodeCount image) (4 + rootCount image) noPlaces l (omega (arith, nodes-end)) n h))
+
+  types-filled : (t : ℕ) → t < typeCount image → getD filled (2048 + t) 0 ≡ typePlace image t
+  unfolding nodePlace typePlace
+  types-filled t h =
+      let l : 2048 + typeCount image ≤ length nodesFilled = rw fill-length (omega (arith, none-length, a .most-types)) in
+      fill-at image 2048 (typeCount image) typesFrom nodesFilled l (omega (arith, whole)) t h
+
+  all-levelled : Levelled image (fillLevels image 0 (typeCount image) filled) filled (typeCount image)
+  all-levelled = levels-filled a filled filled-length types-filled
 
   pub image-placed : Placed image (placesOf image)
-  unfolding placesOf nodePlace typePlace
+  unfolding placesOf
   image-placed =
       let n : min (nodeCount image) 2048 ≡ nodeCount image = omega (arith, a .most-nodes) in
       let t : min (typeCount image) 512 ≡ typeCount image = omega (arith, a .most-types) in
       let f : clipped (4 + rootCount image) ≡ 4 + rootCount image = omega (arith, a .most-roots) in
-      let l : placeLast image (nodeCount image) (4 + rootCount image) ≡ recordAfter image (nodeCount image) (4 + rootCount image)
-      = last-is image (nodeCount image) (4 + rootCount image) (omega (arith, nodes-end)) in
+      let l : placeLast image (nodeCount image) (4 + rootCount image) ≡ typesFrom = last-is image (nodeCount image) (4 + rootCount image) (omega (arith, nodes-end)) in
+      let v = all-levelled in
       rw (n, t, f, l)
       (record {
-        nodes =
-            λ i h. fill-before image 2048 (typeCount image) _ _ i (omega (arith, a .most-nodes))
-            ∙ (rw zero-add at (fill-at image 0 (nodeCount image) (4 + rootCount image) noPlaces (omega (arith, none-length, a .most-nodes)) (omega (arith, nodes-end)) i h));
-        types =
-            λ i h. fill-at image 2048 (typeCount image) (recordAfter image (nodeCount image) (4 + rootCount image)) (fill image 0 (nodeCount image) (4 + rootCount image) noPlaces)
-            (rw fill-length (omega (arith, none-length, a .most-types))) (omega (arith, whole)) i h;
+        nodes = λ i h. v .before i (omega (arith, a .most-nodes)) ∙ nodes-filled i h;
+        types = λ i h. v .before (2048 + i) (omega (arith, a .most-types)) ∙ types-filled i h;
+        levels = v .levels;
       })

@@ -18,7 +18,7 @@ use Rattle.tok.proofs.word_at.Reads as word-at-reads
 use Rattle.typecheck.proofs.nodes.Reads as nodes-reads
 
 -- the places are filled into zeros
-zeros-filled : (image : List ℕ) {places : List ℕ} → places ≡ placesIn image (replicate 2560 0) → places ≡ placesOf image
+zeros-filled : (image : List ℕ) {places : List ℕ} → places ≡ placesIn image (replicate 3072 0) → places ≡ placesOf image
 unfolding placesOf noPlaces
 zeros-filled image e = e
 

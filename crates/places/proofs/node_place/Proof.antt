@@ -12,8 +12,11 @@ wide-requires c κs = search needs
 place-requires : tie.Need-place-requires
 place-requires c κs = search needs
 
+cast-result : tie.Need-cast-result
+cast-result c = search needs
+
 returns : tie.Need-returns
 returns c = c .place .ensures ∙ ap (λ x. getD (now (c .before .before .before .args .places)) x 0) (c .before .wide .ensures)
 
 pub node-place-spec : {M : Type 1} → statement M
-node-place-spec = tie.close (tie.spec wide-requires place-requires returns)
+node-place-spec = tie.close (tie.spec wide-requires place-requires cast-result returns)

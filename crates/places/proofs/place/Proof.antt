@@ -13,9 +13,6 @@ mul-result c = search needs
 shared-slice-read-result : tie.Need-shared-slice-read-result
 shared-slice-read-result c = search needs
 
-cast-result : tie.Need-cast-result
-cast-result c = omega (arith, c .shared-slice-known .given (c .before .before .args .i))
-
 returns : tie.Need-returns
 returns c = search needs
 
@@ -23,4 +20,4 @@ returns-2 : tie.Need-returns-2
 returns-2 c = sym (List·getD-eq-default (c .before .args .places .now) 0 (omega arith))
 
 pub place-spec : {M : Type 1} → statement M
-place-spec = tie.close (tie.spec mul-result shared-slice-read-result cast-result returns returns-2)
+place-spec = tie.close (tie.spec mul-result shared-slice-read-result returns returns-2)

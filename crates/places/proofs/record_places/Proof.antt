@@ -1,4 +1,5 @@
--- `places::record_places` meets its contract: the nodes and then the types, counted and begun as the image's head says. Assumes nothing.
+-- `places::record_places` meets its contract: the nodes, then the types, and then their levels, counted and begun as the image's head says.
+-- Assumes nothing.
 use Rattle.places.proofs.Filling.{all-filled}
 use borrow.Author.Needs.{needs}
 use Rattle.places.proofs.record_places.Statement.{statement}
@@ -40,11 +41,23 @@ fill-requires c κs = search needs
 fill-requires-2 : tie.Need-fill-requires-2
 fill-requires-2 c κs = search needs
 
+fill-levels-requires : tie.Need-fill-levels-requires
+fill-levels-requires c κs = search needs
+
 same-length : tie.Need-same-length
 same-length c = search needs
 
 returns : tie.Need-returns
-returns c = all-filled _ (c .before .before .before .before .before .before .before .before .before .before .before .before .before .before .before .before .word-at .ensures) (c .before .before .before .before .before .before .before .before .before .before .before .before .before .before .before .wide .ensures) (c .before .before .before .before .before .before .before .before .before .before .before .before .before .before .least .ensures) (c .before .before .before .before .before .before .before .before .before .before .before .before .before .word-at2 .ensures) (c .before .before .before .before .before .before .before .before .before .before .before .before .wide2 .ensures) (c .before .before .before .before .before .before .before .before .before .before .before .least2 .ensures) (c .before .before .before .before .before .before .before .before .before .before .word-at3 .ensures) (c .before .before .before .before .before .before .before .before .before .wide3 .ensures) (c .before .before .before .before .before .before .before .before .clipped .ensures) (c .before .before .before .before .before .before .fill .ensures) (c .before .before .fill2 .ensures)
+returns c =
+    let g = c .before .before .before .before .before .before in
+    let f = g .before .before .before .before in
+    let d = f .before .before in
+    let b = d .before .before .before in
+    let a = b .before .before .before in
+    all-filled _ (a .before .before .word-at .ensures) (a .before .wide .ensures) (a .least .ensures)
+    (b .before .before .word-at2 .ensures) (b .before .wide2 .ensures) (b .least2 .ensures)
+    (d .before .before .word-at3 .ensures) (d .before .wide3 .ensures) (d .clipped .ensures)
+    (f .fill .ensures) (g .fill2 .ensures) (c .before .before .fill-levels .ensures)
 
 pub record-places-spec : {M : Type 1} → statement M
 record-places-spec =
@@ -62,5 +75,6 @@ record-places-spec =
     clipped-requires
     fill-requires
     fill-requires-2
+    fill-levels-requires
     same-length
     returns)
