@@ -76,9 +76,11 @@ module _ (go : ℕ → TypeExpr) (image : List ℕ) (T : Texts) (n : ℕ) where
     unfolding recordFrom
     goes-stop at fields used l₀ w o = rw (← w, h .is, first-is) (stays a o)
       where
+        others-then : ℕ → Step Buffer Refusal (List ℕ)
+        others-then new = λ s. next (steps (here + 2) (left - 1) s) (λ others. return (getD image here 0 ∷ new ∷ others))
+
         stays : (r : Added) → OneOf (1 ∷ 2 ∷ []) (tagOf the-type r)
-            → next (next (next (resultOf n r l₁) (λ new s. next (steps (here + 2) (left - 1) s) (λ others. return (getD image here 0 ∷ new ∷ others)))) (λ others. return (h .before others))) (λ pairs s. next (opened n fields s) (paired 0 pairs))
-            ≡ resultOf n r l₁
+            → next (next (next (resultOf n r l₁) others-then) (λ others. return (h .before others))) (λ pairs s. next (opened n fields s) (paired 0 pairs)) ≡ resultOf n r l₁
         stays (Put w v) o = absurd (⊎-elim (λ z. eqb-false 0 1 refl z) (λ z. eqb-false 0 2 refl z) o)
         stays Full o = refl
         stays TooDeep o = refl

@@ -1,2 +1,3 @@
 mod Returns
 mod FieldReturns
+mod DeepReturns

@@ -65,11 +65,14 @@ module _ {image places : List ℕ} {t at : ℕ} (r : TypeReady image places t) (
     kind-array a f c o = only-array k (rw (kind k refl) at (type-read (r .readable) (r .below) e .words .kind)) a f c o
 
     -- an Atom's kind
-    pub atom-kind : {x : ℕ} → k ≡ 0 → x ≡ getD image (at + 2) 0 → x < 16
-    atom-kind q ex =
+    pub atom-low : {x : ℕ} → k ≡ 0 → x ≡ getD image (at + 2) 0 → x ≤ 5
+    atom-low q ex =
         let w : TypeAtomWords (countsIn (r .readable .text) image) image t (typePlace image t) = type-atom-words (type-read (r .readable) (r .below) e) (kind 0 q) in
         let m : getD image (at + 2) 0 ≤ 5 = rw there (w .most) in
         omega arith
+
+    pub atom-kind : {x : ℕ} → k ≡ 0 → x ≡ getD image (at + 2) 0 → x < 16
+    atom-kind q ex = omega (arith, atom-low q ex)
 
     -- what is inside an Option or an Array
     inside : TypeInnerWords (countsIn (r .readable .text) image) image t (typePlace image t) → {i : ℕ} → i ≡ getD image (at + 1) 0 → PartReady image places t i

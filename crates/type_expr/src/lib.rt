@@ -1,6 +1,7 @@
 // Types built from the type expressions of an image (frontend/lib.rs: type_from_type_expr; ast.rs: Ast::type_token).
 // Recursion by the number of the type: "A part's number is smaller than its owner's."
 use add::Added;
+use places::type_levels;
 use places::type_place;
 use tok::kind;
 use tok::payload;
@@ -9,12 +10,15 @@ ghost use mathlib.Core.Path.{_≡_};
 ghost use Prim.Native.Nat.{ℕ, _+_, _<_, _≤_, _^_};
 ghost use Rattle.tok.specs.Word.{wordOf, payloadOf};
 ghost use Rattle.tok.specs.Text.{Texts};
-ghost use Rattle.ptype.specs.Add.{buffer, write};
+ghost use Rattle.tok.specs.Step.{Result, Refusal, next};
+ghost use Rattle.ptype.specs.Add.{Buffer, buffer, write, addRecord};
 ghost use Rattle.add.specs.Answer.{resultOf};
 ghost use Rattle.add.specs.Parts.{recordFrom};
 ghost use Rattle.ast.specs.TypeExpr.{TypeFields, typeOf, typeToken, typeFieldsFrom};
 ghost use Rattle.ast.specs.TypeFrom.{typeFrom, fieldsFromExprs};
+ghost use Rattle.places.specs.Levels.{levelsOf, mostLevels};
 ghost use Rattle.type_expr.specs.Ready.{TypeReady, FieldsReady};
+ghost use Rattle.type_expr.specs.Onward.{Onward};
 ghost use Rattle.type_expr.specs.Sizes.{sizeOf, sizesOf, wordBefore, pairsAfter};
 
 // The kinds of type records.
@@ -66,6 +70,8 @@ fn foreign_word(token: u32) -> u32
 }
 
 // Adds the type of a type expression, what is inside it first. Where it is refused, the rules leave open what the buffer holds.
+// More than 32 levels are refused in the end (8, or 7 where the buffer is full before), so of more than 33 only the first part of more
+// than 32 levels is gone on with: no frame for each level past them.
 pub fn type_from_type_expr(
     types: &mut [u32],
     used: usize,
@@ -73,6 +79,74 @@ pub fn type_from_type_expr(
     places: &[u16],
     t: u32,
 ) -> Added
+    requires { ⌜ TypeReady (now image) (now places) t ⌝ }
+    ensures { λ r. ⌜ ((T : Texts) (n : ℕ) → typeFrom T n (typeOf (now (image .entry)) t) (buffer (now (types .entry)) used) ≡ resultOf n r (now (types .exit))) ⌝ }
+{
+    let mut u = used;
+    let mut here = t;
+    while type_levels(places, here) > 33 {
+        let r = deep_part(types, u, image, places, here);
+        let Added::Put(part, more) = r else {
+            return r;
+        };
+        here = part;
+        u = more;
+    }
+    build(types, u, image, places, here)
+}
+
+// Of a type of more than 33 levels, the number of the first part of more than 32, and how many words are used before it (Put); or the
+// refusal that comes before it.
+fn deep_part(types: &mut [u32], used: usize, image: &[u32], places: &[u16], t: u32) -> Added
+    requires { ⌜ TypeReady (now image) (now places) t × (33 < levelsOf (typeOf (now image) t)) ⌝ }
+    ensures { λ r. let whole : Texts → ℕ → Result Buffer Refusal ℕ = λ T n. typeFrom T n (typeOf (now (image .entry)) t) (buffer (now (types .entry)) used) in
+        ⌜ Onward (now (image .entry)) (now (places .entry)) t whole r (now (types .exit)) ⌝ }
+{
+    let at = type_place(places, t);
+    let head = word_at(image, at);
+    if kind(head) == RECORD {
+        let fields = (payload(head) - 2) / 2;
+        return deep_field(types, used, image, places, t, at + 2, fields);
+    }
+    Added::Put(word_at(image, at + 1), used)
+}
+
+// The same of the fields of the type `owner`: the types of those before the part are added.
+fn deep_field(
+    types: &mut [u32],
+    used: usize,
+    image: &[u32],
+    places: &[u16],
+    owner: u32,
+    at: usize,
+    fields: usize,
+) -> Added
+    requires { ⌜ FieldsReady (now image) (now places) owner at fields × (32 < mostLevels (typeFieldsFrom (typeOf (now image)) (now image) at fields)) ⌝ }
+    ensures { λ r. let fs : TypeFields = typeFieldsFrom (typeOf (now (image .entry))) (now (image .entry)) at fields in
+        let whole : Texts → ℕ → Result Buffer Refusal ℕ = λ T n. next (fieldsFromExprs T n fs (buffer (now (types .entry)) used)) (addRecord T n) in
+        ⌜ Onward (now (image .entry)) (now (places .entry)) owner whole r (now (types .exit)) ⌝ }
+{
+    let mut u = used;
+    let mut here = at;
+    let mut left = fields;
+    while left > 0 {
+        let t = word_at(image, here + 1);
+        if type_levels(places, t) > 32 {
+            return Added::Put(t, u);
+        }
+        let a = build(types, u, image, places, t);
+        let Added::Put(_, more) = a else {
+            return a;
+        };
+        u = more;
+        here += 2;
+        left -= 1;
+    }
+    Added::TooDeep
+}
+
+// The same, of a type expression that is given only where it has at most 33 levels: it calls itself once a level.
+fn build(types: &mut [u32], used: usize, image: &[u32], places: &[u16], t: u32) -> Added
     requires { ⌜ TypeReady (now image) (now places) t ⌝ }
     ensures { λ r. ⌜ ((T : Texts) (n : ℕ) → typeFrom T n (typeOf (now (image .entry)) t) (buffer (now (types .entry)) used) ≡ resultOf n r (now (types .exit))) ⌝ }
 {
@@ -90,7 +164,7 @@ pub fn type_from_type_expr(
         let r = fields_from_exprs(types, used, image, places, t, at + 2, fields);
         return add::close_record(&types[..], r);
     }
-    let r = type_from_type_expr(types, used, image, places, word_at(image, at + 1));
+    let r = build(types, used, image, places, word_at(image, at + 1));
     let Added::Put(inner, u) = r else {
         return r;
     };
@@ -112,13 +186,14 @@ fn fields_from_exprs(
     fields: usize,
 ) -> Added
     requires { ⌜ FieldsReady (now image) (now places) owner at fields ⌝ }
-    ensures { λ r. ⌜ ((T : Texts) (n : ℕ) → recordFrom n fields 0 (fieldsFromExprs T n (typeFieldsFrom (typeOf (now (image .entry))) (now (image .entry)) at fields)) (buffer (now (types .entry)) used) ≡ resultOf n r (now (types .exit))) ⌝ }
+    ensures { λ r. let fs : TypeFields = typeFieldsFrom (typeOf (now (image .entry))) (now (image .entry)) at fields in
+        ⌜ ((T : Texts) (n : ℕ) → recordFrom n fields 0 (fieldsFromExprs T n fs) (buffer (now (types .entry)) used) ≡ resultOf n r (now (types .exit))) ⌝ }
 {
     let mut u = used;
     let mut here = at;
     let mut left = fields;
     while left > 0 {
-        let a = type_from_type_expr(types, u, image, places, word_at(image, here + 1));
+        let a = build(types, u, image, places, word_at(image, here + 1));
         let Added::Put(_, more) = a else {
             return a;
         };
