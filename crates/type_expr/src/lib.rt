@@ -1,5 +1,5 @@
 // Types built from the type expressions of an image (frontend/lib.rs: type_from_type_expr; ast.rs: Ast::type_token).
-// Recursion by the number of the type: "A part's number is smaller than its owner's."
+// Recursion by the levels or by the number of the type: "A part's number is smaller than its owner's."
 use add::Added;
 use places::type_levels;
 use places::type_place;
@@ -145,9 +145,9 @@ fn deep_field(
     Added::TooDeep
 }
 
-// The same, of a type expression that is given only where it has at most 33 levels: it calls itself once a level.
+// Adds the type of a type expression of at most 33 levels. It calls itself once for each level.
 fn build(types: &mut [u32], used: usize, image: &[u32], places: &[u16], t: u32) -> Added
-    requires { ⌜ TypeReady (now image) (now places) t ⌝ }
+    requires { ⌜ TypeReady (now image) (now places) t × (levelsOf (typeOf (now image) t) ≤ 33) ⌝ }
     ensures { λ r. ⌜ ((T : Texts) (n : ℕ) → typeFrom T n (typeOf (now (image .entry)) t) (buffer (now (types .entry)) used) ≡ resultOf n r (now (types .exit))) ⌝ }
 {
     let at = type_place(places, t);
@@ -185,7 +185,7 @@ fn fields_from_exprs(
     at: usize,
     fields: usize,
 ) -> Added
-    requires { ⌜ FieldsReady (now image) (now places) owner at fields ⌝ }
+    requires { ⌜ FieldsReady (now image) (now places) owner at fields × (mostLevels (typeFieldsFrom (typeOf (now image)) (now image) at fields) ≤ 32) ⌝ }
     ensures { λ r. let fs : TypeFields = typeFieldsFrom (typeOf (now (image .entry))) (now (image .entry)) at fields in
         ⌜ ((T : Texts) (n : ℕ) → recordFrom n fields 0 (fieldsFromExprs T n fs) (buffer (now (types .entry)) used) ≡ resultOf n r (now (types .exit))) ⌝ }
 {

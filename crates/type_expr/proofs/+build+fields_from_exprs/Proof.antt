@@ -1,8 +1,8 @@
--- `type_expr::build` and `type_expr::fields_from_exprs` meet their contracts: one law for each return. The number of the type
--- falls. The loop's invariant: the steps of all fields go on with those of the fields that are left. Assumes nothing.
+-- `type_expr::build` and `type_expr::fields_from_exprs` meet their contracts: one law for each return. The levels fall.
+-- The loop's invariant: the steps of all fields go on with those of the fields that are left, which have no more levels. Assumes nothing.
 use mathlib.Core.Path.{_≡_, refl}
 use mathlib.Core.List.{[]}
-use Prim.Native.Nat.{ℕ, _+_, _*_, _<_}
+use Prim.Native.Nat.{ℕ, _+_, _*_, _≤_, _<_}
 use native.Mathlib.Omega.{arith}
 use lib.ListN.{length}
 use borrow.Author.Needs.{needs}
@@ -10,8 +10,11 @@ use Rattle.tok.specs.Text.{Texts, textsOf}
 use Rattle.ptype.specs.Add.{buffer}
 use Rattle.ast.specs.TypeExpr.{typeOf, typeFieldsFrom}
 use Rattle.ast.specs.TypeFrom.{fieldsFromExprs}
+use Rattle.places.specs.Levels.{levelsOf, mostLevels}
 use Rattle.type_expr.specs.Ready.{FieldsReady}
 use Rattle.type_expr.specs.TypesAt.{words-there, two-words, atom-kind, inner-ready, fields-ready, first-ready, rest-ready}
+use Rattle.type_expr.specs.LevelLaws.{most-first}
+use Rattle.type_expr.proofs.DeepReturns.{levels-record, levels-inner}
 use Rattle.type_expr.proofs.Returns.{from-atom, from-foreign, from-record, inner-stop, option-put, array-put}
 use Rattle.type_expr.proofs.FieldReturns.{Goes, goes-all, goes-next, goes-stop, open-stop, open-room, open-put}
 use borrow.Fn.Kinds.{In}
@@ -37,10 +40,12 @@ use Rattle.type_expr.proofs.+build+fields_from_exprs.{statement}
 use Rattle.type_expr.proofs.+build+fields_from_exprs.Tie.{close}
 
 abbrev μ-build : Measures 3 build-kinds.ps ℕ
-μ-build κs a = a .1 .1 .1 .1 .0 * 2 + 1
+μ-build κs a = levelsOf (typeOf (a .1 .1 .0 .now) (a .1 .1 .1 .1 .0)) * 2
 
 abbrev μ-fields-from-exprs : Measures 3 fields-from-exprs-kinds.ps ℕ
-μ-fields-from-exprs κs a = a .1 .1 .1 .1 .0 * 2
+μ-fields-from-exprs κs a =
+    let I = a .1 .1 .0 .now in
+    mostLevels (typeFieldsFrom (typeOf I) I (a .1 .1 .1 .1 .1 .0) (a .1 .1 .1 .1 .1 .1 .0)) * 2 + 1
 
 abbrev build-at : ℕ → In 3 build-kinds.ps
 build-at t = and 3 build-kinds.ps (is 3 build-kinds.ps μ-build t) build.Pre
@@ -77,19 +82,19 @@ build-kind-requires : (t : ℕ) → build-lts.Need-kind-requires (build-claims t
 build-kind-requires t c κs = search needs
 
 build-add-word-at : (t : ℕ) → build-lts.Need-add-word-at (build-claims t) (build-at t) build.Post
-build-add-word-at t c = omega (arith, words-there (c .before .before .before .before .before .before .before .pre .1) (c .before .before .before .type-place .ensures))
+build-add-word-at t c = omega (arith, words-there (c .before .before .before .before .before .before .before .pre .1 .0) (c .before .before .before .type-place .ensures))
 
 build-word-at-requires-2 : (t : ℕ) → build-lts.Need-word-at-requires-2 (build-claims t) (build-at t) build.Post
 build-word-at-requires-2 t c κs = search needs
 
 build-plain-word-requires : (t : ℕ) → build-lts.Need-plain-word-requires (build-claims t) (build-at t) build.Post
-build-plain-word-requires t c κs = atom-kind (c .before .before .before .before .before .before .before .before .pre .1) (c .before .before .before .before .type-place .ensures) (c .before .before .before .word-at .ensures) (c .before .before .kind .ensures) (c .before .if1 .taken) (c .word-at2 .ensures)
+build-plain-word-requires t c κs = atom-kind (c .before .before .before .before .before .before .before .before .pre .1 .0) (c .before .before .before .before .type-place .ensures) (c .before .before .before .word-at .ensures) (c .before .before .kind .ensures) (c .before .if1 .taken) (c .word-at2 .ensures)
 
 build-returns : (t : ℕ) → build-lts.Need-returns (build-claims t) (build-at t) build.Post
-build-returns t c = λ T n. from-atom (c .before .before .before .before .before .before .before .before .before .pre .1) (c .before .before .before .before .before .type-place .ensures) (c .before .before .before .before .word-at .ensures) (c .before .before .before .kind .ensures) T n _ _ (c .before .before .if1 .taken) (c .before .word-at2 .ensures) (c .plain-word .ensures)
+build-returns t c = λ T n. from-atom (c .before .before .before .before .before .before .before .before .before .pre .1 .0) (c .before .before .before .before .before .type-place .ensures) (c .before .before .before .before .word-at .ensures) (c .before .before .before .kind .ensures) T n _ _ (c .before .before .if1 .taken) (c .before .word-at2 .ensures) (c .plain-word .ensures)
 
 build-add-word-at-2 : (t : ℕ) → build-lts.Need-add-word-at-2 (build-claims t) (build-at t) build.Post
-build-add-word-at-2 t c = omega (arith, words-there (c .before .before .before .before .before .before .before .before .pre .1) (c .before .before .before .before .type-place .ensures))
+build-add-word-at-2 t c = omega (arith, words-there (c .before .before .before .before .before .before .before .before .pre .1 .0) (c .before .before .before .before .type-place .ensures))
 
 build-word-at-requires-3 : (t : ℕ) → build-lts.Need-word-at-requires-3 (build-claims t) (build-at t) build.Post
 build-word-at-requires-3 t c κs = search needs
@@ -98,19 +103,28 @@ build-foreign-word-requires : (t : ℕ) → build-lts.Need-foreign-word-requires
 build-foreign-word-requires t c κs = search needs
 
 build-returns-2 : (t : ℕ) → build-lts.Need-returns-2 (build-claims t) (build-at t) build.Post
-build-returns-2 t c = λ T n. from-foreign (c .before .before .before .before .before .before .before .before .before .before .pre .1) (c .before .before .before .before .before .before .type-place .ensures) (c .before .before .before .before .before .word-at .ensures) (c .before .before .before .before .kind .ensures) T n _ _ (c .before .before .if2 .taken) (c .before .word-at3 .ensures) (c .foreign-word .ensures)
+build-returns-2 t c = λ T n. from-foreign (c .before .before .before .before .before .before .before .before .before .before .pre .1 .0) (c .before .before .before .before .before .before .type-place .ensures) (c .before .before .before .before .before .word-at .ensures) (c .before .before .before .before .kind .ensures) T n _ _ (c .before .before .if2 .taken) (c .before .word-at3 .ensures) (c .foreign-word .ensures)
 
 build-payload-requires : (t : ℕ) → build-lts.Need-payload-requires (build-claims t) (build-at t) build.Post
 build-payload-requires t c κs = search needs
 
 build-sub-fields : (t : ℕ) → build-lts.Need-sub-fields (build-claims t) (build-at t) build.Post
-build-sub-fields t c = two-words (c .before .before .before .before .before .before .before .before .before .before .pre .1) (c .before .before .before .before .before .before .type-place .ensures) (c .before .before .before .before .before .word-at .ensures) (c .before .before .before .before .kind .ensures) (c .payload .ensures)
+build-sub-fields t c = two-words (c .before .before .before .before .before .before .before .before .before .before .pre .1 .0) (c .before .before .before .before .before .before .type-place .ensures) (c .before .before .before .before .before .word-at .ensures) (c .before .before .before .before .kind .ensures) (c .payload .ensures)
 
 build-add-fields-from-exprs : (t : ℕ) → build-lts.Need-add-fields-from-exprs (build-claims t) (build-at t) build.Post
-build-add-fields-from-exprs t c = omega (arith, words-there (c .before .before .before .before .before .before .before .before .before .before .before .pre .1) (c .before .before .before .before .before .before .before .type-place .ensures))
+build-add-fields-from-exprs t c = omega (arith, words-there (c .before .before .before .before .before .before .before .before .before .before .before .pre .1 .0) (c .before .before .before .before .before .before .before .type-place .ensures))
 
 build-fields-from-exprs-requires : (t : ℕ) → build-lts.Need-fields-from-exprs-requires (build-claims t) (build-at t) build.Post
-build-fields-from-exprs-requires t c κs = let f = fields-ready (c .before .before .before .before .before .before .before .before .before .before .before .pre .1) (c .before .before .before .before .before .before .before .type-place .ensures) (c .before .before .before .before .before .before .word-at .ensures) (c .before .before .before .before .before .kind .ensures) (c .before .payload .ensures) (c .before .before .if3 .taken) in (omega (arith, c .before .before .before .before .before .before .before .before .before .before .before .pre .0), f)
+build-fields-from-exprs-requires t c κs =
+    let c1 = c .before in
+    let c2 = c1 .before in
+    let c3 = c2 .before .before .before in
+    let c4 = c3 .before in
+    let c5 = c4 .before in
+    let pre = c5 .before .before .before .before .pre in
+    let f = fields-ready (pre .1 .0) (c5 .type-place .ensures) (c4 .word-at .ensures) (c3 .kind .ensures) (c1 .payload .ensures) (c2 .if3 .taken) in
+    let l = levels-record (pre .1 .0) (c5 .type-place .ensures) (c4 .word-at .ensures) (c3 .kind .ensures) (c2 .if3 .taken) (c1 .payload .ensures) refl in
+    (omega (arith, pre .0, l), (f, omega (arith, pre .1 .1, l)))
 
 build-close-record-requires : (t : ℕ) → build-lts.Need-close-record-requires (build-claims t) (build-at t) build.Post
 build-close-record-requires t c κs = search needs
@@ -119,16 +133,26 @@ build-same-length : (t : ℕ) → build-lts.Need-same-length (build-claims t) (b
 build-same-length t c = search needs
 
 build-returns-3 : (t : ℕ) → build-lts.Need-returns-3 (build-claims t) (build-at t) build.Post
-build-returns-3 t c = λ T n. from-record (c .before .before .before .before .before .before .before .before .before .before .before .before .before .before .before .before .pre .1) (c .before .before .before .before .before .before .before .before .before .before .before .before .type-place .ensures) (c .before .before .before .before .before .before .before .before .before .before .before .word-at .ensures) (c .before .before .before .before .before .before .before .before .before .before .kind .ensures) T n _ _ (c .before .before .before .before .fields-from-exprs .result) (c .before .before .before .before .fields-from-exprs .last .0) (c .before .before .before .before .before .before .before .if3 .taken) (c .before .before .before .before .before .before .payload .ensures) refl (c .before .before .before .before .fields-from-exprs .ensures T n) (c .close-record .ensures T n)
+build-returns-3 t c = λ T n. from-record (c .before .before .before .before .before .before .before .before .before .before .before .before .before .before .before .before .pre .1 .0) (c .before .before .before .before .before .before .before .before .before .before .before .before .type-place .ensures) (c .before .before .before .before .before .before .before .before .before .before .before .word-at .ensures) (c .before .before .before .before .before .before .before .before .before .before .kind .ensures) T n _ _ (c .before .before .before .before .fields-from-exprs .result) (c .before .before .before .before .fields-from-exprs .last .0) (c .before .before .before .before .before .before .before .if3 .taken) (c .before .before .before .before .before .before .payload .ensures) refl (c .before .before .before .before .fields-from-exprs .ensures T n) (c .close-record .ensures T n)
 
 build-add-word-at-3 : (t : ℕ) → build-lts.Need-add-word-at-3 (build-claims t) (build-at t) build.Post
-build-add-word-at-3 t c = omega (arith, words-there (c .before .before .before .before .before .before .before .before .before .before .pre .1) (c .before .before .before .before .before .before .type-place .ensures))
+build-add-word-at-3 t c = omega (arith, words-there (c .before .before .before .before .before .before .before .before .before .before .pre .1 .0) (c .before .before .before .before .before .before .type-place .ensures))
 
 build-word-at-requires-4 : (t : ℕ) → build-lts.Need-word-at-requires-4 (build-claims t) (build-at t) build.Post
 build-word-at-requires-4 t c κs = search needs
 
 build-build-requires : (t : ℕ) → build-lts.Need-build-requires (build-claims t) (build-at t) build.Post
-build-build-requires t c κs = let p = inner-ready (c .before .before .before .before .before .before .before .before .before .before .before .pre .1) (c .before .before .before .before .before .before .before .type-place .ensures) (c .before .before .before .before .before .before .word-at .ensures) (c .before .before .before .before .before .kind .ensures) (c .before .before .before .before .if1 .left) (c .before .before .before .if2 .left) (c .before .before .if3 .left) (c .word-at4 .ensures) in (omega (arith, c .before .before .before .before .before .before .before .before .before .before .before .pre .0, p .under), p .ready)
+build-build-requires t c κs =
+    let c2 = c .before .before in
+    let c3 = c2 .before in
+    let c4 = c3 .before in
+    let c5 = c4 .before in
+    let c6 = c5 .before in
+    let c7 = c6 .before in
+    let pre = c7 .before .before .before .before .pre in
+    let p = inner-ready (pre .1 .0) (c7 .type-place .ensures) (c6 .word-at .ensures) (c5 .kind .ensures) (c4 .if1 .left) (c3 .if2 .left) (c2 .if3 .left) (c .word-at4 .ensures) in
+    let l = levels-inner (pre .1 .0) (c7 .type-place .ensures) (c6 .word-at .ensures) (c5 .kind .ensures) (c .word-at4 .ensures) (c4 .if1 .left) (c3 .if2 .left) (c2 .if3 .left) in
+    (omega (arith, pre .0, l), (p .ready, omega (arith, pre .1 .1, l)))
 
 build-enum-known-r : (t : ℕ) → build-lts.Need-enum-known-r (build-claims t) (build-at t) build.Post
 build-enum-known-r t c = search needs
@@ -137,7 +161,7 @@ build-same-length-2 : (t : ℕ) → build-lts.Need-same-length-2 (build-claims t
 build-same-length-2 t c = search needs
 
 build-returns-4 : (t : ℕ) → build-lts.Need-returns-4 (build-claims t) (build-at t) build.Post
-build-returns-4 t c = λ T n. inner-stop (c .before .before .before .before .before .before .before .before .before .before .before .before .before .before .before .pre .1) (c .before .before .before .before .before .before .before .before .before .before .before .type-place .ensures) (c .before .before .before .before .before .before .before .before .before .before .word-at .ensures) (c .before .before .before .before .before .before .before .before .before .kind .ensures) T n _ _ (c .before .before .before .before .word-at4 .ensures) (c .before .before .before .build .result) (c .before .before .before .build .last .0) (c .before .before .before .build .ensures T n) (c .before .before .before .before .before .before .before .before .if1 .left) (c .before .before .before .before .before .before .before .if2 .left) (c .before .before .before .before .before .before .if3 .left) (c .match .keys2)
+build-returns-4 t c = λ T n. inner-stop (c .before .before .before .before .before .before .before .before .before .before .before .before .before .before .before .pre .1 .0) (c .before .before .before .before .before .before .before .before .before .before .before .type-place .ensures) (c .before .before .before .before .before .before .before .before .before .before .word-at .ensures) (c .before .before .before .before .before .before .before .before .before .kind .ensures) T n _ _ (c .before .before .before .before .word-at4 .ensures) (c .before .before .before .build .result) (c .before .before .before .build .last .0) (c .before .before .before .build .ensures T n) (c .before .before .before .before .before .before .before .before .if1 .left) (c .before .before .before .before .before .before .before .if2 .left) (c .before .before .before .before .before .before .if3 .left) (c .match .keys2)
 
 build-add-option-requires : (t : ℕ) → build-lts.Need-add-option-requires (build-claims t) (build-at t) build.Post
 build-add-option-requires t c κs = search needs
@@ -146,7 +170,7 @@ build-same-length-3 : (t : ℕ) → build-lts.Need-same-length-3 (build-claims t
 build-same-length-3 t c = search needs
 
 build-returns-5 : (t : ℕ) → build-lts.Need-returns-5 (build-claims t) (build-at t) build.Post
-build-returns-5 t c = λ T n. option-put (c .before .before .before .before .before .before .before .before .before .before .before .before .before .before .before .before .before .before .before .before .before .before .pre .1) (c .before .before .before .before .before .before .before .before .before .before .before .before .before .before .before .before .before .before .type-place .ensures) (c .before .before .before .before .before .before .before .before .before .before .before .before .before .before .before .before .before .word-at .ensures) (c .before .before .before .before .before .before .before .before .before .before .before .before .before .before .before .before .kind .ensures) T n _ _ (c .before .before .before .before .before .before .before .before .before .before .before .word-at4 .ensures) (c .before .before .before .before .before .before .before .before .before .before .build .result) (c .before .before .before .before .before .before .before .before .before .before .build .last .0) (c .before .before .before .before .before .before .before .before .before .before .build .ensures T n) (c .before .before .before .before .before .before .before .before .before .before .before .before .before .before .before .if1 .left) (c .before .before .before .before .before .before .before .before .before .before .before .before .before .before .if2 .left) (c .before .before .before .before .before .before .before .before .before .before .before .before .before .if3 .left) (c .before .before .before .before .before .before .r .given .1) (c .before .before .before .before .if4 .taken) (c .before .before .add-option .ensures .result T n)
+build-returns-5 t c = λ T n. option-put (c .before .before .before .before .before .before .before .before .before .before .before .before .before .before .before .before .before .before .before .before .before .before .pre .1 .0) (c .before .before .before .before .before .before .before .before .before .before .before .before .before .before .before .before .before .before .type-place .ensures) (c .before .before .before .before .before .before .before .before .before .before .before .before .before .before .before .before .before .word-at .ensures) (c .before .before .before .before .before .before .before .before .before .before .before .before .before .before .before .before .kind .ensures) T n _ _ (c .before .before .before .before .before .before .before .before .before .before .before .word-at4 .ensures) (c .before .before .before .before .before .before .before .before .before .before .build .result) (c .before .before .before .before .before .before .before .before .before .before .build .last .0) (c .before .before .before .before .before .before .before .before .before .before .build .ensures T n) (c .before .before .before .before .before .before .before .before .before .before .before .before .before .before .before .if1 .left) (c .before .before .before .before .before .before .before .before .before .before .before .before .before .before .if2 .left) (c .before .before .before .before .before .before .before .before .before .before .before .before .before .if3 .left) (c .before .before .before .before .before .before .r .given .1) (c .before .before .before .before .if4 .taken) (c .before .before .add-option .ensures .result T n)
 
 build-add-array-requires : (t : ℕ) → build-lts.Need-add-array-requires (build-claims t) (build-at t) build.Post
 build-add-array-requires t c κs = search needs
@@ -155,12 +179,13 @@ build-same-length-4 : (t : ℕ) → build-lts.Need-same-length-4 (build-claims t
 build-same-length-4 t c = search needs
 
 build-returns-6 : (t : ℕ) → build-lts.Need-returns-6 (build-claims t) (build-at t) build.Post
-build-returns-6 t c = λ T n. array-put (c .before .before .before .before .before .before .before .before .before .before .before .before .before .before .before .before .before .before .before .before .before .before .pre .1) (c .before .before .before .before .before .before .before .before .before .before .before .before .before .before .before .before .before .before .type-place .ensures) (c .before .before .before .before .before .before .before .before .before .before .before .before .before .before .before .before .before .word-at .ensures) (c .before .before .before .before .before .before .before .before .before .before .before .before .before .before .before .before .kind .ensures) T n _ _ (c .before .before .before .before .before .before .before .before .before .before .before .word-at4 .ensures) (c .before .before .before .before .before .before .before .before .before .before .build .result) (c .before .before .before .before .before .before .before .before .before .before .build .last .0) (c .before .before .before .before .before .before .before .before .before .before .build .ensures T n) (c .before .before .before .before .before .before .before .before .before .before .before .before .before .before .before .if1 .left) (c .before .before .before .before .before .before .before .before .before .before .before .before .before .before .if2 .left) (c .before .before .before .before .before .before .before .before .before .before .before .before .before .if3 .left) (c .before .before .before .before .before .before .r .given .1) (c .before .before .before .before .if4 .left) (c .before .before .add-array .ensures .result T n)
+build-returns-6 t c = λ T n. array-put (c .before .before .before .before .before .before .before .before .before .before .before .before .before .before .before .before .before .before .before .before .before .before .pre .1 .0) (c .before .before .before .before .before .before .before .before .before .before .before .before .before .before .before .before .before .before .type-place .ensures) (c .before .before .before .before .before .before .before .before .before .before .before .before .before .before .before .before .before .word-at .ensures) (c .before .before .before .before .before .before .before .before .before .before .before .before .before .before .before .before .kind .ensures) T n _ _ (c .before .before .before .before .before .before .before .before .before .before .before .word-at4 .ensures) (c .before .before .before .before .before .before .before .before .before .before .build .result) (c .before .before .before .before .before .before .before .before .before .before .build .last .0) (c .before .before .before .before .before .before .before .before .before .before .build .ensures T n) (c .before .before .before .before .before .before .before .before .before .before .before .before .before .before .before .if1 .left) (c .before .before .before .before .before .before .before .before .before .before .before .before .before .before .if2 .left) (c .before .before .before .before .before .before .before .before .before .before .before .before .before .if3 .left) (c .before .before .before .before .before .before .r .given .1) (c .before .before .before .before .if4 .left) (c .before .before .add-array .ensures .result T n)
 
 abbrev fields-from-exprs-Inv-loop : fields-from-exprs-lts.InvT-loop
 fields-from-exprs-Inv-loop types₀ used image places owner at fields u₀ here₀ left₀ types u here left =
     ((T : Texts) (n : ℕ) → Goes (fieldsFromExprs T n (typeFieldsFrom (typeOf image) image at fields) (buffer types₀ used)) (fieldsFromExprs T n (typeFieldsFrom (typeOf image) image here left) (buffer types u)))
-    × (FieldsReady image places owner here left × (length types ≡ length types₀))
+    × (FieldsReady image places owner here left × ((length types ≡ length types₀)
+    × (mostLevels (typeFieldsFrom (typeOf image) image here left) ≤ mostLevels (typeFieldsFrom (typeOf image) image at fields))))
 
 abbrev fields-from-exprs-μ-loop : fields-from-exprs-lts.MeasureT-loop
 fields-from-exprs-μ-loop types₀ used image places owner at fields u₀ here₀ left₀ types u here left = left
@@ -169,7 +194,7 @@ abbrev fields-from-exprs-claims : ℕ → fields-from-exprs-lts.Claims
 fields-from-exprs-claims t = (word-at-reads.Asked, word-at-reads.Learnt, build-below t, build.Post, open-record-reads.Asked, open-record-reads.Learnt, payload-reads.Asked, payload-reads.Learnt, set-pairs-reads.Asked, set-pairs-reads.Learnt)
 
 fields-from-exprs-loop-holds : (t : ℕ) → fields-from-exprs-lts.Need-loop-holds (fields-from-exprs-claims t) (fields-from-exprs-at t) fields-from-exprs.Post fields-from-exprs-Inv-loop fields-from-exprs-μ-loop
-fields-from-exprs-loop-holds t c = ((λ T n. goes-all _), (c .before .before .before .pre .1, refl))
+fields-from-exprs-loop-holds t c = ((λ T n. goes-all _), (c .before .before .before .pre .1 .0, (refl, omega arith)))
 
 fields-from-exprs-add-word-at : (t : ℕ) → fields-from-exprs-lts.Need-add-word-at (fields-from-exprs-claims t) (fields-from-exprs-at t) fields-from-exprs.Post fields-from-exprs-Inv-loop fields-from-exprs-μ-loop
 fields-from-exprs-add-word-at t c = omega (arith, c .before .before .loop .inv .1 .0 .room)
@@ -178,7 +203,13 @@ fields-from-exprs-word-at-requires : (t : ℕ) → fields-from-exprs-lts.Need-wo
 fields-from-exprs-word-at-requires t c κs = search needs
 
 fields-from-exprs-build-requires : (t : ℕ) → fields-from-exprs-lts.Need-build-requires (fields-from-exprs-claims t) (fields-from-exprs-at t) fields-from-exprs.Post fields-from-exprs-Inv-loop fields-from-exprs-μ-loop
-fields-from-exprs-build-requires t c κs = let p = first-ready (c .before .before .before .loop .inv .1 .0) (λ z. omega arith) (c .word-at .ensures) in (omega (arith, c .before .before .before .before .before .before .before .pre .0, p .under), p .ready)
+fields-from-exprs-build-requires t c κs =
+    let v = c .before .before .before .loop in
+    let pre = c .before .before .before .before .before .before .before .pre in
+    let I = c .before .before .before .before .before .before .before .args .image .now in
+    let p = first-ready (v .inv .1 .0) (λ z. omega arith) (c .word-at .ensures) in
+    let l = most-first (typeOf I) I (v .here) (v .left) (λ z. omega arith) (c .word-at .ensures) in
+    (omega (arith, pre .0, v .inv .1 .1 .1, l), (p .ready, omega (arith, pre .1 .1, v .inv .1 .1 .1, l)))
 
 fields-from-exprs-enum-known-a : (t : ℕ) → fields-from-exprs-lts.Need-enum-known-a (fields-from-exprs-claims t) (fields-from-exprs-at t) fields-from-exprs.Post fields-from-exprs-Inv-loop fields-from-exprs-μ-loop
 fields-from-exprs-enum-known-a t c = search needs
@@ -199,7 +230,16 @@ fields-from-exprs-loop-less : (t : ℕ) → fields-from-exprs-lts.Need-loop-less
 fields-from-exprs-loop-less t c = search needs
 
 fields-from-exprs-loop-again : (t : ℕ) → fields-from-exprs-lts.Need-loop-again (fields-from-exprs-claims t) (fields-from-exprs-at t) fields-from-exprs.Post fields-from-exprs-Inv-loop fields-from-exprs-μ-loop
-fields-from-exprs-loop-again t c = ((λ T n. goes-next _ _ T n _ _ _ (c .before .before .before .before .before .before .before .before .before .loop .inv .0 T n) (λ z. omega arith) (c .before .before .before .before .before .before .word-at .ensures) (c .before .before .before .before .before .build .result) (c .before .before .before .before .before .build .last .0) (c .before .before .before .before .before .build .ensures T n) (c .before .a .given .1)), (rest-ready (c .before .before .before .before .before .before .before .before .before .loop .inv .1 .0) (λ z. omega arith), search needs))
+fields-from-exprs-loop-again t c =
+    let c1 = c .before in
+    let c2 = c1 .before .before .before .before in
+    let c3 = c2 .before in
+    let v = c3 .before .before .before .loop in
+    let I = c3 .before .before .before .before .before .before .before .args .image .now in
+    let l = most-first (typeOf I) I (v .here) (v .left) (λ z. omega arith) (c3 .word-at .ensures) in (
+      (λ T n. goes-next _ _ T n _ _ _ (v .inv .0 T n) (λ z. omega arith) (c3 .word-at .ensures) (c2 .build .result) (c2 .build .last .0) (c2 .build .ensures T n) (c1 .a .given .1)),
+      (rest-ready (v .inv .1 .0) (λ z. omega arith), (search needs, omega (arith, v .inv .1 .1 .1, l))),
+    )
 
 fields-from-exprs-open-record-requires : (t : ℕ) → fields-from-exprs-lts.Need-open-record-requires (fields-from-exprs-claims t) (fields-from-exprs-at t) fields-from-exprs.Post fields-from-exprs-Inv-loop fields-from-exprs-μ-loop
 fields-from-exprs-open-record-requires t c κs = search needs
@@ -220,7 +260,7 @@ fields-from-exprs-add-set-pairs : (t : ℕ) → fields-from-exprs-lts.Need-add-s
 fields-from-exprs-add-set-pairs t c = search needs
 
 fields-from-exprs-set-pairs-requires : (t : ℕ) → fields-from-exprs-lts.Need-set-pairs-requires (fields-from-exprs-claims t) (fields-from-exprs-at t) fields-from-exprs.Post fields-from-exprs-Inv-loop fields-from-exprs-μ-loop
-fields-from-exprs-set-pairs-requires t c κs = (c .before .before .before .before .before .before .before .before .before .before .before .before .before .before .pre .1, (open-room _ _ (textsOf [] []) 0 _ _ _ _ _ _ _ (c .before .before .before .before .before .before .before .before .before .before .loop .inv .0 (textsOf [] []) 0) (omega arith) (c .before .before .before .before .before .before .before .open-record .result) (c .before .before .before .before .before .before .before .open-record .last .0) (c .before .before .before .before .before .before .before .open-record .ensures .result (textsOf [] []) 0) (c .before .before .before .r .given .1), omega (arith, c .payload .ensures)))
+fields-from-exprs-set-pairs-requires t c κs = (c .before .before .before .before .before .before .before .before .before .before .before .before .before .before .pre .1 .0, (open-room _ _ (textsOf [] []) 0 _ _ _ _ _ _ _ (c .before .before .before .before .before .before .before .before .before .before .loop .inv .0 (textsOf [] []) 0) (omega arith) (c .before .before .before .before .before .before .before .open-record .result) (c .before .before .before .before .before .before .before .open-record .last .0) (c .before .before .before .before .before .before .before .open-record .ensures .result (textsOf [] []) 0) (c .before .before .before .r .given .1), omega (arith, c .payload .ensures)))
 
 fields-from-exprs-same-length-3 : (t : ℕ) → fields-from-exprs-lts.Need-same-length-3 (fields-from-exprs-claims t) (fields-from-exprs-at t) fields-from-exprs.Post fields-from-exprs-Inv-loop fields-from-exprs-μ-loop
 fields-from-exprs-same-length-3 t c = search needs

@@ -2,6 +2,7 @@
 -- which one has more than 32 levels. Assumes nothing.
 use native.Mathlib.Omega.{arith}
 use Rattle.type_expr.specs.TypesAt.{first-ready}
+use Rattle.type_expr.specs.LevelLaws.{levels-there}
 use Rattle.type_expr.proofs.DeepReturns.{Before, before-all, before-end, before-deep, before-stop, before-next}
 use borrow.Author.Needs.{needs}
 use Rattle.type_expr.proofs.deep_field.Statement.{statement}
@@ -42,7 +43,11 @@ returns c =
     before-deep (c3 .loop .inv) (λ z. omega arith) (c2 .word-at .ensures) (c1 .type-levels .ensures) (c .if1 .taken)
 
 build-requires : tie.Need-build-requires Inv-loop μ-loop
-build-requires c κs = first-ready (c .before .before .before .before .before .loop .inv .ready) (λ z. omega arith) (c .before .before .before .word-at .ensures) .ready
+build-requires c κs =
+    let c1 = c .before .before in
+    let c2 = c1 .before in
+    let p = first-ready (c2 .before .before .loop .inv .ready) (λ z. omega arith) (c2 .word-at .ensures) .ready in
+    (p, omega (arith, levels-there p (c1 .type-levels .ensures)))
 
 enum-known-a : tie.Need-enum-known-a Inv-loop μ-loop
 enum-known-a c = search needs

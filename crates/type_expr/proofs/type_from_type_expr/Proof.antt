@@ -54,7 +54,9 @@ loop-again c =
     same-next (c3 .loop .inv) (c2 .deep-part .result) (c2 .deep-part .last .0) (c2 .deep-part .ensures) (c1 .r .given .1) (search needs)
 
 build-requires : tie.Need-build-requires Inv-loop μ-loop
-build-requires c κs = c .before .before .before .loop .inv .ready
+build-requires c κs =
+    let r = c .before .before .before .loop .inv .ready in
+    (r, omega (arith, levels-there r (c .before .before .type-levels .ensures)))
 
 same-length-2 : tie.Need-same-length-2 Inv-loop μ-loop
 same-length-2 c = search needs
