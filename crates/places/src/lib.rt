@@ -1,7 +1,7 @@
 // Where the records of an image stand (document 01, "Image"), and how many levels its types have, found in one pass and kept in an array:
 // node n's place at index n, type t's at index 2,048 + t, and its levels at index 2,560 + t.
 ghost use mathlib.Core.Path.{_≡_};
-ghost use Prim.Native.Nat.{_+_, _-_, _*_, _/_, _<_, _≤_, _^_, min, max};
+ghost use Prim.Native.Nat.{_+_, _-_, _*_, _/_, _<_, _^_, min, max};
 ghost use lib.ListN.{getD, set};
 ghost use Rattle.tok.specs.Word.{payloadOf};
 ghost use Rattle.places.specs.Places.{clipped, placeAfter, Filled, mostIn, levelsInside, levelsAt, fillLevels, placesIn};
