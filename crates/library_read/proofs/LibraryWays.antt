@@ -4,7 +4,7 @@ use mathlib.Core.Path.{_≡_, refl, sym, ap, ap₂, subst, _∙_}
 use mathlib.Core.Bool.{Bool, true, false, cond}
 use mathlib.Core.List.{List, []}
 use native.Mathlib.Omega.{arith}
-use lib.ListN.{length, getD, take, drop, replicate, length-take, length-drop}
+use lib.ListN.{length, getD, take, drop, length-take, length-drop}
 use lib.Seq.{getD-take, getD-drop}
 use lib.Dec.{ltb}
 use Rattle.tok.specs.Text.{Texts}
@@ -17,7 +17,7 @@ use Rattle.reader.specs.Laws.{by-rule, onward-fault, onward-return, onward-then
 use Rattle.reader.specs.Reads.{Within, Reads, reads-word, reads-onward, onward-place, onward-shown, onward-within}
 use Rattle.library.specs.Pool.{Pool, poolAt, poolIn, poolFrom}
 use Rattle.library.specs.PoolRead.{PoolFine, pool-reads}
-use Rattle.library.specs.SlotSums.{zeros, sumsTo, length-sumsTo, sums-right}
+use Rattle.library.specs.SlotSums.{sumsTo, length-sumsTo, sums-right}
 use Rattle.library.specs.Package.{Package}
 use Rattle.library.specs.PackageRecords.{packageRecord}
 use Rattle.library.specs.LibraryFault.{poolOf, library, libraryRead, libraryFault}
@@ -32,10 +32,6 @@ begins-at-0 n least = by (ltb mostBytes n)
     by : (b : Bool) → placeOf (cond b (Fault 0) (At 0 least)) ≡ 0
     by true = refl
     by false = refl
-
-pub zeros-are : replicate 8193 0 ≡ zeros 8193
-unfolding zeros
-zeros-are = refl
 
 pub sums-long : (types : List ℕ) (i : ℕ) {sums : List ℕ} → sums ≡ sumsTo types i → 8193 ≡ length sums
 sums-long types i e = sym (ap length e ∙ length-sumsTo types i)

@@ -5,13 +5,13 @@ use mathlib.Core.Bool.{Bool, true, false, cond}
 use mathlib.Core.List.{List}
 use native.Mathlib.Omega.{arith}
 use native.Mathlib.Numerals.{add-one}
-use lib.ListN.{length, getD, set}
+use lib.ListN.{getD, set, replicate}
 use lib.Dec.{ltb, eqb}
 use borrow.Author.Tests.{ne-eqb}
 use Rattle.tok.specs.Word.{kindOf, payloadOf}
 use Rattle.ptype.specs.Words.{fieldCount}
 use Rattle.ptype.specs.Kinds.{wraps}
-use Rattle.library.specs.SlotSums.{slotBy, slotBy-wrap, slotBy-record, zeros, length-zeros, addSum, sumsTo, sums-small, length-sumsTo}
+use Rattle.library.specs.SlotSums.{slotBy, slotBy-wrap, slotBy-record, zeros, addSum, sumsTo, sums-small}
 
 pub wraps-first : (k : ℕ) → k ≡ 6 → eqb k 6 ≡ wraps k
 wraps-first k e = rw e refl
@@ -51,18 +51,12 @@ sumsTo-next : (types : List ℕ) (i : ℕ) → sumsTo types (i + 1) ≡ addSum t
 unfolding sumsTo
 sumsTo-next types i = rw (add-one i) refl
 
-pub sums-zero : {sums : List ℕ} → sums ≡ zeros 8193 → 8193 ≡ length sums
-sums-zero e = sym (ap length e ∙ length-zeros 8193)
-
 module _ {types : List ℕ} where
-  pub summed-none : {sums : List ℕ} {end : ℕ} (n : ℕ) → sums ≡ zeros 8193 → end ≡ min n 8192 → Summed types sums end 0
-  unfolding sumsTo
-  summed-none n e m = record { below = omega arith; most = omega arith; filled = e }
+  pub summed-none : {end : ℕ} (n : ℕ) → end ≡ min n 8192 → Summed types (replicate 8193 0) end 0
+  unfolding sumsTo zeros
+  summed-none n m = record { below = omega arith; most = omega arith; filled = refl }
 
   module _ {sums : List ℕ} {end i : ℕ} (h : Summed types sums end i) where
-    pub summed-length : 8193 ≡ length sums
-    summed-length = sym (ap length (h .filled) ∙ length-sumsTo types i)
-
     -- one more count fits
     pub summed-small : (b : Bool) {x : ℕ} → x ≡ cond b 1 0 → getD sums i 0 + x ≤ 8193
     summed-small b e = rw (h .filled) (omega (arith, sums-small types i i, at-most b e, h .below, h .most))

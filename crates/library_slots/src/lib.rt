@@ -63,10 +63,10 @@ fn least(a: usize, b: usize) -> usize
 }
 
 // The counts of a pool of at most 8,192 words, one for each index and one for the end: one pass, since a word refers to smaller indices.
-pub fn slot_sums(pool: &[u32], sums: &mut [u16])
-    requires { ⌜ now sums ≡ zeros 8193 ⌝ }
+pub fn slot_sums(pool: &[u32], sums: &mut [u16; 8193])
     ensures { λ _. ⌜ now (sums .exit) ≡ sumsTo (now (pool .entry)) (min (length (now (pool .entry))) 8192) ⌝ }
 {
+    *sums = [0; 8193];
     let end = least(pool.len(), 8192);
     let mut i = 0;
     while i < end {

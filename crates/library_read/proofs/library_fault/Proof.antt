@@ -1,7 +1,7 @@
 -- `library_read::library_fault` meets its contract: a fault of the pool ends all; else the pool is ready, and the packages are read. Assumes nothing.
 use mathlib.Core.Path.{sym, _∙_}
 use native.Mathlib.Omega.{arith}
-use Rattle.library_read.proofs.LibraryWays.{zeros-are, sums-long, pool-faults, pool-at, pool-ready, library-is}
+use Rattle.library_read.proofs.LibraryWays.{sums-long, pool-faults, pool-at, pool-ready, library-is}
 use borrow.Author.Needs.{needs}
 use Rattle.library_read.proofs.library_fault.Statement.{statement}
 use Rattle.library_read.proofs.library_fault.Tie as tie
@@ -60,14 +60,11 @@ returns c =
     pool-faults _ _ _ _ _ _ _ _ _ _ _ (c10 .begin .ensures) (c9 .next-word .ensures) (c8 .wide .ensures) (c7 .owing .ensures) (c6 .next-word2 .ensures) (c5 .wide2 .ensures) (c4 .owing2 .ensures)
     (c3 .pool .ensures) (c2 .pool-words .ensures _) _ (c1 .enum-told2 .given .1) ∙ sym (c .conclude .ensures)
 
-slice-aggregate-slot-sums : tie.Need-slice-aggregate-slot-sums
-slice-aggregate-slot-sums c = search needs
-
 slot-sums-requires : tie.Need-slot-sums-requires
-slot-sums-requires c κs = zeros-are
+slot-sums-requires c κs = search needs
 
 slice-aggregate-named-slots : tie.Need-slice-aggregate-named-slots
-slice-aggregate-named-slots c = sums-long _ _ (c .before .before .slot-sums .ensures)
+slice-aggregate-named-slots c = sums-long _ _ (c .before .slot-sums .ensures)
 
 slice-aggregate-named-slots-2 : tie.Need-slice-aggregate-named-slots-2
 slice-aggregate-named-slots-2 c = search needs
@@ -76,7 +73,7 @@ named-slots-requires : tie.Need-named-slots-requires
 named-slots-requires c κs = search needs
 
 slice-aggregate-packages : tie.Need-slice-aggregate-packages
-slice-aggregate-packages c = sums-long _ _ (c .before .before .before .before .before .before .slot-sums .ensures)
+slice-aggregate-packages c = sums-long _ _ (c .before .before .before .before .before .slot-sums .ensures)
 
 slice-aggregate-packages-2 : tie.Need-slice-aggregate-packages-2
 slice-aggregate-packages-2 c = sym (c .before .before .before .named-slots .kept .1 .1 .1 .1 .1 .0)
@@ -95,7 +92,7 @@ returns-2 c =
     let c1 = c .before in
     let c2 = c1 .before in
     let c3 = c2 .before .before .before .before in
-    let c4 = c3 .before .before .before .before in
+    let c4 = c3 .before .before .before in
     let c5 = c4 .before .before in
     let c6 = c5 .before .before in
     let c7 = c6 .before in
@@ -136,7 +133,6 @@ library-fault-spec =
     enum-told-2
     conclude-requires
     returns
-    slice-aggregate-slot-sums
     slot-sums-requires
     slice-aggregate-named-slots
     slice-aggregate-named-slots-2

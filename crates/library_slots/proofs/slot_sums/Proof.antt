@@ -1,9 +1,8 @@
 -- `library_slots::slot_sums` meets its contract. The loop's invariant, `Summed`: the counts up to index i are filled in.
 -- The measure is how many words are left. Assumes nothing.
 use Prim.Native.Nat.{_-_}
-use mathlib.Core.Path.{sym, _∙_}
 use native.Mathlib.Omega.{arith}
-use Rattle.library_slots.proofs.SumWays.{Summed, sums-zero, summed-length, summed-none, summed-small, summed-more, summed-all}
+use Rattle.library_slots.proofs.SumWays.{Summed, summed-none, summed-small, summed-more, summed-all}
 use borrow.Author.Needs.{needs}
 use Rattle.library_slots.proofs.slot_sums.Statement.{statement}
 use Rattle.library_slots.proofs.slot_sums.Tie as tie
@@ -18,7 +17,7 @@ least-requires : tie.Need-least-requires Inv-loop μ-loop
 least-requires c κs = search needs
 
 loop-holds : tie.Need-loop-holds Inv-loop μ-loop
-loop-holds c = summed-none _ (c .before .before .before .pre) (c .least .ensures)
+loop-holds c = summed-none _ (c .least .ensures)
 
 word-at-requires : tie.Need-word-at-requires Inv-loop μ-loop
 word-at-requires c κs = search needs
@@ -32,11 +31,11 @@ one-if-requires c κs = search needs
 mul-sums : tie.Need-mul-sums Inv-loop μ-loop
 mul-sums c = search needs
 
-slice-read-sums : tie.Need-slice-read-sums Inv-loop μ-loop
-slice-read-sums c = omega (arith, summed-length (c .before .before .before .before .before .before .loop .inv), c .before .before .before .before .before .before .loop .inv .most)
+element-copy-out-sums : tie.Need-element-copy-out-sums Inv-loop μ-loop
+element-copy-out-sums c = omega (arith, c .before .before .before .before .before .before .loop .inv .most)
 
 add-sums : tie.Need-add-sums Inv-loop μ-loop
-add-sums c = omega (arith, summed-small (c .before .before .before .before .before .before .loop .inv) (c .before .before .has-slot .result) (c .before .one-if .ensures))
+add-sums c = omega (arith, summed-small (c .before .before .before .before .before .before .before .loop .inv) (c .before .before .has-slot .result) (c .before .one-if .ensures))
 
 add-sums-2 : tie.Need-add-sums-2 Inv-loop μ-loop
 add-sums-2 c = search needs
@@ -44,8 +43,8 @@ add-sums-2 c = search needs
 mul-sums-2 : tie.Need-mul-sums-2 Inv-loop μ-loop
 mul-sums-2 c = search needs
 
-slice-write-sums : tie.Need-slice-write-sums Inv-loop μ-loop
-slice-write-sums c = omega (arith, summed-length (c .before .before .before .before .before .before .loop .inv), c .before .before .before .before .before .before .loop .inv .most)
+element-write-sums : tie.Need-element-write-sums Inv-loop μ-loop
+element-write-sums c = omega (arith, c .before .before .before .before .before .before .before .loop .inv .most)
 
 add-i : tie.Need-add-i Inv-loop μ-loop
 add-i c = search needs
@@ -58,12 +57,9 @@ loop-again c =
     let c1 = c .before in
     let c2 = c1 .before in
     let c3 = c2 .before in
-    let c4 = c3 .before .before in
+    let c4 = c3 .before .before .before in
     let c5 = c4 .before in
     summed-more (c5 .loop .inv) (c4 .loop-test .taken) (c3 .word-at .ensures) (c2 .has-slot .ensures) (c1 .one-if .ensures)
-
-same-length : tie.Need-same-length Inv-loop μ-loop
-same-length c = sym (summed-length (c .before .loop .inv)) ∙ sums-zero (c .before .before .before .before .before .pre)
 
 returns : tie.Need-returns Inv-loop μ-loop
 returns c = summed-all (c .before .loop .inv) _ (c .before .before .least .ensures) (c .loop-test .left)
@@ -80,13 +76,12 @@ slot-sums-spec =
     has-slot-requires
     one-if-requires
     mul-sums
-    slice-read-sums
+    element-copy-out-sums
     add-sums
     add-sums-2
     mul-sums-2
-    slice-write-sums
+    element-write-sums
     add-i
     loop-less
     loop-again
-    same-length
     returns)
