@@ -12,34 +12,28 @@ use Rattle.signatures.specs.Entries.{Finds}
 use Rattle.selection.specs.Candidates.{group}
 use Rattle.selection.proofs.Ways.{over-is, one-is}
 use Rattle.pkg_group.specs.declared.Candidates.the-variants as C
-use Rattle.pkg_group.specs.Among.{Among}
+use Rattle.pkg_group.specs.Among.{one, numberOf, meant}
 
 module _ (texts : Texts) (name words : List ℕ) (flags from k : ℕ) {wanted : List ℕ} (ew : wanted ≡ name) {first : Entry} (found : Finds texts wanted words flags from k first) where
   here : Finds texts name words flags from k first
   here = rw ew at found
 
-  pub none-found : first ≡ Over → Among words (group texts name words flags from k) C.Nothing
-  none-found o = record { are = over-is texts name words flags here o }
+  pub none-found : first ≡ Over → numberOf (group texts name words flags from k) ≡ meant words C.Nothing
+  none-found o = ap numberOf (over-is texts name words flags here o)
 
   module _ {slotted : Bool} {at next left : ℕ} (o : first ≡ One slotted at next left) {second : Entry} (others : Finds texts wanted words flags next left second) where
     there : Finds texts name words flags next left second
     there = rw ew at others
 
-    one-alone : second ≡ Over → group texts name words flags from k ≡ signatureAt words at slotted ∷ []
-    one-alone o₂ = one-is texts name words flags here o ∙ ap (λ fs. signatureAt words at slotted ∷ fs) (over-is texts name words flags there o₂)
+    one-found : second ≡ Over → numberOf (group texts name words flags from k) ≡ one (signatureAt words at slotted)
+    one-found o₂ = ap numberOf (one-is texts name words flags here o ∙ ap (λ fs. signatureAt words at slotted ∷ fs) (over-is texts name words flags there o₂))
 
-    pub slotted-found : second ≡ Over → slotted ≡ true → Among words (group texts name words flags from k) (C.Slotted at)
-    slotted-found o₂ y = record { are = one-alone o₂ ∙ ap (λ f. signatureAt words at f ∷ []) y }
+    pub slotted-found : second ≡ Over → slotted ≡ true → numberOf (group texts name words flags from k) ≡ meant words (C.Slotted at)
+    slotted-found o₂ y = one-found o₂ ∙ ap (λ f. one (signatureAt words at f)) y
 
-    pub plain-found : second ≡ Over → slotted ≡ false → Among words (group texts name words flags from k) (C.Plain at)
-    plain-found o₂ n = record { are = one-alone o₂ ∙ ap (λ f. signatureAt words at f ∷ []) n }
+    pub plain-found : second ≡ Over → slotted ≡ false → numberOf (group texts name words flags from k) ≡ meant words (C.Plain at)
+    plain-found o₂ n = one-found o₂ ∙ ap (λ f. one (signatureAt words at f)) n
 
-    pub several-found : {slotted₂ : Bool} {at₂ next₂ left₂ : ℕ} → second ≡ One slotted₂ at₂ next₂ left₂ → Among words (group texts name words flags from k) C.Several
-    several-found {slotted₂} {at₂} {next₂} {left₂} o₂ = record {
-      are = record {
-        first = signatureAt words at slotted;
-        second = signatureAt words at₂ slotted₂;
-        others = group texts name words flags next₂ left₂;
-        are = one-is texts name words flags here o ∙ ap (λ fs. signatureAt words at slotted ∷ fs) (one-is texts name words flags there o₂);
-      };
-    }
+    pub several-found : {slotted₂ : Bool} {at₂ next₂ left₂ : ℕ} → second ≡ One slotted₂ at₂ next₂ left₂ → numberOf (group texts name words flags from k) ≡ meant words C.Several
+    several-found {slotted₂} {at₂} {next₂} {left₂} o₂ =
+        ap numberOf (one-is texts name words flags here o ∙ ap (λ fs. signatureAt words at slotted ∷ fs) (one-is texts name words flags there o₂))

@@ -34,7 +34,7 @@ in-group-requires : tie.Need-in-group-requires
 in-group-requires c κs =
     let c1 = c .before .before .before .before in
     let c2 = c1 .before .before .before .before .before .before .before .before .before .before .before .before in
-    group-ready (c2 .pre) refl (c1 .find-candidates .ensures) (extern-plain _ _ _ _ (c1 .find-candidates .ensures))
+    group-ready (c2 .pre) refl (c1 .find-candidates .ensures) (extern-plain _ _ _ _ _ (c1 .find-candidates .ensures))
 
 same-length : tie.Need-same-length
 same-length c = search needs
