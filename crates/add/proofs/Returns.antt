@@ -1,15 +1,15 @@
 -- Each return of the functions, over variables for what the calls gave. By rewriting with the tests. Assumes nothing.
 use mathlib.Core.Path.{_≡_, refl, sym, _∙_}
 use mathlib.Core.List.{List, [], _∷_}
-use mathlib.Core.Bool.{Bool, true, false, _&&_, and-true}
+use mathlib.Core.Bool.{Bool, true, false}
 use mathlib.Core.Logic.{⊎-elim}
-use Prim.Native.Nat.{ℕ, suc, _+_, _-_, _*_, _/_, _<_, _≤_, min}
+use Prim.Native.Nat.{ℕ, _+_, _-_, _*_, _/_, _<_, _≤_, min}
 use native.Mathlib.Nat.{zero-add}
 use native.Mathlib.Numerals.{add-one}
 use native.Mathlib.Omega.{arith}
 use lib.Dec.{leb}
-use lib.ListN.{getD, set, length, take, drop, drop-of-length-le}
-use lib.Seq.{set-set, set-getD, take-suc, take-all, length-take-le, drop-cons}
+use lib.ListN.{getD, set, length, take}
+use lib.Seq.{set-set, set-getD, take-suc, take-all, length-take-le}
 use types.Run.{OneOf}
 use denote.Enum.Declared.{tagOf}
 use borrow.Author.Tests.{le-leb, lt-leb, leb-true, leb-false, eqb-false}
@@ -21,8 +21,7 @@ use Rattle.add.specs.declared.Added.{Added}
 use Rattle.add.specs.declared.Added.the-variants.{Put, Full, TooDeep}
 use Rattle.add.specs.Answer.{resultOf, Adds}
 use Rattle.add.specs.Parts.{opened, shallow, measured}
-use Rattle.add.specs.Pool.{isType, poolTypes, allShallow, copyPool, Copies}
-use Rattle.add.specs.PoolLaws.{shallow-word}
+use Rattle.add.specs.Pool.{isType, copyPool, Copies}
 use Rattle.add.specs.WriteLaws.{write-nil, write-one, write-append}
 use Rattle.add.proofs.Added.{the-type}
 
@@ -136,28 +135,3 @@ module _ (w : ℕ) {k : ℕ} (hk : k ≡ kindOf w) where
 
   pub type-by : 1 ≤ k → leb k 11 ≡ isType w
   type-by h = rw (le-leb 1 (kindOf w) (omega arith), hk)
-
-module _ (types : List ℕ) (w : ℕ) {y : Bool} (hy : y ≡ isType w) (t : Texts) where
-  pub word-none : y ≡ false → true ≡ allShallow t types (poolTypes (w ∷ []))
-  unfolding allShallow poolTypes
-  word-none e = rw (← hy, e)
-
-  pub word-measured : {q : Bool} → y ≡ true → q ≡ shallow t types w → q ≡ allShallow t types (poolTypes (w ∷ []))
-  unfolding allShallow poolTypes
-  word-measured {q} e h = rw (← hy, e, ← h) (sym (and-true q))
-
--- the turns of measuring the pool
-module _ (types pool : List ℕ) (t : Texts) (i : ℕ) where
-  pub measure-end : length pool ≤ i → allShallow t types (poolTypes (drop i pool)) ≡ true
-  unfolding allShallow poolTypes
-  measure-end h = rw (drop-of-length-le pool h)
-
-  module _ {q : Bool} (h : i < length pool) (hq : q ≡ allShallow t types (poolTypes (getD pool i 0 ∷ []))) where
-    measure-is : allShallow t types (poolTypes (drop i pool)) ≡ (q && allShallow t types (poolTypes (drop (i + 1) pool)))
-    measure-is = rw (drop-cons pool i 0 h, shallow-word t types (getD pool i 0) (drop (suc i) pool), ← hq, add-one)
-
-    pub measure-next : q ≡ true → allShallow t types (poolTypes (drop i pool)) ≡ allShallow t types (poolTypes (drop (i + 1) pool))
-    measure-next e = rw (measure-is, e)
-
-    pub measure-stop : q ≡ false → allShallow t types (poolTypes (drop i pool)) ≡ false
-    measure-stop e = rw (measure-is, e)

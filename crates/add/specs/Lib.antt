@@ -2,6 +2,7 @@
 pub mod Answer
 pub mod Parts
 pub mod Pool
+pub mod Asked
 pub mod StepLaws
 pub mod WriteLaws
 pub mod PartsLaws

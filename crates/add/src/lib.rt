@@ -4,10 +4,10 @@ use ptype::ARRAY;
 use ptype::OPTION;
 use ptype::RECORD;
 ghost use mathlib.Core.Path.{_≡_};
-ghost use mathlib.Core.List.{[], _∷_};
+ghost use mathlib.Core.List.{List, [], _∷_};
 ghost use Prim.Native.Nat.{ℕ, _+_, _*_, _<_, _^_, min};
 ghost use lib.Dec.{leb};
-ghost use lib.ListN.{length, set};
+ghost use lib.ListN.{length, set, replicate};
 ghost use Rattle.tok.specs.Word.{wordOf};
 ghost use Rattle.tok.specs.Text.{Texts};
 ghost use Rattle.tok.specs.Step.{next};
@@ -16,6 +16,7 @@ ghost use Rattle.ptype.specs.Marks.{Depths};
 ghost use Rattle.add.specs.Answer.{resultOf, Adds};
 ghost use Rattle.add.specs.Parts.{opened, shallow, measured};
 ghost use Rattle.add.specs.Pool.{isType, poolTypes, allShallow, Copies};
+ghost use Rattle.add.specs.Asked.{Asked, asked, ask, askAll, Sure};
 
 // The new type's word and how many words are used with it; no room (7); a type 33 deep (8).
 pub enum Added {
@@ -161,18 +162,18 @@ fn is_type(w: u32) -> bool
     k <= 11
 }
 
-// Whether a type is at most 32 deep, by the depths that are known of field lists (`ptype::depth_known`).
+// Whether a type is at most 32 deep by the depths that are marked of field lists (`ptype::depth_known`): where the marks are right, that is so, and
+// they stay right.
 pub fn is_shallow_known(types: &[u32], w: u32, known: &mut [u8]) -> bool
-    requires { ⌜ Depths (now types) (now known) ⌝ }
-    ensures { λ r. ⌜ ((t : Texts) → r ≡ shallow t (now (types .entry)) w) × Depths (now (types .entry)) (now (known .exit)) ⌝ }
+    ensures { λ r. let T : List ℕ = now (types .entry) in let K : List ℕ = now (known .entry) in let a : Asked = asked r (now (known .exit)) in
+        ⌜ (ask T w K ≡ a) × Sure T K (λ t. shallow t T w) a ⌝ }
 {
     ptype::depth_known(types, w, known) <= 32
 }
 
-// Whether a word of the pool is a type at most 32 deep, or no type.
+// Whether a word of the pool is a type at most 32 deep by what is marked, or no type.
 fn word_is_shallow(types: &[u32], w: u32, known: &mut [u8]) -> bool
-    requires { ⌜ Depths (now types) (now known) ⌝ }
-    ensures { λ r. ⌜ ((t : Texts) → r ≡ allShallow t (now (types .entry)) (poolTypes (w ∷ []))) × Depths (now (types .entry)) (now (known .exit)) ⌝ }
+    ensures { λ r. ⌜ askAll (now (types .entry)) (w ∷ []) (now (known .entry)) ≡ asked r (now (known .exit)) ⌝ }
 {
     if !is_type(w) {
         return true;
@@ -180,11 +181,26 @@ fn word_is_shallow(types: &[u32], w: u32, known: &mut [u8]) -> bool
     is_shallow_known(types, w, known)
 }
 
-// Whether every type of the pool is at most 32 deep. A word refers to smaller indices, so that what it holds is known when its turn comes.
-pub fn pool_is_shallow(types: &[u32], pool: &[u32], known: &mut [u8]) -> bool
-    requires { ⌜ Depths (now types) (now known) ⌝ }
-    ensures { λ r. ⌜ ((t : Texts) → r ≡ allShallow t (now (types .entry)) (poolTypes (now (pool .entry)))) × Depths (now (types .entry)) (now (known .exit)) ⌝ }
+// No mark.
+fn clear(known: &mut [u8])
+    ensures { λ _. ⌜ now (known .exit) ≡ replicate (length (now (known .entry))) 0 ⌝ }
 {
+    let n = known.len();
+    let mut i = 0;
+    while i < n {
+        known[i] = 0;
+        i += 1;
+    }
+}
+
+// Whether every type of the pool is at most 32 deep. A word refers to smaller indices, so that what it holds is marked when its turn comes.
+// The marks are right at the end.
+pub fn pool_is_shallow(types: &[u32], pool: &[u32], known: &mut [u8]) -> bool
+    ensures { λ r. let T : List ℕ = now (types .entry) in let P : List ℕ = now (pool .entry) in
+        ⌜ (askAll T P (replicate (length (now (known .entry))) 0) ≡ asked r (now (known .exit)))
+        × ((t : Texts) → r ≡ allShallow t T (poolTypes P)) × Depths T (now (known .exit)) ⌝ }
+{
+    clear(known);
     let mut i = 0;
     while i < pool.len() {
         if !word_is_shallow(types, pool[i], known) {

@@ -4,3 +4,5 @@ mod StandsReturns
 mod SizeReturns
 mod DepthReturns
 mod Examples
+pub mod GaugeReturns
+pub mod GaugeLaws

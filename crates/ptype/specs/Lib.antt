@@ -8,6 +8,7 @@ pub mod Kinds
 pub mod Stands
 pub mod Size
 pub mod Marks
+pub mod Gauge
 pub mod Inside
 pub mod SameLaws
 pub mod UnfoldLaws

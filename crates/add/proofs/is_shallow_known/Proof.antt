@@ -1,7 +1,6 @@
 -- `add::is_shallow_known` meets its contract by that of `ptype::depth_known`. Assumes nothing.
-use mathlib.Core.Path.{ap}
-use lib.Dec.{leb}
 use borrow.Author.Needs.{needs}
+use Rattle.add.proofs.AskLaws.{one-asked, one-sure}
 use Rattle.add.proofs.is_shallow_known.Statement.{statement}
 use Rattle.add.proofs.is_shallow_known.Tie as tie
 
@@ -12,7 +11,9 @@ same-length : tie.Need-same-length
 same-length c = search needs
 
 returns : tie.Need-returns
-returns c = ((λ t. ap (λ d. leb d 32) (c .before .before .depth-known .ensures .0 t)), c .before .before .depth-known .ensures .1)
+returns c =
+    let e = one-asked _ _ _ (c .before .before .depth-known .ensures .0) in
+    (e, one-sure _ _ _ e)
 
 pub is-shallow-known-spec : {M : Type 1} → statement M
 is-shallow-known-spec = tie.close (tie.spec depth-known-requires same-length returns)

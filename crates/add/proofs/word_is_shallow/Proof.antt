@@ -1,7 +1,7 @@
 -- `add::word_is_shallow` meets its contract, by the test. Assumes nothing.
 use borrow.Author.Tests.{not-true, not-false}
 use borrow.Author.Needs.{needs}
-use Rattle.add.proofs.Returns.{word-none, word-measured}
+use Rattle.add.proofs.AskLaws.{word-other, word-asked}
 use Rattle.add.proofs.word_is_shallow.Statement.{statement}
 use Rattle.add.proofs.word_is_shallow.Tie as tie
 
@@ -9,10 +9,10 @@ is-type-requires : tie.Need-is-type-requires
 is-type-requires c κs = search needs
 
 returns : tie.Need-returns
-returns c = ((λ t. word-none _ _ (c .before .is-type .ensures) t (not-true _ (c .if1 .taken))), c .before .before .before .before .pre)
+returns c = word-other _ _ _ (c .before .is-type .ensures) (not-true _ (c .if1 .taken))
 
 is-shallow-known-requires : tie.Need-is-shallow-known-requires
-is-shallow-known-requires c κs = c .before .before .before .before .before .pre
+is-shallow-known-requires c κs = search needs
 
 same-length : tie.Need-same-length
 same-length c = search needs
@@ -22,7 +22,7 @@ returns-2 c =
     let c1 = c .before .before in
     let c2 = c1 .before .before in
     let c3 = c2 .before in
-    ((λ t. word-measured _ _ (c3 .is-type .ensures) t (not-false _ (c2 .if1 .left)) (c1 .is-shallow-known .ensures .0 t)), c1 .is-shallow-known .ensures .1)
+    word-asked _ _ _ (c3 .is-type .ensures) (not-false _ (c2 .if1 .left)) (c1 .is-shallow-known .ensures .0)
 
 pub word-is-shallow-spec : {M : Type 1} → statement M
 word-is-shallow-spec =

@@ -1,14 +1,15 @@
--- `depth_within` and `deepest_of` meet their contracts: each return is a law of `DepthReturns`, over what the calls gave.
--- The levels fall; the loop's invariant is the greatest so far beside the fields left. Assumes nothing.
+-- `depth_within` and `deepest_of` meet their contracts: each return is a law of `GaugeReturns`, over what the calls gave.
+-- The levels fall; the loop's invariant: what is left to do of the whole, from the deepest so far and its marks. Assumes nothing.
 use mathlib.Core.Path.{_≡_, refl, sym, _∙_}
 use lib.ListN.{length}
 use native.Mathlib.Omega.{arith}
-use Rattle.tok.specs.Text.{Texts}
-use Rattle.ptype.specs.Ty.{deepest}
-use Rattle.ptype.specs.Words.{fieldsFrom, fieldsOf, unfolded}
-use Rattle.ptype.proofs.DepthReturns.{depth-none, depth-wrap, depth-record, depth-flat, deepest-all, deepest-none, deepest-more, depth-fits, deepest-fits}
+use Rattle.tok.specs.Word.{payloadOf}
+use Rattle.ptype.specs.Words.{fieldCount}
+use Rattle.ptype.specs.Gauge.{gaugeFields, gauge}
+use Rattle.ptype.proofs.GaugeReturns.{gauge-none, gauge-wrap, gauge-record, gauge-flat, list-hit, list-noted, list-cut, list-past, fields-first, fields-next}
+use Rattle.ptype.proofs.GaugeLaws.{gauge-counts, list-counts}
 use borrow.Author.Needs.{needs}
-use Prim.Native.Nat.{ℕ, _+_, _-_, _*_, _^_, _<_, max}
+use Prim.Native.Nat.{ℕ, _+_, _-_, _*_, _^_, _<_}
 use borrow.Fn.Kinds.{In}
 use borrow.Fn.PlainCycle.{Measures, is, falls, and}
 use Rattle.ptype.proofs.deepest_of.Reads as deepest-of
@@ -17,8 +18,6 @@ use Rattle.ptype.proofs.+deepest_of+depth_within.Lts-deepest_of as deep
 use Rattle.ptype.proofs.depth_within.Reads as depth-within
 use Rattle.ptype.proofs.depth_within.Kinds as depth-within-kinds
 use Rattle.ptype.proofs.+deepest_of+depth_within.Lts-depth_within as depth-within-lts
-use Rattle.ptype.specs.Marks.{Depths}
-use Rattle.ptype.specs.MarkLaws.{hit, made}
 use Rattle.ptype.proofs.least.Reads as least-reads
 use Rattle.ptype.proofs.mark_at.Reads as mark-at-reads
 use Rattle.ptype.proofs.field_count.Reads as field-count-reads
@@ -59,8 +58,8 @@ depth-within-below t =
 
 abbrev deepest-of-Inv-loop : deepest-of-lts.InvT-loop
 deepest-of-Inv-loop types w levels known₀ at k most₀ left₀ i₀ known most left i =
-    ((t : Texts) → deepest (fieldsOf (unfolded t types levels) t types w) ≡ max most (deepest (fieldsFrom (unfolded t types levels) t types i left)))
-    × (i + 2 * left < 2 ^ 40) × Depths types known × (length known ≡ length known₀)
+    (gaugeFields (gauge types levels) types (payloadOf w + 1) (fieldCount types w) 0 known₀ ≡ gaugeFields (gauge types levels) types i left most known)
+    × (i + 2 * left < 2 ^ 40) × (length known ≡ length known₀)
 
 abbrev deepest-of-μ-loop : deepest-of-lts.MeasureT-loop
 deepest-of-μ-loop types w levels known₀ at k most₀ left₀ i₀ known most left i = left
@@ -106,11 +105,7 @@ deepest-of-returns t c =
     let c1 = c .before in
     let c2 = c1 .before in
     let c3 = c2 .before .before in
-    let c4 = c3 .before .before .before in (
-      hit (c4 .args .types .now) (c4 .args .known .now) (c4 .args .w) (c4 .args .levels) (c4 .pre .1 .1) (c3 .payload .ensures) (c2 .mark-at .ensures)
-          (c1 .if1 .taken) (c .least .ensures),
-      c4 .pre .1 .1,
-    )
+    list-hit _ _ _ _ _ (c3 .payload .ensures) (c2 .mark-at .ensures) (c1 .if1 .taken) (c .least .ensures)
 
 deepest-of-same-length : (t : ℕ) → deepest-of-lts.Need-same-length (deepest-of-claims t) (deepest-of-at t) deepest-of.Post deepest-of-Inv-loop deepest-of-μ-loop
 deepest-of-same-length t c = search needs
@@ -119,19 +114,13 @@ deepest-of-add-i : (t : ℕ) → deepest-of-lts.Need-add-i (deepest-of-claims t)
 deepest-of-add-i t c = search needs
 
 deepest-of-loop-holds : (t : ℕ) → deepest-of-lts.Need-loop-holds (deepest-of-claims t) (deepest-of-at t) deepest-of.Post deepest-of-Inv-loop deepest-of-μ-loop
-deepest-of-loop-holds t c =
-    let c1 = c .before .before .before .before in
-    let c2 = c1 .before .before .before in
-    ((λ x. deepest-all x _ _ _ (c1 .payload .ensures) (c .field-count .ensures)), omega arith, c2 .pre .1 .1, refl)
+deepest-of-loop-holds t c = (fields-first _ _ _ _ (c .before .before .before .before .payload .ensures) (c .field-count .ensures), omega arith, refl)
 
 deepest-of-field-type-requires : (t : ℕ) → deepest-of-lts.Need-field-type-requires (deepest-of-claims t) (deepest-of-at t) deepest-of.Post deepest-of-Inv-loop deepest-of-μ-loop
 deepest-of-field-type-requires t c κs = search needs
 
 deepest-of-depth-within-requires : (t : ℕ) → deepest-of-lts.Need-depth-within-requires (deepest-of-claims t) (deepest-of-at t) deepest-of.Post deepest-of-Inv-loop deepest-of-μ-loop
-deepest-of-depth-within-requires t c κs =
-    let c1 = c .before .before .before in
-    let c2 = c1 .before .before .before .before .before .before .before .before in
-    (search needs, (c2 .pre .1 .0, c1 .loop .inv .2))
+deepest-of-depth-within-requires t c κs = (search needs, search needs)
 
 deepest-of-greater-requires : (t : ℕ) → deepest-of-lts.Need-greater-requires (deepest-of-claims t) (deepest-of-at t) deepest-of.Post deepest-of-Inv-loop deepest-of-μ-loop
 deepest-of-greater-requires t c κs = search needs
@@ -150,11 +139,9 @@ deepest-of-loop-again t c =
     let c1 = c .before .before .before in
     let c2 = c1 .before .before in
     let c3 = c2 .before .before in (
-      (λ x. deepest-more x _ _ _ _ (c3 .loop .inv .0 x) (omega arith) (c2 .field-type .ensures) (c1 .depth-within .ensures .0 x)
-          (c .greater .ensures)),
+      c3 .loop .inv .0 ∙ fields-next _ _ _ _ _ (omega arith) (c2 .field-type .ensures) (c1 .depth-within .ensures) (c .greater .ensures),
       omega arith,
-      c1 .depth-within .ensures .1,
-      c1 .depth-within .kept .1 .1 .1 .0 ∙ c3 .loop .inv .3,
+      c1 .depth-within .kept .1 .1 .1 .0 ∙ c3 .loop .inv .2,
     )
 
 deepest-of-same-length-2 : (t : ℕ) → deepest-of-lts.Need-same-length-2 (deepest-of-claims t) (deepest-of-at t) deepest-of.Post deepest-of-Inv-loop deepest-of-μ-loop
@@ -172,19 +159,28 @@ deepest-of-add-known t c = search needs
 deepest-of-returns-2 : (t : ℕ) → deepest-of-lts.Need-returns-2 (deepest-of-claims t) (deepest-of-at t) deepest-of.Post deepest-of-Inv-loop deepest-of-μ-loop
 deepest-of-returns-2 t c =
     let c1 = c .before in
-    let c2 = c1 .before .before in
-    let c3 = c2 .before .before .before .before .before in
-    let c4 = c3 .before .before .before in (
-      (λ x. deepest-none x _ _ _ _ (c2 .loop .inv .0 x) (omega arith)),
-      made (c4 .args .types .now) (c2 .loop .known) (c4 .args .w) (c4 .args .levels)
-          (c2 .loop .inv .2) (c3 .payload .ensures) (c1 .if2 .taken) (c .if3 .taken) (λ x. deepest-none x _ _ _ _ (c2 .loop .inv .0 x) (omega arith)),
-    )
+    let c2 = c1 .before in
+    let c3 = c2 .before in
+    let c4 = c3 .before .before in
+    let c5 = c4 .before in
+    list-noted _ _ _ _ _ (c5 .before .before .payload .ensures) (c5 .mark-at .ensures) (c4 .if1 .left) _ _ _ _ (c3 .loop .inv .0) (c2 .loop-test .left) (c .if3 .taken)
 
 deepest-of-returns-3 : (t : ℕ) → deepest-of-lts.Need-returns-3 (deepest-of-claims t) (deepest-of-at t) deepest-of.Post deepest-of-Inv-loop deepest-of-μ-loop
-deepest-of-returns-3 t c = ((λ x. deepest-none x _ _ _ _ (c .before .before .before .loop .inv .0 x) (omega arith)), c .before .before .before .loop .inv .2)
+deepest-of-returns-3 t c =
+    let c1 = c .before in
+    let c2 = c1 .before in
+    let c3 = c2 .before in
+    let c4 = c3 .before .before in
+    let c5 = c4 .before in
+    list-cut _ _ _ _ _ (c5 .before .before .payload .ensures) (c5 .mark-at .ensures) (c4 .if1 .left) _ _ _ _ (c3 .loop .inv .0) (c2 .loop-test .left) (c .if3 .left)
 
 deepest-of-returns-4 : (t : ℕ) → deepest-of-lts.Need-returns-4 (deepest-of-claims t) (deepest-of-at t) deepest-of.Post deepest-of-Inv-loop deepest-of-μ-loop
-deepest-of-returns-4 t c = ((λ x. deepest-none x _ _ _ _ (c .before .before .loop .inv .0 x) (omega arith)), c .before .before .loop .inv .2)
+deepest-of-returns-4 t c =
+    let c2 = c .before in
+    let c3 = c2 .before in
+    let c4 = c3 .before .before in
+    let c5 = c4 .before in
+    list-past _ _ _ _ _ (c5 .before .before .payload .ensures) (c5 .mark-at .ensures) (c4 .if1 .left) _ _ _ _ (c3 .loop .inv .0) (c2 .loop-test .left) (c .if2 .left)
 
 deepest-of-same-length-3 : (t : ℕ) → deepest-of-lts.Need-same-length-3 (deepest-of-claims t) (deepest-of-at t) deepest-of.Post deepest-of-Inv-loop deepest-of-μ-loop
 deepest-of-same-length-3 t c = search needs
@@ -207,7 +203,7 @@ depth-within-claims t = (
 )
 
 depth-within-returns : (t : ℕ) → depth-within-lts.Need-returns (depth-within-claims t) (depth-within-at t) depth-within.Post
-depth-within-returns t c = ((λ x. depth-none x _ _ (c .if1 .taken)), c .before .before .before .pre .1 .1)
+depth-within-returns t c = gauge-none _ _ _ (c .if1 .taken)
 
 depth-within-kind-requires : (t : ℕ) → depth-within-lts.Need-kind-requires (depth-within-claims t) (depth-within-at t) depth-within.Post
 depth-within-kind-requires t c κs = search needs
@@ -222,14 +218,14 @@ depth-within-sub-depth-within : (t : ℕ) → depth-within-lts.Need-sub-depth-wi
 depth-within-sub-depth-within t c = search needs
 
 depth-within-depth-within-requires : (t : ℕ) → depth-within-lts.Need-depth-within-requires (depth-within-claims t) (depth-within-at t) depth-within.Post
-depth-within-depth-within-requires t c κs = (search needs, (omega arith, c .before .before .before .before .before .before .before .before .pre .1 .1))
+depth-within-depth-within-requires t c κs = (search needs, omega arith)
 
 depth-within-add-result : (t : ℕ) → depth-within-lts.Need-add-result (depth-within-claims t) (depth-within-at t) depth-within.Post
 depth-within-add-result t c =
     let c1 = c .before .before in
     let c2 = c1 .before .before in
     let c3 = c2 .before .before .before .before .before .before .before in
-    record { fits = omega (arith, depth-fits (c3 .args .types .now) (c3 .args .levels - 1) (c2 .inner .result) (c1 .depth-within .ensures .0)) }
+    record { fits = omega (arith, gauge-counts (c3 .args .types .now) (c3 .args .levels - 1) (c2 .inner .result) (c3 .args .known .now) (c1 .depth-within .ensures)) }
 
 depth-within-same-length : (t : ℕ) → depth-within-lts.Need-same-length (depth-within-claims t) (depth-within-at t) depth-within.Post
 depth-within-same-length t c = search needs
@@ -242,19 +238,19 @@ depth-within-returns-2 t c =
     let c4 = c3 .before in
     let c5 = c4 .before in
     let c6 = c5 .before in
-    ((λ x. depth-wrap x _ _ (c6 .if1 .left) (c5 .kind .ensures) (sym (c4 .wraps .ensures) ∙ c3 .if2 .taken) (c2 .inner .ensures) (c1 .depth-within .ensures .0 x)), c1 .depth-within .ensures .1)
+    gauge-wrap _ _ _ (c6 .if1 .left) (c5 .kind .ensures) (sym (c4 .wraps .ensures) ∙ c3 .if2 .taken) (c2 .inner .ensures) (c1 .depth-within .ensures)
 
 depth-within-sub-deepest-of : (t : ℕ) → depth-within-lts.Need-sub-deepest-of (depth-within-claims t) (depth-within-at t) depth-within.Post
 depth-within-sub-deepest-of t c = search needs
 
 depth-within-deepest-of-requires : (t : ℕ) → depth-within-lts.Need-deepest-of-requires (depth-within-claims t) (depth-within-at t) depth-within.Post
-depth-within-deepest-of-requires t c κs = (search needs, (omega arith, c .before .before .before .before .before .before .before .before .pre .1 .1))
+depth-within-deepest-of-requires t c κs = (search needs, omega arith)
 
 depth-within-add-result-2 : (t : ℕ) → depth-within-lts.Need-add-result-2 (depth-within-claims t) (depth-within-at t) depth-within.Post
 depth-within-add-result-2 t c =
     let c1 = c .before .before in
     let c2 = c1 .before .before .before .before .before .before .before .before .before in
-    record { fits = omega (arith, deepest-fits (c2 .args .types .now) (c2 .args .levels - 1) (c2 .args .w) (c1 .deepest-of .ensures .0)) }
+    record { fits = omega (arith, list-counts (c2 .args .types .now) (c2 .args .levels - 1) (c2 .args .w) (c2 .args .known .now) (c1 .deepest-of .ensures)) }
 
 depth-within-same-length-2 : (t : ℕ) → depth-within-lts.Need-same-length-2 (depth-within-claims t) (depth-within-at t) depth-within.Post
 depth-within-same-length-2 t c = search needs
@@ -263,9 +259,11 @@ depth-within-returns-3 : (t : ℕ) → depth-within-lts.Need-returns-3 (depth-wi
 depth-within-returns-3 t c =
     let c1 = c .before .before in
     let c2 = c1 .before .before in
-    let c3 = c2 .before .before .before in
+    let c3 = c2 .before in
     let c4 = c3 .before in
-    ((λ x. depth-record x _ _ (c4 .if1 .left) (c3 .kind .ensures) (c2 .if3 .taken) (c1 .deepest-of .ensures .0 x)), c1 .deepest-of .ensures .1)
+    let c5 = c4 .before in
+    let c6 = c5 .before in
+    gauge-record _ _ _ (c6 .if1 .left) (c5 .kind .ensures) (sym (c4 .wraps .ensures) ∙ c3 .if2 .left) (c2 .if3 .taken) (c1 .deepest-of .ensures)
 
 depth-within-returns-4 : (t : ℕ) → depth-within-lts.Need-returns-4 (depth-within-claims t) (depth-within-at t) depth-within.Post
 depth-within-returns-4 t c =
@@ -273,8 +271,7 @@ depth-within-returns-4 t c =
     let c2 = c1 .before in
     let c3 = c2 .before in
     let c4 = c3 .before in
-    let c5 = c4 .before .before .before in
-    ((λ x. depth-flat x _ _ (c4 .if1 .left) (c3 .kind .ensures) (sym (c2 .wraps .ensures) ∙ c1 .if2 .left) (c .if3 .left)), c5 .pre .1 .1)
+    gauge-flat _ _ _ (c4 .if1 .left) (c3 .kind .ensures) (sym (c2 .wraps .ensures) ∙ c1 .if2 .left) (c .if3 .left)
 
 pub +deepest-of+depth-within-spec : {M : Type 1} → statement M
 +deepest-of+depth-within-spec = close μ-deepest-of μ-depth-within (λ t. deepest-of-lts.spec (deepest-of-claims t)

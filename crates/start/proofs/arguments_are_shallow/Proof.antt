@@ -34,7 +34,7 @@ argument-type-requires : tie.Need-argument-type-requires Inv-loop μ-loop
 argument-type-requires c κs = search needs
 
 is-shallow-known-requires : tie.Need-is-shallow-known-requires Inv-loop μ-loop
-is-shallow-known-requires c κs = c .before .before .before .loop .inv .2
+is-shallow-known-requires c κs = search needs
 
 same-length : tie.Need-same-length Inv-loop μ-loop
 same-length c = search needs
@@ -47,9 +47,9 @@ returns c =
     let c4 = c3 .before in
     let c5 = c4 .before .before .before .before .before in (
       (λ t. sym (c4 .loop .inv .0 t ∙ argument-deep t (now (c5 .args .types)) (functionAt (now (c5 .args .words)) (c5 .args .at) .sig .params) (c4 .loop .i)
-          (omega (arith, c4 .loop .inv .1 .1, c3 .loop-test .taken)) (c2 .argument-type .ensures) (c1 .is-shallow-known .ensures .0 t) (not-true _
+          (omega (arith, c4 .loop .inv .1 .1, c3 .loop-test .taken)) (c2 .argument-type .ensures) (c1 .is-shallow-known .ensures .1 .answer (c4 .loop .inv .2) t) (not-true _
           (c .if1 .taken)))),
-      c1 .is-shallow-known .ensures .1,
+      c1 .is-shallow-known .ensures .1 .marks (c4 .loop .inv .2),
     )
 
 add-i : tie.Need-add-i Inv-loop μ-loop
@@ -66,9 +66,9 @@ loop-again c =
     let c4 = c3 .before in
     let c5 = c4 .before .before .before .before .before in (
       (λ t. c4 .loop .inv .0 t ∙ argument-next t (now (c5 .args .types)) (functionAt (now (c5 .args .words)) (c5 .args .at) .sig .params) (c4 .loop .i) (omega
-          (arith, c4 .loop .inv .1 .1, c3 .loop-test .taken)) (c2 .argument-type .ensures) (c1 .is-shallow-known .ensures .0 t) (not-false _ (c .if1 .left))),
+          (arith, c4 .loop .inv .1 .1, c3 .loop-test .taken)) (c2 .argument-type .ensures) (c1 .is-shallow-known .ensures .1 .answer (c4 .loop .inv .2) t) (not-false _ (c .if1 .left))),
       (omega arith, c4 .loop .inv .1 .1),
-      c1 .is-shallow-known .ensures .1,
+      c1 .is-shallow-known .ensures .1 .marks (c4 .loop .inv .2),
       c1 .is-shallow-known .kept .1 .1 .0 ∙ c4 .loop .inv .3,
     )
 

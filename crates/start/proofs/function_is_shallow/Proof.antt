@@ -26,7 +26,7 @@ return-type-requires : tie.Need-return-type-requires
 return-type-requires c κs = search needs
 
 is-shallow-known-requires : tie.Need-is-shallow-known-requires
-is-shallow-known-requires c κs = c .before .before .before .before .before .arguments-are-shallow .ensures .1
+is-shallow-known-requires c κs = search needs
 
 same-length-2 : tie.Need-same-length-2
 same-length-2 c = search needs
@@ -39,8 +39,8 @@ returns-2 c =
     let c4 = c3 .before .before .before in
     let c5 = c4 .before .before .before .before .before in (
       (λ t. function-by t (now (c5 .args .types)) (functionAt (now (c5 .args .words)) (c5 .args .at)) (c4 .arguments-are-shallow .ensures .0 t) (not-false _
-          (c3 .if1 .left)) (c2 .return-type .ensures) (c1 .is-shallow-known .ensures .0 t)),
-      c1 .is-shallow-known .ensures .1,
+          (c3 .if1 .left)) (c2 .return-type .ensures) (c1 .is-shallow-known .ensures .1 .answer (c4 .arguments-are-shallow .ensures .1) t)),
+      c1 .is-shallow-known .ensures .1 .marks (c4 .arguments-are-shallow .ensures .1),
     )
 
 pub function-is-shallow-spec : {M : Type 1} → statement M

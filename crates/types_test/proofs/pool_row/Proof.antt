@@ -1,5 +1,4 @@
 -- `types_test::pool_row` meets its contract: nothing is known of the pool at first. Assumes nothing.
-use Rattle.ptype.specs.MarkLaws.{no-marks}
 use borrow.Author.Needs.{needs}
 use Rattle.types_test.proofs.pool_row.Statement.{statement}
 use Rattle.types_test.proofs.pool_row.Tie as tie
@@ -26,7 +25,7 @@ slice-aggregate-pool-is-shallow : tie.Need-slice-aggregate-pool-is-shallow
 slice-aggregate-pool-is-shallow c = search needs
 
 pool-is-shallow-requires : tie.Need-pool-is-shallow-requires
-pool-is-shallow-requires c κs = no-marks _ 8192
+pool-is-shallow-requires c κs = search needs
 
 flag-requires-2 : tie.Need-flag-requires-2
 flag-requires-2 c κs = search needs
