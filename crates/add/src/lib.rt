@@ -186,10 +186,10 @@ fn clear(known: &mut [u8])
     ensures { λ _. ⌜ now (known .exit) ≡ replicate (length (now (known .entry))) 0 ⌝ }
 {
     let n = known.len();
-    let mut i = 0;
-    while i < n {
-        known[i] = 0;
-        i += 1;
+    let mut next = 0;
+    while next < n {
+        known[next] = 0;
+        next += 1;
     }
 }
 
