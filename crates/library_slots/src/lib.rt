@@ -13,7 +13,7 @@ ghost use Rattle.library.specs.SlotSums.{slotBy, zeros, sumsTo};
 ghost use Rattle.library.specs.SlotMarks.{markFields, markInside, markAll, spread, anyMarked, isSlot, anySlotOf, typesIn};
 ghost use Rattle.library.specs.ReturnSlots.{amongMarked, missing};
 ghost use Rattle.name_order.specs.Order.{Grouped};
-ghost use Rattle.library_slots.specs.Named.{ofPairs, inPool, argued, wanted, Told, NamesStand, ReturnAsked, SlotsListed, SlotsNamed};
+ghost use Rattle.library_slots.specs.Named.{ofPairs, inPool, argued, wanted, reached, Told, NamesStand, ReturnAsked, SlotsListed, SlotsNamed};
 
 // Option and Array.
 fn wraps(k: u32) -> bool
@@ -304,35 +304,39 @@ fn wanted(size: usize, marks: &[u8], end: usize, p: usize) -> bool
     in_pool(size, marks, p)
 }
 
-// Whether an argument reaches one of the ranks from `from` up to `to`.
-fn any_argued(
+// The one or the other, whose marks are lent.
+fn reached(returned: bool, size: usize, marks: &[u8], first: usize, end: usize, p: usize) -> bool
+    ensures { λ r. ⌜ r ≡ reached returned size (now (marks .entry)) first end p ⌝ }
+{
+    if returned {
+        return wanted(size, marks, end, p);
+    }
+    argued(size, marks, first, end, p)
+}
+
+// Whether it reaches one of the ranks from `from` up to `to`.
+fn any_reached(
     order: &[u16],
+    returned: bool,
     size: usize,
-    args: &[u8],
+    marks: &[u8],
     first: usize,
     end: usize,
     from: usize,
     to: usize,
 ) -> bool
-    ensures { λ r. ⌜ Told (argued size (now (args .entry)) first end) (now (order .entry)) from to r ⌝ }
+    ensures { λ r. ⌜ Told (reached returned size (now (marks .entry)) first end) (now (order .entry)) from to r ⌝ }
 {
     let mut i = from;
     while i < to {
-        if argued(size, args, first, end, name_order::place_at(order, i)) {
-            return true;
-        }
-        i += 1;
-    }
-    false
-}
-
-// Whether the return type does.
-fn any_wanted(order: &[u16], size: usize, marks: &[u8], end: usize, from: usize, to: usize) -> bool
-    ensures { λ r. ⌜ Told (wanted size (now (marks .entry)) end) (now (order .entry)) from to r ⌝ }
-{
-    let mut i = from;
-    while i < to {
-        if wanted(size, marks, end, name_order::place_at(order, i)) {
+        if reached(
+            returned,
+            size,
+            marks,
+            first,
+            end,
+            name_order::place_at(order, i),
+        ) {
             return true;
         }
         i += 1;
@@ -356,8 +360,8 @@ fn names_stand(
     let mut at = 0;
     while at < n {
         let next = name_order::group_end(order, at, n);
-        if any_wanted(order, size, marks, end, at, next) {
-            if !any_argued(order, size, args, first, end, at, next) {
+        if any_reached(order, true, size, marks, first, end, at, next) {
+            if !any_reached(order, false, size, args, first, end, at, next) {
                 return false;
             }
         }

@@ -21,11 +21,11 @@ loop-holds c = stands-begin
 group-end-requires : tie.Need-group-end-requires Inv-loop μ-loop
 group-end-requires c κs = c .loop-test .taken
 
-any-wanted-requires : tie.Need-any-wanted-requires Inv-loop μ-loop
-any-wanted-requires c κs = search needs
+any-reached-requires : tie.Need-any-reached-requires Inv-loop μ-loop
+any-reached-requires c κs = search needs
 
-any-argued-requires : tie.Need-any-argued-requires Inv-loop μ-loop
-any-argued-requires c κs = search needs
+any-reached-requires-2 : tie.Need-any-reached-requires-2 Inv-loop μ-loop
+any-reached-requires-2 c κs = search needs
 
 returns : tie.Need-returns Inv-loop μ-loop
 returns c =
@@ -34,7 +34,7 @@ returns c =
     let c3 = c2 .before in
     let c4 = c3 .before in
     let c5 = c4 .before .before in
-    λ t w g. stands-lacks (c5 .loop .inv) t w g (c4 .group-end .ensures) (c3 .any-wanted .ensures) (c2 .if1 .taken) (c1 .any-argued .ensures) (not-true _ (c .if2 .taken))
+    λ t w g. stands-lacks (c5 .loop .inv) t w g (c4 .group-end .ensures) (c3 .any-reached .ensures) (c2 .if1 .taken) (c1 .any-reached2 .ensures) (not-true _ (c .if2 .taken))
 
 loop-less : tie.Need-loop-less Inv-loop μ-loop
 loop-less c = omega (arith, c .before .before .before .before .group-end .ensures .after, c .before .before .before .before .group-end .ensures .within)
@@ -44,13 +44,13 @@ loop-again c =
     let c1 = c .before in
     let c2 = c1 .before .before .before in
     let c3 = c2 .before .before in
-    stands-had (c3 .loop .inv) (c2 .group-end .ensures) (c1 .any-argued .ensures) (not-false _ (c .if2 .left))
+    stands-had (c3 .loop .inv) (c2 .group-end .ensures) (c1 .any-reached2 .ensures) (not-false _ (c .if2 .left))
 
 loop-less-2 : tie.Need-loop-less-2 Inv-loop μ-loop
 loop-less-2 c = omega (arith, c .before .before .group-end .ensures .after, c .before .before .group-end .ensures .within)
 
 loop-again-2 : tie.Need-loop-again-2 Inv-loop μ-loop
-loop-again-2 c = stands-past (c .before .before .before .before .loop .inv) (c .before .before .group-end .ensures) (c .before .any-wanted .ensures) (c .if1 .left)
+loop-again-2 c = stands-past (c .before .before .before .before .loop .inv) (c .before .before .group-end .ensures) (c .before .any-reached .ensures) (c .if1 .left)
 
 returns-2 : tie.Need-returns-2 Inv-loop μ-loop
 returns-2 c = λ t w g. stands-done (c .before .loop .inv) (c .loop-test .left) t w g
@@ -63,8 +63,8 @@ names-stand-spec =
     μ-loop
     loop-holds
     group-end-requires
-    any-wanted-requires
-    any-argued-requires
+    any-reached-requires
+    any-reached-requires-2
     returns
     loop-less
     loop-again
