@@ -1,28 +1,18 @@
 -- Laws of measuring: a list of words is measured part by part. By induction on the list. Assumes nothing.
 use mathlib.Core.Path.{_≡_, refl, sym}
-use mathlib.Core.Bool.{Bool, true, false, _&&_, cond, and-assoc, and-true}
+use mathlib.Core.Bool.{Bool, true, false, _&&_, cond, and-assoc}
 use mathlib.Core.List.{List, [], _∷_, _++_}
 use Prim.Native.Nat.{ℕ}
 use Rattle.tok.specs.Text.{Texts}
 use Rattle.tok.specs.Step.{ok, refused, refusal, next, when}
 use Rattle.ptype.specs.Add.{Buffer}
 use Rattle.add.specs.Parts.{shallow}
-use Rattle.add.specs.Pool.{measure, isType, poolTypes, allShallow}
+use Rattle.add.specs.Pool.{measure, allShallow}
 
 pub shallow-append : (t : Texts) (types xs ys : List ℕ) → allShallow t types (xs ++ ys) ≡ (allShallow t types xs && allShallow t types ys)
 unfolding allShallow
 shallow-append t types [] ys = refl
 shallow-append t types (x ∷ xs) ys = rw (shallow-append t types xs ys) (sym (and-assoc (shallow t types x) (allShallow t types xs) (allShallow t types ys)))
-
--- the pool, word by word
-pub shallow-word : (t : Texts) (types : List ℕ) (w : ℕ) (ws : List ℕ)
-    → allShallow t types (poolTypes (w ∷ ws)) ≡ (allShallow t types (poolTypes (w ∷ [])) && allShallow t types (poolTypes ws))
-unfolding allShallow poolTypes
-shallow-word t types w ws = go (isType w)
-  where
-    go : (q : Bool) → allShallow t types (cond q (w ∷ poolTypes ws) (poolTypes ws)) ≡ (allShallow t types (cond q (w ∷ []) []) && allShallow t types (poolTypes ws))
-    go true = rw and-true
-    go false = refl
 
 -- Words measured in two parts: the second is measured where the first is not refused.
 pub measure-append : (t : Texts) (n : ℕ) (xs ys : List ℕ) (b : Buffer) → measure t n (xs ++ ys) b ≡ next (measure t n xs b) (λ _. measure t n ys)
