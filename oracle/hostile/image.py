@@ -49,6 +49,9 @@ def block(style, count, length):
 
     last      equal but for the last bytes (at least length - 18 are equal)
     middle    equal but for some bytes in the middle
+    late      equal but for some bytes at three quarters
+    moved     equal but for two bytes, at a place that changes from name to name
+    parts     of parts of 16 bytes, each one of two: any two names differ in other parts than the next two
     front     equal but for the first bytes
     first     different from the first byte on
     same      all equal, at different places
@@ -56,9 +59,9 @@ def block(style, count, length):
     wide      of characters of three bytes
     short     of four letters, whatever the length asked for
     """
-    if style in ("last", "middle"):
+    if style in ("last", "middle", "late"):
         data, places = bytearray(), []
-        first = 2 if style == "last" else length // 2 - 8
+        first = {"last": 2, "middle": length // 2 - 8, "late": length // 4 - 8}[style]
         for j in range(-(-count // 17)):
             at = len(data)
             data += b"a" * length + bytes([98 + j // 24, 98 + j % 24])
@@ -70,6 +73,18 @@ def block(style, count, length):
             places += [len(data) - s for s in range(17)]
             data += bytes([98 + j // 24, 98 + j % 24]) + b"a" * length
         return bytes(data), places[:count]
+    if style == "moved":
+        data, places = bytearray(b"a" * length), []
+        for j in range(-(-count // (length - 2))):
+            places += [len(data) - s * 100 % (length - 2) for s in range(length - 2)]
+            data += bytes([98 + j // 24, 98 + j % 24]) + b"a" * length
+        return bytes(data), places[:count]
+    if style == "parts":
+        register, data = 1, bytearray()
+        for _ in range(count + length // 16):
+            register = register >> 1 ^ (0xD008 if register & 1 else 0)
+            data += b"aaaaaaa" + (b"b" if register & 1 else b"a") + b"aaaaaaaa"
+        return bytes(data), [16 * i for i in range(count)]
     if style == "same":
         return b"a" * (length + count), list(range(count))
     if style == "anagram":
@@ -90,7 +105,7 @@ def block(style, count, length):
     return bytes(draw.choices(b"abcdefghijklmnopqrstuvwxyz", k=count + length)), list(range(count))
 
 
-STYLES = ("last", "middle", "front", "first", "same", "anagram", "wide", "short")
+STYLES = ("last", "middle", "late", "moved", "parts", "front", "first", "same", "anagram", "wide", "short")
 
 
 class Text:

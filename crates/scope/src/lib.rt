@@ -172,10 +172,14 @@ pub fn find_held<'a>(
     let wanted = name_bytes(script, library, name);
     let mut at = from;
     let mut left = k;
+    let mut part = 0;
     while left > 0 {
         let own = held_name(words, scratch, at);
-        if tok::is_name(script, library, wanted, own) {
-            return held_at(scratch, at);
+        if !tok::differs_in(script, library, wanted, own, part) {
+            if tok::is_name(script, library, wanted, own) {
+                return held_at(scratch, at);
+            }
+            part = tok::next_part(part);
         }
         at += held_size(word_at(scratch, at));
         left -= 1;

@@ -2,6 +2,7 @@
 pub mod WordLaws
 pub mod TextLaws
 mod SameLaws
+pub mod PartLaws
 pub mod NameLaws
 pub mod SpanLaws
 mod Examples

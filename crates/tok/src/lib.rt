@@ -1,9 +1,11 @@
 // Words, names and tokens in the script text and the library text, and spans (lex/tok.rs, diagnostic.rs, ast.rs).
 ghost use mathlib.Core.Path.{_≡_};
+ghost use mathlib.Core.Bool.{not};
 ghost use Prim.Native.Nat.{_≤_, min, max};
 ghost use lib.ListN.{length, getD};
 ghost use Rattle.tok.specs.Word.{kindOf, payloadOf, nameLength, nameStart, nameBit};
 ghost use Rattle.tok.specs.Text.{textsOf, bytesIn, nameBytes, sameBytes, sameName};
+ghost use Rattle.tok.specs.Part.{partOf, differsIn, nextPart};
 ghost use Rattle.tok.specs.Token.{tokenBytes};
 ghost use Rattle.tok.specs.Name.{goodPayload, goodName};
 ghost use Rattle.tok.specs.Span.{tokenSpan, endOf, cover};
@@ -232,6 +234,47 @@ pub fn is_name<'a>(script: &'a [u8], library: &'a [u8], name: &[u8], w: u32) -> 
         return same_short(name, own);
     }
     same_long(name, own)
+}
+
+// Names in a list.
+
+// Whether two byte strings of one length differ in the 4 bytes that end so far before the end, or in the first 4. So few that the compiler puts
+// this, and what calls it, in place of the calls.
+fn part_differs(a: &[u8], b: &[u8], part: usize) -> bool
+    requires { ⌜ (length (now a) ≡ length (now b)) × (4 ≤ length (now a)) ⌝ }
+    ensures { λ r. ⌜ r ≡ not (sameBytes (partOf part (now (a .entry))) (partOf part (now (b .entry)))) ⌝ }
+{
+    let last = a.len() - 4;
+    let i = last - least(part, last);
+    !same_part(&a[i..i + 4], &b[i..i + 4])
+}
+
+// Parts from here on are none: names have 255 bytes at most.
+const NO_PART: usize = 256;
+
+// Where a list of names is gone through, a name most often differs where the one before it did. So that part is asked first: true only where
+// the name word stands for another name. False tells nothing.
+pub fn differs_in<'a>(script: &'a [u8], library: &'a [u8], name: &[u8], w: u32, part: usize) -> bool
+    ensures { λ r. ⌜ r ≡ differsIn (textsOf (now (script .entry)) (now (library .entry))) (now (name .entry)) w part ⌝ }
+{
+    if part >= NO_PART {
+        return false;
+    }
+    if name.len() < 4 {
+        return false;
+    }
+    let bytes = name_bytes(script, library, w);
+    if name.len() != bytes.len() {
+        return true;
+    }
+    part_differs(name, bytes, part)
+}
+
+// The part to ask after one in which a name did not differ.
+pub fn next_part(part: usize) -> usize
+    ensures { λ r. ⌜ r ≡ nextPart part ⌝ }
+{
+    if part < 1024 { part + 4 } else { 0 }
 }
 
 // Whether a word carries the payload of a name that lies in a text and is well formed, with bit 24 as told.
