@@ -58,6 +58,7 @@ def block(style, count, length):
     anagram   the same bytes in another order: alike for a sum of bytes
     wide      of characters of three bytes
     short     of four letters, whatever the length asked for
+    head      of 15 bytes, whatever the length asked for: three letters, then bytes that are equal in all
     """
     if style in ("last", "middle", "late"):
         data, places = bytearray(), []
@@ -85,6 +86,10 @@ def block(style, count, length):
             register = register >> 1 ^ (0xD008 if register & 1 else 0)
             data += b"aaaaaaa" + (b"b" if register & 1 else b"a") + b"aaaaaaaa"
         return bytes(data), [16 * i for i in range(count)]
+    if style == "head":
+        letters = b"bcdefghijklmnopqrstuvwxyz"
+        heads = (bytes([a, b, c]) for a in letters for b in letters for c in letters)
+        return b"".join(head + b"a" * 12 for head, _ in zip(heads, range(count))), [15 * k for k in range(count)]
     if style == "same":
         return b"a" * (length + count), list(range(count))
     if style == "anagram":
@@ -105,7 +110,7 @@ def block(style, count, length):
     return bytes(draw.choices(b"abcdefghijklmnopqrstuvwxyz", k=count + length)), list(range(count))
 
 
-STYLES = ("last", "middle", "late", "moved", "parts", "front", "first", "same", "anagram", "wide", "short")
+STYLES = ("last", "middle", "late", "moved", "parts", "front", "first", "same", "anagram", "wide", "short", "head")
 
 
 class Text:
@@ -126,7 +131,7 @@ class Text:
     def names(self, style, count, length=255):
         """The same style, count and length give the same bytes in every text."""
         data, places = block(style, count, length)
-        length = 4 if style == "short" else length // 3 * 3 if style == "wide" else length
+        length = {"short": 4, "head": 15, "wide": length // 3 * 3}.get(style, length)
         start = len(self.data)
         self.data += data
         return [self.place(start + p, length) for p in places]
