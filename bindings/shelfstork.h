@@ -1,8 +1,9 @@
 /* The type checker as a C function: libshelfstork.a (rt staticlib shelfstork), x86-64 Linux.
  *
  * Inputs and answers are the words of docs/01-scope.md. The function is pure: it reads its inputs, writes the six lent buffers and the answer,
- * keeps nothing, allocates nothing and may be called from several threads at once. It needs at most 352 KB of stack (360,448 bytes below the
- * caller's frame; 200 KB for inputs that are answered), whatever it is given: bindings/stack/ measures it.
+ * keeps nothing, allocates nothing and may be called from several threads at once. It needs at most 192 KB of stack (196,608 bytes below the
+ * caller's frame), whatever it is given; for scripts whose nodes are at most d deep the greater of 58,856 and 34,960 + 2,304 * d bytes.
+ * bindings/stack/ measures it.
  */
 #ifndef SHELFSTORK_H
 #define SHELFSTORK_H

@@ -4,6 +4,7 @@
   stack.py [--lib FOLDER] [--all]
 
 1. Each shape of ../../oracle/hostile/shapes.py is run on a painted stack (stack.c): the bytes below the caller's frame that were written.
+   Shapes that are less deep are held to what is said of their depth.
 2. All shapes are run on the program's own stack under `ulimit -s` of the bound and what the driver needs by itself (an empty image's run), and for the
    worst of each group the least `ulimit -s` is looked for.
 3. frames.py sums the frames along the longest chain of calls. What was measured is at most that, and near it.
@@ -21,10 +22,12 @@ sys.path.insert(1, os.path.join(HERE, "..", "..", "oracle", "hostile"))
 sys.path.insert(2, os.path.join(HERE, "..", "..", "oracle", "definitions"))
 import frames  # noqa: E402
 from bench_case import batch_of  # noqa: E402
-from shapes import shapes  # noqa: E402
+from shapes import less_deep, shapes  # noqa: E402
 
 # Bytes of stack that the check may take, whatever it is given.
 BOUND = 196608
+# And where nodes are at most d deep: the greater of the first, which refusals 1 to 6 take, and the second + d times the third (shelfstork.h).
+REFUSALS, WALK, LEVEL = 58856, 34960, 2304
 # The measured most is at least this part of the sum.
 NEAR = 0.85
 PAGE = 4096
@@ -106,6 +109,8 @@ def main():
         most, worst = max((size, name) for (name, _), (size, _, _) in measured)
         answered = max(size for _, (size, number, _) in measured if number == 0)
         within = ends([driver, "plain", batch(made, [c for _, c in named])], own + BOUND // 1024)
+        shallow = list(less_deep())
+        over = [(size, name) for (d, name, _), (size, _, _) in zip(shallow, painted(driver, made, [c for _, _, c in shallow])) if size > max(REFUSALS, WALK + LEVEL * d)]
     try:
         summed, chain = frames.worst(os.path.join(o.lib, "libshelfstork.a"))
     except ValueError as why:
@@ -120,6 +125,10 @@ def main():
     faults = []
     if most > BOUND:
         faults.append("%s takes %s bytes, more than %s" % (worst, format(most, ","), format(BOUND, ",")))
+    for size, name in over[:5]:
+        faults.append("%s takes %s bytes, more than is said of its depth" % (name, format(size, ",")))
+    if WALK + 64 * LEVEL < summed or REFUSALS < measured[0][1][0]:
+        faults.append("what is said of depths does not come to the sum, %s" % format(summed, ","))
     if not within:
         faults.append("the shapes do not all end under `ulimit -s` %d" % (own + BOUND // 1024))
     if summed > BOUND:

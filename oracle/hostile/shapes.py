@@ -134,10 +134,10 @@ BOTTOMS = {
 }
 
 
-def nested(kinds, bottom):
+def nested(kinds, bottom, deepest=DEEPEST):
     s = Shape()
     node, depth = BOTTOMS[bottom](s)
-    for k in range(DEEPEST - depth):
+    for k in range(deepest - depth):
         node = LEVELS[kinds[k % len(kinds)]](s, node)
     s.i.root(node)
     return s.case()
@@ -318,6 +318,14 @@ def mixed(count, seed=1):
             yield "mixed %d over %s" % (k, bottom), nested(kinds, bottom)
         except ValueError:
             pass
+
+
+def less_deep():
+    """Depth, name and case of shapes that are not as deep as can be."""
+    for deepest in (8, 16, 24, 32, 48):
+        for kind in LEVELS:
+            for bottom in BOTTOMS:
+                yield deepest, "%d deep, %s over %s" % (deepest, kind, bottom), nested([kind], bottom, deepest)
 
 
 def shapes(mixes=60):
