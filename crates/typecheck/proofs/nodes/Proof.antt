@@ -13,7 +13,9 @@ use Rattle.typecheck.proofs.nodes.Tie as tie
 
 abbrev Inv-loop : tie.InvT-loop
 Inv-loop slots₀ functions₀ types₀ diagnostics₀ messages₀ scratch₀ script library image words places owner at k answer₀ here₀ place₀ left₀ slots functions types diagnostics messages scratch answer here place left =
-    Turn (textsOf script library) image places words owner at k here₀ (lent slots₀ functions₀ types₀ diagnostics₀ messages₀ scratch₀) place left answer here (lent slots functions types diagnostics messages scratch) × (length slots ≡ length slots₀) × (length functions ≡ length functions₀) × (length types ≡ length types₀) × (length diagnostics ≡ length diagnostics₀) × (length messages ≡ length messages₀) × (length scratch ≡ length scratch₀)
+    Turn (textsOf script library) image places words owner at k here₀ (lent slots₀ functions₀ types₀ diagnostics₀ messages₀ scratch₀) place left answer here (lent slots functions types diagnostics messages scratch)
+    × (length slots ≡ length slots₀) × (length functions ≡ length functions₀) × (length types ≡ length types₀) × (length diagnostics ≡ length diagnostics₀)
+    × (length messages ≡ length messages₀) × (length scratch ≡ length scratch₀)
 
 abbrev μ-loop : tie.MeasureT-loop
 μ-loop slots₀ functions₀ types₀ diagnostics₀ messages₀ scratch₀ script library image words places owner at k answer₀ here₀ place₀ left₀ slots functions types diagnostics messages scratch answer here place left =
@@ -41,28 +43,55 @@ enum-told : tie.Need-enum-told Inv-loop μ-loop
 enum-told c = search needs
 
 same-length : tie.Need-same-length Inv-loop μ-loop
-same-length c = c .before .before .before .before .before .before .before .before .before .before .before .before .before .before .before .node .kept .0 ∙ c .before .before .before .before .before .before .before .before .before .before .before .before .before .before .before .before .before .before .before .before .before .before .before .before .loop .inv .1
+same-length c =
+    let c1 = c .before .before .before .before .before .before .before .before .before .before .before .before .before .before .before in
+    let c2 = c1 .before .before .before .before .before .before .before .before .before in
+    c1 .node .kept .0 ∙ c2 .loop .inv .1
 
 same-length-2 : tie.Need-same-length-2 Inv-loop μ-loop
-same-length-2 c = c .before .before .before .before .before .before .before .before .before .before .before .before .before .before .before .node .kept .1 .0 ∙ c .before .before .before .before .before .before .before .before .before .before .before .before .before .before .before .before .before .before .before .before .before .before .before .before .loop .inv .2
+same-length-2 c =
+    let c1 = c .before .before .before .before .before .before .before .before .before .before .before .before .before .before .before in
+    let c2 = c1 .before .before .before .before .before .before .before .before .before in
+    c1 .node .kept .1 .0 ∙ c2 .loop .inv .2
 
 same-length-3 : tie.Need-same-length-3 Inv-loop μ-loop
-same-length-3 c = c .before .before .before .before .before .before .before .before .before .before .before .before .before .before .before .node .kept .1 .1 .0 ∙ c .before .before .before .before .before .before .before .before .before .before .before .before .before .before .before .before .before .before .before .before .before .before .before .before .loop .inv .3
+same-length-3 c =
+    let c1 = c .before .before .before .before .before .before .before .before .before .before .before .before .before .before .before in
+    let c2 = c1 .before .before .before .before .before .before .before .before .before in
+    c1 .node .kept .1 .1 .0 ∙ c2 .loop .inv .3
 
 same-length-4 : tie.Need-same-length-4 Inv-loop μ-loop
-same-length-4 c = c .before .before .before .before .before .before .before .before .before .before .before .before .before .before .before .node .kept .1 .1 .1 .0 ∙ c .before .before .before .before .before .before .before .before .before .before .before .before .before .before .before .before .before .before .before .before .before .before .before .before .loop .inv .4
+same-length-4 c =
+    let c1 = c .before .before .before .before .before .before .before .before .before .before .before .before .before .before .before in
+    let c2 = c1 .before .before .before .before .before .before .before .before .before in
+    c1 .node .kept .1 .1 .1 .0 ∙ c2 .loop .inv .4
 
 same-length-5 : tie.Need-same-length-5 Inv-loop μ-loop
-same-length-5 c = c .before .before .before .before .before .before .before .before .before .before .before .before .before .before .before .node .kept .1 .1 .1 .1 .0 ∙ c .before .before .before .before .before .before .before .before .before .before .before .before .before .before .before .before .before .before .before .before .before .before .before .before .loop .inv .5
+same-length-5 c =
+    let c1 = c .before .before .before .before .before .before .before .before .before .before .before .before .before .before .before in
+    let c2 = c1 .before .before .before .before .before .before .before .before .before in
+    c1 .node .kept .1 .1 .1 .1 .0 ∙ c2 .loop .inv .5
 
 same-length-6 : tie.Need-same-length-6 Inv-loop μ-loop
-same-length-6 c = c .before .before .before .before .before .before .before .before .before .before .before .before .before .before .before .node .kept .1 .1 .1 .1 .1 .0 ∙ c .before .before .before .before .before .before .before .before .before .before .before .before .before .before .before .before .before .before .before .before .before .before .before .before .loop .inv .6
+same-length-6 c =
+    let c1 = c .before .before .before .before .before .before .before .before .before .before .before .before .before .before .before in
+    let c2 = c1 .before .before .before .before .before .before .before .before .before in
+    c1 .node .kept .1 .1 .1 .1 .1 .0 ∙ c2 .loop .inv .6
 
 returns : tie.Need-returns Inv-loop μ-loop
-returns c = turn-stops (c .before .before .before .before .before .before .before .before .before .before .before .before .before .before .before .before .before .before .before .before .before .before .before .before .loop .inv .0) (c .before .before .before .before .before .before .before .before .before .before .before .before .before .before .before .before .before .before .before .before .before .before .before .loop-test .taken) (c .before .before .before .before .before .before .before .before .before .before .before .before .before .before .before .before .word-at2 .ensures) (c .before .before .before .before .before .before .before .before .before .before .before .before .before .before .before .node .ensures) (stopped-after (c .before .before .before .before .before .before .before .before .before .before .before .before .before .before .before .node .result) (c .before .before .after .ensures) (c .enum-told .given .1))
+returns c =
+    let c1 = c .before .before in
+    let c2 = c1 .before .before .before .before .before .before .before .before .before .before .before .before .before in
+    let c3 = c2 .before in
+    let c4 = c3 .before .before .before .before .before .before .before in
+    let c5 = c4 .before in
+    turn-stops (c5 .loop .inv .0) (c4 .loop-test .taken) (c3 .word-at2 .ensures) (c2 .node .ensures) (stopped-after (c2 .node .result) (c1 .after .ensures) (c .enum-told .given .1))
 
 add-place : tie.Need-add-place Inv-loop μ-loop
-add-place c = omega (arith, place-inside (c .before .before .before .before .before .before .before .before .before .before .before .before .before .before .before .before .before .before .before .before .before .before .before .before .before .loop .inv .0))
+add-place c =
+    let c1 = c .before .before .before .before .before .before .before .before .before .before .before .before .before .before .before .before .before .before .before .before .before .before in
+    let c2 = c1 .before .before .before in
+    omega (arith, place-inside (c2 .loop .inv .0))
 
 sub-left : tie.Need-sub-left Inv-loop μ-loop
 sub-left c = search needs
@@ -71,7 +100,21 @@ loop-less : tie.Need-loop-less Inv-loop μ-loop
 loop-less c = search needs
 
 loop-again : tie.Need-loop-again Inv-loop μ-loop
-loop-again c = (turn-next (c .before .before .before .before .before .before .before .before .before .before .before .before .before .before .before .before .before .before .before .before .before .before .before .before .before .loop .inv .0) (c .before .before .before .before .before .before .before .before .before .before .before .before .before .before .before .before .before .before .before .before .before .before .before .before .loop-test .taken) (c .before .before .before .before .before .before .before .before .before .before .before .before .before .before .before .before .before .word-at2 .ensures) (c .before .before .before .before .before .before .before .before .before .before .before .before .before .before .before .before .node .ensures) (came-after (c .before .before .before .before .before .before .before .before .before .before .before .before .before .before .before .before .node .result) (c .before .before .before .after .ensures) (c .before .a .given .1)), c .before .before .before .before .before .before .before .before .before .before .before .before .before .before .before .before .node .kept .0 ∙ c .before .before .before .before .before .before .before .before .before .before .before .before .before .before .before .before .before .before .before .before .before .before .before .before .before .loop .inv .1, c .before .before .before .before .before .before .before .before .before .before .before .before .before .before .before .before .node .kept .1 .0 ∙ c .before .before .before .before .before .before .before .before .before .before .before .before .before .before .before .before .before .before .before .before .before .before .before .before .before .loop .inv .2, c .before .before .before .before .before .before .before .before .before .before .before .before .before .before .before .before .node .kept .1 .1 .0 ∙ c .before .before .before .before .before .before .before .before .before .before .before .before .before .before .before .before .before .before .before .before .before .before .before .before .before .loop .inv .3, c .before .before .before .before .before .before .before .before .before .before .before .before .before .before .before .before .node .kept .1 .1 .1 .0 ∙ c .before .before .before .before .before .before .before .before .before .before .before .before .before .before .before .before .before .before .before .before .before .before .before .before .before .loop .inv .4, c .before .before .before .before .before .before .before .before .before .before .before .before .before .before .before .before .node .kept .1 .1 .1 .1 .0 ∙ c .before .before .before .before .before .before .before .before .before .before .before .before .before .before .before .before .before .before .before .before .before .before .before .before .before .loop .inv .5, c .before .before .before .before .before .before .before .before .before .before .before .before .before .before .before .before .node .kept .1 .1 .1 .1 .1 .0 ∙ c .before .before .before .before .before .before .before .before .before .before .before .before .before .before .before .before .before .before .before .before .before .before .before .before .before .loop .inv .6)
+loop-again c =
+    let c1 = c .before in
+    let c2 = c1 .before .before in
+    let c3 = c2 .before .before .before .before .before .before .before .before .before .before .before .before .before in
+    let c4 = c3 .before in
+    let c5 = c4 .before .before .before .before .before .before .before in
+    let c6 = c5 .before in (
+      turn-next (c6 .loop .inv .0) (c5 .loop-test .taken) (c4 .word-at2 .ensures) (c3 .node .ensures) (came-after (c3 .node .result) (c2 .after .ensures) (c1 .a .given .1)),
+      c3 .node .kept .0 ∙ c6 .loop .inv .1,
+      c3 .node .kept .1 .0 ∙ c6 .loop .inv .2,
+      c3 .node .kept .1 .1 .0 ∙ c6 .loop .inv .3,
+      c3 .node .kept .1 .1 .1 .0 ∙ c6 .loop .inv .4,
+      c3 .node .kept .1 .1 .1 .1 .0 ∙ c6 .loop .inv .5,
+      c3 .node .kept .1 .1 .1 .1 .1 .0 ∙ c6 .loop .inv .6,
+    )
 
 came-requires : tie.Need-came-requires Inv-loop μ-loop
 came-requires c κs = search needs

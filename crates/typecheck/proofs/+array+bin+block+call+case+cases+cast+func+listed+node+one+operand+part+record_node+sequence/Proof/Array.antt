@@ -17,7 +17,10 @@ use Rattle.typecheck.proofs.+array+bin+block+call+case+cases+cast+func+
 
 abbrev pub array-Inv-loop : array-lts.InvT-loop
 array-Inv-loop slots₀ functions₀ types₀ diagnostics₀ messages₀ scratch₀ script library image words places n at count first poisoned₀ here₀ i₀ slots functions types diagnostics messages scratch poisoned here i =
-    Turned (textsOf script library) image places words n (getD image (at + 1) 0) (at + 3) count first i₀ poisoned₀ here₀ (lent slots₀ functions₀ types₀ diagnostics₀ messages₀ scratch₀) i poisoned here (lent slots functions types diagnostics messages scratch) × (length slots ≡ length slots₀) × (length functions ≡ length functions₀) × (length types ≡ length types₀) × (length diagnostics ≡ length diagnostics₀) × (length messages ≡ length messages₀) × (length scratch ≡ length scratch₀)
+    Turned (textsOf script library) image places words n (getD image (at + 1) 0) (at + 3) count first i₀ poisoned₀ here₀ (lent slots₀ functions₀ types₀ diagnostics₀ messages₀ scratch₀)
+    i poisoned here (lent slots functions types diagnostics messages scratch)
+    × (length slots ≡ length slots₀) × (length functions ≡ length functions₀) × (length types ≡ length types₀) × (length diagnostics ≡ length diagnostics₀)
+    × (length messages ≡ length messages₀) × (length scratch ≡ length scratch₀)
 
 abbrev pub array-μ-loop : array-lts.MeasureT-loop
 array-μ-loop slots₀ functions₀ types₀ diagnostics₀ messages₀ scratch₀ script library image words places n at count first poisoned₀ here₀ i₀ slots functions types diagnostics messages scratch poisoned here i =
@@ -41,7 +44,12 @@ array-sub-count t c = array-length (c .before .before .before .before .before .b
 
 -- src/lib.rt:208:9
 pub array-empty-requires : (t : ℕ) → array-lts.Need-empty-requires (array-claims t) (array-at t) array.Post array-Inv-loop array-μ-loop
-array-empty-requires t c κs = array-low (c .before .before .before .before .before .before .before .before .before .before .before .before .before .before .before .before .before .pre .1) (c .before .before .before .before .before .node-place .ensures) (c .before .before .before .before .word-at .ensures) (c .before .before .before .payload .ensures)
+array-empty-requires t c κs =
+    let c1 = c .before .before .before in
+    let c2 = c1 .before in
+    let c3 = c2 .before in
+    let c4 = c3 .before .before .before .before .before .before .before .before .before .before .before .before in
+    array-low (c4 .pre .1) (c3 .node-place .ensures) (c2 .word-at .ensures) (c1 .payload .ensures)
 
 -- src/lib.rt:208:9
 pub array-same-length : (t : ℕ) → array-lts.Need-same-length (array-claims t) (array-at t) array.Post array-Inv-loop array-μ-loop
@@ -53,11 +61,23 @@ array-same-length-2 t c = c .before .before .before .before .empty .kept .1 .0
 
 -- src/lib.rt:208:9
 pub array-returns : (t : ℕ) → array-lts.Need-returns (array-claims t) (array-at t) array.Post array-Inv-loop array-μ-loop
-array-returns t c = array-empty (c .before .before .before .before .before .before .before .before .before .before .before .before .before .before .before .before .before .before .before .before .before .before .pre .1) (c .before .before .before .before .before .before .before .before .before .before .node-place .ensures) (c .before .before .before .before .before .before .before .before .before .word-at .ensures) (c .before .before .before .before .before .before .before .before .payload .ensures) (c .before .before .before .before .before .before .before .if1 .taken) (c .before .before .before .before .empty .ensures _ _ _ _ _)
+array-returns t c =
+    let c1 = c .before .before .before .before in
+    let c2 = c1 .before .before .before in
+    let c3 = c2 .before in
+    let c4 = c3 .before in
+    let c5 = c4 .before in
+    let c6 = c5 .before .before .before .before .before .before .before .before .before .before .before .before in
+    array-empty (c6 .pre .1) (c5 .node-place .ensures) (c4 .word-at .ensures) (c3 .payload .ensures) (c2 .if1 .taken) (c1 .empty .ensures _ _ _ _ _)
 
 -- src/lib.rt:223:24
 pub array-add-word-at : (t : ℕ) → array-lts.Need-add-word-at (array-claims t) (array-at t) array.Post array-Inv-loop array-μ-loop
-array-add-word-at t c = omega (arith, array-low (c .before .before .before .before .before .before .before .before .before .before .before .before .before .before .before .before .before .before .before .before .before .pre .1) (c .before .before .before .before .before .before .before .before .before .node-place .ensures) (c .before .before .before .before .before .before .before .before .word-at .ensures) (c .before .before .before .before .before .before .before .payload .ensures))
+array-add-word-at t c =
+    let c1 = c .before .before .before .before .before .before .before in
+    let c2 = c1 .before in
+    let c3 = c2 .before in
+    let c4 = c3 .before .before .before .before .before .before .before .before .before .before .before .before in
+    omega (arith, array-low (c4 .pre .1) (c3 .node-place .ensures) (c2 .word-at .ensures) (c1 .payload .ensures))
 
 -- src/lib.rt:223:9
 pub array-word-at-requires-2 : (t : ℕ) → array-lts.Need-word-at-requires-2 (array-claims t) (array-at t) array.Post array-Inv-loop array-μ-loop
@@ -65,7 +85,15 @@ array-word-at-requires-2 t c κs = search needs
 
 -- src/lib.rt:210:9
 pub array-part-requires : (t : ℕ) → array-lts.Need-part-requires (array-claims t) (array-at t) array.Post array-Inv-loop array-μ-loop
-array-part-requires t c κs = (omega (arith, c .before .before .before .before .before .before .before .before .before .before .before .before .before .before .before .before .before .before .before .before .before .before .pre .0, first-under (c .before .before .before .before .before .before .before .before .before .before .before .before .before .before .before .before .before .before .before .before .before .before .pre .1) (c .before .before .before .before .before .before .before .before .before .before .node-place .ensures) (c .before .before .before .before .before .before .before .before .before .word-at .ensures) (c .before .before .before .before .before .before .before .before .payload .ensures) (c .before .before .before .before .before .before .before .if1 .left) (c .word-at2 .ensures)), first-visit (c .before .before .before .before .before .before .before .before .before .before .before .before .before .before .before .before .before .before .before .before .before .before .pre .1) (c .before .before .before .before .before .before .before .before .before .before .node-place .ensures) (c .before .before .before .before .before .before .before .before .before .word-at .ensures) (c .before .before .before .before .before .before .before .before .payload .ensures) (c .before .before .before .before .before .before .before .if1 .left) (c .word-at2 .ensures))
+array-part-requires t c κs =
+    let c1 = c .before .before .before .before .before .before .before in
+    let c2 = c1 .before in
+    let c3 = c2 .before in
+    let c4 = c3 .before in
+    let c5 = c4 .before .before .before .before .before .before .before .before .before .before .before .before in (
+      omega (arith, c5 .pre .0, first-under (c5 .pre .1) (c4 .node-place .ensures) (c3 .word-at .ensures) (c2 .payload .ensures) (c1 .if1 .left) (c .word-at2 .ensures)),
+      first-visit (c5 .pre .1) (c4 .node-place .ensures) (c3 .word-at .ensures) (c2 .payload .ensures) (c1 .if1 .left) (c .word-at2 .ensures),
+    )
 
 -- src/lib.rt:225:38
 pub array-after-requires : (t : ℕ) → array-lts.Need-after-requires (array-claims t) (array-at t) array.Post array-Inv-loop array-μ-loop
@@ -105,7 +133,17 @@ array-same-length-8 t c = c .before .before .before .before .before .before .bef
 
 -- src/lib.rt:226:9
 pub array-returns-2 : (t : ℕ) → array-lts.Need-returns-2 (array-claims t) (array-at t) array.Post array-Inv-loop array-μ-loop
-array-returns-2 t c = first-stopped (c .before .before .before .before .before .before .before .before .before .before .before .before .before .before .before .before .before .before .before .before .before .before .before .before .before .before .before .before .before .before .before .before .before .before .before .before .before .before .pre .1) (c .before .before .before .before .before .before .before .before .before .before .before .before .before .before .before .before .before .before .before .before .before .before .before .before .before .before .node-place .ensures) (c .before .before .before .before .before .before .before .before .before .before .before .before .before .before .before .before .before .before .before .before .before .before .before .before .before .word-at .ensures) (c .before .before .before .before .before .before .before .before .before .before .before .before .before .before .before .before .before .before .before .before .before .before .before .before .payload .ensures) (c .before .before .before .before .before .before .before .before .before .before .before .before .before .before .before .before .before .before .before .before .before .before .before .if1 .left) (c .before .before .before .before .before .before .before .before .before .before .before .before .before .before .before .before .word-at2 .ensures) (c .before .before .before .before .before .before .before .before .before .before .before .before .before .before .before .part .ensures) (stopped-after (c .before .before .before .before .before .before .before .before .before .before .before .before .before .before .before .part .result) (c .before .before .after .ensures) (c .enum-told .given .1))
+array-returns-2 t c =
+    let c1 = c .before .before in
+    let c2 = c1 .before .before .before .before .before .before .before .before .before .before .before .before .before in
+    let c3 = c2 .before in
+    let c4 = c3 .before .before .before .before .before .before .before in
+    let c5 = c4 .before in
+    let c6 = c5 .before in
+    let c7 = c6 .before in
+    let c8 = c7 .before .before .before .before .before .before .before .before .before .before .before .before in
+    first-stopped (c8 .pre .1) (c7 .node-place .ensures) (c6 .word-at .ensures) (c5 .payload .ensures) (c4 .if1 .left) (c3 .word-at2 .ensures) (c2 .part .ensures)
+    (stopped-after (c2 .part .result) (c1 .after .ensures) (c .enum-told .given .1))
 
 -- src/lib.rt:231:5
 pub array-loop-holds : (t : ℕ) → array-lts.Need-loop-holds (array-claims t) (array-at t) array.Post array-Inv-loop array-μ-loop
@@ -113,11 +151,24 @@ array-loop-holds t c = (turned-start, refl, refl, refl, refl, refl, refl)
 
 -- src/lib.rt:232:35
 pub array-add-word-at-2 : (t : ℕ) → array-lts.Need-add-word-at-2 (array-claims t) (array-at t) array.Post array-Inv-loop array-μ-loop
-array-add-word-at-2 t c = omega (arith, array-low (c .before .before .before .before .before .before .before .before .before .before .before .before .before .before .before .before .before .before .before .before .before .before .before .before .before .before .before .before .before .before .before .before .before .before .before .before .before .before .before .before .before .pre .1) (c .before .before .before .before .before .before .before .before .before .before .before .before .before .before .before .before .before .before .before .before .before .before .before .before .before .before .before .before .before .node-place .ensures) (c .before .before .before .before .before .before .before .before .before .before .before .before .before .before .before .before .before .before .before .before .before .before .before .before .before .before .before .before .word-at .ensures) (c .before .before .before .before .before .before .before .before .before .before .before .before .before .before .before .before .before .before .before .before .before .before .before .before .before .before .before .payload .ensures))
+array-add-word-at-2 t c =
+    let c1 = c .before .before .before .before .before .before .before .before .before .before .before .before .before .before .before .before .before .before .before .before .before .before in
+    let c2 = c1 .before .before .before .before .before in
+    let c3 = c2 .before in
+    let c4 = c3 .before in
+    let c5 = c4 .before .before .before .before .before .before .before .before .before .before .before .before in
+    omega (arith, array-low (c5 .pre .1) (c4 .node-place .ensures) (c3 .word-at .ensures) (c2 .payload .ensures))
 
 -- src/lib.rt:232:35
 pub array-add-word-at-3 : (t : ℕ) → array-lts.Need-add-word-at-3 (array-claims t) (array-at t) array.Post array-Inv-loop array-μ-loop
-array-add-word-at-3 t c = omega (arith, array-inside (c .before .before .before .before .before .before .before .before .before .before .before .before .before .before .before .before .before .before .before .before .before .before .before .before .before .before .before .before .before .before .before .before .before .before .before .before .before .before .before .before .before .pre .1) (c .before .before .before .before .before .before .before .before .before .before .before .before .before .before .before .before .before .before .before .before .before .before .before .before .before .before .before .before .before .node-place .ensures) (c .before .before .before .before .before .before .before .before .before .before .before .before .before .before .before .before .before .before .before .before .before .before .before .before .before .before .before .before .word-at .ensures) (c .before .before .before .before .before .before .before .before .before .before .before .before .before .before .before .before .before .before .before .before .before .before .before .before .before .before .before .payload .ensures), array-length (c .before .before .before .before .before .before .before .before .before .before .before .before .before .before .before .before .before .before .before .before .before .before .before .before .before .before .before .before .before .before .before .before .before .before .before .before .before .before .before .before .before .pre .1) (c .before .before .before .before .before .before .before .before .before .before .before .before .before .before .before .before .before .before .before .before .before .before .before .before .before .before .before .before .before .node-place .ensures) (c .before .before .before .before .before .before .before .before .before .before .before .before .before .before .before .before .before .before .before .before .before .before .before .before .before .before .before .before .word-at .ensures) (c .before .before .before .before .before .before .before .before .before .before .before .before .before .before .before .before .before .before .before .before .before .before .before .before .before .before .before .payload .ensures), c .loop-test .taken)
+array-add-word-at-3 t c =
+    let c1 = c .before .before .before .before .before .before .before .before .before .before .before .before .before .before .before .before .before .before .before .before .before .before in
+    let c2 = c1 .before .before .before .before .before in
+    let c3 = c2 .before in
+    let c4 = c3 .before in
+    let c5 = c4 .before .before .before .before .before .before .before .before .before .before .before .before in
+    omega
+    (arith, array-inside (c5 .pre .1) (c4 .node-place .ensures) (c3 .word-at .ensures) (c2 .payload .ensures), array-length (c5 .pre .1) (c4 .node-place .ensures) (c3 .word-at .ensures) (c2 .payload .ensures), c .loop-test .taken)
 
 -- src/lib.rt:232:13
 pub array-word-at-requires-3 : (t : ℕ) → array-lts.Need-word-at-requires-3 (array-claims t) (array-at t) array.Post array-Inv-loop array-μ-loop
@@ -125,7 +176,25 @@ array-word-at-requires-3 t c κs = search needs
 
 -- src/lib.rt:233:13
 pub array-part-requires-2 : (t : ℕ) → array-lts.Need-part-requires-2 (array-claims t) (array-at t) array.Post array-Inv-loop array-μ-loop
-array-part-requires-2 t c κs = (omega (arith, c .before .before .before .before .before .before .before .before .before .before .before .before .before .before .before .before .before .before .before .before .before .before .before .before .before .before .before .before .before .before .before .before .before .before .before .before .before .before .before .before .before .before .before .before .before .before .before .before .pre .0, member-under (c .before .before .before .before .before .before .before .before .before .before .before .before .before .before .before .before .before .before .before .before .before .before .before .before .before .before .before .before .before .before .before .before .before .before .before .before .before .before .before .before .before .before .before .before .before .before .before .before .pre .1) (c .before .before .before .before .before .before .before .before .before .before .before .before .before .before .before .before .before .before .before .before .before .before .before .before .before .before .before .before .before .before .before .before .before .before .before .before .node-place .ensures) (c .before .before .before .before .before .before .before .before .before .before .before .before .before .before .before .before .before .before .before .before .before .before .before .before .before .before .before .before .before .before .before .before .before .before .before .word-at .ensures) (c .before .before .before .before .before .before .before .before .before .before .before .before .before .before .before .before .before .before .before .before .before .before .before .before .before .before .before .before .before .before .before .before .before .before .payload .ensures) (c .before .before .before .before .before .before .before .loop-test .taken) (c .before .before .before .before .before .before .word-at3 .ensures)), member-visit (c .before .before .before .before .before .before .before .before .loop .inv .0 .on _ _ (first-passed (c .before .before .before .before .before .before .before .before .before .before .before .before .before .before .before .before .before .before .before .before .before .before .before .before .before .before .before .before .before .before .before .before .before .before .before .before .before .before .before .before .before .before .before .before .before .before .before .before .pre .1) (c .before .before .before .before .before .before .before .before .before .before .before .before .before .before .before .before .before .before .before .before .before .before .before .before .before .before .before .before .before .before .before .before .before .before .before .before .node-place .ensures) (c .before .before .before .before .before .before .before .before .before .before .before .before .before .before .before .before .before .before .before .before .before .before .before .before .before .before .before .before .before .before .before .before .before .before .before .word-at .ensures) (c .before .before .before .before .before .before .before .before .before .before .before .before .before .before .before .before .before .before .before .before .before .before .before .before .before .before .before .before .before .before .before .before .before .before .payload .ensures) (c .before .before .before .before .before .before .before .before .before .before .before .before .before .before .before .before .before .before .before .before .before .before .before .before .before .before .before .before .before .before .before .before .before .if1 .left) (c .before .before .before .before .before .before .before .before .before .before .before .before .before .before .before .before .before .before .before .before .before .before .before .before .before .before .word-at2 .ensures) (c .before .before .before .before .before .before .before .before .before .before .before .before .before .before .before .before .before .before .before .before .before .before .before .before .before .part .ensures) (came-after (c .before .before .before .before .before .before .before .before .before .before .before .before .before .before .before .before .before .before .before .before .before .before .before .before .before .part .result) (c .before .before .before .before .before .before .before .before .before .before .before .before .after .ensures) (c .before .before .before .before .before .before .before .before .before .before .first .given .1)))) (some-left (c .before .before .before .before .before .before .before .loop-test .taken)) (c .before .before .before .before .before .before .word-at3 .ensures) (member-below (c .before .before .before .before .before .before .before .before .before .before .before .before .before .before .before .before .before .before .before .before .before .before .before .before .before .before .before .before .before .before .before .before .before .before .before .before .before .before .before .before .before .before .before .before .before .before .before .before .pre .1) (c .before .before .before .before .before .before .before .before .before .before .before .before .before .before .before .before .before .before .before .before .before .before .before .before .before .before .before .before .before .before .before .before .before .before .before .before .node-place .ensures) (c .before .before .before .before .before .before .before .before .before .before .before .before .before .before .before .before .before .before .before .before .before .before .before .before .before .before .before .before .before .before .before .before .before .before .before .word-at .ensures) (c .before .before .before .before .before .before .before .before .before .before .before .before .before .before .before .before .before .before .before .before .before .before .before .before .before .before .before .before .before .before .before .before .before .before .payload .ensures) (c .before .before .before .before .before .before .before .loop-test .taken) (c .before .before .before .before .before .before .word-at3 .ensures)))
+array-part-requires-2 t c κs =
+    let c1 = c .before .before .before .before .before .before in
+    let c2 = c1 .before in
+    let c3 = c2 .before in
+    let c4 = c3 .before .before in
+    let c5 = c4 .before .before in
+    let c6 = c5 .before .before .before .before .before .before .before .before .before .before .before .before .before in
+    let c7 = c6 .before in
+    let c8 = c7 .before .before .before .before .before .before .before in
+    let c9 = c8 .before in
+    let c10 = c9 .before in
+    let c11 = c10 .before in
+    let c12 = c11 .before .before .before .before .before .before .before .before .before .before .before .before in (
+      omega (arith, c12 .pre .0, member-under (c12 .pre .1) (c11 .node-place .ensures) (c10 .word-at .ensures) (c9 .payload .ensures) (c2 .loop-test .taken) (c1 .word-at3 .ensures)),
+      member-visit
+          (c3 .loop .inv .0 .on _ _ (first-passed (c12 .pre .1) (c11 .node-place .ensures) (c10 .word-at .ensures) (c9 .payload .ensures) (c8 .if1 .left) (c7 .word-at2 .ensures) (c6 .part .ensures) (came-after (c6 .part .result) (c5 .after .ensures) (c4 .first .given .1))))
+          (some-left (c2 .loop-test .taken)) (c1 .word-at3 .ensures)
+          (member-below (c12 .pre .1) (c11 .node-place .ensures) (c10 .word-at .ensures) (c9 .payload .ensures) (c2 .loop-test .taken) (c1 .word-at3 .ensures)),
+    )
 
 -- src/lib.rt:248:37
 pub array-after-requires-2 : (t : ℕ) → array-lts.Need-after-requires-2 (array-claims t) (array-at t) array.Post array-Inv-loop array-μ-loop
@@ -141,35 +210,85 @@ array-enum-told-2 t c = search needs
 
 -- src/lib.rt:249:13
 pub array-same-length-9 : (t : ℕ) → array-lts.Need-same-length-9 (array-claims t) (array-at t) array.Post array-Inv-loop array-μ-loop
-array-same-length-9 t c = c .before .before .before .before .before .before .before .before .before .before .before .before .before .before .before .part2 .kept .0 ∙ c .before .before .before .before .before .before .before .before .before .before .before .before .before .before .before .before .before .before .before .before .before .before .before .before .loop .inv .1 ∙ c .before .before .before .before .before .before .before .before .before .before .before .before .before .before .before .before .before .before .before .before .before .before .before .before .before .before .before .before .before .before .before .before .before .before .before .before .before .before .before .before .before .part .kept .0
+array-same-length-9 t c =
+    let c1 = c .before .before .before .before .before .before .before .before .before .before .before .before .before .before .before in
+    let c2 = c1 .before .before .before .before .before .before .before .before .before in
+    let c3 = c2 .before .before .before .before .before .before .before .before .before .before .before .before .before .before .before .before .before in
+    c1 .part2 .kept .0 ∙ c2 .loop .inv .1 ∙ c3 .part .kept .0
 
 -- src/lib.rt:249:13
 pub array-same-length-10 : (t : ℕ) → array-lts.Need-same-length-10 (array-claims t) (array-at t) array.Post array-Inv-loop array-μ-loop
-array-same-length-10 t c = c .before .before .before .before .before .before .before .before .before .before .before .before .before .before .before .part2 .kept .1 .0 ∙ c .before .before .before .before .before .before .before .before .before .before .before .before .before .before .before .before .before .before .before .before .before .before .before .before .loop .inv .2 ∙ c .before .before .before .before .before .before .before .before .before .before .before .before .before .before .before .before .before .before .before .before .before .before .before .before .before .before .before .before .before .before .before .before .before .before .before .before .before .before .before .before .before .part .kept .1 .0
+array-same-length-10 t c =
+    let c1 = c .before .before .before .before .before .before .before .before .before .before .before .before .before .before .before in
+    let c2 = c1 .before .before .before .before .before .before .before .before .before in
+    let c3 = c2 .before .before .before .before .before .before .before .before .before .before .before .before .before .before .before .before .before in
+    c1 .part2 .kept .1 .0 ∙ c2 .loop .inv .2 ∙ c3 .part .kept .1 .0
 
 -- src/lib.rt:249:13
 pub array-same-length-11 : (t : ℕ) → array-lts.Need-same-length-11 (array-claims t) (array-at t) array.Post array-Inv-loop array-μ-loop
-array-same-length-11 t c = c .before .before .before .before .before .before .before .before .before .before .before .before .before .before .before .part2 .kept .1 .1 .0 ∙ c .before .before .before .before .before .before .before .before .before .before .before .before .before .before .before .before .before .before .before .before .before .before .before .before .loop .inv .3 ∙ c .before .before .before .before .before .before .before .before .before .before .before .before .before .before .before .before .before .before .before .before .before .before .before .before .before .before .before .before .before .before .before .before .before .before .before .before .before .before .before .before .before .part .kept .1 .1 .0
+array-same-length-11 t c =
+    let c1 = c .before .before .before .before .before .before .before .before .before .before .before .before .before .before .before in
+    let c2 = c1 .before .before .before .before .before .before .before .before .before in
+    let c3 = c2 .before .before .before .before .before .before .before .before .before .before .before .before .before .before .before .before .before in
+    c1 .part2 .kept .1 .1 .0 ∙ c2 .loop .inv .3 ∙ c3 .part .kept .1 .1 .0
 
 -- src/lib.rt:249:13
 pub array-same-length-12 : (t : ℕ) → array-lts.Need-same-length-12 (array-claims t) (array-at t) array.Post array-Inv-loop array-μ-loop
-array-same-length-12 t c = c .before .before .before .before .before .before .before .before .before .before .before .before .before .before .before .part2 .kept .1 .1 .1 .0 ∙ c .before .before .before .before .before .before .before .before .before .before .before .before .before .before .before .before .before .before .before .before .before .before .before .before .loop .inv .4 ∙ c .before .before .before .before .before .before .before .before .before .before .before .before .before .before .before .before .before .before .before .before .before .before .before .before .before .before .before .before .before .before .before .before .before .before .before .before .before .before .before .before .before .part .kept .1 .1 .1 .0
+array-same-length-12 t c =
+    let c1 = c .before .before .before .before .before .before .before .before .before .before .before .before .before .before .before in
+    let c2 = c1 .before .before .before .before .before .before .before .before .before in
+    let c3 = c2 .before .before .before .before .before .before .before .before .before .before .before .before .before .before .before .before .before in
+    c1 .part2 .kept .1 .1 .1 .0 ∙ c2 .loop .inv .4 ∙ c3 .part .kept .1 .1 .1 .0
 
 -- src/lib.rt:249:13
 pub array-same-length-13 : (t : ℕ) → array-lts.Need-same-length-13 (array-claims t) (array-at t) array.Post array-Inv-loop array-μ-loop
-array-same-length-13 t c = c .before .before .before .before .before .before .before .before .before .before .before .before .before .before .before .part2 .kept .1 .1 .1 .1 .0 ∙ c .before .before .before .before .before .before .before .before .before .before .before .before .before .before .before .before .before .before .before .before .before .before .before .before .loop .inv .5 ∙ c .before .before .before .before .before .before .before .before .before .before .before .before .before .before .before .before .before .before .before .before .before .before .before .before .before .before .before .before .before .before .before .before .before .before .before .before .before .before .before .before .before .part .kept .1 .1 .1 .1 .0
+array-same-length-13 t c =
+    let c1 = c .before .before .before .before .before .before .before .before .before .before .before .before .before .before .before in
+    let c2 = c1 .before .before .before .before .before .before .before .before .before in
+    let c3 = c2 .before .before .before .before .before .before .before .before .before .before .before .before .before .before .before .before .before in
+    c1 .part2 .kept .1 .1 .1 .1 .0 ∙ c2 .loop .inv .5 ∙ c3 .part .kept .1 .1 .1 .1 .0
 
 -- src/lib.rt:249:13
 pub array-same-length-14 : (t : ℕ) → array-lts.Need-same-length-14 (array-claims t) (array-at t) array.Post array-Inv-loop array-μ-loop
-array-same-length-14 t c = c .before .before .before .before .before .before .before .before .before .before .before .before .before .before .before .part2 .kept .1 .1 .1 .1 .1 .0 ∙ c .before .before .before .before .before .before .before .before .before .before .before .before .before .before .before .before .before .before .before .before .before .before .before .before .loop .inv .6 ∙ c .before .before .before .before .before .before .before .before .before .before .before .before .before .before .before .before .before .before .before .before .before .before .before .before .before .before .before .before .before .before .before .before .before .before .before .before .before .before .before .before .before .part .kept .1 .1 .1 .1 .1 .0
+array-same-length-14 t c =
+    let c1 = c .before .before .before .before .before .before .before .before .before .before .before .before .before .before .before in
+    let c2 = c1 .before .before .before .before .before .before .before .before .before in
+    let c3 = c2 .before .before .before .before .before .before .before .before .before .before .before .before .before .before .before .before .before in
+    c1 .part2 .kept .1 .1 .1 .1 .1 .0 ∙ c2 .loop .inv .6 ∙ c3 .part .kept .1 .1 .1 .1 .1 .0
 
 -- src/lib.rt:249:13
 pub array-returns-3 : (t : ℕ) → array-lts.Need-returns-3 (array-claims t) (array-at t) array.Post array-Inv-loop array-μ-loop
-array-returns-3 t c = member-stopped (c .before .before .before .before .before .before .before .before .before .before .before .before .before .before .before .before .before .before .before .before .before .before .before .before .loop .inv .0 .on _ _ (first-passed (c .before .before .before .before .before .before .before .before .before .before .before .before .before .before .before .before .before .before .before .before .before .before .before .before .before .before .before .before .before .before .before .before .before .before .before .before .before .before .before .before .before .before .before .before .before .before .before .before .before .before .before .before .before .before .before .before .before .before .before .before .before .before .before .before .pre .1) (c .before .before .before .before .before .before .before .before .before .before .before .before .before .before .before .before .before .before .before .before .before .before .before .before .before .before .before .before .before .before .before .before .before .before .before .before .before .before .before .before .before .before .before .before .before .before .before .before .before .before .before .before .node-place .ensures) (c .before .before .before .before .before .before .before .before .before .before .before .before .before .before .before .before .before .before .before .before .before .before .before .before .before .before .before .before .before .before .before .before .before .before .before .before .before .before .before .before .before .before .before .before .before .before .before .before .before .before .before .word-at .ensures) (c .before .before .before .before .before .before .before .before .before .before .before .before .before .before .before .before .before .before .before .before .before .before .before .before .before .before .before .before .before .before .before .before .before .before .before .before .before .before .before .before .before .before .before .before .before .before .before .before .before .before .payload .ensures) (c .before .before .before .before .before .before .before .before .before .before .before .before .before .before .before .before .before .before .before .before .before .before .before .before .before .before .before .before .before .before .before .before .before .before .before .before .before .before .before .before .before .before .before .before .before .before .before .before .before .if1 .left) (c .before .before .before .before .before .before .before .before .before .before .before .before .before .before .before .before .before .before .before .before .before .before .before .before .before .before .before .before .before .before .before .before .before .before .before .before .before .before .before .before .before .before .word-at2 .ensures) (c .before .before .before .before .before .before .before .before .before .before .before .before .before .before .before .before .before .before .before .before .before .before .before .before .before .before .before .before .before .before .before .before .before .before .before .before .before .before .before .before .before .part .ensures) (came-after (c .before .before .before .before .before .before .before .before .before .before .before .before .before .before .before .before .before .before .before .before .before .before .before .before .before .before .before .before .before .before .before .before .before .before .before .before .before .before .before .before .before .part .result) (c .before .before .before .before .before .before .before .before .before .before .before .before .before .before .before .before .before .before .before .before .before .before .before .before .before .before .before .before .after .ensures) (c .before .before .before .before .before .before .before .before .before .before .before .before .before .before .before .before .before .before .before .before .before .before .before .before .before .before .first .given .1)))) (some-left (c .before .before .before .before .before .before .before .before .before .before .before .before .before .before .before .before .before .before .before .before .before .before .before .loop-test .taken)) (c .before .before .before .before .before .before .before .before .before .before .before .before .before .before .before .before .before .before .before .before .before .before .word-at3 .ensures) (c .before .before .before .before .before .before .before .before .before .before .before .before .before .before .before .part2 .ensures) (stopped-after (c .before .before .before .before .before .before .before .before .before .before .before .before .before .before .before .part2 .result) (c .before .before .after2 .ensures) (c .enum-told2 .given .1))
+array-returns-3 t c =
+    let c1 = c .before .before in
+    let c2 = c1 .before .before .before .before .before .before .before .before .before .before .before .before .before in
+    let c3 = c2 .before .before .before .before .before .before .before in
+    let c4 = c3 .before in
+    let c5 = c4 .before in
+    let c6 = c5 .before .before in
+    let c7 = c6 .before .before in
+    let c8 = c7 .before .before .before .before .before .before .before .before .before .before .before .before .before in
+    let c9 = c8 .before in
+    let c10 = c9 .before .before .before .before .before .before .before in
+    let c11 = c10 .before in
+    let c12 = c11 .before in
+    let c13 = c12 .before in
+    let c14 = c13 .before .before .before .before .before .before .before .before .before .before .before .before in
+    member-stopped
+    (c5 .loop .inv .0 .on _ _ (first-passed (c14 .pre .1) (c13 .node-place .ensures) (c12 .word-at .ensures) (c11 .payload .ensures) (c10 .if1 .left) (c9 .word-at2 .ensures) (c8 .part .ensures) (came-after (c8 .part .result) (c7 .after .ensures) (c6 .first .given .1))))
+    (some-left (c4 .loop-test .taken)) (c3 .word-at3 .ensures) (c2 .part2 .ensures) (stopped-after (c2 .part2 .result) (c1 .after2 .ensures) (c .enum-told2 .given .1))
 
 -- src/lib.rt:251:13
 pub array-member-requires : (t : ℕ) → array-lts.Need-member-requires (array-claims t) (array-at t) array.Post array-Inv-loop array-μ-loop
-array-member-requires t c κs = member-there (c .before .before .before .before .before .before .before .before .before .before .before .before .before .before .before .before .before .before .before .before .before .before .before .before .before .before .before .before .before .before .before .before .before .before .before .before .before .before .before .before .before .before .before .before .before .before .before .before .before .before .before .before .before .before .before .before .before .before .before .before .before .before .before .before .before .before .before .before .before .pre .1) (c .before .before .before .before .before .before .before .before .before .before .before .before .before .before .before .before .before .before .before .before .before .before .before .before .before .before .before .before .before .before .before .before .before .before .before .before .before .before .before .before .before .before .before .before .before .before .before .before .before .before .before .before .before .before .before .before .before .node-place .ensures) (c .before .before .before .before .before .before .before .before .before .before .before .before .before .before .before .before .before .before .before .before .before .before .before .before .before .before .before .before .before .before .before .before .before .before .before .before .before .before .before .before .before .before .before .before .before .before .before .before .before .before .before .before .before .before .before .before .word-at .ensures) (c .before .before .before .before .before .before .before .before .before .before .before .before .before .before .before .before .before .before .before .before .before .before .before .before .before .before .before .before .before .before .before .before .before .before .before .before .before .before .before .before .before .before .before .before .before .before .before .before .before .before .before .before .before .before .before .payload .ensures) (c .before .before .before .before .before .before .before .before .before .before .before .before .before .before .before .before .before .before .before .before .before .before .before .before .before .before .before .before .loop-test .taken) (c .before .before .before .before .before .before .before .before .before .before .before .before .before .before .before .before .before .before .before .before .before .before .before .before .before .before .before .word-at3 .ensures)
+array-member-requires t c κs =
+    let c1 = c .before .before .before .before .before .before .before .before .before .before .before .before .before .before .before .before .before .before .before .before .before .before in
+    let c2 = c1 .before .before .before .before .before in
+    let c3 = c2 .before in
+    let c4 = c3 .before .before .before .before .before .before .before .before .before .before .before .before .before .before .before .before .before .before .before .before .before .before in
+    let c5 = c4 .before .before .before .before .before in
+    let c6 = c5 .before in
+    let c7 = c6 .before in
+    let c8 = c7 .before .before .before .before .before .before .before .before .before .before .before .before in
+    member-there (c8 .pre .1) (c7 .node-place .ensures) (c6 .word-at .ensures) (c5 .payload .ensures) (c3 .loop-test .taken) (c2 .word-at3 .ensures)
 
 -- src/lib.rt:267:31
 pub array-enum-known-turn : (t : ℕ) → array-lts.Need-enum-known-turn (array-claims t) (array-at t) array.Post array-Inv-loop array-μ-loop
@@ -181,72 +300,199 @@ array-ended-requires t c κs = search needs
 
 -- src/lib.rt:268:13
 pub array-same-length-15 : (t : ℕ) → array-lts.Need-same-length-15 (array-claims t) (array-at t) array.Post array-Inv-loop array-μ-loop
-array-same-length-15 t c = c .before .before .before .before .before .before .before .before .before .before .before .before .before .before .before .before .before .before .before .before .before .before .before .before .before .before .before .part2 .kept .0 ∙ c .before .before .before .before .before .before .before .before .before .before .before .before .before .before .before .before .before .before .before .before .before .before .before .before .before .before .before .before .before .before .before .before .before .before .before .before .loop .inv .1 ∙ c .before .before .before .before .before .before .before .before .before .before .before .before .before .before .before .before .before .before .before .before .before .before .before .before .before .before .before .before .before .before .before .before .before .before .before .before .before .before .before .before .before .before .before .before .before .before .before .before .before .before .before .before .before .part .kept .0
+array-same-length-15 t c =
+    let c1 = c .before .before .before .before .before .before .before .before .before .before .before .before .before .before .before .before .before .before .before .before .before .before in
+    let c2 = c1 .before .before .before .before .before in
+    let c3 = c2 .before .before .before .before .before .before .before .before .before in
+    let c4 = c3 .before .before .before .before .before .before .before .before .before .before .before .before .before .before .before .before .before in
+    c2 .part2 .kept .0 ∙ c3 .loop .inv .1 ∙ c4 .part .kept .0
 
 -- src/lib.rt:268:13
 pub array-same-length-16 : (t : ℕ) → array-lts.Need-same-length-16 (array-claims t) (array-at t) array.Post array-Inv-loop array-μ-loop
-array-same-length-16 t c = c .before .before .before .before .before .before .before .before .before .before .before .before .before .before .before .before .before .before .before .before .before .before .before .before .before .before .before .part2 .kept .1 .0 ∙ c .before .before .before .before .before .before .before .before .before .before .before .before .before .before .before .before .before .before .before .before .before .before .before .before .before .before .before .before .before .before .before .before .before .before .before .before .loop .inv .2 ∙ c .before .before .before .before .before .before .before .before .before .before .before .before .before .before .before .before .before .before .before .before .before .before .before .before .before .before .before .before .before .before .before .before .before .before .before .before .before .before .before .before .before .before .before .before .before .before .before .before .before .before .before .before .before .part .kept .1 .0
+array-same-length-16 t c =
+    let c1 = c .before .before .before .before .before .before .before .before .before .before .before .before .before .before .before .before .before .before .before .before .before .before in
+    let c2 = c1 .before .before .before .before .before in
+    let c3 = c2 .before .before .before .before .before .before .before .before .before in
+    let c4 = c3 .before .before .before .before .before .before .before .before .before .before .before .before .before .before .before .before .before in
+    c2 .part2 .kept .1 .0 ∙ c3 .loop .inv .2 ∙ c4 .part .kept .1 .0
 
 -- src/lib.rt:268:13
 pub array-same-length-17 : (t : ℕ) → array-lts.Need-same-length-17 (array-claims t) (array-at t) array.Post array-Inv-loop array-μ-loop
-array-same-length-17 t c = c .before .before .before .before .before .before .before .before .before .before .before .before .before .before .before .before .before .before .before .before .before .before .before .before .before .before .before .part2 .kept .1 .1 .0 ∙ c .before .before .before .before .before .before .before .before .before .before .before .before .before .before .before .before .before .before .before .before .before .before .before .before .before .before .before .before .before .before .before .before .before .before .before .before .loop .inv .3 ∙ c .before .before .before .before .before .before .before .before .before .before .before .before .before .before .before .before .before .before .before .before .before .before .before .before .before .before .before .before .before .before .before .before .before .before .before .before .before .before .before .before .before .before .before .before .before .before .before .before .before .before .before .before .before .part .kept .1 .1 .0
+array-same-length-17 t c =
+    let c1 = c .before .before .before .before .before .before .before .before .before .before .before .before .before .before .before .before .before .before .before .before .before .before in
+    let c2 = c1 .before .before .before .before .before in
+    let c3 = c2 .before .before .before .before .before .before .before .before .before in
+    let c4 = c3 .before .before .before .before .before .before .before .before .before .before .before .before .before .before .before .before .before in
+    c2 .part2 .kept .1 .1 .0 ∙ c3 .loop .inv .3 ∙ c4 .part .kept .1 .1 .0
 
 -- src/lib.rt:268:13
 pub array-same-length-18 : (t : ℕ) → array-lts.Need-same-length-18 (array-claims t) (array-at t) array.Post array-Inv-loop array-μ-loop
-array-same-length-18 t c = c .before .before .before .before .before .before .member .kept .1 .1 .0 ∙ c .before .before .before .before .before .before .before .before .before .before .before .before .before .before .before .before .before .before .before .before .before .before .before .before .before .before .before .part2 .kept .1 .1 .1 .0 ∙ c .before .before .before .before .before .before .before .before .before .before .before .before .before .before .before .before .before .before .before .before .before .before .before .before .before .before .before .before .before .before .before .before .before .before .before .before .loop .inv .4 ∙ c .before .before .before .before .before .before .before .before .before .before .before .before .before .before .before .before .before .before .before .before .before .before .before .before .before .before .before .before .before .before .before .before .before .before .before .before .before .before .before .before .before .before .before .before .before .before .before .before .before .before .before .before .before .part .kept .1 .1 .1 .0
+array-same-length-18 t c =
+    let c1 = c .before .before .before .before .before .before in
+    let c2 = c1 .before .before .before .before .before .before .before .before .before .before .before .before .before .before .before .before .before .before .before .before .before in
+    let c3 = c2 .before .before .before .before .before .before .before .before .before in
+    let c4 = c3 .before .before .before .before .before .before .before .before .before .before .before .before .before .before .before .before .before in
+    c1 .member .kept .1 .1 .0 ∙ c2 .part2 .kept .1 .1 .1 .0 ∙ c3 .loop .inv .4 ∙ c4 .part .kept .1 .1 .1 .0
 
 -- src/lib.rt:268:13
 pub array-same-length-19 : (t : ℕ) → array-lts.Need-same-length-19 (array-claims t) (array-at t) array.Post array-Inv-loop array-μ-loop
-array-same-length-19 t c = c .before .before .before .before .before .before .member .kept .1 .1 .1 .0 ∙ c .before .before .before .before .before .before .before .before .before .before .before .before .before .before .before .before .before .before .before .before .before .before .before .before .before .before .before .part2 .kept .1 .1 .1 .1 .0 ∙ c .before .before .before .before .before .before .before .before .before .before .before .before .before .before .before .before .before .before .before .before .before .before .before .before .before .before .before .before .before .before .before .before .before .before .before .before .loop .inv .5 ∙ c .before .before .before .before .before .before .before .before .before .before .before .before .before .before .before .before .before .before .before .before .before .before .before .before .before .before .before .before .before .before .before .before .before .before .before .before .before .before .before .before .before .before .before .before .before .before .before .before .before .before .before .before .before .part .kept .1 .1 .1 .1 .0
+array-same-length-19 t c =
+    let c1 = c .before .before .before .before .before .before in
+    let c2 = c1 .before .before .before .before .before .before .before .before .before .before .before .before .before .before .before .before .before .before .before .before .before in
+    let c3 = c2 .before .before .before .before .before .before .before .before .before in
+    let c4 = c3 .before .before .before .before .before .before .before .before .before .before .before .before .before .before .before .before .before in
+    c1 .member .kept .1 .1 .1 .0 ∙ c2 .part2 .kept .1 .1 .1 .1 .0 ∙ c3 .loop .inv .5 ∙ c4 .part .kept .1 .1 .1 .1 .0
 
 -- src/lib.rt:268:13
 pub array-same-length-20 : (t : ℕ) → array-lts.Need-same-length-20 (array-claims t) (array-at t) array.Post array-Inv-loop array-μ-loop
-array-same-length-20 t c = c .before .before .before .before .before .before .before .before .before .before .before .before .before .before .before .before .before .before .before .before .before .before .before .before .before .before .before .part2 .kept .1 .1 .1 .1 .1 .0 ∙ c .before .before .before .before .before .before .before .before .before .before .before .before .before .before .before .before .before .before .before .before .before .before .before .before .before .before .before .before .before .before .before .before .before .before .before .before .loop .inv .6 ∙ c .before .before .before .before .before .before .before .before .before .before .before .before .before .before .before .before .before .before .before .before .before .before .before .before .before .before .before .before .before .before .before .before .before .before .before .before .before .before .before .before .before .before .before .before .before .before .before .before .before .before .before .before .before .part .kept .1 .1 .1 .1 .1 .0
+array-same-length-20 t c =
+    let c1 = c .before .before .before .before .before .before .before .before .before .before .before .before .before .before .before .before .before .before .before .before .before .before in
+    let c2 = c1 .before .before .before .before .before in
+    let c3 = c2 .before .before .before .before .before .before .before .before .before in
+    let c4 = c3 .before .before .before .before .before .before .before .before .before .before .before .before .before .before .before .before .before in
+    c2 .part2 .kept .1 .1 .1 .1 .1 .0 ∙ c3 .loop .inv .6 ∙ c4 .part .kept .1 .1 .1 .1 .1 .0
 
 -- src/lib.rt:268:13
 pub array-returns-4 : (t : ℕ) → array-lts.Need-returns-4 (array-claims t) (array-at t) array.Post array-Inv-loop array-μ-loop
-array-returns-4 t c = member-ended (c .before .before .before .before .before .before .before .before .before .before .before .before .before .before .before .before .before .before .before .before .before .before .before .before .before .before .before .before .before .before .before .before .before .before .before .before .loop .inv .0 .on _ _ (first-passed (c .before .before .before .before .before .before .before .before .before .before .before .before .before .before .before .before .before .before .before .before .before .before .before .before .before .before .before .before .before .before .before .before .before .before .before .before .before .before .before .before .before .before .before .before .before .before .before .before .before .before .before .before .before .before .before .before .before .before .before .before .before .before .before .before .before .before .before .before .before .before .before .before .before .before .before .before .pre .1) (c .before .before .before .before .before .before .before .before .before .before .before .before .before .before .before .before .before .before .before .before .before .before .before .before .before .before .before .before .before .before .before .before .before .before .before .before .before .before .before .before .before .before .before .before .before .before .before .before .before .before .before .before .before .before .before .before .before .before .before .before .before .before .before .before .node-place .ensures) (c .before .before .before .before .before .before .before .before .before .before .before .before .before .before .before .before .before .before .before .before .before .before .before .before .before .before .before .before .before .before .before .before .before .before .before .before .before .before .before .before .before .before .before .before .before .before .before .before .before .before .before .before .before .before .before .before .before .before .before .before .before .before .before .word-at .ensures) (c .before .before .before .before .before .before .before .before .before .before .before .before .before .before .before .before .before .before .before .before .before .before .before .before .before .before .before .before .before .before .before .before .before .before .before .before .before .before .before .before .before .before .before .before .before .before .before .before .before .before .before .before .before .before .before .before .before .before .before .before .before .before .payload .ensures) (c .before .before .before .before .before .before .before .before .before .before .before .before .before .before .before .before .before .before .before .before .before .before .before .before .before .before .before .before .before .before .before .before .before .before .before .before .before .before .before .before .before .before .before .before .before .before .before .before .before .before .before .before .before .before .before .before .before .before .before .before .before .if1 .left) (c .before .before .before .before .before .before .before .before .before .before .before .before .before .before .before .before .before .before .before .before .before .before .before .before .before .before .before .before .before .before .before .before .before .before .before .before .before .before .before .before .before .before .before .before .before .before .before .before .before .before .before .before .before .before .word-at2 .ensures) (c .before .before .before .before .before .before .before .before .before .before .before .before .before .before .before .before .before .before .before .before .before .before .before .before .before .before .before .before .before .before .before .before .before .before .before .before .before .before .before .before .before .before .before .before .before .before .before .before .before .before .before .before .before .part .ensures) (came-after (c .before .before .before .before .before .before .before .before .before .before .before .before .before .before .before .before .before .before .before .before .before .before .before .before .before .before .before .before .before .before .before .before .before .before .before .before .before .before .before .before .before .before .before .before .before .before .before .before .before .before .before .before .before .part .result) (c .before .before .before .before .before .before .before .before .before .before .before .before .before .before .before .before .before .before .before .before .before .before .before .before .before .before .before .before .before .before .before .before .before .before .before .before .before .before .before .before .after .ensures) (c .before .before .before .before .before .before .before .before .before .before .before .before .before .before .before .before .before .before .before .before .before .before .before .before .before .before .before .before .before .before .before .before .before .before .before .before .before .before .first .given .1)))) (some-left (c .before .before .before .before .before .before .before .before .before .before .before .before .before .before .before .before .before .before .before .before .before .before .before .before .before .before .before .before .before .before .before .before .before .before .before .loop-test .taken)) (c .before .before .before .before .before .before .before .before .before .before .before .before .before .before .before .before .before .before .before .before .before .before .before .before .before .before .before .before .before .before .before .before .before .before .word-at3 .ensures) (c .before .before .before .before .before .before .before .before .before .before .before .before .before .before .before .before .before .before .before .before .before .before .before .before .before .before .before .part2 .ensures) (member-below (c .before .before .before .before .before .before .before .before .before .before .before .before .before .before .before .before .before .before .before .before .before .before .before .before .before .before .before .before .before .before .before .before .before .before .before .before .before .before .before .before .before .before .before .before .before .before .before .before .before .before .before .before .before .before .before .before .before .before .before .before .before .before .before .before .before .before .before .before .before .before .before .before .before .before .before .before .pre .1) (c .before .before .before .before .before .before .before .before .before .before .before .before .before .before .before .before .before .before .before .before .before .before .before .before .before .before .before .before .before .before .before .before .before .before .before .before .before .before .before .before .before .before .before .before .before .before .before .before .before .before .before .before .before .before .before .before .before .before .before .before .before .before .before .before .node-place .ensures) (c .before .before .before .before .before .before .before .before .before .before .before .before .before .before .before .before .before .before .before .before .before .before .before .before .before .before .before .before .before .before .before .before .before .before .before .before .before .before .before .before .before .before .before .before .before .before .before .before .before .before .before .before .before .before .before .before .before .before .before .before .before .before .before .word-at .ensures) (c .before .before .before .before .before .before .before .before .before .before .before .before .before .before .before .before .before .before .before .before .before .before .before .before .before .before .before .before .before .before .before .before .before .before .before .before .before .before .before .before .before .before .before .before .before .before .before .before .before .before .before .before .before .before .before .before .before .before .before .before .before .before .payload .ensures) (c .before .before .before .before .before .before .before .before .before .before .before .before .before .before .before .before .before .before .before .before .before .before .before .before .before .before .before .before .before .before .before .before .before .before .before .loop-test .taken) (c .before .before .before .before .before .before .before .before .before .before .before .before .before .before .before .before .before .before .before .before .before .before .before .before .before .before .before .before .before .before .before .before .before .before .word-at3 .ensures)) (came-after (c .before .before .before .before .before .before .before .before .before .before .before .before .before .before .before .before .before .before .before .before .before .before .before .before .before .before .before .part2 .result) (c .before .before .before .before .before .before .before .before .before .before .before .before .before .before .after2 .ensures) (c .before .before .before .before .before .before .before .before .before .before .before .before .a .given .1)) (c .before .before .before .before .before .before .member .ensures _ _ _ _ _) (turn-ended (c .before .before .before .before .before .before .member .result) (c .before .match3 .keys2)) (c .ended .ensures)
+array-returns-4 t c =
+    let c1 = c .before in
+    let c2 = c1 .before .before .before .before .before in
+    let c3 = c2 .before .before .before .before .before .before in
+    let c4 = c3 .before .before in
+    let c5 = c4 .before .before .before .before .before .before .before .before .before .before .before .before .before in
+    let c6 = c5 .before .before .before .before .before .before .before in
+    let c7 = c6 .before in
+    let c8 = c7 .before in
+    let c9 = c8 .before .before in
+    let c10 = c9 .before .before in
+    let c11 = c10 .before .before .before .before .before .before .before .before .before .before .before .before .before in
+    let c12 = c11 .before in
+    let c13 = c12 .before .before .before .before .before .before .before in
+    let c14 = c13 .before in
+    let c15 = c14 .before in
+    let c16 = c15 .before in
+    let c17 = c16 .before .before .before .before .before .before .before .before .before .before .before .before in
+    member-ended
+    (c8 .loop .inv .0 .on _ _ (first-passed (c17 .pre .1) (c16 .node-place .ensures) (c15 .word-at .ensures) (c14 .payload .ensures) (c13 .if1 .left) (c12 .word-at2 .ensures) (c11 .part .ensures) (came-after (c11 .part .result) (c10 .after .ensures) (c9 .first .given .1))))
+    (some-left (c7 .loop-test .taken)) (c6 .word-at3 .ensures) (c5 .part2 .ensures)
+    (member-below (c17 .pre .1) (c16 .node-place .ensures) (c15 .word-at .ensures) (c14 .payload .ensures) (c7 .loop-test .taken) (c6 .word-at3 .ensures))
+    (came-after (c5 .part2 .result) (c4 .after2 .ensures) (c3 .a .given .1)) (c2 .member .ensures _ _ _ _ _) (turn-ended (c2 .member .result) (c1 .match3 .keys2)) (c .ended .ensures)
 
 -- src/lib.rt:272:9
 pub array-add-i : (t : ℕ) → array-lts.Need-add-i (array-claims t) (array-at t) array.Post array-Inv-loop array-μ-loop
-array-add-i t c = omega (arith, c .before .before .before .before .before .before .before .before .before .before .before .before .before .before .before .before .before .before .before .before .before .before .before .before .before .before .before .before .before .before .before .before .before .before .before .before .loop-test .taken, array-inside (c .before .before .before .before .before .before .before .before .before .before .before .before .before .before .before .before .before .before .before .before .before .before .before .before .before .before .before .before .before .before .before .before .before .before .before .before .before .before .before .before .before .before .before .before .before .before .before .before .before .before .before .before .before .before .before .before .before .before .before .before .before .before .before .before .before .before .before .before .before .before .before .before .before .before .before .before .before .pre .1) (c .before .before .before .before .before .before .before .before .before .before .before .before .before .before .before .before .before .before .before .before .before .before .before .before .before .before .before .before .before .before .before .before .before .before .before .before .before .before .before .before .before .before .before .before .before .before .before .before .before .before .before .before .before .before .before .before .before .before .before .before .before .before .before .before .before .node-place .ensures) (c .before .before .before .before .before .before .before .before .before .before .before .before .before .before .before .before .before .before .before .before .before .before .before .before .before .before .before .before .before .before .before .before .before .before .before .before .before .before .before .before .before .before .before .before .before .before .before .before .before .before .before .before .before .before .before .before .before .before .before .before .before .before .before .before .word-at .ensures) (c .before .before .before .before .before .before .before .before .before .before .before .before .before .before .before .before .before .before .before .before .before .before .before .before .before .before .before .before .before .before .before .before .before .before .before .before .before .before .before .before .before .before .before .before .before .before .before .before .before .before .before .before .before .before .before .before .before .before .before .before .before .before .before .payload .ensures))
+array-add-i t c =
+    let c1 = c .before .before .before .before .before .before .before .before .before .before .before .before .before .before .before .before .before .before .before .before .before .before in
+    let c2 = c1 .before .before .before .before .before .before .before .before .before .before .before .before .before .before in
+    let c3 = c2 .before .before .before .before .before .before .before .before .before .before .before .before .before .before .before .before .before .before .before .before .before .before in
+    let c4 = c3 .before .before .before .before .before in
+    let c5 = c4 .before in
+    let c6 = c5 .before in
+    let c7 = c6 .before .before .before .before .before .before .before .before .before .before .before .before in
+    omega (arith, c2 .loop-test .taken, array-inside (c7 .pre .1) (c6 .node-place .ensures) (c5 .word-at .ensures) (c4 .payload .ensures))
 
 -- src/lib.rt:231:5
 pub array-loop-less : (t : ℕ) → array-lts.Need-loop-less (array-claims t) (array-at t) array.Post array-Inv-loop array-μ-loop
-array-loop-less t c = omega (arith, c .before .before .before .before .before .before .before .before .before .before .before .before .before .before .before .before .before .before .before .before .before .before .before .before .before .before .before .before .before .before .before .before .before .before .before .before .loop-test .taken)
+array-loop-less t c =
+    let c1 = c .before .before .before .before .before .before .before .before .before .before .before .before .before .before .before .before .before .before .before .before .before .before in
+    let c2 = c1 .before .before .before .before .before .before .before .before .before .before .before .before .before .before in
+    omega (arith, c2 .loop-test .taken)
 
 -- src/lib.rt:231:5
 pub array-loop-again : (t : ℕ) → array-lts.Need-loop-again (array-claims t) (array-at t) array.Post array-Inv-loop array-μ-loop
-array-loop-again t c = (turned-next (c .before .before .before .before .before .before .before .before .before .before .before .before .before .before .before .before .before .before .before .before .before .before .before .before .before .before .before .before .before .before .before .before .before .before .before .before .before .loop .inv .0) (c .before .before .before .before .before .before .before .before .before .before .before .before .before .before .before .before .before .before .before .before .before .before .before .before .before .before .before .before .before .before .before .before .before .before .before .before .loop-test .taken) (c .before .before .before .before .before .before .before .before .before .before .before .before .before .before .before .before .before .before .before .before .before .before .before .before .before .before .before .before .before .before .before .before .before .before .before .word-at3 .ensures) (c .before .before .before .before .before .before .before .before .before .before .before .before .before .before .before .before .before .before .before .before .before .before .before .before .before .before .before .before .part2 .ensures) (member-below (c .before .before .before .before .before .before .before .before .before .before .before .before .before .before .before .before .before .before .before .before .before .before .before .before .before .before .before .before .before .before .before .before .before .before .before .before .before .before .before .before .before .before .before .before .before .before .before .before .before .before .before .before .before .before .before .before .before .before .before .before .before .before .before .before .before .before .before .before .before .before .before .before .before .before .before .before .before .pre .1) (c .before .before .before .before .before .before .before .before .before .before .before .before .before .before .before .before .before .before .before .before .before .before .before .before .before .before .before .before .before .before .before .before .before .before .before .before .before .before .before .before .before .before .before .before .before .before .before .before .before .before .before .before .before .before .before .before .before .before .before .before .before .before .before .before .before .node-place .ensures) (c .before .before .before .before .before .before .before .before .before .before .before .before .before .before .before .before .before .before .before .before .before .before .before .before .before .before .before .before .before .before .before .before .before .before .before .before .before .before .before .before .before .before .before .before .before .before .before .before .before .before .before .before .before .before .before .before .before .before .before .before .before .before .before .before .word-at .ensures) (c .before .before .before .before .before .before .before .before .before .before .before .before .before .before .before .before .before .before .before .before .before .before .before .before .before .before .before .before .before .before .before .before .before .before .before .before .before .before .before .before .before .before .before .before .before .before .before .before .before .before .before .before .before .before .before .before .before .before .before .before .before .before .before .payload .ensures) (c .before .before .before .before .before .before .before .before .before .before .before .before .before .before .before .before .before .before .before .before .before .before .before .before .before .before .before .before .before .before .before .before .before .before .before .before .loop-test .taken) (c .before .before .before .before .before .before .before .before .before .before .before .before .before .before .before .before .before .before .before .before .before .before .before .before .before .before .before .before .before .before .before .before .before .before .before .word-at3 .ensures)) (came-after (c .before .before .before .before .before .before .before .before .before .before .before .before .before .before .before .before .before .before .before .before .before .before .before .before .before .before .before .before .part2 .result) (c .before .before .before .before .before .before .before .before .before .before .before .before .before .before .before .after2 .ensures) (c .before .before .before .before .before .before .before .before .before .before .before .before .before .a .given .1)) (c .before .before .before .before .before .before .before .member .ensures _ _ _ _ _) (c .before .turn .given .1), c .before .before .before .before .before .before .before .before .before .before .before .before .before .before .before .before .before .before .before .before .before .before .before .before .before .before .before .before .part2 .kept .0 ∙ c .before .before .before .before .before .before .before .before .before .before .before .before .before .before .before .before .before .before .before .before .before .before .before .before .before .before .before .before .before .before .before .before .before .before .before .before .before .loop .inv .1, c .before .before .before .before .before .before .before .before .before .before .before .before .before .before .before .before .before .before .before .before .before .before .before .before .before .before .before .before .part2 .kept .1 .0 ∙ c .before .before .before .before .before .before .before .before .before .before .before .before .before .before .before .before .before .before .before .before .before .before .before .before .before .before .before .before .before .before .before .before .before .before .before .before .before .loop .inv .2, c .before .before .before .before .before .before .before .before .before .before .before .before .before .before .before .before .before .before .before .before .before .before .before .before .before .before .before .before .part2 .kept .1 .1 .0 ∙ c .before .before .before .before .before .before .before .before .before .before .before .before .before .before .before .before .before .before .before .before .before .before .before .before .before .before .before .before .before .before .before .before .before .before .before .before .before .loop .inv .3, c .before .before .before .before .before .before .before .member .kept .1 .1 .0 ∙ c .before .before .before .before .before .before .before .before .before .before .before .before .before .before .before .before .before .before .before .before .before .before .before .before .before .before .before .before .part2 .kept .1 .1 .1 .0 ∙ c .before .before .before .before .before .before .before .before .before .before .before .before .before .before .before .before .before .before .before .before .before .before .before .before .before .before .before .before .before .before .before .before .before .before .before .before .before .loop .inv .4, c .before .before .before .before .before .before .before .member .kept .1 .1 .1 .0 ∙ c .before .before .before .before .before .before .before .before .before .before .before .before .before .before .before .before .before .before .before .before .before .before .before .before .before .before .before .before .part2 .kept .1 .1 .1 .1 .0 ∙ c .before .before .before .before .before .before .before .before .before .before .before .before .before .before .before .before .before .before .before .before .before .before .before .before .before .before .before .before .before .before .before .before .before .before .before .before .before .loop .inv .5, c .before .before .before .before .before .before .before .before .before .before .before .before .before .before .before .before .before .before .before .before .before .before .before .before .before .before .before .before .part2 .kept .1 .1 .1 .1 .1 .0 ∙ c .before .before .before .before .before .before .before .before .before .before .before .before .before .before .before .before .before .before .before .before .before .before .before .before .before .before .before .before .before .before .before .before .before .before .before .before .before .loop .inv .6)
+array-loop-again t c =
+    let c1 = c .before in
+    let c2 = c1 .before .before .before .before .before .before in
+    let c3 = c2 .before .before .before .before .before .before in
+    let c4 = c3 .before .before in
+    let c5 = c4 .before .before .before .before .before .before .before .before .before .before .before .before .before in
+    let c6 = c5 .before .before .before .before .before .before .before in
+    let c7 = c6 .before in
+    let c8 = c7 .before in
+    let c9 = c8 .before .before .before .before .before .before .before .before .before .before .before .before .before .before .before .before .before .before .before .before .before .before in
+    let c10 = c9 .before .before .before .before in
+    let c11 = c10 .before in
+    let c12 = c11 .before in
+    let c13 = c12 .before .before .before .before .before .before .before .before .before .before .before .before in (
+      turned-next (c8 .loop .inv .0) (c7 .loop-test .taken) (c6 .word-at3 .ensures) (c5 .part2 .ensures)
+          (member-below (c13 .pre .1) (c12 .node-place .ensures) (c11 .word-at .ensures) (c10 .payload .ensures) (c7 .loop-test .taken) (c6 .word-at3 .ensures))
+          (came-after (c5 .part2 .result) (c4 .after2 .ensures) (c3 .a .given .1)) (c2 .member .ensures _ _ _ _ _) (c1 .turn .given .1),
+      c5 .part2 .kept .0 ∙ c8 .loop .inv .1,
+      c5 .part2 .kept .1 .0 ∙ c8 .loop .inv .2,
+      c5 .part2 .kept .1 .1 .0 ∙ c8 .loop .inv .3,
+      c2 .member .kept .1 .1 .0 ∙ c5 .part2 .kept .1 .1 .1 .0 ∙ c8 .loop .inv .4,
+      c2 .member .kept .1 .1 .1 .0 ∙ c5 .part2 .kept .1 .1 .1 .1 .0 ∙ c8 .loop .inv .5,
+      c5 .part2 .kept .1 .1 .1 .1 .1 .0 ∙ c8 .loop .inv .6,
+    )
 
 -- src/lib.rt:274:5
 pub array-end-requires : (t : ℕ) → array-lts.Need-end-requires (array-claims t) (array-at t) array.Post array-Inv-loop array-μ-loop
-array-end-requires t c κs = array-low (c .before .before .before .before .before .before .before .before .before .before .before .before .before .before .before .before .before .before .before .before .before .before .before .before .before .before .before .before .before .before .before .before .before .before .before .before .before .before .before .before .before .before .before .pre .1) (c .before .before .before .before .before .before .before .before .before .before .before .before .before .before .before .before .before .before .before .before .before .before .before .before .before .before .before .before .before .before .before .node-place .ensures) (c .before .before .before .before .before .before .before .before .before .before .before .before .before .before .before .before .before .before .before .before .before .before .before .before .before .before .before .before .before .before .word-at .ensures) (c .before .before .before .before .before .before .before .before .before .before .before .before .before .before .before .before .before .before .before .before .before .before .before .before .before .before .before .before .before .payload .ensures)
+array-end-requires t c κs =
+    let c1 = c .before .before .before .before .before .before .before .before .before .before .before .before .before .before .before .before .before .before .before .before .before .before in
+    let c2 = c1 .before .before .before .before .before .before .before in
+    let c3 = c2 .before in
+    let c4 = c3 .before in
+    let c5 = c4 .before .before .before .before .before .before .before .before .before .before .before .before in
+    array-low (c5 .pre .1) (c4 .node-place .ensures) (c3 .word-at .ensures) (c2 .payload .ensures)
 
 -- src/lib.rt:187:1
 pub array-same-length-21 : (t : ℕ) → array-lts.Need-same-length-21 (array-claims t) (array-at t) array.Post array-Inv-loop array-μ-loop
-array-same-length-21 t c = c .before .before .before .before .end .kept .0 ∙ c .before .before .before .before .before .before .before .before .loop .inv .1 ∙ c .before .before .before .before .before .before .before .before .before .before .before .before .before .before .before .before .before .before .before .before .before .before .before .before .before .part .kept .0
+array-same-length-21 t c =
+    let c1 = c .before .before .before .before in
+    let c2 = c1 .before .before .before .before in
+    let c3 = c2 .before .before .before .before .before .before .before .before .before .before .before .before .before .before .before .before .before in
+    c1 .end .kept .0 ∙ c2 .loop .inv .1 ∙ c3 .part .kept .0
 
 -- src/lib.rt:187:1
 pub array-same-length-22 : (t : ℕ) → array-lts.Need-same-length-22 (array-claims t) (array-at t) array.Post array-Inv-loop array-μ-loop
-array-same-length-22 t c = c .before .before .before .before .before .before .before .before .loop .inv .2 ∙ c .before .before .before .before .before .before .before .before .before .before .before .before .before .before .before .before .before .before .before .before .before .before .before .before .before .part .kept .1 .0
+array-same-length-22 t c =
+    let c1 = c .before .before .before .before .before .before .before .before in
+    let c2 = c1 .before .before .before .before .before .before .before .before .before .before .before .before .before .before .before .before .before in
+    c1 .loop .inv .2 ∙ c2 .part .kept .1 .0
 
 -- src/lib.rt:187:1
 pub array-same-length-23 : (t : ℕ) → array-lts.Need-same-length-23 (array-claims t) (array-at t) array.Post array-Inv-loop array-μ-loop
-array-same-length-23 t c = c .before .before .before .before .end .kept .1 .0 ∙ c .before .before .before .before .before .before .before .before .loop .inv .3 ∙ c .before .before .before .before .before .before .before .before .before .before .before .before .before .before .before .before .before .before .before .before .before .before .before .before .before .part .kept .1 .1 .0
+array-same-length-23 t c =
+    let c1 = c .before .before .before .before in
+    let c2 = c1 .before .before .before .before in
+    let c3 = c2 .before .before .before .before .before .before .before .before .before .before .before .before .before .before .before .before .before in
+    c1 .end .kept .1 .0 ∙ c2 .loop .inv .3 ∙ c3 .part .kept .1 .1 .0
 
 -- src/lib.rt:187:1
 pub array-same-length-24 : (t : ℕ) → array-lts.Need-same-length-24 (array-claims t) (array-at t) array.Post array-Inv-loop array-μ-loop
-array-same-length-24 t c = c .before .before .before .before .before .before .before .before .loop .inv .4 ∙ c .before .before .before .before .before .before .before .before .before .before .before .before .before .before .before .before .before .before .before .before .before .before .before .before .before .part .kept .1 .1 .1 .0
+array-same-length-24 t c =
+    let c1 = c .before .before .before .before .before .before .before .before in
+    let c2 = c1 .before .before .before .before .before .before .before .before .before .before .before .before .before .before .before .before .before in
+    c1 .loop .inv .4 ∙ c2 .part .kept .1 .1 .1 .0
 
 -- src/lib.rt:187:1
 pub array-same-length-25 : (t : ℕ) → array-lts.Need-same-length-25 (array-claims t) (array-at t) array.Post array-Inv-loop array-μ-loop
-array-same-length-25 t c = c .before .before .before .before .before .before .before .before .loop .inv .5 ∙ c .before .before .before .before .before .before .before .before .before .before .before .before .before .before .before .before .before .before .before .before .before .before .before .before .before .part .kept .1 .1 .1 .1 .0
+array-same-length-25 t c =
+    let c1 = c .before .before .before .before .before .before .before .before in
+    let c2 = c1 .before .before .before .before .before .before .before .before .before .before .before .before .before .before .before .before .before in
+    c1 .loop .inv .5 ∙ c2 .part .kept .1 .1 .1 .1 .0
 
 -- src/lib.rt:187:1
 pub array-same-length-26 : (t : ℕ) → array-lts.Need-same-length-26 (array-claims t) (array-at t) array.Post array-Inv-loop array-μ-loop
-array-same-length-26 t c = c .before .before .before .before .before .before .before .before .loop .inv .6 ∙ c .before .before .before .before .before .before .before .before .before .before .before .before .before .before .before .before .before .before .before .before .before .before .before .before .before .part .kept .1 .1 .1 .1 .1 .0
+array-same-length-26 t c =
+    let c1 = c .before .before .before .before .before .before .before .before in
+    let c2 = c1 .before .before .before .before .before .before .before .before .before .before .before .before .before .before .before .before .before in
+    c1 .loop .inv .6 ∙ c2 .part .kept .1 .1 .1 .1 .1 .0
 
 -- src/lib.rt:187:1
 pub array-returns-5 : (t : ℕ) → array-lts.Need-returns-5 (array-claims t) (array-at t) array.Post array-Inv-loop array-μ-loop
-array-returns-5 t c = array-ended (c .before .before .before .before .before .before .before .before .loop .inv .0 .on _ _ (first-passed (c .before .before .before .before .before .before .before .before .before .before .before .before .before .before .before .before .before .before .before .before .before .before .before .before .before .before .before .before .before .before .before .before .before .before .before .before .before .before .before .before .before .before .before .before .before .before .before .before .pre .1) (c .before .before .before .before .before .before .before .before .before .before .before .before .before .before .before .before .before .before .before .before .before .before .before .before .before .before .before .before .before .before .before .before .before .before .before .before .node-place .ensures) (c .before .before .before .before .before .before .before .before .before .before .before .before .before .before .before .before .before .before .before .before .before .before .before .before .before .before .before .before .before .before .before .before .before .before .before .word-at .ensures) (c .before .before .before .before .before .before .before .before .before .before .before .before .before .before .before .before .before .before .before .before .before .before .before .before .before .before .before .before .before .before .before .before .before .before .payload .ensures) (c .before .before .before .before .before .before .before .before .before .before .before .before .before .before .before .before .before .before .before .before .before .before .before .before .before .before .before .before .before .before .before .before .before .if1 .left) (c .before .before .before .before .before .before .before .before .before .before .before .before .before .before .before .before .before .before .before .before .before .before .before .before .before .before .word-at2 .ensures) (c .before .before .before .before .before .before .before .before .before .before .before .before .before .before .before .before .before .before .before .before .before .before .before .before .before .part .ensures) (came-after (c .before .before .before .before .before .before .before .before .before .before .before .before .before .before .before .before .before .before .before .before .before .before .before .before .before .part .result) (c .before .before .before .before .before .before .before .before .before .before .before .before .after .ensures) (c .before .before .before .before .before .before .before .before .before .before .first .given .1)))) (none-left (c .before .before .before .before .before .before .before .loop-test .left)) (c .before .before .before .before .end .ensures (textsOf (now (c .before .before .before .before .before .before .before .before .before .before .before .before .before .before .before .before .before .before .before .before .before .before .before .before .before .before .before .before .before .before .before .before .before .before .before .before .before .before .before .before .before .before .before .before .before .before .before .before .args .script)) (now (c .before .before .before .before .before .before .before .before .before .before .before .before .before .before .before .before .before .before .before .before .before .before .before .before .before .before .before .before .before .before .before .before .before .before .before .before .before .before .before .before .before .before .before .before .before .before .before .before .args .library))) _ _ _ _ _ _ _)
+array-returns-5 t c =
+    let c1 = c .before .before .before .before in
+    let c2 = c1 .before .before .before in
+    let c3 = c2 .before in
+    let c4 = c3 .before .before in
+    let c5 = c4 .before .before in
+    let c6 = c5 .before .before .before .before .before .before .before .before .before .before .before .before .before in
+    let c7 = c6 .before in
+    let c8 = c7 .before .before .before .before .before .before .before in
+    let c9 = c8 .before in
+    let c10 = c9 .before in
+    let c11 = c10 .before in
+    let c12 = c11 .before .before .before .before .before .before .before .before .before .before .before .before in
+    array-ended
+    (c3 .loop .inv .0 .on _ _ (first-passed (c12 .pre .1) (c11 .node-place .ensures) (c10 .word-at .ensures) (c9 .payload .ensures) (c8 .if1 .left) (c7 .word-at2 .ensures) (c6 .part .ensures) (came-after (c6 .part .result) (c5 .after .ensures) (c4 .first .given .1))))
+    (none-left (c2 .loop-test .left)) (c1 .end .ensures (textsOf (now (c12 .args .script)) (now (c12 .args .library))) _ _ _ _ _ _ _)

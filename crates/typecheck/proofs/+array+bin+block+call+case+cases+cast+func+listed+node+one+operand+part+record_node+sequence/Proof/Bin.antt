@@ -13,13 +13,19 @@ pub bin-node-place-requires : (t : ℕ) → bin-lts.Need-node-place-requires (bi
 bin-node-place-requires t c κs = search needs
 
 pub bin-add-word-at : (t : ℕ) → bin-lts.Need-add-word-at (bin-claims t) (bin-at t) bin.Post
-bin-add-word-at t c = omega (arith, bin-low (c .before .before .before .before .before .before .before .before .before .before .before .before .before .before .before .before .before .before .pre .1) (c .before .before .before .before .before .before .node-place .ensures))
+bin-add-word-at t c =
+    let c1 = c .before .before .before .before .before .before in
+    let c2 = c1 .before .before .before .before .before .before .before .before .before .before .before .before in
+    omega (arith, bin-low (c2 .pre .1) (c1 .node-place .ensures))
 
 pub bin-word-at-requires : (t : ℕ) → bin-lts.Need-word-at-requires (bin-claims t) (bin-at t) bin.Post
 bin-word-at-requires t c κs = search needs
 
 pub bin-part-requires : (t : ℕ) → bin-lts.Need-part-requires (bin-claims t) (bin-at t) bin.Post
-bin-part-requires t c κs = (omega (arith, c .before .before .before .before .before .before .before .before .before .before .before .before .before .before .before .before .before .before .before .pre .0, left-under (c .before .before .before .before .before .before .before .before .before .before .before .before .before .before .before .before .before .before .before .pre .1) (c .before .before .before .before .before .before .before .node-place .ensures) (c .word-at .ensures)), left-visit (c .before .before .before .before .before .before .before .before .before .before .before .before .before .before .before .before .before .before .before .pre .1) (c .before .before .before .before .before .before .before .node-place .ensures) (c .word-at .ensures))
+bin-part-requires t c κs =
+    let c1 = c .before .before .before .before .before .before .before in
+    let c2 = c1 .before .before .before .before .before .before .before .before .before .before .before .before in
+    (omega (arith, c2 .pre .0, left-under (c2 .pre .1) (c1 .node-place .ensures) (c .word-at .ensures)), left-visit (c2 .pre .1) (c1 .node-place .ensures) (c .word-at .ensures))
 
 pub bin-after-requires : (t : ℕ) → bin-lts.Need-after-requires (bin-claims t) (bin-at t) bin.Post
 bin-after-requires t c κs = search needs
@@ -49,16 +55,36 @@ pub bin-same-length-6 : (t : ℕ) → bin-lts.Need-same-length-6 (bin-claims t) 
 bin-same-length-6 t c = c .before .before .before .before .scratch .given
 
 pub bin-returns : (t : ℕ) → bin-lts.Need-returns (bin-claims t) (bin-at t) bin.Post
-bin-returns t c = left-stops (c .before .before .before .before .before .before .before .before .before .before .before .before .before .before .before .before .before .before .before .before .before .before .before .before .before .before .before .before .before .before .before .before .before .before .before .pre .1) (c .before .before .before .before .before .before .before .before .before .before .before .before .before .before .before .before .before .before .before .before .before .before .before .node-place .ensures) (c .before .before .before .before .before .before .before .before .before .before .before .before .before .before .before .before .word-at .ensures) (c .before .before .before .before .before .before .before .before .before .before .before .before .before .before .before .part .ensures) (stopped-after (c .before .before .before .before .before .before .before .before .before .before .before .before .before .before .before .part .result) (c .before .before .after .ensures) (c .enum-told .given .1))
+bin-returns t c =
+    let c1 = c .before .before in
+    let c2 = c1 .before .before .before .before .before .before .before .before .before .before .before .before .before in
+    let c3 = c2 .before in
+    let c4 = c3 .before .before .before .before .before .before .before in
+    let c5 = c4 .before .before .before .before .before .before .before .before .before .before .before .before in
+    left-stops (c5 .pre .1) (c4 .node-place .ensures) (c3 .word-at .ensures) (c2 .part .ensures) (stopped-after (c2 .part .result) (c1 .after .ensures) (c .enum-told .given .1))
 
 pub bin-add-word-at-2 : (t : ℕ) → bin-lts.Need-add-word-at-2 (bin-claims t) (bin-at t) bin.Post
-bin-add-word-at-2 t c = omega (arith, bin-low (c .before .before .before .before .before .before .before .before .before .before .before .before .before .before .before .before .before .before .before .before .before .before .before .before .before .before .before .before .before .before .before .before .before .before .before .before .before .before .before .before .before .before .pre .1) (c .before .before .before .before .before .before .before .before .before .before .before .before .before .before .before .before .before .before .before .before .before .before .before .before .before .before .before .before .before .before .node-place .ensures))
+bin-add-word-at-2 t c =
+    let c1 = c .before .before .before .before .before .before .before .before .before .before .before .before .before .before .before .before .before .before .before .before .before .before in
+    let c2 = c1 .before .before .before .before .before .before .before .before in
+    let c3 = c2 .before .before .before .before .before .before .before .before .before .before .before .before in
+    omega (arith, bin-low (c3 .pre .1) (c2 .node-place .ensures))
 
 pub bin-word-at-requires-2 : (t : ℕ) → bin-lts.Need-word-at-requires-2 (bin-claims t) (bin-at t) bin.Post
 bin-word-at-requires-2 t c κs = search needs
 
 pub bin-part-requires-2 : (t : ℕ) → bin-lts.Need-part-requires-2 (bin-claims t) (bin-at t) bin.Post
-bin-part-requires-2 t c κs = (omega (arith, c .before .before .before .before .before .before .before .before .before .before .before .before .before .before .before .before .before .before .before .before .before .before .before .before .before .before .before .before .before .before .before .before .before .before .before .before .before .before .before .before .before .before .before .pre .0, right-under (c .before .before .before .before .before .before .before .before .before .before .before .before .before .before .before .before .before .before .before .before .before .before .before .before .before .before .before .before .before .before .before .before .before .before .before .before .before .before .before .before .before .before .before .pre .1) (c .before .before .before .before .before .before .before .before .before .before .before .before .before .before .before .before .before .before .before .before .before .before .before .before .before .before .before .before .before .before .before .node-place .ensures) (c .word-at2 .ensures)), right-visit (c .before .before .before .before .before .before .before .before .before .before .before .before .before .before .before .before .before .before .before .before .before .before .before .before .before .before .before .before .before .before .before .before .before .before .before .before .before .before .before .before .before .before .before .pre .1) (c .before .before .before .before .before .before .before .before .before .before .before .before .before .before .before .before .before .before .before .before .before .before .before .before .before .before .before .before .before .before .before .node-place .ensures) (c .before .before .before .before .before .before .before .before .before .before .before .before .before .before .before .before .before .before .before .before .before .before .before .before .word-at .ensures) (c .before .before .before .before .before .before .before .before .before .before .before .before .before .before .before .before .before .before .before .before .before .before .before .part .ensures) (came-after (c .before .before .before .before .before .before .before .before .before .before .before .before .before .before .before .before .before .before .before .before .before .before .before .part .result) (c .before .before .before .before .before .before .before .before .before .before .after .ensures) (c .before .before .before .before .before .before .before .before .l .given .1)) (c .word-at2 .ensures))
+bin-part-requires-2 t c κs =
+    let c1 = c .before .before .before .before .before .before .before .before in
+    let c2 = c1 .before .before in
+    let c3 = c2 .before .before .before .before .before .before .before .before .before .before .before .before .before in
+    let c4 = c3 .before in
+    let c5 = c4 .before .before .before .before .before .before .before in
+    let c6 = c5 .before .before .before .before .before .before .before .before .before .before .before .before in (
+      omega (arith, c6 .pre .0, right-under (c6 .pre .1) (c5 .node-place .ensures) (c .word-at2 .ensures)),
+      right-visit (c6 .pre .1) (c5 .node-place .ensures) (c4 .word-at .ensures) (c3 .part .ensures) (came-after (c3 .part .result) (c2 .after .ensures) (c1 .l .given .1))
+          (c .word-at2 .ensures),
+    )
 
 pub bin-after-requires-2 : (t : ℕ) → bin-lts.Need-after-requires-2 (bin-claims t) (bin-at t) bin.Post
 bin-after-requires-2 t c κs = search needs
@@ -70,46 +96,127 @@ pub bin-enum-told-2 : (t : ℕ) → bin-lts.Need-enum-told-2 (bin-claims t) (bin
 bin-enum-told-2 t c = search needs
 
 pub bin-same-length-7 : (t : ℕ) → bin-lts.Need-same-length-7 (bin-claims t) (bin-at t) bin.Post
-bin-same-length-7 t c = c .before .before .before .before .before .before .before .before .before .before .before .before .before .before .slots2 .given ∙ c .before .before .before .before .before .before .before .before .before .before .before .before .before .before .before .before .before .before .before .before .before .before .before .before .before .before .before .before .before .before .before .before .before .before .before .before .before .before .slots .given
+bin-same-length-7 t c =
+    let c1 = c .before .before .before .before .before .before .before .before .before .before .before .before .before .before in
+    let c2 = c1 .before .before .before .before .before .before .before .before .before .before .before .before .before .before .before .before .before .before .before .before .before .before in
+    let c3 = c2 .before .before in
+    c1 .slots2 .given ∙ c3 .slots .given
 
 pub bin-same-length-8 : (t : ℕ) → bin-lts.Need-same-length-8 (bin-claims t) (bin-at t) bin.Post
-bin-same-length-8 t c = c .before .before .before .before .before .before .before .before .before .before .before .before .functions2 .given ∙ c .before .before .before .before .before .before .before .before .before .before .before .before .before .before .before .before .before .before .before .before .before .before .before .before .before .before .before .before .before .before .before .before .before .before .before .before .functions .given
+bin-same-length-8 t c =
+    let c1 = c .before .before .before .before .before .before .before .before .before .before .before .before in
+    let c2 = c1 .before .before .before .before .before .before .before .before .before .before .before .before .before .before .before .before .before .before .before .before .before .before in
+    let c3 = c2 .before .before in
+    c1 .functions2 .given ∙ c3 .functions .given
 
 pub bin-same-length-9 : (t : ℕ) → bin-lts.Need-same-length-9 (bin-claims t) (bin-at t) bin.Post
-bin-same-length-9 t c = c .before .before .before .before .before .before .before .before .before .before .types2 .given ∙ c .before .before .before .before .before .before .before .before .before .before .before .before .before .before .before .before .before .before .before .before .before .before .before .before .before .before .before .before .before .before .before .before .before .before .types .given
+bin-same-length-9 t c =
+    let c1 = c .before .before .before .before .before .before .before .before .before .before in
+    let c2 = c1 .before .before .before .before .before .before .before .before .before .before .before .before .before .before .before .before .before .before .before .before .before .before in
+    let c3 = c2 .before .before in
+    c1 .types2 .given ∙ c3 .types .given
 
 pub bin-same-length-10 : (t : ℕ) → bin-lts.Need-same-length-10 (bin-claims t) (bin-at t) bin.Post
-bin-same-length-10 t c = c .before .before .before .before .before .before .before .before .diagnostics2 .given ∙ c .before .before .before .before .before .before .before .before .before .before .before .before .before .before .before .before .before .before .before .before .before .before .before .before .before .before .before .before .before .before .before .before .diagnostics .given
+bin-same-length-10 t c =
+    let c1 = c .before .before .before .before .before .before .before .before in
+    let c2 = c1 .before .before .before .before .before .before .before .before .before .before .before .before .before .before .before .before .before .before .before .before .before .before in
+    let c3 = c2 .before .before in
+    c1 .diagnostics2 .given ∙ c3 .diagnostics .given
 
 pub bin-same-length-11 : (t : ℕ) → bin-lts.Need-same-length-11 (bin-claims t) (bin-at t) bin.Post
-bin-same-length-11 t c = c .before .before .before .before .before .before .messages2 .given ∙ c .before .before .before .before .before .before .before .before .before .before .before .before .before .before .before .before .before .before .before .before .before .before .before .before .before .before .before .before .before .before .messages .given
+bin-same-length-11 t c =
+    let c1 = c .before .before .before .before .before .before in
+    let c2 = c1 .before .before .before .before .before .before .before .before .before .before .before .before .before .before .before .before .before .before .before .before .before .before in
+    let c3 = c2 .before .before in
+    c1 .messages2 .given ∙ c3 .messages .given
 
 pub bin-same-length-12 : (t : ℕ) → bin-lts.Need-same-length-12 (bin-claims t) (bin-at t) bin.Post
-bin-same-length-12 t c = c .before .before .before .before .scratch2 .given ∙ c .before .before .before .before .before .before .before .before .before .before .before .before .before .before .before .before .before .before .before .before .before .before .before .before .before .before .before .before .scratch .given
+bin-same-length-12 t c =
+    let c1 = c .before .before .before .before in
+    let c2 = c1 .before .before .before .before .before .before .before .before .before .before .before .before .before .before .before .before .before .before .before .before .before .before in
+    let c3 = c2 .before .before in
+    c1 .scratch2 .given ∙ c3 .scratch .given
 
 pub bin-returns-2 : (t : ℕ) → bin-lts.Need-returns-2 (bin-claims t) (bin-at t) bin.Post
-bin-returns-2 t c = right-stops (c .before .before .before .before .before .before .before .before .before .before .before .before .before .before .before .before .before .before .before .before .before .before .before .before .before .before .before .before .before .before .before .before .before .before .before .before .before .before .before .before .before .before .before .before .before .before .before .before .before .before .before .before .before .before .before .before .before .before .before .pre .1) (c .before .before .before .before .before .before .before .before .before .before .before .before .before .before .before .before .before .before .before .before .before .before .before .before .before .before .before .before .before .before .before .before .before .before .before .before .before .before .before .before .before .before .before .before .before .before .before .node-place .ensures) (c .before .before .before .before .before .before .before .before .before .before .before .before .before .before .before .before .before .before .before .before .before .before .before .before .before .before .before .before .before .before .before .before .before .before .before .before .before .before .before .before .word-at .ensures) (c .before .before .before .before .before .before .before .before .before .before .before .before .before .before .before .before .before .before .before .before .before .before .before .before .before .before .before .before .before .before .before .before .before .before .before .before .before .before .before .part .ensures) (came-after (c .before .before .before .before .before .before .before .before .before .before .before .before .before .before .before .before .before .before .before .before .before .before .before .before .before .before .before .before .before .before .before .before .before .before .before .before .before .before .before .part .result) (c .before .before .before .before .before .before .before .before .before .before .before .before .before .before .before .before .before .before .before .before .before .before .before .before .before .before .after .ensures) (c .before .before .before .before .before .before .before .before .before .before .before .before .before .before .before .before .before .before .before .before .before .before .before .before .l .given .1)) (c .before .before .before .before .before .before .before .before .before .before .before .before .before .before .before .before .word-at2 .ensures) (c .before .before .before .before .before .before .before .before .before .before .before .before .before .before .before .part2 .ensures) (stopped-after (c .before .before .before .before .before .before .before .before .before .before .before .before .before .before .before .part2 .result) (c .before .before .after2 .ensures) (c .enum-told2 .given .1))
+bin-returns-2 t c =
+    let c1 = c .before .before in
+    let c2 = c1 .before .before .before .before .before .before .before .before .before .before .before .before .before in
+    let c3 = c2 .before in
+    let c4 = c3 .before .before .before .before .before .before .before .before in
+    let c5 = c4 .before .before in
+    let c6 = c5 .before .before .before .before .before .before .before .before .before .before .before .before .before in
+    let c7 = c6 .before in
+    let c8 = c7 .before .before .before .before .before .before .before in
+    let c9 = c8 .before .before .before .before .before .before .before .before .before .before .before .before in
+    right-stops (c9 .pre .1) (c8 .node-place .ensures) (c7 .word-at .ensures) (c6 .part .ensures) (came-after (c6 .part .result) (c5 .after .ensures) (c4 .l .given .1))
+    (c3 .word-at2 .ensures) (c2 .part2 .ensures) (stopped-after (c2 .part2 .result) (c1 .after2 .ensures) (c .enum-told2 .given .1))
 
 pub bin-bin-end-requires : (t : ℕ) → bin-lts.Need-bin-end-requires (bin-claims t) (bin-at t) bin.Post
-bin-bin-end-requires t c κs = omega (arith, bin-low (c .before .before .before .before .before .before .before .before .before .before .before .before .before .before .before .before .before .before .before .before .before .before .before .before .before .before .before .before .before .before .before .before .before .before .before .before .before .before .before .before .before .before .before .before .before .before .before .before .before .before .before .before .before .before .before .before .before .before .before .before .before .before .before .before .pre .1) (c .before .before .before .before .before .before .before .before .before .before .before .before .before .before .before .before .before .before .before .before .before .before .before .before .before .before .before .before .before .before .before .before .before .before .before .before .before .before .before .before .before .before .before .before .before .before .before .before .before .before .before .before .node-place .ensures))
+bin-bin-end-requires t c κs =
+    let c1 = c .before .before .before .before .before .before .before .before .before .before .before .before .before .before .before .before .before .before .before .before .before .before in
+    let c2 = c1 .before .before .before .before .before .before .before .before .before .before .before .before .before .before .before .before .before .before .before .before .before .before in
+    let c3 = c2 .before .before .before .before .before .before .before .before in
+    let c4 = c3 .before .before .before .before .before .before .before .before .before .before .before .before in
+    omega (arith, bin-low (c4 .pre .1) (c3 .node-place .ensures))
 
 pub bin-same-length-13 : (t : ℕ) → bin-lts.Need-same-length-13 (bin-claims t) (bin-at t) bin.Post
-bin-same-length-13 t c = c .before .before .before .before .before .slots3 .given ∙ c .before .before .before .before .before .before .before .before .before .before .before .before .before .before .before .before .before .before .before .before .before .before .before .before .before .before .slots2 .given ∙ c .before .before .before .before .before .before .before .before .before .before .before .before .before .before .before .before .before .before .before .before .before .before .before .before .before .before .before .before .before .before .before .before .before .before .before .before .before .before .before .before .before .before .before .before .before .before .before .before .before .before .slots .given
+bin-same-length-13 t c =
+    let c1 = c .before .before .before .before .before in
+    let c2 = c1 .before .before .before .before .before .before .before .before .before .before .before .before .before .before .before .before .before .before .before .before .before in
+    let c3 = c2 .before .before .before .before .before .before .before .before .before .before .before .before .before .before .before .before .before .before .before .before .before .before in
+    let c4 = c3 .before .before in
+    c1 .slots3 .given ∙ c2 .slots2 .given ∙ c4 .slots .given
 
 pub bin-same-length-14 : (t : ℕ) → bin-lts.Need-same-length-14 (bin-claims t) (bin-at t) bin.Post
-bin-same-length-14 t c = c .before .before .before .before .before .before .before .before .before .before .before .before .before .before .before .before .before .before .before .before .before .before .before .before .functions2 .given ∙ c .before .before .before .before .before .before .before .before .before .before .before .before .before .before .before .before .before .before .before .before .before .before .before .before .before .before .before .before .before .before .before .before .before .before .before .before .before .before .before .before .before .before .before .before .before .before .before .before .functions .given
+bin-same-length-14 t c =
+    let c1 = c .before .before .before .before .before .before .before .before .before .before .before .before .before .before .before .before .before .before .before .before .before .before in
+    let c2 = c1 .before .before in
+    let c3 = c2 .before .before .before .before .before .before .before .before .before .before .before .before .before .before .before .before .before .before .before .before .before .before in
+    let c4 = c3 .before .before in
+    c2 .functions2 .given ∙ c4 .functions .given
 
 pub bin-same-length-15 : (t : ℕ) → bin-lts.Need-same-length-15 (bin-claims t) (bin-at t) bin.Post
-bin-same-length-15 t c = c .before .before .before .before .before .before .before .before .before .before .before .before .before .before .before .before .before .before .before .before .before .before .types2 .given ∙ c .before .before .before .before .before .before .before .before .before .before .before .before .before .before .before .before .before .before .before .before .before .before .before .before .before .before .before .before .before .before .before .before .before .before .before .before .before .before .before .before .before .before .before .before .before .before .types .given
+bin-same-length-15 t c =
+    let c1 = c .before .before .before .before .before .before .before .before .before .before .before .before .before .before .before .before .before .before .before .before .before .before in
+    let c2 = c1 .before .before .before .before .before .before .before .before .before .before .before .before .before .before .before .before .before .before .before .before .before .before in
+    let c3 = c2 .before .before in
+    c1 .types2 .given ∙ c3 .types .given
 
 pub bin-same-length-16 : (t : ℕ) → bin-lts.Need-same-length-16 (bin-claims t) (bin-at t) bin.Post
-bin-same-length-16 t c = c .before .before .before .diagnostics3 .given ∙ c .before .before .before .before .before .before .before .before .before .before .before .before .before .before .before .before .before .before .before .before .diagnostics2 .given ∙ c .before .before .before .before .before .before .before .before .before .before .before .before .before .before .before .before .before .before .before .before .before .before .before .before .before .before .before .before .before .before .before .before .before .before .before .before .before .before .before .before .before .before .before .before .diagnostics .given
+bin-same-length-16 t c =
+    let c1 = c .before .before .before in
+    let c2 = c1 .before .before .before .before .before .before .before .before .before .before .before .before .before .before .before .before .before in
+    let c3 = c2 .before .before .before .before .before .before .before .before .before .before .before .before .before .before .before .before .before .before .before .before .before .before in
+    let c4 = c3 .before .before in
+    c1 .diagnostics3 .given ∙ c2 .diagnostics2 .given ∙ c4 .diagnostics .given
 
 pub bin-same-length-17 : (t : ℕ) → bin-lts.Need-same-length-17 (bin-claims t) (bin-at t) bin.Post
-bin-same-length-17 t c = c .before .messages3 .given ∙ c .before .before .before .before .before .before .before .before .before .before .before .before .before .before .before .before .before .before .messages2 .given ∙ c .before .before .before .before .before .before .before .before .before .before .before .before .before .before .before .before .before .before .before .before .before .before .before .before .before .before .before .before .before .before .before .before .before .before .before .before .before .before .before .before .before .before .messages .given
+bin-same-length-17 t c =
+    let c1 = c .before in
+    let c2 = c1 .before .before .before .before .before .before .before .before .before .before .before .before .before .before .before .before .before in
+    let c3 = c2 .before .before .before .before .before .before .before .before .before .before .before .before .before .before .before .before .before .before .before .before .before .before in
+    let c4 = c3 .before .before in
+    c1 .messages3 .given ∙ c2 .messages2 .given ∙ c4 .messages .given
 
 pub bin-same-length-18 : (t : ℕ) → bin-lts.Need-same-length-18 (bin-claims t) (bin-at t) bin.Post
-bin-same-length-18 t c = c .before .before .before .before .before .before .before .before .before .before .before .before .before .before .before .before .scratch2 .given ∙ c .before .before .before .before .before .before .before .before .before .before .before .before .before .before .before .before .before .before .before .before .before .before .before .before .before .before .before .before .before .before .before .before .before .before .before .before .before .before .before .before .scratch .given
+bin-same-length-18 t c =
+    let c1 = c .before .before .before .before .before .before .before .before .before .before .before .before .before .before .before .before in
+    let c2 = c1 .before .before .before .before .before .before .before .before .before .before .before .before .before .before .before .before .before .before .before .before .before .before in
+    let c3 = c2 .before .before in
+    c1 .scratch2 .given ∙ c3 .scratch .given
 
 pub bin-returns-3 : (t : ℕ) → bin-lts.Need-returns-3 (bin-claims t) (bin-at t) bin.Post
-bin-returns-3 t c = bin-ends (c .before .before .before .before .before .before .before .before .before .before .before .before .before .before .before .before .before .before .before .before .before .before .before .before .before .before .before .before .before .before .before .before .before .before .before .before .before .before .before .before .before .before .before .before .before .before .before .before .before .before .before .before .before .before .before .before .before .before .before .before .before .before .before .before .before .before .before .before .before .before .before .pre .1) (c .before .before .before .before .before .before .before .before .before .before .before .before .before .before .before .before .before .before .before .before .before .before .before .before .before .before .before .before .before .before .before .before .before .before .before .before .before .before .before .before .before .before .before .before .before .before .before .before .before .before .before .before .before .before .before .before .before .before .before .node-place .ensures) (c .before .before .before .before .before .before .before .before .before .before .before .before .before .before .before .before .before .before .before .before .before .before .before .before .before .before .before .before .before .before .before .before .before .before .before .before .before .before .before .before .before .before .before .before .before .before .before .before .before .before .before .before .word-at .ensures) (c .before .before .before .before .before .before .before .before .before .before .before .before .before .before .before .before .before .before .before .before .before .before .before .before .before .before .before .before .before .before .before .before .before .before .before .before .before .before .before .before .before .before .before .before .before .before .before .before .before .before .before .part .ensures) (came-after (c .before .before .before .before .before .before .before .before .before .before .before .before .before .before .before .before .before .before .before .before .before .before .before .before .before .before .before .before .before .before .before .before .before .before .before .before .before .before .before .before .before .before .before .before .before .before .before .before .before .before .before .part .result) (c .before .before .before .before .before .before .before .before .before .before .before .before .before .before .before .before .before .before .before .before .before .before .before .before .before .before .before .before .before .before .before .before .before .before .before .before .before .before .after .ensures) (c .before .before .before .before .before .before .before .before .before .before .before .before .before .before .before .before .before .before .before .before .before .before .before .before .before .before .before .before .before .before .before .before .before .before .before .before .l .given .1)) (c .before .before .before .before .before .before .before .before .before .before .before .before .before .before .before .before .before .before .before .before .before .before .before .before .before .before .before .before .word-at2 .ensures) (c .before .before .before .before .before .before .before .before .before .before .before .before .before .before .before .before .before .before .before .before .before .before .before .before .before .before .before .part2 .ensures) (came-after (c .before .before .before .before .before .before .before .before .before .before .before .before .before .before .before .before .before .before .before .before .before .before .before .before .before .before .before .part2 .result) (c .before .before .before .before .before .before .before .before .before .before .before .before .before .before .after2 .ensures) (c .before .before .before .before .before .before .before .before .before .before .before .before .r .given .1)) (c .before .before .before .before .before .before .bin-end .ensures _ _ _ _ _)
+bin-returns-3 t c =
+    let c1 = c .before .before .before .before .before .before in
+    let c2 = c1 .before .before .before .before .before .before in
+    let c3 = c2 .before .before in
+    let c4 = c3 .before .before .before .before .before .before .before .before .before .before .before .before .before in
+    let c5 = c4 .before in
+    let c6 = c5 .before .before .before .before .before .before .before .before in
+    let c7 = c6 .before .before in
+    let c8 = c7 .before .before .before .before .before .before .before .before .before .before .before .before .before in
+    let c9 = c8 .before in
+    let c10 = c9 .before .before .before .before .before .before .before in
+    let c11 = c10 .before .before .before .before .before .before .before .before .before .before .before .before in
+    bin-ends (c11 .pre .1) (c10 .node-place .ensures) (c9 .word-at .ensures) (c8 .part .ensures) (came-after (c8 .part .result) (c7 .after .ensures) (c6 .l .given .1))
+    (c5 .word-at2 .ensures) (c4 .part2 .ensures) (came-after (c4 .part2 .result) (c3 .after2 .ensures) (c2 .r .given .1)) (c1 .bin-end .ensures _ _ _ _ _)

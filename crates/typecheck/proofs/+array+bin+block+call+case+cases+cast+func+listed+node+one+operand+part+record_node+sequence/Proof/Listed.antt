@@ -17,7 +17,13 @@ pub listed-kind-requires : (t : ℕ) → listed-lts.Need-kind-requires (listed-c
 listed-kind-requires t c κs = search needs
 
 pub listed-func-requires : (t : ℕ) → listed-lts.Need-func-requires (listed-claims t) (listed-at t) listed.Post
-listed-func-requires t c κs = (omega (arith, c .before .before .before .before .before .before .before .before .before .before .before .before .before .before .before .before .before .before .before .before .before .pre .0), to-fn (c .before .before .before .before .before .before .before .before .before .node-place .ensures) (c .before .before .before .before .before .before .before .before .word-at .ensures) (c .before .before .before .before .before .before .before .kind .ensures) (c .before .before .before .before .before .before .before .before .before .before .before .before .before .before .before .before .before .before .before .before .before .pre .1) (c .before .before .before .before .before .before .if1 .taken))
+listed-func-requires t c κs =
+    let c1 = c .before .before .before .before .before .before in
+    let c2 = c1 .before in
+    let c3 = c2 .before in
+    let c4 = c3 .before in
+    let c5 = c4 .before .before .before .before .before .before .before .before .before .before .before .before in
+    (omega (arith, c5 .pre .0), to-fn (c4 .node-place .ensures) (c3 .word-at .ensures) (c2 .kind .ensures) (c5 .pre .1) (c1 .if1 .taken))
 
 pub listed-same-length : (t : ℕ) → listed-lts.Need-same-length (listed-claims t) (listed-at t) listed.Post
 listed-same-length t c = search needs
@@ -41,7 +47,13 @@ pub listed-returns : (t : ℕ) → listed-lts.Need-returns (listed-claims t) (li
 listed-returns t c = c .before .before .before .before .before .before .before .before .before .before .before .before .func .ensures
 
 pub listed-cases-requires : (t : ℕ) → listed-lts.Need-cases-requires (listed-claims t) (listed-at t) listed.Post
-listed-cases-requires t c κs = (omega (arith, c .before .before .before .before .before .before .before .before .before .before .before .before .before .before .before .before .before .before .before .before .before .before .pre .0), to-match (c .before .before .before .before .before .before .before .before .before .before .node-place .ensures) (c .before .before .before .before .before .before .before .before .before .word-at .ensures) (c .before .before .before .before .before .before .before .before .kind .ensures) (c .before .before .before .before .before .before .before .before .before .before .before .before .before .before .before .before .before .before .before .before .before .before .pre .1) (c .before .before .before .before .before .before .if2 .taken))
+listed-cases-requires t c κs =
+    let c1 = c .before .before .before .before .before .before in
+    let c2 = c1 .before .before in
+    let c3 = c2 .before in
+    let c4 = c3 .before in
+    let c5 = c4 .before .before .before .before .before .before .before .before .before .before .before .before in
+    (omega (arith, c5 .pre .0), to-match (c4 .node-place .ensures) (c3 .word-at .ensures) (c2 .kind .ensures) (c5 .pre .1) (c1 .if2 .taken))
 
 pub listed-same-length-7 : (t : ℕ) → listed-lts.Need-same-length-7 (listed-claims t) (listed-at t) listed.Post
 listed-same-length-7 t c = search needs
@@ -65,7 +77,14 @@ pub listed-returns-2 : (t : ℕ) → listed-lts.Need-returns-2 (listed-claims t)
 listed-returns-2 t c = c .before .before .before .before .before .before .before .before .before .before .before .before .cases .ensures
 
 pub listed-sequence-requires : (t : ℕ) → listed-lts.Need-sequence-requires (listed-claims t) (listed-at t) listed.Post
-listed-sequence-requires t c κs = (omega (arith, c .before .before .before .before .before .before .before .before .before .before .before .before .before .before .before .before .before .before .before .before .before .before .pre .0), to-sequence (c .before .before .before .before .before .before .before .before .before .before .node-place .ensures) (c .before .before .before .before .before .before .before .before .before .word-at .ensures) (c .before .before .before .before .before .before .before .before .kind .ensures) (c .before .before .before .before .before .before .before .before .before .before .before .before .before .before .before .before .before .before .before .before .before .before .pre .1) (c .before .before .before .before .before .before .before .if1 .left) (c .before .before .before .before .before .before .if2 .left))
+listed-sequence-requires t c κs =
+    let c1 = c .before .before .before .before .before .before in
+    let c2 = c1 .before in
+    let c3 = c2 .before in
+    let c4 = c3 .before in
+    let c5 = c4 .before in
+    let c6 = c5 .before .before .before .before .before .before .before .before .before .before .before .before in
+    (omega (arith, c6 .pre .0), to-sequence (c5 .node-place .ensures) (c4 .word-at .ensures) (c3 .kind .ensures) (c6 .pre .1) (c2 .if1 .left) (c1 .if2 .left))
 
 pub listed-same-length-13 : (t : ℕ) → listed-lts.Need-same-length-13 (listed-claims t) (listed-at t) listed.Post
 listed-same-length-13 t c = search needs

@@ -20,7 +20,14 @@ pub node-is-leaf-requires : (t : ℕ) → node-lts.Need-is-leaf-requires (node-c
 node-is-leaf-requires t c κs = search needs
 
 pub node-leaf-requires : (t : ℕ) → node-lts.Need-leaf-requires (node-claims t) (node-at t) node.Post
-node-leaf-requires t c κs = to-leaf (c .before .before .before .before .before .before .before .before .before .node-place .ensures) (c .before .before .before .before .before .before .before .before .word-at .ensures) (c .before .before .before .before .before .before .before .kind .ensures) (c .before .before .before .before .before .before .before .before .before .before .before .before .before .before .before .before .before .before .before .before .before .pre .1) (c .before .before .before .before .before .before .is-leaf .ensures) (c .before .before .before .before .before .if1 .taken)
+node-leaf-requires t c κs =
+    let c1 = c .before .before .before .before .before in
+    let c2 = c1 .before in
+    let c3 = c2 .before in
+    let c4 = c3 .before in
+    let c5 = c4 .before in
+    let c6 = c5 .before .before .before .before .before .before .before .before .before .before .before .before in
+    to-leaf (c5 .node-place .ensures) (c4 .word-at .ensures) (c3 .kind .ensures) (c6 .pre .1) (c2 .is-leaf .ensures) (c1 .if1 .taken)
 
 pub node-same-length : (t : ℕ) → node-lts.Need-same-length (node-claims t) (node-at t) node.Post
 node-same-length t c = search needs
@@ -44,7 +51,14 @@ pub node-has-operands-requires : (t : ℕ) → node-lts.Need-has-operands-requir
 node-has-operands-requires t c κs = search needs
 
 pub node-operand-requires : (t : ℕ) → node-lts.Need-operand-requires (node-claims t) (node-at t) node.Post
-node-operand-requires t c κs = (omega (arith, c .before .before .before .before .before .before .before .before .before .before .before .before .before .before .before .before .before .before .before .before .before .before .before .before .pre .0), to-operand (c .before .before .before .before .before .before .before .before .before .before .before .before .node-place .ensures) (c .before .before .before .before .before .before .before .before .before .before .before .word-at .ensures) (c .before .before .before .before .before .before .before .before .before .before .kind .ensures) (c .before .before .before .before .before .before .before .before .before .before .before .before .before .before .before .before .before .before .before .before .before .before .before .before .pre .1) (c .before .before .before .before .before .before .before .has-operands .ensures) (c .before .before .before .before .before .before .if2 .taken))
+node-operand-requires t c κs =
+    let c1 = c .before .before .before .before .before .before in
+    let c2 = c1 .before in
+    let c3 = c2 .before .before .before in
+    let c4 = c3 .before in
+    let c5 = c4 .before in
+    let c6 = c5 .before .before .before .before .before .before .before .before .before .before .before .before in
+    (omega (arith, c6 .pre .0), to-operand (c5 .node-place .ensures) (c4 .word-at .ensures) (c3 .kind .ensures) (c6 .pre .1) (c2 .has-operands .ensures) (c1 .if2 .taken))
 
 pub node-same-length-6 : (t : ℕ) → node-lts.Need-same-length-6 (node-claims t) (node-at t) node.Post
 node-same-length-6 t c = search needs
@@ -68,7 +82,18 @@ pub node-returns-2 : (t : ℕ) → node-lts.Need-returns-2 (node-claims t) (node
 node-returns-2 t c = c .before .before .before .before .before .before .before .before .before .before .before .before .operand .ensures
 
 pub node-listed-requires : (t : ℕ) → node-lts.Need-listed-requires (node-claims t) (node-at t) node.Post
-node-listed-requires t c κs = (omega (arith, c .before .before .before .before .before .before .before .before .before .before .before .before .before .before .before .before .before .before .before .before .before .before .before .before .pre .0), to-listed (c .before .before .before .before .before .before .before .before .before .before .before .before .node-place .ensures) (c .before .before .before .before .before .before .before .before .before .before .before .word-at .ensures) (c .before .before .before .before .before .before .before .before .before .before .kind .ensures) (c .before .before .before .before .before .before .before .before .before .before .before .before .before .before .before .before .before .before .before .before .before .before .before .before .pre .1) (c .before .before .before .before .before .before .before .before .before .is-leaf .ensures) (c .before .before .before .before .before .before .before .before .if1 .left) (c .before .before .before .before .before .before .before .has-operands .ensures) (c .before .before .before .before .before .before .if2 .left))
+node-listed-requires t c κs =
+    let c1 = c .before .before .before .before .before .before in
+    let c2 = c1 .before in
+    let c3 = c2 .before in
+    let c4 = c3 .before in
+    let c5 = c4 .before in
+    let c6 = c5 .before in
+    let c7 = c6 .before in
+    let c8 = c7 .before .before .before .before .before .before .before .before .before .before .before .before in (
+      omega (arith, c8 .pre .0),
+      to-listed (c7 .node-place .ensures) (c6 .word-at .ensures) (c5 .kind .ensures) (c8 .pre .1) (c4 .is-leaf .ensures) (c3 .if1 .left) (c2 .has-operands .ensures) (c1 .if2 .left),
+    )
 
 pub node-same-length-12 : (t : ℕ) → node-lts.Need-same-length-12 (node-claims t) (node-at t) node.Post
 node-same-length-12 t c = search needs

@@ -16,7 +16,13 @@ pub one-operand-of-requires : (t : ℕ) → one-lts.Need-operand-of-requires (on
 one-operand-of-requires t c κs = one-low (c .before .before .before .before .before .before .before .before .before .before .before .before .pre .1) (c .node-place .ensures)
 
 pub one-part-requires : (t : ℕ) → one-lts.Need-part-requires (one-claims t) (one-at t) one.Post
-one-part-requires t c κs = (omega (arith, c .before .before .before .before .before .before .before .before .before .before .before .before .before .before .before .before .before .before .before .pre .0, operand-under (c .before .before .before .before .before .before .before .before .before .before .before .before .before .before .before .before .before .before .before .pre .1) (c .before .before .before .before .before .before .before .node-place .ensures) (c .before .before .before .before .before .before .operand-of .ensures)), operand-visit (c .before .before .before .before .before .before .before .before .before .before .before .before .before .before .before .before .before .before .before .pre .1) (c .before .before .before .before .before .before .before .node-place .ensures) (c .before .before .before .before .before .before .operand-of .ensures))
+one-part-requires t c κs =
+    let c1 = c .before .before .before .before .before .before in
+    let c2 = c1 .before in
+    let c3 = c2 .before .before .before .before .before .before .before .before .before .before .before .before in (
+      omega (arith, c3 .pre .0, operand-under (c3 .pre .1) (c2 .node-place .ensures) (c1 .operand-of .ensures)),
+      operand-visit (c3 .pre .1) (c2 .node-place .ensures) (c1 .operand-of .ensures),
+    )
 
 pub one-after-requires : (t : ℕ) → one-lts.Need-after-requires (one-claims t) (one-at t) one.Post
 one-after-requires t c κs = search needs
@@ -46,28 +52,68 @@ pub one-same-length-6 : (t : ℕ) → one-lts.Need-same-length-6 (one-claims t) 
 one-same-length-6 t c = c .before .before .before .before .scratch .given
 
 pub one-returns : (t : ℕ) → one-lts.Need-returns (one-claims t) (one-at t) one.Post
-one-returns t c = operand-stops (c .before .before .before .before .before .before .before .before .before .before .before .before .before .before .before .before .before .before .before .before .before .before .before .before .before .before .before .before .before .before .before .before .before .before .before .pre .1) (c .before .before .before .before .before .before .before .before .before .before .before .before .before .before .before .before .before .before .before .before .before .before .before .node-place .ensures) (c .before .before .before .before .before .before .before .before .before .before .before .before .before .before .before .before .before .before .before .before .before .before .operand-of .ensures) (c .before .before .before .before .before .before .before .before .before .before .before .before .before .before .before .part .ensures) (stopped-after (c .before .before .before .before .before .before .before .before .before .before .before .before .before .before .before .part .result) (c .before .before .after .ensures) (c .enum-told .given .1))
+one-returns t c =
+    let c1 = c .before .before in
+    let c2 = c1 .before .before .before .before .before .before .before .before .before .before .before .before .before in
+    let c3 = c2 .before .before .before .before .before .before .before in
+    let c4 = c3 .before in
+    let c5 = c4 .before .before .before .before .before .before .before .before .before .before .before .before in
+    operand-stops (c5 .pre .1) (c4 .node-place .ensures) (c3 .operand-of .ensures) (c2 .part .ensures) (stopped-after (c2 .part .result) (c1 .after .ensures) (c .enum-told .given .1))
 
 pub one-one-end-requires : (t : ℕ) → one-lts.Need-one-end-requires (one-claims t) (one-at t) one.Post
-one-one-end-requires t c κs = end-ready (c .before .before .before .before .before .before .before .before .before .before .before .before .before .before .before .before .before .before .before .before .before .before .before .before .before .before .before .before .before .before .before .before .before .before .before .before .before .before .before .before .before .pre .1) (c .before .before .before .before .before .before .before .before .before .before .before .before .before .before .before .before .before .before .before .before .before .before .before .before .before .before .before .before .before .node-place .ensures) (c .before .before .before .before .before .before .before .before .before .before .before .before .before .before .before .before .before .before .before .before .before .before .before .before .before .before .before .before .operand-of .ensures) (c .before .before .before .before .before .before .before .before .before .before .before .before .before .before .before .before .before .before .before .before .before .part .ensures) (came-after (c .before .before .before .before .before .before .before .before .before .before .before .before .before .before .before .before .before .before .before .before .before .part .result) (c .before .before .before .before .before .before .before .before .after .ensures) (c .before .before .before .before .before .before .a .given .1))
+one-one-end-requires t c κs =
+    let c1 = c .before .before .before .before .before .before in
+    let c2 = c1 .before .before in
+    let c3 = c2 .before .before .before .before .before .before .before .before .before .before .before .before .before in
+    let c4 = c3 .before .before .before .before .before .before .before in
+    let c5 = c4 .before in
+    let c6 = c5 .before .before .before .before .before .before .before .before .before .before .before .before in
+    end-ready (c6 .pre .1) (c5 .node-place .ensures) (c4 .operand-of .ensures) (c3 .part .ensures) (came-after (c3 .part .result) (c2 .after .ensures) (c1 .a .given .1))
 
 pub one-same-length-7 : (t : ℕ) → one-lts.Need-same-length-7 (one-claims t) (one-at t) one.Post
-one-same-length-7 t c = c .before .before .before .before .before .before .before .slots2 .given ∙ c .before .before .before .before .before .before .before .before .before .before .before .before .before .before .before .before .before .before .before .before .before .before .before .before .before .before .before .before .before .slots .given
+one-same-length-7 t c =
+    let c1 = c .before .before .before .before .before .before .before in
+    let c2 = c1 .before .before .before .before .before .before .before .before .before .before .before .before .before .before .before .before .before .before .before .before .before .before in
+    c1 .slots2 .given ∙ c2 .slots .given
 
 pub one-same-length-8 : (t : ℕ) → one-lts.Need-same-length-8 (one-claims t) (one-at t) one.Post
-one-same-length-8 t c = c .before .before .before .before .before .before .before .before .before .before .before .before .before .before .before .before .before .before .before .before .before .before .before .before .before .before .before .functions .given
+one-same-length-8 t c =
+    let c1 = c .before .before .before .before .before .before .before .before .before .before .before .before .before .before .before .before .before .before .before .before .before .before in
+    let c2 = c1 .before .before .before .before .before in
+    c2 .functions .given
 
 pub one-same-length-9 : (t : ℕ) → one-lts.Need-same-length-9 (one-claims t) (one-at t) one.Post
-one-same-length-9 t c = c .before .before .before .before .before .before .before .before .before .before .before .before .before .before .before .before .before .before .before .before .before .before .before .before .before .types .given
+one-same-length-9 t c =
+    let c1 = c .before .before .before .before .before .before .before .before .before .before .before .before .before .before .before .before .before .before .before .before .before .before in
+    let c2 = c1 .before .before .before in
+    c2 .types .given
 
 pub one-same-length-10 : (t : ℕ) → one-lts.Need-same-length-10 (one-claims t) (one-at t) one.Post
-one-same-length-10 t c = c .before .before .before .before .before .diagnostics2 .given ∙ c .before .before .before .before .before .before .before .before .before .before .before .before .before .before .before .before .before .before .before .before .before .before .before .diagnostics .given
+one-same-length-10 t c =
+    let c1 = c .before .before .before .before .before in
+    let c2 = c1 .before .before .before .before .before .before .before .before .before .before .before .before .before .before .before .before .before .before in
+    c1 .diagnostics2 .given ∙ c2 .diagnostics .given
 
 pub one-same-length-11 : (t : ℕ) → one-lts.Need-same-length-11 (one-claims t) (one-at t) one.Post
-one-same-length-11 t c = c .before .before .before .messages2 .given ∙ c .before .before .before .before .before .before .before .before .before .before .before .before .before .before .before .before .before .before .before .before .before .messages .given
+one-same-length-11 t c =
+    let c1 = c .before .before .before in
+    let c2 = c1 .before .before .before .before .before .before .before .before .before .before .before .before .before .before .before .before .before .before in
+    c1 .messages2 .given ∙ c2 .messages .given
 
 pub one-same-length-12 : (t : ℕ) → one-lts.Need-same-length-12 (one-claims t) (one-at t) one.Post
-one-same-length-12 t c = c .before .scratch2 .given ∙ c .before .before .before .before .before .before .before .before .before .before .before .before .before .before .before .before .before .before .before .scratch .given
+one-same-length-12 t c =
+    let c1 = c .before in
+    let c2 = c1 .before .before .before .before .before .before .before .before .before .before .before .before .before .before .before .before .before .before in
+    c1 .scratch2 .given ∙ c2 .scratch .given
 
 pub one-returns-2 : (t : ℕ) → one-lts.Need-returns-2 (one-claims t) (one-at t) one.Post
-one-returns-2 t c = one-ends (c .before .before .before .before .before .before .before .before .before .before .before .before .before .before .before .before .before .before .before .before .before .before .before .before .before .before .before .before .before .before .before .before .before .before .before .before .before .before .before .before .before .before .before .before .before .before .before .before .before .before .pre .1) (c .before .before .before .before .before .before .before .before .before .before .before .before .before .before .before .before .before .before .before .before .before .before .before .before .before .before .before .before .before .before .before .before .before .before .before .before .before .before .node-place .ensures) (c .before .before .before .before .before .before .before .before .before .before .before .before .before .before .before .before .before .before .before .before .before .before .before .before .before .before .before .before .before .before .before .before .before .before .before .before .before .operand-of .ensures) (c .before .before .before .before .before .before .before .before .before .before .before .before .before .before .before .before .before .before .before .before .before .before .before .before .before .before .before .before .before .before .part .ensures) (came-after (c .before .before .before .before .before .before .before .before .before .before .before .before .before .before .before .before .before .before .before .before .before .before .before .before .before .before .before .before .before .before .part .result) (c .before .before .before .before .before .before .before .before .before .before .before .before .before .before .before .before .before .after .ensures) (c .before .before .before .before .before .before .before .before .before .before .before .before .before .before .before .a .given .1)) (c .before .before .before .before .before .before .before .before .one-end .ensures _ _ _ _)
+one-returns-2 t c =
+    let c1 = c .before .before .before .before .before .before .before .before in
+    let c2 = c1 .before .before .before .before .before .before .before in
+    let c3 = c2 .before .before in
+    let c4 = c3 .before .before .before .before .before .before .before .before .before .before .before .before .before in
+    let c5 = c4 .before .before .before .before .before .before .before in
+    let c6 = c5 .before in
+    let c7 = c6 .before .before .before .before .before .before .before .before .before .before .before .before in
+    one-ends (c7 .pre .1) (c6 .node-place .ensures) (c5 .operand-of .ensures) (c4 .part .ensures) (came-after (c4 .part .result) (c3 .after .ensures) (c2 .a .given .1))
+    (c1 .one-end .ensures _ _ _ _)

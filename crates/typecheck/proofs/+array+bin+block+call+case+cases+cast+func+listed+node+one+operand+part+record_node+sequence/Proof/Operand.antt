@@ -17,7 +17,13 @@ pub operand-kind-requires : (t : ℕ) → operand-lts.Need-kind-requires (operan
 operand-kind-requires t c κs = search needs
 
 pub operand-bin-requires : (t : ℕ) → operand-lts.Need-bin-requires (operand-claims t) (operand-at t) operand.Post
-operand-bin-requires t c κs = (omega (arith, c .before .before .before .before .before .before .before .before .before .before .before .before .before .before .before .before .before .before .before .before .before .pre .0), to-bin (c .before .before .before .before .before .before .before .before .before .node-place .ensures) (c .before .before .before .before .before .before .before .before .word-at .ensures) (c .before .before .before .before .before .before .before .kind .ensures) (c .before .before .before .before .before .before .before .before .before .before .before .before .before .before .before .before .before .before .before .before .before .pre .1) (c .before .before .before .before .before .before .if1 .taken))
+operand-bin-requires t c κs =
+    let c1 = c .before .before .before .before .before .before in
+    let c2 = c1 .before in
+    let c3 = c2 .before in
+    let c4 = c3 .before in
+    let c5 = c4 .before .before .before .before .before .before .before .before .before .before .before .before in
+    (omega (arith, c5 .pre .0), to-bin (c4 .node-place .ensures) (c3 .word-at .ensures) (c2 .kind .ensures) (c5 .pre .1) (c1 .if1 .taken))
 
 pub operand-same-length : (t : ℕ) → operand-lts.Need-same-length (operand-claims t) (operand-at t) operand.Post
 operand-same-length t c = search needs
@@ -41,7 +47,13 @@ pub operand-returns : (t : ℕ) → operand-lts.Need-returns (operand-claims t) 
 operand-returns t c = c .before .before .before .before .before .before .before .before .before .before .before .before .bin .ensures
 
 pub operand-cast-requires : (t : ℕ) → operand-lts.Need-cast-requires (operand-claims t) (operand-at t) operand.Post
-operand-cast-requires t c κs = (omega (arith, c .before .before .before .before .before .before .before .before .before .before .before .before .before .before .before .before .before .before .before .before .before .before .pre .0), to-cast (c .before .before .before .before .before .before .before .before .before .before .node-place .ensures) (c .before .before .before .before .before .before .before .before .before .word-at .ensures) (c .before .before .before .before .before .before .before .before .kind .ensures) (c .before .before .before .before .before .before .before .before .before .before .before .before .before .before .before .before .before .before .before .before .before .before .pre .1) (c .before .before .before .before .before .before .if2 .taken))
+operand-cast-requires t c κs =
+    let c1 = c .before .before .before .before .before .before in
+    let c2 = c1 .before .before in
+    let c3 = c2 .before in
+    let c4 = c3 .before in
+    let c5 = c4 .before .before .before .before .before .before .before .before .before .before .before .before in
+    (omega (arith, c5 .pre .0), to-cast (c4 .node-place .ensures) (c3 .word-at .ensures) (c2 .kind .ensures) (c5 .pre .1) (c1 .if2 .taken))
 
 pub operand-same-length-7 : (t : ℕ) → operand-lts.Need-same-length-7 (operand-claims t) (operand-at t) operand.Post
 operand-same-length-7 t c = search needs
@@ -65,7 +77,14 @@ pub operand-returns-2 : (t : ℕ) → operand-lts.Need-returns-2 (operand-claims
 operand-returns-2 t c = c .before .before .before .before .before .before .before .before .before .before .before .before .cast .ensures
 
 pub operand-one-requires : (t : ℕ) → operand-lts.Need-one-requires (operand-claims t) (operand-at t) operand.Post
-operand-one-requires t c κs = (omega (arith, c .before .before .before .before .before .before .before .before .before .before .before .before .before .before .before .before .before .before .before .before .before .before .pre .0), to-one (c .before .before .before .before .before .before .before .before .before .before .node-place .ensures) (c .before .before .before .before .before .before .before .before .before .word-at .ensures) (c .before .before .before .before .before .before .before .before .kind .ensures) (c .before .before .before .before .before .before .before .before .before .before .before .before .before .before .before .before .before .before .before .before .before .before .pre .1) (c .before .before .before .before .before .before .before .if1 .left) (c .before .before .before .before .before .before .if2 .left))
+operand-one-requires t c κs =
+    let c1 = c .before .before .before .before .before .before in
+    let c2 = c1 .before in
+    let c3 = c2 .before in
+    let c4 = c3 .before in
+    let c5 = c4 .before in
+    let c6 = c5 .before .before .before .before .before .before .before .before .before .before .before .before in
+    (omega (arith, c6 .pre .0), to-one (c5 .node-place .ensures) (c4 .word-at .ensures) (c3 .kind .ensures) (c6 .pre .1) (c2 .if1 .left) (c1 .if2 .left))
 
 pub operand-same-length-13 : (t : ℕ) → operand-lts.Need-same-length-13 (operand-claims t) (operand-at t) operand.Post
 operand-same-length-13 t c = search needs

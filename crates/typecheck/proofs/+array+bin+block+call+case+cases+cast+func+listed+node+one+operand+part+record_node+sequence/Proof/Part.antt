@@ -7,7 +7,9 @@ use Rattle.typecheck.proofs.+array+bin+block+call+case+cases+cast+func+
 use Rattle.typecheck.proofs.+array+bin+block+call+case+cases+cast+func+listed+node+one+operand+part+record_node+sequence.Proof.Shared.{part-at, part-claims}
 
 pub part-node-requires : (t : ℕ) → part-lts.Need-node-requires (part-claims t) (part-at t) part.Post
-part-node-requires t c κs = (omega (arith, c .before .before .before .before .before .before .before .before .before .before .before .before .before .before .before .before .before .pre .0), c .before .before .before .before .before .before .before .before .before .before .before .before .before .before .before .before .before .pre .1)
+part-node-requires t c κs =
+    let c1 = c .before .before .before .before .before .before .before .before .before .before .before .before .before .before .before .before .before in
+    (omega (arith, c1 .pre .0), c1 .pre .1)
 
 pub part-same-length : (t : ℕ) → part-lts.Need-same-length (part-claims t) (part-at t) part.Post
 part-same-length t c = search needs

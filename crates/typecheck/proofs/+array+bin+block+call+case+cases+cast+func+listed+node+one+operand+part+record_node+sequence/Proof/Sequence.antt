@@ -17,7 +17,13 @@ pub sequence-kind-requires : (t : ℕ) → sequence-lts.Need-kind-requires (sequ
 sequence-kind-requires t c κs = search needs
 
 pub sequence-call-requires : (t : ℕ) → sequence-lts.Need-call-requires (sequence-claims t) (sequence-at t) sequence.Post
-sequence-call-requires t c κs = (omega (arith, c .before .before .before .before .before .before .before .before .before .before .before .before .before .before .before .before .before .before .before .before .before .pre .0), to-call (c .before .before .before .before .before .before .before .before .before .node-place .ensures) (c .before .before .before .before .before .before .before .before .word-at .ensures) (c .before .before .before .before .before .before .before .kind .ensures) (c .before .before .before .before .before .before .before .before .before .before .before .before .before .before .before .before .before .before .before .before .before .pre .1) (c .before .before .before .before .before .before .if1 .taken))
+sequence-call-requires t c κs =
+    let c1 = c .before .before .before .before .before .before in
+    let c2 = c1 .before in
+    let c3 = c2 .before in
+    let c4 = c3 .before in
+    let c5 = c4 .before .before .before .before .before .before .before .before .before .before .before .before in
+    (omega (arith, c5 .pre .0), to-call (c4 .node-place .ensures) (c3 .word-at .ensures) (c2 .kind .ensures) (c5 .pre .1) (c1 .if1 .taken))
 
 pub sequence-same-length : (t : ℕ) → sequence-lts.Need-same-length (sequence-claims t) (sequence-at t) sequence.Post
 sequence-same-length t c = search needs
@@ -41,7 +47,13 @@ pub sequence-returns : (t : ℕ) → sequence-lts.Need-returns (sequence-claims 
 sequence-returns t c = c .before .before .before .before .before .before .before .before .before .before .before .before .call .ensures
 
 pub sequence-record-node-requires : (t : ℕ) → sequence-lts.Need-record-node-requires (sequence-claims t) (sequence-at t) sequence.Post
-sequence-record-node-requires t c κs = (omega (arith, c .before .before .before .before .before .before .before .before .before .before .before .before .before .before .before .before .before .before .before .before .before .before .pre .0), to-record (c .before .before .before .before .before .before .before .before .before .before .node-place .ensures) (c .before .before .before .before .before .before .before .before .before .word-at .ensures) (c .before .before .before .before .before .before .before .before .kind .ensures) (c .before .before .before .before .before .before .before .before .before .before .before .before .before .before .before .before .before .before .before .before .before .before .pre .1) (c .before .before .before .before .before .before .if2 .taken))
+sequence-record-node-requires t c κs =
+    let c1 = c .before .before .before .before .before .before in
+    let c2 = c1 .before .before in
+    let c3 = c2 .before in
+    let c4 = c3 .before in
+    let c5 = c4 .before .before .before .before .before .before .before .before .before .before .before .before in
+    (omega (arith, c5 .pre .0), to-record (c4 .node-place .ensures) (c3 .word-at .ensures) (c2 .kind .ensures) (c5 .pre .1) (c1 .if2 .taken))
 
 pub sequence-same-length-7 : (t : ℕ) → sequence-lts.Need-same-length-7 (sequence-claims t) (sequence-at t) sequence.Post
 sequence-same-length-7 t c = search needs
@@ -65,7 +77,14 @@ pub sequence-returns-2 : (t : ℕ) → sequence-lts.Need-returns-2 (sequence-cla
 sequence-returns-2 t c = c .before .before .before .before .before .before .before .before .before .before .before .before .record-node .ensures
 
 pub sequence-array-requires : (t : ℕ) → sequence-lts.Need-array-requires (sequence-claims t) (sequence-at t) sequence.Post
-sequence-array-requires t c κs = (omega (arith, c .before .before .before .before .before .before .before .before .before .before .before .before .before .before .before .before .before .before .before .before .before .before .pre .0), to-array (c .before .before .before .before .before .before .before .before .before .before .node-place .ensures) (c .before .before .before .before .before .before .before .before .before .word-at .ensures) (c .before .before .before .before .before .before .before .before .kind .ensures) (c .before .before .before .before .before .before .before .before .before .before .before .before .before .before .before .before .before .before .before .before .before .before .pre .1) (c .before .before .before .before .before .before .before .if1 .left) (c .before .before .before .before .before .before .if2 .left))
+sequence-array-requires t c κs =
+    let c1 = c .before .before .before .before .before .before in
+    let c2 = c1 .before in
+    let c3 = c2 .before in
+    let c4 = c3 .before in
+    let c5 = c4 .before in
+    let c6 = c5 .before .before .before .before .before .before .before .before .before .before .before .before in
+    (omega (arith, c6 .pre .0), to-array (c5 .node-place .ensures) (c4 .word-at .ensures) (c3 .kind .ensures) (c6 .pre .1) (c2 .if1 .left) (c1 .if2 .left))
 
 pub sequence-same-length-13 : (t : ℕ) → sequence-lts.Need-same-length-13 (sequence-claims t) (sequence-at t) sequence.Post
 sequence-same-length-13 t c = search needs

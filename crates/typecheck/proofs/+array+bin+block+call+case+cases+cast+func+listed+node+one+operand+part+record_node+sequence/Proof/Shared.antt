@@ -221,46 +221,245 @@ sequence-below t =
     and 10 sequence-kinds.ps (falls 10 sequence-kinds.ps _<_ μ-sequence t) sequence.Pre
 
 abbrev pub array-claims : ℕ → array-lts.Claims
-array-claims t = (node-place-reads.Asked, node-place-reads.Learnt, word-at-reads.Asked, word-at-reads.Learnt, payload-reads.Asked, payload-reads.Learnt, empty-reads.Asked, empty-reads.Learnt, part-below t, part.Post, after-reads.Asked, after-reads.Learnt, member-reads.Asked, member-reads.Learnt, ended-reads.Asked, ended-reads.Learnt, end-reads′′.Asked, end-reads′′.Learnt)
+array-claims t = (
+  node-place-reads.Asked,
+  node-place-reads.Learnt,
+  word-at-reads.Asked,
+  word-at-reads.Learnt,
+  payload-reads.Asked,
+  payload-reads.Learnt,
+  empty-reads.Asked,
+  empty-reads.Learnt,
+  part-below t,
+  part.Post,
+  after-reads.Asked,
+  after-reads.Learnt,
+  member-reads.Asked,
+  member-reads.Learnt,
+  ended-reads.Asked,
+  ended-reads.Learnt,
+  end-reads′′.Asked,
+  end-reads′′.Learnt,
+)
 
 abbrev pub bin-claims : ℕ → bin-lts.Claims
-bin-claims t = (node-place-reads.Asked, node-place-reads.Learnt, word-at-reads.Asked, word-at-reads.Learnt, part-below t, part.Post, after-reads.Asked, after-reads.Learnt, bin-end-reads.Asked, bin-end-reads.Learnt)
+bin-claims t = (
+  node-place-reads.Asked,
+  node-place-reads.Learnt,
+  word-at-reads.Asked,
+  word-at-reads.Learnt,
+  part-below t,
+  part.Post,
+  after-reads.Asked,
+  after-reads.Learnt,
+  bin-end-reads.Asked,
+  bin-end-reads.Learnt,
+)
 
 abbrev pub block-claims : ℕ → block-lts.Claims
 block-claims t = (word-at-reads.Asked, word-at-reads.Learnt, part-below t, part.Post, after-reads.Asked, after-reads.Learnt, came-reads.Asked, came-reads.Learnt)
 
 abbrev pub case-claims : ℕ → case-lts.Claims
-case-claims t = (word-at-reads.Asked, word-at-reads.Learnt, part-below t, part.Post, after-reads.Asked, after-reads.Learnt, condition-reads.Asked, condition-reads.Learnt, halted-reads.Asked, halted-reads.Learnt, wide-reads.Asked, wide-reads.Learnt, left-reads.Asked, left-reads.Learnt, came-reads.Asked, came-reads.Learnt)
+case-claims t = (
+  word-at-reads.Asked,
+  word-at-reads.Learnt,
+  part-below t,
+  part.Post,
+  after-reads.Asked,
+  after-reads.Learnt,
+  condition-reads.Asked,
+  condition-reads.Learnt,
+  halted-reads.Asked,
+  halted-reads.Learnt,
+  wide-reads.Asked,
+  wide-reads.Learnt,
+  left-reads.Asked,
+  left-reads.Learnt,
+  came-reads.Asked,
+  came-reads.Learnt,
+)
 
 abbrev pub cases-claims : ℕ → cases-lts.Claims
-cases-claims t = (node-place-reads.Asked, node-place-reads.Learnt, word-at-reads.Asked, word-at-reads.Learnt, wide-reads.Asked, wide-reads.Learnt, case-below t, case.Post, after-reads.Asked, after-reads.Learnt, case-end-reads.Asked, case-end-reads.Learnt, payload-reads.Asked, payload-reads.Learnt, part-below t, part.Post, left-reads.Asked, left-reads.Learnt, end-reads′.Asked, end-reads′.Learnt)
+cases-claims t = (
+  node-place-reads.Asked,
+  node-place-reads.Learnt,
+  word-at-reads.Asked,
+  word-at-reads.Learnt,
+  wide-reads.Asked,
+  wide-reads.Learnt,
+  case-below t,
+  case.Post,
+  after-reads.Asked,
+  after-reads.Learnt,
+  case-end-reads.Asked,
+  case-end-reads.Learnt,
+  payload-reads.Asked,
+  payload-reads.Learnt,
+  part-below t,
+  part.Post,
+  left-reads.Asked,
+  left-reads.Learnt,
+  end-reads′.Asked,
+  end-reads′.Learnt,
+)
 
 abbrev pub cast-claims : ℕ → cast-lts.Claims
-cast-claims t = (node-place-reads.Asked, node-place-reads.Learnt, cast-begin-reads.Asked, cast-begin-reads.Learnt, refused-reads.Asked, refused-reads.Learnt, word-at-reads.Asked, word-at-reads.Learnt, part-below t, part.Post, after-reads.Asked, after-reads.Learnt, cast-end-reads.Asked, cast-end-reads.Learnt)
+cast-claims t = (
+  node-place-reads.Asked,
+  node-place-reads.Learnt,
+  cast-begin-reads.Asked,
+  cast-begin-reads.Learnt,
+  refused-reads.Asked,
+  refused-reads.Learnt,
+  word-at-reads.Asked,
+  word-at-reads.Learnt,
+  part-below t,
+  part.Post,
+  after-reads.Asked,
+  after-reads.Learnt,
+  cast-end-reads.Asked,
+  cast-end-reads.Learnt,
+)
 
 abbrev pub func-claims : ℕ → func-lts.Claims
-func-claims t = (node-place-reads.Asked, node-place-reads.Learnt, word-at-reads.Asked, word-at-reads.Learnt, wide-reads.Asked, wide-reads.Learnt, begin-reads.Asked, begin-reads.Learnt, payload-reads.Asked, payload-reads.Learnt, block-below t, block.Post, after-reads.Asked, after-reads.Learnt, end-reads.Asked, end-reads.Learnt)
+func-claims t = (
+  node-place-reads.Asked,
+  node-place-reads.Learnt,
+  word-at-reads.Asked,
+  word-at-reads.Learnt,
+  wide-reads.Asked,
+  wide-reads.Learnt,
+  begin-reads.Asked,
+  begin-reads.Learnt,
+  payload-reads.Asked,
+  payload-reads.Learnt,
+  block-below t,
+  block.Post,
+  after-reads.Asked,
+  after-reads.Learnt,
+  end-reads.Asked,
+  end-reads.Learnt,
+)
 
 abbrev pub listed-claims : ℕ → listed-lts.Claims
-listed-claims t = (node-place-reads.Asked, node-place-reads.Learnt, word-at-reads.Asked, word-at-reads.Learnt, kind-reads.Asked, kind-reads.Learnt, func-below t, func.Post, cases-below t, cases.Post, sequence-below t, sequence.Post)
+listed-claims t = (
+  node-place-reads.Asked,
+  node-place-reads.Learnt,
+  word-at-reads.Asked,
+  word-at-reads.Learnt,
+  kind-reads.Asked,
+  kind-reads.Learnt,
+  func-below t,
+  func.Post,
+  cases-below t,
+  cases.Post,
+  sequence-below t,
+  sequence.Post,
+)
 
 abbrev pub node-claims : ℕ → node-lts.Claims
-node-claims t = (node-place-reads.Asked, node-place-reads.Learnt, word-at-reads.Asked, word-at-reads.Learnt, kind-reads.Asked, kind-reads.Learnt, is-leaf-reads.Asked, is-leaf-reads.Learnt, leaf-reads.Asked, leaf-reads.Learnt, has-operands-reads.Asked, has-operands-reads.Learnt, operand-below t, operand.Post, listed-below t, listed.Post)
+node-claims t = (
+  node-place-reads.Asked,
+  node-place-reads.Learnt,
+  word-at-reads.Asked,
+  word-at-reads.Learnt,
+  kind-reads.Asked,
+  kind-reads.Learnt,
+  is-leaf-reads.Asked,
+  is-leaf-reads.Learnt,
+  leaf-reads.Asked,
+  leaf-reads.Learnt,
+  has-operands-reads.Asked,
+  has-operands-reads.Learnt,
+  operand-below t,
+  operand.Post,
+  listed-below t,
+  listed.Post,
+)
 
 abbrev pub one-claims : ℕ → one-lts.Claims
-one-claims t = (node-place-reads.Asked, node-place-reads.Learnt, operand-of-reads.Asked, operand-of-reads.Learnt, part-below t, part.Post, after-reads.Asked, after-reads.Learnt, one-end-reads.Asked, one-end-reads.Learnt)
+one-claims t = (
+  node-place-reads.Asked,
+  node-place-reads.Learnt,
+  operand-of-reads.Asked,
+  operand-of-reads.Learnt,
+  part-below t,
+  part.Post,
+  after-reads.Asked,
+  after-reads.Learnt,
+  one-end-reads.Asked,
+  one-end-reads.Learnt,
+)
 
 abbrev pub operand-claims : ℕ → operand-lts.Claims
-operand-claims t = (node-place-reads.Asked, node-place-reads.Learnt, word-at-reads.Asked, word-at-reads.Learnt, kind-reads.Asked, kind-reads.Learnt, bin-below t, bin.Post, cast-below t, cast.Post, one-below t, one.Post)
+operand-claims t = (
+  node-place-reads.Asked,
+  node-place-reads.Learnt,
+  word-at-reads.Asked,
+  word-at-reads.Learnt,
+  kind-reads.Asked,
+  kind-reads.Learnt,
+  bin-below t,
+  bin.Post,
+  cast-below t,
+  cast.Post,
+  one-below t,
+  one.Post,
+)
 
 abbrev pub part-claims : ℕ → part-lts.Claims
 part-claims t = (node-below t, node.Post)
 
 abbrev pub record-node-claims : ℕ → record-node-lts.Claims
-record-node-claims t = (node-place-reads.Asked, node-place-reads.Learnt, word-at-reads.Asked, word-at-reads.Learnt, payload-reads.Asked, payload-reads.Learnt, part-below t, part.Post, after-reads.Asked, after-reads.Learnt, make-reads.Asked, make-reads.Learnt)
+record-node-claims t = (
+  node-place-reads.Asked,
+  node-place-reads.Learnt,
+  word-at-reads.Asked,
+  word-at-reads.Learnt,
+  payload-reads.Asked,
+  payload-reads.Learnt,
+  part-below t,
+  part.Post,
+  after-reads.Asked,
+  after-reads.Learnt,
+  make-reads.Asked,
+  make-reads.Learnt,
+)
 
 abbrev pub sequence-claims : ℕ → sequence-lts.Claims
-sequence-claims t = (node-place-reads.Asked, node-place-reads.Learnt, word-at-reads.Asked, word-at-reads.Learnt, kind-reads.Asked, kind-reads.Learnt, call-below t, call.Post, record-node-below t, record-node.Post, array-below t, array.Post)
+sequence-claims t = (
+  node-place-reads.Asked,
+  node-place-reads.Learnt,
+  word-at-reads.Asked,
+  word-at-reads.Learnt,
+  kind-reads.Asked,
+  kind-reads.Learnt,
+  call-below t,
+  call.Post,
+  record-node-below t,
+  record-node.Post,
+  array-below t,
+  array.Post,
+)
 
 abbrev pub call-claims : ℕ → call-lts.Claims
-call-claims t = (node-place-reads.Asked, node-place-reads.Learnt, through-field-reads.Asked, through-field-reads.Learnt, report-field-reads.Asked, report-field-reads.Learnt, word-at-reads.Asked, word-at-reads.Learnt, payload-reads.Asked, payload-reads.Learnt, part-below t, part.Post, after-reads.Asked, after-reads.Learnt, or-poison-reads.Asked, or-poison-reads.Learnt, resolve-reads.Asked, resolve-reads.Learnt)
+call-claims t = (
+  node-place-reads.Asked,
+  node-place-reads.Learnt,
+  through-field-reads.Asked,
+  through-field-reads.Learnt,
+  report-field-reads.Asked,
+  report-field-reads.Learnt,
+  word-at-reads.Asked,
+  word-at-reads.Learnt,
+  payload-reads.Asked,
+  payload-reads.Learnt,
+  part-below t,
+  part.Post,
+  after-reads.Asked,
+  after-reads.Learnt,
+  or-poison-reads.Asked,
+  or-poison-reads.Learnt,
+  resolve-reads.Asked,
+  resolve-reads.Learnt,
+)
