@@ -28,7 +28,8 @@ use Rattle.slotted_call.specs.Bindable.{SlottedReady}
 use Rattle.visit.specs.StoreLaws.{reach-end}
 use Rattle.pkg_group.specs.declared.Candidates.{Candidates}
 use Rattle.pkg_group.specs.declared.Candidates.the-variants as C
-use Rattle.pkg_group.specs.Among.{numberOf, meant, number-one}
+use Rattle.pkg_group.specs.GroupSize.{groupSize, sizeFound}
+use Rattle.pkg_group.specs.GroupSizeLaws.{size-one}
 use Rattle.pkg_group.specs.Groups.{GroupReady}
 use Rattle.pkg_group.proofs.Candidates.{the-type}
 use Rattle.pkg_call.specs.Ready.{SlotsReady, MayBind, PackageBinds, GatheredReady, LibraryReady, HeldReady}
@@ -92,11 +93,11 @@ unfolding Every entriesFrom entryAt signatureAt
 plain-entries words zero at = tt
 plain-entries words (suc k) at = (refl, plain-entries words k (entryEnd words 0 at))
 
-module _ (texts : Texts) (name words : List ℕ) (from k : ℕ) {found : Candidates} (a : numberOf (group texts name words (flagWords false) from k) ≡ meant words found) where
+module _ (texts : Texts) (name words : List ℕ) (from k : ℕ) {found : Candidates} (a : groupSize (group texts name words (flagWords false) from k) ≡ sizeFound words found) where
   pub extern-plain : (at : ℕ) → found ≡ C.Slotted at → ⊥
   unfolding Every signatureAt
   extern-plain at o =
-      let e : group texts name words 0 from k ≡ signatureAt words at true ∷ [] = number-one _ (a ∙ ap (meant words) o) in
+      let e : group texts name words 0 from k ≡ signatureAt words at true ∷ [] = size-one _ (a ∙ ap (sizeFound words) o) in
       let all : Every (λ (f : Signature). f .withSlots ≡ false) (group texts name words 0 from k) = group-every _ texts name (entriesFrom words 0 from k) (plain-entries words k from) in
       let one : Every (λ (f : Signature). f .withSlots ≡ false) (signatureAt words at true ∷ []) = rw e at all in
       true≢false (one .0)
@@ -112,7 +113,7 @@ not-slotted {found} h at o = two (rw o at h)
 
 module _ {texts : Texts} {image places scratch : List ℕ} {top n args count : ℕ} {slots types : List ℕ} {used : ℕ}
     (h : GatheredReady texts image places scratch top n args count slots types used) {end : ℕ} (ee : end ≡ top + count) where
-  pub group-ready : {words : List ℕ} {fs : List Signature} {found : Candidates} → numberOf fs ≡ meant words found → ((at : ℕ) → found ≡ C.Slotted at → ⊥)
+  pub group-ready : {words : List ℕ} {fs : List Signature} {found : Candidates} → groupSize fs ≡ sizeFound words found → ((at : ℕ) → found ≡ C.Slotted at → ⊥)
       → GroupReady image places n args count slots (take (end - top) (drop top scratch)) words fs found
   group-ready a o =
       let z : end - top ≡ count = omega arith in
@@ -128,11 +129,11 @@ module _ {texts : Texts} {image places words scratch : List ℕ} {top n at args 
     (h : LibraryReady texts image places words scratch top n at args count slots types used) where
   -- the words from 8,192 on are room for 4,096 pairs
   pub slotted-ready : (name : List ℕ) {k from place : ℕ} {found : Candidates} → k ≡ getD words (at + 1) 0 → from ≡ min at (length words) + 2
-      → numberOf (group texts name words (flagWords true) from k) ≡ meant words found → found ≡ C.Slotted place
+      → groupSize (group texts name words (flagWords true) from k) ≡ sizeFound words found → found ≡ C.Slotted place
       → SlottedReady texts image places n args count slots types used words place (take (length scratch - 8192) (drop 8192 scratch))
   unfolding Every signatureAt
   slotted-ready name {k} {from} {place} ek ef a o =
-      let e : group texts name words 1 from k ≡ signatureAt words place true ∷ [] = number-one _ (a ∙ ap (meant words) o) in
+      let e : group texts name words 1 from k ≡ signatureAt words place true ∷ [] = size-one _ (a ∙ ap (sizeFound words) o) in
       let g = sym (library-group texts name words at ek ef) ∙ e in
       let m : Every (MayBind texts types used) (signatureAt words place true ∷ []) =
       subst (Every (MayBind texts types used)) g (group-every _ texts name (packageAt words at .functions) (h .bind)) in

@@ -29,7 +29,8 @@ use Rattle.signatures.specs.Entries.{flagWords}
 use Rattle.selection.specs.Candidates.{group}
 use Rattle.pkg_group.specs.declared.Candidates.{Candidates}
 use Rattle.pkg_group.specs.declared.Candidates.the-variants as C
-use Rattle.pkg_group.specs.Among.{numberOf, meant, number-one}
+use Rattle.pkg_group.specs.GroupSize.{groupSize, sizeFound}
+use Rattle.pkg_group.specs.GroupSizeLaws.{size-one}
 use Rattle.pkg_group.specs.Groups.{InGroup}
 use Rattle.pkg_call.specs.Calls.{Low, LibraryCalls, HeldCalls}
 use Rattle.pkg_call.proofs.Ready.{library-group, extern-group}
@@ -50,13 +51,13 @@ module _ (texts : Texts) (n slot pkg name : ℕ) (given : List Provided) (poison
   }
 
   -- of one function, with slots
-  pub slotted-calls : {found : Candidates} {place : ℕ} {e e′ : List ℕ} → numberOf (group texts (nameBytes texts name) words (flagWords true) from k) ≡ meant words found → found ≡ C.Slotted place
+  pub slotted-calls : {found : Candidates} {place : ℕ} {e e′ : List ℕ} → groupSize (group texts (nameBytes texts name) words (flagWords true) from k) ≡ sizeFound words found → found ≡ C.Slotted place
       → ((library : List Package) (void : ℕ) → Steps (checkCallArgs (ctx texts library void) n slot name (callName texts (OfPackage pkg name)) (signatureAt words place true) given)
       s t d m u s′ t′ d′ m′ r)
       → Low e e′ → LibraryCalls texts n slot pkg name given poisoned (packageAt words at) e s t d m u e′ s′ t′ d′ m′ r
   unfolding inGroup callName
   slotted-calls {place = place} a o c l =
-      let f : group texts (nameBytes texts name) words 1 from k ≡ signatureAt words place true ∷ [] = number-one _ (a ∙ ap (meant words) o) in
+      let f : group texts (nameBytes texts name) words 1 from k ≡ signatureAt words place true ∷ [] = size-one _ (a ∙ ap (sizeFound words) o) in
       let g : groupOf texts (nameBytes texts name) (packageAt words at .functions) ≡ signatureAt words place true ∷ [] = sym (library-group texts (nameBytes texts name) words at ek ef) ∙ f in
       record { call = record { of = λ library void. record { step = λ rest. rw g (c library void .step rest) } }; low = l }
 

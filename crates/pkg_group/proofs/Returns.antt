@@ -22,7 +22,8 @@ use Rattle.call_types.specs.Gather.{wordsIn}
 use Rattle.group_select.specs.Selects.{Selects}
 use Rattle.pkg_group.specs.declared.Candidates.{Candidates}
 use Rattle.pkg_group.specs.declared.Candidates.the-variants as C
-use Rattle.pkg_group.specs.Among.{meant, OfSeveral, number-none, number-one, number-several}
+use Rattle.pkg_group.specs.GroupSize.{sizeFound, OfSeveral}
+use Rattle.pkg_group.specs.GroupSizeLaws.{size-none, size-one, size-several}
 use Rattle.pkg_group.specs.Groups.{GroupReady, InGroup}
 
 module _ (texts : Texts) (n slot pkg name : ℕ) {image places : List ℕ} {args count : ℕ} {provided words : List ℕ} {fs : List Signature} {found : Candidates}
@@ -32,7 +33,7 @@ module _ (texts : Texts) (n slot pkg name : ℕ) {image places : List ℕ} {args
       → InGroup texts n slot pkg name (givenFrom image args count) poisoned fs s t d m u s t d′ m′ r
   unfolding inGroup
   group-none o p w =
-      let e : fs ≡ [] = number-none fs (h .among ∙ ap (meant words) o) in
+      let e : fs ≡ [] = size-none fs (h .among ∙ ap (sizeFound words) o) in
       record { of = λ library void. record { step = λ rest. rw (e, w) (poisons-step n {s = s} {t = t} {u = u} p .step rest) } }
 
   pub group-plain : {at : ℕ} {s′ d′ m′ : List ℕ} {r : Step} → found ≡ C.Plain at
@@ -41,7 +42,7 @@ module _ (texts : Texts) (n slot pkg name : ℕ) {image places : List ℕ} {args
       → InGroup texts n slot pkg name (givenFrom image args count) poisoned fs s t d m u s′ t d′ m′ r
   unfolding inGroup callName
   group-plain {at} o c =
-      let e : fs ≡ signatureAt words at false ∷ [] = number-one fs (h .among ∙ ap (meant words) o) in
+      let e : fs ≡ signatureAt words at false ∷ [] = size-one fs (h .among ∙ ap (sizeFound words) o) in
       record { of = λ library void. record { step = λ rest. rw e (c library void .step rest) } }
 
   -- there is no such one
@@ -54,7 +55,7 @@ module _ (texts : Texts) (n slot pkg name : ℕ) {image places : List ℕ} {args
       → InGroup texts n slot pkg name (givenFrom image args count) poisoned fs s t d m u s′ t d′ m′ r
   unfolding inGroup callName
   group-several flags from k o ew eg c =
-      let z : OfSeveral fs = number-several fs (h .among ∙ ap (meant words) o) in
+      let z : OfSeveral fs = size-several fs (h .among ∙ ap (sizeFound words) o) in
       record {
         of = λ library void. record {
           step = λ rest. rw (z .are) (c .of _ _ (ap (λ w. group texts w words flags from k) ew ∙ sym eg ∙ z .are) (givenFrom image args count) (h .gathered) library void .step rest);

@@ -16,14 +16,14 @@ use Rattle.call_args.specs.Given.{givenFrom}
 use Rattle.call_types.specs.Gather.{wordsIn}
 use Rattle.pkg_group.specs.declared.Candidates.{Candidates}
 use Rattle.pkg_group.specs.declared.Candidates.the-variants.{Slotted}
-use Rattle.pkg_group.specs.Among.{numberOf, meant}
+use Rattle.pkg_group.specs.GroupSize.{groupSize, sizeFound}
 
 -- The arguments are nodes of an accepted image, and the words of their types are gathered; the candidates are found, and are not one with
 -- slots.
 pub record GroupReady (image places : List ℕ) (n args count : ℕ) (slots provided words : List ℕ) (fs : List Signature) (found : Candidates) : Type 0 where
   pub nodes : NodesReady image places n args count
   pub gathered : wordsIn slots (givenFrom image args count) ≡ provided
-  pub among : numberOf fs ≡ meant words found
+  pub among : groupSize fs ≡ sizeFound words found
   pub other : (at : ℕ) → found ≡ Slotted at → ⊥
 
 -- `inGroup`, of these candidates

@@ -1,3 +1,4 @@
 -- What the contracts of the crate cite.
-pub mod Among
+pub mod GroupSize
+pub mod GroupSizeLaws
 pub mod Groups

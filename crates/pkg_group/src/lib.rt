@@ -6,7 +6,7 @@ ghost use Rattle.tok.specs.Text.{Texts, textsOf, nameBytes};
 ghost use Rattle.signatures.specs.Entries.{flagWords};
 ghost use Rattle.selection.specs.Candidates.{group};
 ghost use Rattle.call_args.specs.Given.{givenFrom};
-ghost use Rattle.pkg_group.specs.Among.{numberOf, meant};
+ghost use Rattle.pkg_group.specs.GroupSize.{groupSize, sizeFound};
 ghost use Rattle.pkg_group.specs.Groups.{GroupReady, InGroup};
 use err::CallName;
 use signatures::Entry;
@@ -32,7 +32,7 @@ pub fn find_candidates<'a>(
     name: u32,
 ) -> Candidates
     ensures { λ r. let T : Texts = textsOf (now (script .entry)) (now (library .entry)) in
-        ⌜ numberOf (group T (nameBytes T name) (now (words .entry)) (flagWords flagged) from k) ≡ meant (now (words .entry)) r ⌝ }
+        ⌜ groupSize (group T (nameBytes T name) (now (words .entry)) (flagWords flagged) from k) ≡ sizeFound (now (words .entry)) r ⌝ }
 {
     let wanted = tok::name_bytes(script, library, name);
     let first = signatures::find_entry(script, library, words, flagged, from, k, wanted);
