@@ -16,13 +16,28 @@ wide-requires-2 : tie.Need-wide-requires-2
 wide-requires-2 c κs = search needs
 
 returns : tie.Need-returns
-returns c = no-class (c .before .before .before .before .args .op) (c .before .before .before .before .args .left) (c .before .before .before .before .args .right) (c .before .before .before .class-of .ensures) (c .before .before .wide .ensures) (c .before .wide2 .ensures) (c .if1 .taken)
+returns c =
+    let c1 = c .before in
+    let c2 = c1 .before in
+    let c3 = c2 .before in
+    let c4 = c3 .before in
+    no-class (c4 .args .op) (c4 .args .left) (c4 .args .right) (c3 .class-of .ensures) (c2 .wide .ensures) (c1 .wide2 .ensures) (c .if1 .taken)
 
 returns-2 : tie.Need-returns-2
-returns-2 c = no-left (c .before .before .before .before .before .args .op) (c .before .before .before .before .before .args .left) (c .before .before .before .before .before .args .right) (c .before .before .before .before .class-of .ensures) (c .before .before .before .wide .ensures) (c .before .before .wide2 .ensures) (c .if2 .taken)
+returns-2 c =
+    let c1 = c .before .before in
+    let c2 = c1 .before in
+    let c3 = c2 .before in
+    let c4 = c3 .before in
+    no-left (c4 .args .op) (c4 .args .left) (c4 .args .right) (c3 .class-of .ensures) (c2 .wide .ensures) (c1 .wide2 .ensures) (c .if2 .taken)
 
 returns-3 : tie.Need-returns-3
-returns-3 c = no-right (c .before .before .before .before .before .before .args .op) (c .before .before .before .before .before .before .args .left) (c .before .before .before .before .before .before .args .right) (c .before .before .before .before .before .class-of .ensures) (c .before .before .before .before .wide .ensures) (c .before .before .before .wide2 .ensures) (c .if3 .taken)
+returns-3 c =
+    let c1 = c .before .before .before in
+    let c2 = c1 .before in
+    let c3 = c2 .before in
+    let c4 = c3 .before in
+    no-right (c4 .args .op) (c4 .args .left) (c4 .args .right) (c3 .class-of .ensures) (c2 .wide .ensures) (c1 .wide2 .ensures) (c .if3 .taken)
 
 mul-widened : tie.Need-mul-widened
 mul-widened c = search needs
@@ -44,7 +59,12 @@ widened-requires c κs = search needs
 
 returns-4 : tie.Need-returns-4
 unfolding operatorTables arithmetic remainder equality order
-returns-4 c = c .widened .ensures ∙ kind-is (c .before .before .before .before .before .before .before .before .args .op) (c .before .before .before .before .before .before .before .before .args .left) (c .before .before .before .before .before .before .before .before .args .right) (c .before .before .before .before .before .before .before .class-of .ensures) (c .before .before .before .before .before .before .wide .ensures) (c .before .before .before .before .before .wide2 .ensures)
+returns-4 c =
+    let c1 = c .before .before .before .before .before in
+    let c2 = c1 .before in
+    let c3 = c2 .before in
+    let c4 = c3 .before in
+    c .widened .ensures ∙ kind-is (c4 .args .op) (c4 .args .left) (c4 .args .right) (c3 .class-of .ensures) (c2 .wide .ensures) (c1 .wide2 .ensures)
 
 pub result-kind-spec : {M : Type 1} → statement M
 result-kind-spec =

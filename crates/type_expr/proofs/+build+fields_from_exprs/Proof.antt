@@ -88,10 +88,23 @@ build-word-at-requires-2 : (t : ℕ) → build-lts.Need-word-at-requires-2 (buil
 build-word-at-requires-2 t c κs = search needs
 
 build-plain-word-requires : (t : ℕ) → build-lts.Need-plain-word-requires (build-claims t) (build-at t) build.Post
-build-plain-word-requires t c κs = atom-kind (c .before .before .before .before .before .before .before .before .pre .1 .0) (c .before .before .before .before .type-place .ensures) (c .before .before .before .word-at .ensures) (c .before .before .kind .ensures) (c .before .if1 .taken) (c .word-at2 .ensures)
+build-plain-word-requires t c κs =
+    let c1 = c .before in
+    let c2 = c1 .before in
+    let c3 = c2 .before in
+    let c4 = c3 .before in
+    let c5 = c4 .before .before .before .before in
+    atom-kind (c5 .pre .1 .0) (c4 .type-place .ensures) (c3 .word-at .ensures) (c2 .kind .ensures) (c1 .if1 .taken) (c .word-at2 .ensures)
 
 build-returns : (t : ℕ) → build-lts.Need-returns (build-claims t) (build-at t) build.Post
-build-returns t c = λ T n. from-atom (c .before .before .before .before .before .before .before .before .before .pre .1 .0) (c .before .before .before .before .before .type-place .ensures) (c .before .before .before .before .word-at .ensures) (c .before .before .before .kind .ensures) T n _ _ (c .before .before .if1 .taken) (c .before .word-at2 .ensures) (c .plain-word .ensures)
+build-returns t c =
+    let c1 = c .before in
+    let c2 = c1 .before in
+    let c3 = c2 .before in
+    let c4 = c3 .before in
+    let c5 = c4 .before in
+    let c6 = c5 .before .before .before .before in
+    λ T n. from-atom (c6 .pre .1 .0) (c5 .type-place .ensures) (c4 .word-at .ensures) (c3 .kind .ensures) T n _ _ (c2 .if1 .taken) (c1 .word-at2 .ensures) (c .plain-word .ensures)
 
 build-add-word-at-2 : (t : ℕ) → build-lts.Need-add-word-at-2 (build-claims t) (build-at t) build.Post
 build-add-word-at-2 t c = omega (arith, words-there (c .before .before .before .before .before .before .before .before .pre .1 .0) (c .before .before .before .before .type-place .ensures))
@@ -103,16 +116,31 @@ build-foreign-word-requires : (t : ℕ) → build-lts.Need-foreign-word-requires
 build-foreign-word-requires t c κs = search needs
 
 build-returns-2 : (t : ℕ) → build-lts.Need-returns-2 (build-claims t) (build-at t) build.Post
-build-returns-2 t c = λ T n. from-foreign (c .before .before .before .before .before .before .before .before .before .before .pre .1 .0) (c .before .before .before .before .before .before .type-place .ensures) (c .before .before .before .before .before .word-at .ensures) (c .before .before .before .before .kind .ensures) T n _ _ (c .before .before .if2 .taken) (c .before .word-at3 .ensures) (c .foreign-word .ensures)
+build-returns-2 t c =
+    let c1 = c .before in
+    let c2 = c1 .before in
+    let c3 = c2 .before .before in
+    let c4 = c3 .before in
+    let c5 = c4 .before in
+    let c6 = c5 .before .before .before .before in
+    λ T n. from-foreign (c6 .pre .1 .0) (c5 .type-place .ensures) (c4 .word-at .ensures) (c3 .kind .ensures) T n _ _ (c2 .if2 .taken) (c1 .word-at3 .ensures) (c .foreign-word .ensures)
 
 build-payload-requires : (t : ℕ) → build-lts.Need-payload-requires (build-claims t) (build-at t) build.Post
 build-payload-requires t c κs = search needs
 
 build-sub-fields : (t : ℕ) → build-lts.Need-sub-fields (build-claims t) (build-at t) build.Post
-build-sub-fields t c = two-words (c .before .before .before .before .before .before .before .before .before .before .pre .1 .0) (c .before .before .before .before .before .before .type-place .ensures) (c .before .before .before .before .before .word-at .ensures) (c .before .before .before .before .kind .ensures) (c .payload .ensures)
+build-sub-fields t c =
+    let c1 = c .before .before .before .before in
+    let c2 = c1 .before in
+    let c3 = c2 .before in
+    let c4 = c3 .before .before .before .before in
+    two-words (c4 .pre .1 .0) (c3 .type-place .ensures) (c2 .word-at .ensures) (c1 .kind .ensures) (c .payload .ensures)
 
 build-add-fields-from-exprs : (t : ℕ) → build-lts.Need-add-fields-from-exprs (build-claims t) (build-at t) build.Post
-build-add-fields-from-exprs t c = omega (arith, words-there (c .before .before .before .before .before .before .before .before .before .before .before .pre .1 .0) (c .before .before .before .before .before .before .before .type-place .ensures))
+build-add-fields-from-exprs t c =
+    let c1 = c .before .before .before .before .before .before .before in
+    let c2 = c1 .before .before .before .before in
+    omega (arith, words-there (c2 .pre .1 .0) (c1 .type-place .ensures))
 
 build-fields-from-exprs-requires : (t : ℕ) → build-lts.Need-fields-from-exprs-requires (build-claims t) (build-at t) build.Post
 build-fields-from-exprs-requires t c κs =
@@ -133,7 +161,16 @@ build-same-length : (t : ℕ) → build-lts.Need-same-length (build-claims t) (b
 build-same-length t c = search needs
 
 build-returns-3 : (t : ℕ) → build-lts.Need-returns-3 (build-claims t) (build-at t) build.Post
-build-returns-3 t c = λ T n. from-record (c .before .before .before .before .before .before .before .before .before .before .before .before .before .before .before .before .pre .1 .0) (c .before .before .before .before .before .before .before .before .before .before .before .before .type-place .ensures) (c .before .before .before .before .before .before .before .before .before .before .before .word-at .ensures) (c .before .before .before .before .before .before .before .before .before .before .kind .ensures) T n _ _ (c .before .before .before .before .fields-from-exprs .result) (c .before .before .before .before .fields-from-exprs .last .0) (c .before .before .before .before .before .before .before .if3 .taken) (c .before .before .before .before .before .before .payload .ensures) refl (c .before .before .before .before .fields-from-exprs .ensures T n) (c .close-record .ensures T n)
+build-returns-3 t c =
+    let c1 = c .before .before .before .before in
+    let c2 = c1 .before .before in
+    let c3 = c2 .before in
+    let c4 = c3 .before .before .before in
+    let c5 = c4 .before in
+    let c6 = c5 .before in
+    let c7 = c6 .before .before .before .before in
+    λ T n. from-record (c7 .pre .1 .0) (c6 .type-place .ensures) (c5 .word-at .ensures) (c4 .kind .ensures) T n _ _ (c1 .fields-from-exprs .result) (c1 .fields-from-exprs .last .0)
+    (c3 .if3 .taken) (c2 .payload .ensures) refl (c1 .fields-from-exprs .ensures T n) (c .close-record .ensures T n)
 
 build-add-word-at-3 : (t : ℕ) → build-lts.Need-add-word-at-3 (build-claims t) (build-at t) build.Post
 build-add-word-at-3 t c = omega (arith, words-there (c .before .before .before .before .before .before .before .before .before .before .pre .1 .0) (c .before .before .before .before .before .before .type-place .ensures))
@@ -161,7 +198,18 @@ build-same-length-2 : (t : ℕ) → build-lts.Need-same-length-2 (build-claims t
 build-same-length-2 t c = search needs
 
 build-returns-4 : (t : ℕ) → build-lts.Need-returns-4 (build-claims t) (build-at t) build.Post
-build-returns-4 t c = λ T n. inner-stop (c .before .before .before .before .before .before .before .before .before .before .before .before .before .before .before .pre .1 .0) (c .before .before .before .before .before .before .before .before .before .before .before .type-place .ensures) (c .before .before .before .before .before .before .before .before .before .before .word-at .ensures) (c .before .before .before .before .before .before .before .before .before .kind .ensures) T n _ _ (c .before .before .before .before .word-at4 .ensures) (c .before .before .before .build .result) (c .before .before .before .build .last .0) (c .before .before .before .build .ensures T n) (c .before .before .before .before .before .before .before .before .if1 .left) (c .before .before .before .before .before .before .before .if2 .left) (c .before .before .before .before .before .before .if3 .left) (c .match .keys2)
+build-returns-4 t c =
+    let c1 = c .before .before .before in
+    let c2 = c1 .before in
+    let c3 = c2 .before .before in
+    let c4 = c3 .before in
+    let c5 = c4 .before in
+    let c6 = c5 .before in
+    let c7 = c6 .before in
+    let c8 = c7 .before in
+    let c9 = c8 .before .before .before .before in
+    λ T n. inner-stop (c9 .pre .1 .0) (c8 .type-place .ensures) (c7 .word-at .ensures) (c6 .kind .ensures) T n _ _ (c2 .word-at4 .ensures) (c1 .build .result) (c1 .build .last .0)
+    (c1 .build .ensures T n) (c5 .if1 .left) (c4 .if2 .left) (c3 .if3 .left) (c .match .keys2)
 
 build-add-option-requires : (t : ℕ) → build-lts.Need-add-option-requires (build-claims t) (build-at t) build.Post
 build-add-option-requires t c κs = search needs
@@ -170,7 +218,21 @@ build-same-length-3 : (t : ℕ) → build-lts.Need-same-length-3 (build-claims t
 build-same-length-3 t c = search needs
 
 build-returns-5 : (t : ℕ) → build-lts.Need-returns-5 (build-claims t) (build-at t) build.Post
-build-returns-5 t c = λ T n. option-put (c .before .before .before .before .before .before .before .before .before .before .before .before .before .before .before .before .before .before .before .before .before .before .pre .1 .0) (c .before .before .before .before .before .before .before .before .before .before .before .before .before .before .before .before .before .before .type-place .ensures) (c .before .before .before .before .before .before .before .before .before .before .before .before .before .before .before .before .before .word-at .ensures) (c .before .before .before .before .before .before .before .before .before .before .before .before .before .before .before .before .kind .ensures) T n _ _ (c .before .before .before .before .before .before .before .before .before .before .before .word-at4 .ensures) (c .before .before .before .before .before .before .before .before .before .before .build .result) (c .before .before .before .before .before .before .before .before .before .before .build .last .0) (c .before .before .before .before .before .before .before .before .before .before .build .ensures T n) (c .before .before .before .before .before .before .before .before .before .before .before .before .before .before .before .if1 .left) (c .before .before .before .before .before .before .before .before .before .before .before .before .before .before .if2 .left) (c .before .before .before .before .before .before .before .before .before .before .before .before .before .if3 .left) (c .before .before .before .before .before .before .r .given .1) (c .before .before .before .before .if4 .taken) (c .before .before .add-option .ensures .result T n)
+build-returns-5 t c =
+    let c1 = c .before .before in
+    let c2 = c1 .before .before in
+    let c3 = c2 .before .before in
+    let c4 = c3 .before .before .before .before in
+    let c5 = c4 .before in
+    let c6 = c5 .before .before in
+    let c7 = c6 .before in
+    let c8 = c7 .before in
+    let c9 = c8 .before in
+    let c10 = c9 .before in
+    let c11 = c10 .before in
+    let c12 = c11 .before .before .before .before in
+    λ T n. option-put (c12 .pre .1 .0) (c11 .type-place .ensures) (c10 .word-at .ensures) (c9 .kind .ensures) T n _ _ (c5 .word-at4 .ensures) (c4 .build .result) (c4 .build .last .0)
+    (c4 .build .ensures T n) (c8 .if1 .left) (c7 .if2 .left) (c6 .if3 .left) (c3 .r .given .1) (c2 .if4 .taken) (c1 .add-option .ensures .result T n)
 
 build-add-array-requires : (t : ℕ) → build-lts.Need-add-array-requires (build-claims t) (build-at t) build.Post
 build-add-array-requires t c κs = search needs
@@ -179,7 +241,21 @@ build-same-length-4 : (t : ℕ) → build-lts.Need-same-length-4 (build-claims t
 build-same-length-4 t c = search needs
 
 build-returns-6 : (t : ℕ) → build-lts.Need-returns-6 (build-claims t) (build-at t) build.Post
-build-returns-6 t c = λ T n. array-put (c .before .before .before .before .before .before .before .before .before .before .before .before .before .before .before .before .before .before .before .before .before .before .pre .1 .0) (c .before .before .before .before .before .before .before .before .before .before .before .before .before .before .before .before .before .before .type-place .ensures) (c .before .before .before .before .before .before .before .before .before .before .before .before .before .before .before .before .before .word-at .ensures) (c .before .before .before .before .before .before .before .before .before .before .before .before .before .before .before .before .kind .ensures) T n _ _ (c .before .before .before .before .before .before .before .before .before .before .before .word-at4 .ensures) (c .before .before .before .before .before .before .before .before .before .before .build .result) (c .before .before .before .before .before .before .before .before .before .before .build .last .0) (c .before .before .before .before .before .before .before .before .before .before .build .ensures T n) (c .before .before .before .before .before .before .before .before .before .before .before .before .before .before .before .if1 .left) (c .before .before .before .before .before .before .before .before .before .before .before .before .before .before .if2 .left) (c .before .before .before .before .before .before .before .before .before .before .before .before .before .if3 .left) (c .before .before .before .before .before .before .r .given .1) (c .before .before .before .before .if4 .left) (c .before .before .add-array .ensures .result T n)
+build-returns-6 t c =
+    let c1 = c .before .before in
+    let c2 = c1 .before .before in
+    let c3 = c2 .before .before in
+    let c4 = c3 .before .before .before .before in
+    let c5 = c4 .before in
+    let c6 = c5 .before .before in
+    let c7 = c6 .before in
+    let c8 = c7 .before in
+    let c9 = c8 .before in
+    let c10 = c9 .before in
+    let c11 = c10 .before in
+    let c12 = c11 .before .before .before .before in
+    λ T n. array-put (c12 .pre .1 .0) (c11 .type-place .ensures) (c10 .word-at .ensures) (c9 .kind .ensures) T n _ _ (c5 .word-at4 .ensures) (c4 .build .result) (c4 .build .last .0)
+    (c4 .build .ensures T n) (c8 .if1 .left) (c7 .if2 .left) (c6 .if3 .left) (c3 .r .given .1) (c2 .if4 .left) (c1 .add-array .ensures .result T n)
 
 abbrev fields-from-exprs-Inv-loop : fields-from-exprs-lts.InvT-loop
 fields-from-exprs-Inv-loop types₀ used image places owner at fields u₀ here₀ left₀ types u here left =
@@ -218,7 +294,12 @@ fields-from-exprs-same-length : (t : ℕ) → fields-from-exprs-lts.Need-same-le
 fields-from-exprs-same-length t c = search needs
 
 fields-from-exprs-returns : (t : ℕ) → fields-from-exprs-lts.Need-returns (fields-from-exprs-claims t) (fields-from-exprs-at t) fields-from-exprs.Post fields-from-exprs-Inv-loop fields-from-exprs-μ-loop
-fields-from-exprs-returns t c = λ T n. goes-stop _ _ T n _ _ _ (c .before .before .before .before .before .before .before .loop .inv .0 T n) (λ z. omega arith) (c .before .before .before .before .word-at .ensures) (c .before .before .before .build .result) (c .before .before .before .build .last .0) (c .before .before .before .build .ensures T n) _ _ _ _ refl (c .match .keys2)
+fields-from-exprs-returns t c =
+    let c1 = c .before .before .before in
+    let c2 = c1 .before in
+    let c3 = c2 .before .before .before in
+    λ T n. goes-stop _ _ T n _ _ _ (c3 .loop .inv .0 T n) (λ z. omega arith) (c2 .word-at .ensures) (c1 .build .result) (c1 .build .last .0) (c1 .build .ensures T n) _ _ _ _ refl
+    (c .match .keys2)
 
 fields-from-exprs-add-here : (t : ℕ) → fields-from-exprs-lts.Need-add-here (fields-from-exprs-claims t) (fields-from-exprs-at t) fields-from-exprs.Post fields-from-exprs-Inv-loop fields-from-exprs-μ-loop
 fields-from-exprs-add-here t c = omega (arith, c .before .before .before .before .before .before .before .before .before .loop .inv .1 .0 .room)
@@ -251,7 +332,10 @@ fields-from-exprs-same-length-2 : (t : ℕ) → fields-from-exprs-lts.Need-same-
 fields-from-exprs-same-length-2 t c = search needs
 
 fields-from-exprs-returns-2 : (t : ℕ) → fields-from-exprs-lts.Need-returns-2 (fields-from-exprs-claims t) (fields-from-exprs-at t) fields-from-exprs.Post fields-from-exprs-Inv-loop fields-from-exprs-μ-loop
-fields-from-exprs-returns-2 t c = λ T n. open-stop _ _ T n _ _ _ _ _ _ _ (c .before .before .before .before .before .before .loop .inv .0 T n) (omega arith) (c .before .before .before .open-record .result) (c .before .before .before .open-record .last .0) (c .before .before .before .open-record .ensures .result T n) (c .match2 .keys2)
+fields-from-exprs-returns-2 t c =
+    let c1 = c .before .before .before in
+    let c2 = c1 .before .before .before in
+    λ T n. open-stop _ _ T n _ _ _ _ _ _ _ (c2 .loop .inv .0 T n) (omega arith) (c1 .open-record .result) (c1 .open-record .last .0) (c1 .open-record .ensures .result T n) (c .match2 .keys2)
 
 fields-from-exprs-payload-requires : (t : ℕ) → fields-from-exprs-lts.Need-payload-requires (fields-from-exprs-claims t) (fields-from-exprs-at t) fields-from-exprs.Post fields-from-exprs-Inv-loop fields-from-exprs-μ-loop
 fields-from-exprs-payload-requires t c κs = search needs
@@ -260,13 +344,31 @@ fields-from-exprs-add-set-pairs : (t : ℕ) → fields-from-exprs-lts.Need-add-s
 fields-from-exprs-add-set-pairs t c = search needs
 
 fields-from-exprs-set-pairs-requires : (t : ℕ) → fields-from-exprs-lts.Need-set-pairs-requires (fields-from-exprs-claims t) (fields-from-exprs-at t) fields-from-exprs.Post fields-from-exprs-Inv-loop fields-from-exprs-μ-loop
-fields-from-exprs-set-pairs-requires t c κs = (c .before .before .before .before .before .before .before .before .before .before .before .before .before .before .pre .1 .0, (open-room _ _ (textsOf [] []) 0 _ _ _ _ _ _ _ (c .before .before .before .before .before .before .before .before .before .before .loop .inv .0 (textsOf [] []) 0) (omega arith) (c .before .before .before .before .before .before .before .open-record .result) (c .before .before .before .before .before .before .before .open-record .last .0) (c .before .before .before .before .before .before .before .open-record .ensures .result (textsOf [] []) 0) (c .before .before .before .r .given .1), omega (arith, c .payload .ensures)))
+fields-from-exprs-set-pairs-requires t c κs =
+    let c1 = c .before .before .before in
+    let c2 = c1 .before .before .before .before in
+    let c3 = c2 .before .before .before in
+    let c4 = c3 .before .before .before .before in (
+      c4 .pre .1 .0,
+      (
+        open-room _ _ (textsOf [] []) 0 _ _ _ _ _ _ _ (c3 .loop .inv .0 (textsOf [] []) 0) (omega arith) (c2 .open-record .result) (c2 .open-record .last .0)
+            (c2 .open-record .ensures .result (textsOf [] []) 0) (c1 .r .given .1),
+        omega (arith, c .payload .ensures),
+      ),
+    )
 
 fields-from-exprs-same-length-3 : (t : ℕ) → fields-from-exprs-lts.Need-same-length-3 (fields-from-exprs-claims t) (fields-from-exprs-at t) fields-from-exprs.Post fields-from-exprs-Inv-loop fields-from-exprs-μ-loop
 fields-from-exprs-same-length-3 t c = search needs
 
 fields-from-exprs-returns-3 : (t : ℕ) → fields-from-exprs-lts.Need-returns-3 (fields-from-exprs-claims t) (fields-from-exprs-at t) fields-from-exprs.Post fields-from-exprs-Inv-loop fields-from-exprs-μ-loop
-fields-from-exprs-returns-3 t c = λ T n. open-put _ _ T n _ _ _ _ _ _ _ (c .before .before .before .before .before .before .before .before .before .before .before .before .before .loop .inv .0 T n) (omega arith) (c .before .before .before .before .before .before .before .before .before .before .open-record .result) (c .before .before .before .before .before .before .before .before .before .before .open-record .last .0) (c .before .before .before .before .before .before .before .before .before .before .open-record .ensures .result T n) (c .before .before .before .before .before .before .r .given .1) (c .before .before .before .payload .ensures) (c .before .before .set-pairs .ensures)
+fields-from-exprs-returns-3 t c =
+    let c1 = c .before .before in
+    let c2 = c1 .before in
+    let c3 = c2 .before .before .before in
+    let c4 = c3 .before .before .before .before in
+    let c5 = c4 .before .before .before in
+    λ T n. open-put _ _ T n _ _ _ _ _ _ _ (c5 .loop .inv .0 T n) (omega arith) (c4 .open-record .result) (c4 .open-record .last .0) (c4 .open-record .ensures .result T n) (c3 .r .given .1)
+    (c2 .payload .ensures) (c1 .set-pairs .ensures)
 
 pub +build+fields-from-exprs-spec : {M : Type 1} → statement M
 +build+fields-from-exprs-spec = close μ-build μ-fields-from-exprs (λ t. build-lts.spec (build-claims t)
