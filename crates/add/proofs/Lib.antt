@@ -1,3 +1,3 @@
 -- What the proofs of several functions use.
 mod Returns
-mod AskLaws
+mod ShallowByLaws

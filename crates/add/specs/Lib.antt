@@ -2,7 +2,7 @@
 pub mod Answer
 pub mod Parts
 pub mod Pool
-pub mod Asked
+pub mod ShallowBy
 pub mod StepLaws
 pub mod WriteLaws
 pub mod PartsLaws

@@ -16,7 +16,7 @@ ghost use Rattle.ptype.specs.Marks.{Depths};
 ghost use Rattle.add.specs.Answer.{resultOf, Adds};
 ghost use Rattle.add.specs.Parts.{opened, shallow, measured};
 ghost use Rattle.add.specs.Pool.{isType, poolTypes, allShallow, Copies};
-ghost use Rattle.add.specs.Asked.{Asked, asked, ask, askAll, Sure};
+ghost use Rattle.add.specs.ShallowBy.{ShallowFound, shallowFound, shallowBy, allShallowBy, RightAnswer};
 
 // The new type's word and how many words are used with it; no room (7); a type 33 deep (8).
 pub enum Added {
@@ -165,15 +165,15 @@ fn is_type(w: u32) -> bool
 // Whether a type is at most 32 deep by the depths that are marked of field lists (`ptype::depth_known`): where the marks are right, that is so, and
 // they stay right.
 pub fn is_shallow_known(types: &[u32], w: u32, known: &mut [u8]) -> bool
-    ensures { λ r. let T : List ℕ = now (types .entry) in let K : List ℕ = now (known .entry) in let a : Asked = asked r (now (known .exit)) in
-        ⌜ (ask T w K ≡ a) × Sure T K (λ t. shallow t T w) a ⌝ }
+    ensures { λ r. let T : List ℕ = now (types .entry) in let K : List ℕ = now (known .entry) in let a : ShallowFound = shallowFound r (now (known .exit)) in
+        ⌜ (shallowBy T w K ≡ a) × RightAnswer T K (λ t. shallow t T w) a ⌝ }
 {
     ptype::depth_known(types, w, known) <= 32
 }
 
 // Whether a word of the pool is a type at most 32 deep by what is marked, or no type.
 fn word_is_shallow(types: &[u32], w: u32, known: &mut [u8]) -> bool
-    ensures { λ r. ⌜ askAll (now (types .entry)) (w ∷ []) (now (known .entry)) ≡ asked r (now (known .exit)) ⌝ }
+    ensures { λ r. ⌜ allShallowBy (now (types .entry)) (w ∷ []) (now (known .entry)) ≡ shallowFound r (now (known .exit)) ⌝ }
 {
     if !is_type(w) {
         return true;
@@ -197,7 +197,7 @@ fn clear(known: &mut [u8])
 // The marks are right at the end.
 pub fn pool_is_shallow(types: &[u32], pool: &[u32], known: &mut [u8]) -> bool
     ensures { λ r. let T : List ℕ = now (types .entry) in let P : List ℕ = now (pool .entry) in
-        ⌜ (askAll T P (replicate (length (now (known .entry))) 0) ≡ asked r (now (known .exit)))
+        ⌜ (allShallowBy T P (replicate (length (now (known .entry))) 0) ≡ shallowFound r (now (known .exit)))
         × ((t : Texts) → r ≡ allShallow t T (poolTypes P)) × Depths T (now (known .exit)) ⌝ }
 {
     clear(known);

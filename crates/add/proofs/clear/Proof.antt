@@ -6,7 +6,7 @@ use native.Mathlib.Omega.{arith}
 use lib.ListN.{length, set, drop, replicate, length-set}
 use borrow.Author.Fill.{fill-more}
 use borrow.Author.Needs.{needs}
-use Rattle.add.proofs.AskLaws.{cleared}
+use Rattle.add.proofs.ShallowByLaws.{cleared}
 use Rattle.add.proofs.clear.Statement.{statement}
 use Rattle.add.proofs.clear.Tie as tie
 

@@ -1,6 +1,6 @@
 -- `add::is_shallow_known` meets its contract by that of `ptype::depth_known`. Assumes nothing.
 use borrow.Author.Needs.{needs}
-use Rattle.add.proofs.AskLaws.{one-asked, one-sure}
+use Rattle.add.proofs.ShallowByLaws.{one-asked, one-sure}
 use Rattle.add.proofs.is_shallow_known.Statement.{statement}
 use Rattle.add.proofs.is_shallow_known.Tie as tie
 

@@ -5,14 +5,14 @@ use native.Mathlib.Omega.{arith}
 use lib.ListN.{length, drop}
 use borrow.Author.Tests.{not-true, not-false}
 use borrow.Author.Needs.{needs}
-use Rattle.add.specs.Asked.{askAll}
-use Rattle.add.proofs.AskLaws.{turn-end, turn-next, turn-stop, all-fresh}
+use Rattle.add.specs.ShallowBy.{allShallowBy}
+use Rattle.add.proofs.ShallowByLaws.{turn-end, turn-next, turn-stop, all-fresh}
 use Rattle.add.proofs.pool_is_shallow.Statement.{statement}
 use Rattle.add.proofs.pool_is_shallow.Tie as tie
 
 abbrev Inv-loop : tie.InvT-loop
 Inv-loop types pool known₀ i₀ known i =
-    (askAll types pool known₀ ≡ askAll types (drop i pool) known) × (i ≤ length pool) × (length known ≡ length known₀)
+    (allShallowBy types pool known₀ ≡ allShallowBy types (drop i pool) known) × (i ≤ length pool) × (length known ≡ length known₀)
 
 abbrev μ-loop : tie.MeasureT-loop
 μ-loop types pool known₀ i₀ known i = length pool - i
@@ -45,7 +45,7 @@ returns c =
     let c3 = c2 .before in
     let c4 = c3 .before .before .before in
     let c5 = c4 .before .before .before .before .before in
-    let e = ap (askAll (c5 .args .types .now) (c5 .args .pool .now)) (sym (c4 .clear .ensures)) ∙ c3 .loop .inv .0
+    let e = ap (allShallowBy (c5 .args .types .now) (c5 .args .pool .now)) (sym (c4 .clear .ensures)) ∙ c3 .loop .inv .0
     ∙ turn-stop _ _ _ _ (c2 .loop-test .taken) (c1 .word-is-shallow .ensures) (not-true _ (c .if1 .taken)) in
     let z = all-fresh _ _ (length (c5 .args .known .now)) e in
     (e, z .0, z .1)
@@ -74,7 +74,7 @@ returns-2 c =
     let c1 = c .before in
     let c2 = c1 .before .before .before in
     let c3 = c2 .before .before .before .before .before in
-    let e = ap (askAll (c3 .args .types .now) (c3 .args .pool .now)) (sym (c2 .clear .ensures)) ∙ c1 .loop .inv .0 ∙ turn-end _ _ _ _ (c .loop-test .left) in
+    let e = ap (allShallowBy (c3 .args .types .now) (c3 .args .pool .now)) (sym (c2 .clear .ensures)) ∙ c1 .loop .inv .0 ∙ turn-end _ _ _ _ (c .loop-test .left) in
     let z = all-fresh _ _ (length (c3 .args .known .now)) e in
     (e, z .0, z .1)
 
