@@ -7,9 +7,9 @@ use mathlib.Core.List.{List, _++_}
 use lib.ListN.{length}
 use Rattle.library.specs.Package.{packagesFrom}
 use Rattle.ast.specs.Image.{rootCount}
-use Rattle.ast.specs.Node.{Node, Nodes, treeOf, nodesFrom, firstRoots, rootsOf, slotOf}
+use Rattle.ast.specs.Node.{Nodes, treeOf, nodesFrom, firstRoots, rootsOf}
 use Rattle.refusals.specs.Inputs.{Inputs, Buffers}
-use Rattle.rules.specs.Visited.{visitedAmong, visitedIn}
+use Rattle.rules.specs.Visited.{visitedAmong, visitedIn, slotsOf, visitedSlots}
 use Rattle.rules.specs.Promises.{MoreStatements}
 use Rattle.laws.specs.SlotsOf.{SlotsOfAll}
 use Rattle.tworuns.specs.Split.{nodes-joined}
@@ -18,15 +18,14 @@ use Rattle.tworuns.specs.Larger.{OwnedIn, here, further, rootsAfter, Extends}
 use Rattle.library_laws.specs.Packages.{packages-extended}
 use Rattle.accepts.specs.Count.{total, total-append, one, one-same, count}
 use Rattle.accepts.specs.Passed.{Passed, passed}
-use Rattle.accepts.specs.VisitedParts.{slotsOf}
-use Rattle.accepts.specs.Once.{own-slot, slots-once}
+use Rattle.accepts.specs.Once.{slots-count, slots-once}
 use Rattle.accepts.specs.LongerImage.{roots-more, roots-kept}
 use Rattle.accepts.specs.OtherSlots.{owned, visited-joined, among-hold}
 
--- a slot that a node of the list owns is counted there
-owned-in : {slot : ℕ} {xs : List Node} → OwnedIn slot xs → 1 ≤ owned slot xs
+-- a slot of a list is counted there
+owned-in : {slot : ℕ} {slots : List ℕ} → OwnedIn slot slots → 1 ≤ count slot slots
 unfolding total
-owned-in {slot} (here {x = x} e) = let o : one slot (slotOf x) ≡ 1 = rw e (one-same slot) in omega (arith, own-slot slot x)
+owned-in {slot} (here {x = x} e) = let o : one slot x ≡ 1 = rw e (one-same slot) in omega arith
 owned-in (further h) = omega (arith, owned-in h)
 
 module _ {i i′ : Inputs} {b b′ : Buffers} (m : MoreStatements i i′) (p : Passed i b) (p′ : Passed i′ b′) where
@@ -41,12 +40,20 @@ module _ {i i′ : Inputs} {b b′ : Buffers} (m : MoreStatements i i′) (p : P
       ∙ (ap visitedAmong (nodes-joined (treeOf (i′ .image)) (i′ .image) 4 (rootCount (i .image)) (length (m .roots)))
       ∙ (visited-joined (firstRoots (i′ .image) (rootCount (i .image))) after ∙ ap (λ (xs : Nodes). visitedAmong xs ++ visitedAmong after) (roots-kept m (p .image) (p′ .image))))
 
-  pub others : SlotsOfAll (New (λ slot. OwnedIn slot (visitedIn (i .image)))) after
+  pub others : SlotsOfAll (New (λ slot. OwnedIn slot (visitedSlots (i .image)))) after
+  unfolding visitedSlots
   others =
-      among-hold (New (λ slot. OwnedIn slot (visitedIn (i .image)))) after
+      among-hold (New (λ slot. OwnedIn slot (visitedSlots (i .image)))) after
       (record {
         holds = λ slot l o.
-            omega (arith, owned-in o, slots-once (p′ .image) (p′ .claims) slot, ap (owned slot) all-visited, total-append (λ x. count slot (slotsOf x)) (visitedIn (i .image)) (visitedAmong after));
+            omega (
+              arith,
+              owned-in o,
+              slots-count slot (visitedIn (i .image)),
+              slots-once (p′ .image) (p′ .claims) slot,
+              ap (owned slot) all-visited,
+              total-append (λ x. count slot (slotsOf x)) (visitedIn (i .image)) (visitedAmong after),
+            );
       })
 
 -- THE LAW

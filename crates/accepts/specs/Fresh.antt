@@ -15,14 +15,13 @@ use Rattle.rules.specs.declared.Answer.{Answer}
 use Rattle.rules.specs.World.{Ctx, World, Walk}
 use Rattle.rules.specs.Steps.{Done, typeFromExpr}
 use Rattle.rules.specs.Rules.{Member, member, condition, node, block, last}
-use Rattle.rules.specs.Visited.{visitedBelow, visitedAmong, visitedInCases, visitedInValues}
+use Rattle.rules.specs.Visited.{visitedBelow, visitedAmong, visitedInCases, visitedInValues, slotsOf}
 use Rattle.laws.specs.SlotsOf.{SlotsOf, SlotsOfAll, PartsOf, lastNode, LastOf}
 use Rattle.laws.specs.Keeps.{Keeps, kept, in-next, in-return, in-condition, in-member, in-typeFrom, in-node, in-block, in-last}
 use Rattle.laws.specs.Grow.{kept-ok}
 use Rattle.laws.specs.Still.{Still, Any, Other, still-kept, still-enters}
 use Rattle.laws.specs.Told.{Reads, Tells, told-node, told-block}
 use Rattle.accepts.specs.Count.{total, total-append, one, one-same, one-other, count}
-use Rattle.accepts.specs.VisitedParts.{slotsOf}
 use Rattle.accepts.specs.Once.{own-slot}
 use Rattle.accepts.specs.OtherSlots as O
 use Rattle.accepts.specs.OtherSlots.{owned}

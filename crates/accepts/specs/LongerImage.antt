@@ -47,10 +47,10 @@ node-first image = refl
 
 module _ {text image : List ℕ} (a : Accepted text image) where
   -- the types begin in the image, after the roots
-  nodes-end : nodePlace image (nodeCount image) ≤ length image
+  pub nodes-end : nodePlace image (nodeCount image) ≤ length image
   nodes-end = omega (arith, type-rise image 0 (typeCount image) (omega arith), type-first image, a .whole)
 
-  roots-end : 4 + rootCount image ≤ nodePlace image (nodeCount image)
+  pub roots-end : 4 + rootCount image ≤ nodePlace image (nodeCount image)
   roots-end = omega (arith, node-rise image 0 (nodeCount image) (omega arith), node-first image)
 
   -- a record ends before the next one, and before the end of all

@@ -9,11 +9,10 @@ use Rattle.ast.specs.Claims.{countFrom, slotsOwned}
 use Rattle.image_laws.specs.OutlineAt.{outlineAt}
 use Rattle.image_laws.specs.PartsBelow.{slots-below}
 use Rattle.image_laws.specs.Accepted.{Accepted}
-use Rattle.rules.specs.Visited.{visitedIn}
+use Rattle.rules.specs.Visited.{visitedIn, slotsOf}
 use Rattle.rules.specs.Promises.{Every}
 use Rattle.laws.specs.SlotsOf.{SlotsOfAll}
 use Rattle.accepts.specs.Count.{total, one-other, count}
-use Rattle.accepts.specs.VisitedParts.{slotsOf}
 use Rattle.accepts.specs.OfImage.{of-image, tree-number}
 use Rattle.accepts.specs.VisitedOf.{visited-every}
 use Rattle.accepts.specs.OtherSlots.{owned, among-hold}

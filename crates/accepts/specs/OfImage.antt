@@ -16,10 +16,10 @@ use Rattle.ast.specs.Room.{entryWords}
 use Rattle.image_laws.specs.OutlineAt.{partsFrom, caseParts, partsByKind, noParts, partsAt, argumentsAt, outlineAt}
 use Rattle.image_laws.specs.Accepted.{Accepted}
 use Rattle.trees.specs.Trees.{tree-atom, tree-ident, tree-bin, tree-unary, tree-let, tree-fn, tree-match, tree-call, tree-field, tree-cast, tree-import, tree-extern, tree-record, tree-array}
-use Rattle.rules.specs.Visited.{numberOf}
+use Rattle.rules.specs.Visited.{numberOf, argumentsOf, slotsOf}
 use Rattle.accepts.specs.Count.{total, count}
 use Rattle.accepts.specs.ClaimedOnce.{inParts}
-use Rattle.accepts.specs.VisitedParts.{numbersOf, caseNumbers, valueNumbers, visitedParts, argumentsOf, entryLength, slotsOf}
+use Rattle.accepts.specs.VisitedParts.{numbersOf, caseNumbers, valueNumbers, visitedParts, entryLength}
 
 -- ── The numbers of trees, and of lists of trees ──
 

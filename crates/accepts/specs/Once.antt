@@ -16,14 +16,20 @@ use Rattle.image_laws.specs.PartsBelow.{Below, no-parts, part, parts-below}
 use Rattle.image_laws.specs.Accepted.{Accepted}
 use Rattle.refusals.specs.Inputs.{Inputs, Buffers}
 use Rattle.refusals.specs.Refusals.{refusalOf}
-use Rattle.rules.specs.Visited.{visitedIn, numberOf}
+use Rattle.rules.specs.Visited.{visitedIn, numberOf, argumentsOf, slotsOf, allSlots, visitedSlots}
 use Rattle.rules.specs.Promises.{Every, VisitedOnce}
-use Rattle.accepts.specs.Count.{total, total-map, total-le, upTo, one, one-other, count, count-twice, once-le, count-high}
+use Rattle.accepts.specs.Count.{total, total-append, total-map, total-le, upTo, one, one-other, count, count-twice, once-le, count-high}
 use Rattle.accepts.specs.Passed.{passed}
 use Rattle.accepts.specs.ClaimedOnce.{inParts, inOwned, claimed-once, owned-once}
-use Rattle.accepts.specs.VisitedParts.{visitedParts, argumentsOf, slotsOf, asPart, among-sum}
+use Rattle.accepts.specs.VisitedParts.{visitedParts, asPart, among-sum}
 use Rattle.accepts.specs.OfImage.{OfImage, of-image, nodes-numbers}
 use Rattle.accepts.specs.VisitedOf.{visited-every}
+
+-- how often some nodes own a slot
+pub slots-count : (slot : ℕ) (xs : List Node) → count slot (allSlots xs) ≡ total (λ x. count slot (slotsOf x)) xs
+unfolding allSlots total
+slots-count slot [] = refl
+slots-count slot (x ∷ xs) = omega (arith, total-append (one slot) (slotsOf x) (allSlots xs), slots-count slot xs)
 
 -- a number at least as large as all of a list
 below-none : (m n : ℕ) (ps : List ℕ) → Below n ps → n ≤ m → count m ps ≡ 0
@@ -127,20 +133,10 @@ own-slot slot x = first (argumentsOf x)
     first n = let e : n + 1 ≡ suc n = omega arith in rw e (omega arith)
 
 pub each-visited-once : (i : Inputs) (b : Buffers) → refusalOf i b ≡ none → VisitedOnce (i .image)
-unfolding total Every
+unfolding total visitedSlots
 each-visited-once i b e =
     let p = passed i b e in
     record {
       numbers = count-twice [] (map numberOf (visitedIn (i .image))) (λ m. omega (arith, visited-once (p .image) (p .claims) m));
-      slots = count-twice [] (map slotOf (visitedIn (i .image)))
-          (λ m. omega (
-            arith,
-            slots-once (p .image) (p .claims) m,
-            total-map (one m) slotOf (visitedIn (i .image)),
-            total-le (λ _. Unit {0}) (λ x. one m (slotOf x)) (λ x. count m (slotsOf x)) (λ x _. own-slot m x) (visitedIn (i .image)) (all (visitedIn (i .image))),
-          ));
+      slots = count-twice [] (visitedSlots (i .image)) (λ m. omega (arith, slots-once (p .image) (p .claims) m, slots-count m (visitedIn (i .image))));
     }
-  where
-    all : (xs : List Node) → Every (λ _. Unit {0}) xs
-    all [] = tt
-    all (x ∷ xs) = (tt, all xs)

@@ -9,11 +9,10 @@ use lib.ListN.{length}
 use Rattle.ast.specs.TypeExpr.{Arg}
 use Rattle.ast.specs.Node.{Node, Nodes, Cases, Values, Atom, Ident, Bin, Unary, Let, Fn, Match, Call, Field, Cast, Import, Extern, Record, Array, Absent, done, then, noCase, case, noValue, value, slotOf}
 use Rattle.ast.specs.Claims.{countFrom}
-use Rattle.rules.specs.Visited.{visitedBelow, visitedAmong, visitedInCases, visitedInValues}
+use Rattle.rules.specs.Visited.{visitedBelow, visitedAmong, visitedInCases, visitedInValues, argumentsOf, slotsOf}
 use Rattle.laws.specs.SlotsOf.{ArgSlots, SlotsOf, SlotsOfAll, SlotsOfCases, SlotsOfValues}
 use Rattle.tworuns.specs.Split.{joined}
 use Rattle.accepts.specs.Count.{total, total-append, one-same, count}
-use Rattle.accepts.specs.VisitedParts.{argumentsOf, slotsOf}
 use Rattle.accepts.specs.Once.{own-slot}
 
 -- how often the nodes of a list own a slot

@@ -1,12 +1,11 @@
--- The numbers of a node's visited parts, and the slots and words of the functions buffer that are its own. What is visited below some nodes
+-- The numbers of a node's visited parts, and the words of the functions buffer that are its own. What is visited below some nodes
 -- are these nodes' visited parts and those of what is visited below them. By induction on trees. Assumes nothing.
 use Prim.Native.Nat.{ℕ, _+_, _*_}
 use native.Mathlib.Omega.{arith}
 use mathlib.Core.Path.{_≡_, refl}
 use mathlib.Core.List.{List, [], _∷_, _++_}
 use lib.ListN.{length}
-use Rattle.ast.specs.Node.{Node, Nodes, Cases, Values, Atom, Ident, Bin, Unary, Let, Fn, Match, Call, Field, Cast, Import, Extern, Record, Array, Absent, done, then, noCase, case, noValue, value, slotOf}
-use Rattle.ast.specs.Claims.{countFrom}
+use Rattle.ast.specs.Node.{Node, Nodes, Cases, Values, Atom, Ident, Bin, Unary, Let, Fn, Match, Call, Field, Cast, Import, Extern, Record, Array, Absent, done, then, noCase, case, noValue, value}
 use Rattle.rules.specs.Visited.{visitedBelow, visitedAmong, visitedInCases, visitedInValues, numberOf}
 use Rattle.accepts.specs.Count.{total, total-append, one, count}
 
@@ -40,24 +39,6 @@ visitedParts (Record n slot token fs) = valueNumbers fs
 visitedParts (Array n slot token ms) = numbersOf ms
 visitedParts (Absent n) = []
 
--- the arguments of an Fn
-unfoldable pub argumentsOf : Node → ℕ
-argumentsOf (Fn n slot name ret args body) = length args
-argumentsOf (Atom n slot token k) = 0
-argumentsOf (Ident n slot name) = 0
-argumentsOf (Bin n slot token op l r) = 0
-argumentsOf (Unary n slot token op r) = 0
-argumentsOf (Let n slot name r) = 0
-argumentsOf (Match n slot cs token d) = 0
-argumentsOf (Call n slot target args) = 0
-argumentsOf (Field n slot target name) = 0
-argumentsOf (Cast n slot token l t) = 0
-argumentsOf (Import n slot token paths) = 0
-argumentsOf (Extern n slot token name fs) = 0
-argumentsOf (Record n slot token fs) = 0
-argumentsOf (Array n slot token ms) = 0
-argumentsOf (Absent n) = 0
-
 -- "3 + 2 × arguments over all Fn nodes"
 unfoldable pub entryLength : Node → ℕ
 entryLength (Fn n slot name ret args body) = 3 + 2 * length args
@@ -75,10 +56,6 @@ entryLength (Extern n slot token name fs) = 0
 entryLength (Record n slot token fs) = 0
 entryLength (Array n slot token ms) = 0
 entryLength (Absent n) = 0
-
--- "An Fn owns its slot and one after it per argument."
-abbrev pub slotsOf : Node → List ℕ
-slotsOf x = countFrom (slotOf x) (argumentsOf x + 1)
 
 -- ── What is visited ──
 

@@ -16,10 +16,9 @@ use Rattle.image_laws.specs.RecordWords.{CasesWords, defaultWords, caseWords}
 use Rattle.laws.specs.SlotsOf.{lastNode}
 use Rattle.rules.specs.declared.Answer.{Answer}
 use Rattle.rules.specs.declared.Answer.the-variants.{Known, Poison}
-use Rattle.rules.specs.Visited.{visitedAmong, visitedInCases}
+use Rattle.rules.specs.Visited.{visitedAmong, visitedInCases, slotsOf}
 use Rattle.rules.specs.Rules.{Branch}
 use Rattle.accepts.specs.Count.{total, total-append, count}
-use Rattle.accepts.specs.VisitedParts.{slotsOf}
 use Rattle.accepts.specs.OtherSlots.{owned}
 use Rattle.accepts.specs.Fresh.{visitedFrom, Apart, end-owned}
 

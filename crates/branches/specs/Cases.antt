@@ -14,10 +14,9 @@ use Rattle.trees.specs.SameWords.{cases-end}
 use Rattle.rules.specs.declared.Answer.{Answer}
 use Rattle.rules.specs.World.{Ctx, World, Walk}
 use Rattle.rules.specs.Rules.{condition, Branch, matched, node, block}
-use Rattle.rules.specs.Visited.{visitedAmong, visitedInCases}
+use Rattle.rules.specs.Visited.{visitedAmong, visitedInCases, slotsOf}
 use Rattle.accepts.specs.Count as N
 use Rattle.accepts.specs.Count.{total, total-append}
-use Rattle.accepts.specs.VisitedParts.{slotsOf}
 use Rattle.accepts.specs.OtherSlots.{owned}
 use Rattle.accepts.specs.Fresh.{visitedFrom, Fresh, fresh-first, fresh-rest}
 use Rattle.room_laws.specs.Room.{room, rooms, caseRooms, rows, rowsAll, caseRows}

@@ -10,7 +10,7 @@ use Rattle.ast.specs.Image.{slotCount}
 use Rattle.refusals.specs.Inputs.{Inputs, Buffers}
 use Rattle.refusals.specs.Refusals.{refusalOf}
 use Rattle.rules.specs.Check.{Ended, checkOf}
-use Rattle.rules.specs.Visited.{visitedIn}
+use Rattle.rules.specs.Visited.{visitedSlots}
 use Rattle.rules.specs.Promises.{Every, Answered, TableHolds, Demand1, NamesReadWell, NamesWellFormed, VisitedOnce, EachVisitedOnce, messageOf, primaryOf, MessagesWellFormed, AnsweredClean, HasConcreteType, Clean, Longer, Alike, AnsweredLonger, MorePackages, MoreStatements, Kept, Larger, LargerWithoutStatements}
 use Rattle.tworuns.specs.Larger.{ends}
 use Rattle.accepts.specs.Demands.{demand-1, names-well-formed, each-visited-once, answered-longer, larger, larger-without-statements}
@@ -45,10 +45,11 @@ module _ (i : Inputs) (b a : Buffers) (r : Checked) (e : checkOf i b ≡ endedOf
   unfolding MessagesWellFormed
   check-messages = subst (λ x. Answered x → (k : ℕ) → k < x .diagnostics → (wellFormed (messageOf x k) ≡ true) × (wellFormed (primaryOf x k) ≡ true)) e (messages-well-formed i b)
 
-  -- "Suppose a script is answered with no diagnostic. Then every visited node has a recorded type free of Unknown and of slots."
-  pub check-clean : AnsweredClean (endedOf r a) → Every (HasConcreteType i (endedOf r a)) (visitedIn (i .image))
+  -- "Suppose a script is answered with no diagnostic. Then every visited node has a recorded type free of Unknown and of slots": in each slot
+  -- that it owns
+  pub check-clean : AnsweredClean (endedOf r a) → Every (HasConcreteType i (endedOf r a)) (visitedSlots (i .image))
   unfolding Clean
-  check-clean = subst (λ x. AnsweredClean x → Every (HasConcreteType i x) (visitedIn (i .image))) e (clean i b)
+  check-clean = subst (λ x. AnsweredClean x → Every (HasConcreteType i x) (visitedSlots (i .image))) e (clean i b)
 
   -- "with longer buffers alone it is answered, alike in every number returned and in every word and byte used"
   pub check-longer : (b′ a′ : Buffers) (r′ : Checked) → checkOf i b′ ≡ endedOf r′ a′ → Longer b b′ → Answered (endedOf r a) → Alike (slotCount (i .image)) (endedOf r a) (endedOf r′ a′)

@@ -17,9 +17,8 @@ use Rattle.rules.specs.declared.Answer.{Answer}
 use Rattle.rules.specs.World.{World}
 use Rattle.rules.specs.Steps.{ty}
 use Rattle.rules.specs.Rules.{valueType}
-use Rattle.rules.specs.Visited.{visitedBelow, visitedInValues}
+use Rattle.rules.specs.Visited.{visitedBelow, visitedInValues, slotsOf}
 use Rattle.accepts.specs.Count.{total-append, count}
-use Rattle.accepts.specs.VisitedParts.{slotsOf}
 use Rattle.accepts.specs.OtherSlots.{owned, own-owned}
 use Rattle.accepts.specs.Fresh.{visitedFrom, Apart}
 use Rattle.onerun.specs.Claim.{Run, AnswerOk}

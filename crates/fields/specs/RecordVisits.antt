@@ -16,10 +16,9 @@ use Rattle.laws.specs.Told.{Reads, Tells}
 use Rattle.rules.specs.declared.Answer.{Answer}
 use Rattle.rules.specs.World.{World, Walk}
 use Rattle.rules.specs.Rules.{valueType, node}
-use Rattle.rules.specs.Visited.{visitedInValues}
+use Rattle.rules.specs.Visited.{visitedInValues, slotsOf}
 use Rattle.accepts.specs.Count as N
 use Rattle.accepts.specs.Count.{total, total-append}
-use Rattle.accepts.specs.VisitedParts.{slotsOf}
 use Rattle.accepts.specs.OtherSlots.{owned}
 use Rattle.accepts.specs.Fresh.{visitedFrom, Fresh, fresh-first, fresh-rest, node-tells}
 use Rattle.places.specs.NodesAt.{NodeReady, countsOf, record-room, length-there, node-record, words-record}

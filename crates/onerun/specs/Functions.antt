@@ -2,10 +2,12 @@
 use Prim.Native.Nat.{ℕ, _+_, _<_}
 use mathlib.Core.Bool.{false}
 use mathlib.Core.List.{List, [], _∷_}
+use lib.ListN.{length}
 use Rattle.tok.specs.Step.{_>>=_, return, forEach}
 use Rattle.ptype.specs.Add.{Buffer}
 use Rattle.ast.specs.TypeExpr.{TypeExpr, Arg, typeToken}
 use Rattle.ast.specs.Node.{Node, ExternFn}
+use Rattle.ast.specs.Claims.{countFrom}
 use Rattle.err.specs.WellFormedLaws.{definedAlready-well, badReturn-well}
 use Rattle.library.specs.Package.{Param, param, signature}
 use Rattle.rules.specs.declared.Answer.{Answer}
@@ -19,8 +21,8 @@ use Rattle.onerun.specs.Claim as C
 use Rattle.onerun.specs.Grows.{typed-grow, param-grow, function-grow, typed-names}
 use Rattle.onerun.specs.Logic.{Silent, before, Gives, g-next, g-return, g-when, g-option, g-map, g-onTypes, g-ifKnown, g-set}
 use Rattle.onerun.specs.Report.{g-report}
-use Rattle.onerun.specs.Seen.{Seen, seen-later, NodeOk, g-keep, node-poison}
-use Rattle.onerun.specs.Scope.{Any, seen-env, g-insert, g-enter, g-apart, alone, g-each}
+use Rattle.onerun.specs.Seen.{AllRecorded, slots-later, Seen, seen-later, NodeOk, g-keep-fn, node-poison}
+use Rattle.onerun.specs.Scope.{Any, slots-env, seen-env, g-insert, g-enter, g-apart, alone, g-each}
 use Rattle.onerun.specs.Trees.{free-slots}
 use Rattle.onerun.specs.Types.{t-typeFrom}
 use Rattle.onerun.specs.Operators.{slot-good}
@@ -52,10 +54,15 @@ module _ (r : Run) where
     sig = r .plain ps ret (h .trees);
   }
 
+  -- the arguments of an Fn: "one after it per argument", each with a type
+  pub record FnArgumentsOk (slots : List ℕ) (u : World) (ps : List Param) : Type 0 where
+    pub params : ParamsOk r (u .types) ps
+    pub recorded : r .clean → AllRecorded r u slots
+
   pub g-fnArguments : (n slot : ℕ) (args : List Arg) → ProperArgs Below (NameAt r) args → ArgSlots Below slot args → {s : World} → (Silent r s → Holds r s)
-      → Gives r (λ u ps. ParamsOk r (u .types) ps) s (fnArguments (r .ctx) n slot args s)
-  unfolding fnArguments ProperArgs ArgSlots
-  g-fnArguments n slot [] p o {s} h = g-return r h (λ z. no-params (s .types))
+      → Gives r (FnArgumentsOk (countFrom slot (length args))) s (fnArguments (r .ctx) n slot args s)
+  unfolding fnArguments ProperArgs ArgSlots countFrom
+  g-fnArguments n slot [] p o {s} h = g-return r h (λ z. record { params = no-params (s .types); recorded = λ q. end })
   g-fnArguments n slot (a ∷ rest) p o h =
       g-next r _ (g-typeFrom n (a .type) (p .1) h) (λ w u t x.
       g-next r _ (g-set r slot (o .0) (λ z. x z .holds) (λ z. x z .value)) (λ _ u₁ t₁ x₁.
@@ -64,7 +71,10 @@ module _ (r : Run) where
       g-return r (λ z. x₃ z .holds) (λ z.
       let z₂ = before r t₃ z in
       let z₁ = before r t₂ z₂ in
-      more-params (p .0) (typed-grow r (x₃ z .grown) (typed-grow r (x₂ z₂ .grown) (typed-grow r (x₁ z₁ .grown) (x (before r t₁ z₁) .value)))) (x₃ z .value))))))
+      record {
+        params = more-params (p .0) (typed-grow r (x₃ z .grown) (typed-grow r (x₂ z₂ .grown) (typed-grow r (x₁ z₁ .grown) (x (before r t₁ z₁) .value)))) (x₃ z .value .params);
+        recorded = λ q. and (x₃ z .recorded slot (x₂ z₂ .recorded slot (x₁ z₁ .value .own q))) (x₃ z .value .recorded q);
+      })))))
 
   g-checkReturn : (n name : ℕ) → NameAt r name → (e : TypeExpr) {ret : ℕ} {a : Answer} {s : World} → (Silent r s → Holds r s) → (Silent r s → Good r (s .types) ret) → (Silent r s → AnswerOk r s a)
       → Gives r (Any r) s (checkReturn (r .ctx) n name e ret a s)
@@ -78,26 +88,35 @@ module _ (r : Run) where
     pub answer : AnswerOk r u a
     pub seen : r .clean → Seen r u ys
 
-  record FnOk (ys : List Node) (u : World) (ret : ℕ) : Type 0 where
+  record FnOk (slots : List ℕ) (ys : List Node) (u : World) (ret : ℕ) : Type 0 where
     type : Good r (u .types) ret
+    arguments : r .clean → AllRecorded r u slots
     seen : r .clean → Seen r u ys
 
   pub g-fn : (n slot name : ℕ) (e : TypeExpr) (args : List Arg) (ys : List Node) (body : Walk Answer) → Below slot → NameAt r name → ProperType Below (NameAt r) e → ProperArgs Below (NameAt r) args → ArgSlots Below (slot + 1) args
       → ((s : World) → (Silent r s → Holds r s) → Gives r (BlockOk ys) s (body s)) → {s : World} → (Silent r s → Holds r s)
-      → Gives r (NodeOk r slot ys) s (unlessDefined (r .ctx) n name (fn (r .ctx) n slot name e args body) s)
+      → Gives r (NodeOk r slot (countFrom (slot + 1) (length args)) ys) s (unlessDefined (r .ctx) n name (fn (r .ctx) n slot name e args body) s)
   unfolding unlessDefined fn S.poison
   g-fn n slot name e args ys body own m p pa o k {s} h =
       g-option r _ _
       (λ _. g-next r _
-      (g-apart r {Q = FnOk ys} (λ u en a x. record { type = x .type; seen = λ q. seen-env r (x .seen q) }) _ h
+      (g-apart r {Q = FnOk (countFrom (slot + 1) (length args)) ys} (λ u en a x. record { type = x .type; arguments = λ q. slots-env r (x .arguments q); seen = λ q. seen-env r (x .seen q) }) _ h
       (g-next r _ (g-fnArguments n (slot + 1) args pa o (alone r h)) (λ ps u₁ t₁ x₁.
       g-next r _ (g-typeFrom n e p (λ z. x₁ z .holds)) (λ ret u₂ t₂ x₂.
-      g-next r _ (g-enter r name ps ret (λ z. x₂ z .holds) (λ z. record { sig = signature-ok (params-grow r (x₂ z .grown) (x₁ (before r t₂ z) .value)) (x₂ z .value) })) (λ _ u₃ t₃ x₃.
+      g-next r _ (g-enter r name ps ret (λ z. x₂ z .holds) (λ z. record { sig = signature-ok (params-grow r (x₂ z .grown) (x₁ (before r t₂ z) .value .params)) (x₂ z .value) })) (λ _ u₃ t₃ x₃.
       g-next r _ (k u₃ (λ z. x₃ z .holds)) (λ a u₄ t₄ x₄.
       let g : Silent r u₄ → Good r (u₄ .types) ret = λ z. let z₃ = before r t₄ z in typed-grow r (x₄ z .grown) (typed-grow r (x₃ z₃ .grown) (x₂ (before r t₃ z₃) .value)) in
       g-next r _ (g-checkReturn n name m e (λ z. x₄ z .holds) g (λ z. x₄ z .value .answer)) (λ _ u₅ t₅ x₅.
-      g-return r (λ z. x₅ z .holds) (λ z. record { type = typed-grow r (x₅ z .grown) (g (before r t₅ z)); seen = λ q. seen-later r (x₅ z) (x₄ (before r t₅ z) .value .seen q) }))))))))
-      (λ ret u t x. g-keep r (λ z. x z .value .seen) (g-set r slot own (λ z. x z .holds) (λ z. x z .value .type))))
+      g-return r (λ z. x₅ z .holds) (λ z.
+      let z₄ = before r t₅ z in
+      let z₃ = before r t₄ z₄ in
+      let z₂ = before r t₃ z₃ in
+      record {
+        type = typed-grow r (x₅ z .grown) (g z₄);
+        arguments = λ q. slots-later r (x₅ z) (slots-later r (x₄ z₄) (slots-later r (x₃ z₃) (slots-later r (x₂ z₂) (x₁ (before r t₂ z₂) .value .recorded q))));
+        seen = λ q. seen-later r (x₅ z) (x₄ z₄ .value .seen q);
+      }))))))))
+      (λ ret u t x. g-keep-fn r (λ z. x z .value .arguments) (λ z. x z .value .seen) (g-set r slot own (λ z. x z .holds) (λ z. x z .value .type))))
       (λ f _. node-poison r (g-report r h n (λ l z. definedAlready-well name _ (m l))))
 
   -- ── Extern ──

@@ -1,12 +1,14 @@
--- The theorem of nodes: of every rule's answer and world the same is claimed, and every node visited has a type. One line for each node kind,
--- by induction on the tree. Assumes nothing.
+-- The theorem of nodes: of every rule's answer and world the same is claimed, and every slot that a visited node owns has a type. One line for
+-- each node kind, by induction on the tree. Assumes nothing.
 use Prim.Native.Nat.{ℕ, _+_, _<_}
 use native.Mathlib.Omega.{arith}
+use native.Mathlib.Numerals.{add-one}
 use mathlib.Core.Path.{_≡_}
 use mathlib.Core.Bool.{Bool, true, false, _||_, false≢true}
-use mathlib.Core.List.{List, _∷_, _++_}
+use mathlib.Core.List.{List, [], _∷_, _++_}
 use Rattle.tok.specs.Step.{Result, Refusal}
 use Rattle.ast.specs.Node.{Node, Nodes, Cases, Values, Atom, Ident, Bin, Unary, Let, Fn, Match, Call, Field, Cast, Import, Extern, Record, Array, Absent, done, then, noCase, case, noValue, value, slotOf}
+use Rattle.ast.specs.Claims.{countFrom}
 use Rattle.ast.specs.Span.{spanOf}
 use Rattle.err.specs.WellFormedLaws.{emptyArray-well}
 use Rattle.rules.specs.declared.Answer.{Answer}
@@ -15,13 +17,13 @@ use Rattle.rules.specs.Steps.{isPoison}
 use Rattle.rules.specs.Steps as S
 use Rattle.rules.specs.Calls.{calleeOf, providedOf}
 use Rattle.rules.specs.Rules.{Member, alike, silent, differs, goOn, Branch, node, block, last, visitAll, cases, values, array, members}
-use Rattle.rules.specs.Visited.{visitedBelow, visitedAmong, visitedInCases, visitedInValues}
+use Rattle.rules.specs.Visited.{visitedBelow, visitedAmong, visitedInCases, visitedInValues, argumentsOf, slotsOf}
 use Rattle.onerun.specs.Claim.{Run, All, end, and, OfNames, NameAt, Good, Holds, AnswerOk, poison}
 use Rattle.onerun.specs.Claim as C
 use Rattle.onerun.specs.Grows.{all-map, typed-grow}
 use Rattle.onerun.specs.Logic.{Silent, before, Gives, g-next, g-return, g-map, g-onTypes, g-known, g-set, own-poison, answer-later}
 use Rattle.onerun.specs.Report.{g-report}
-use Rattle.onerun.specs.Seen.{Seen, seen-later, seen-both, NodeOk, g-keep, names-node, node-poison}
+use Rattle.onerun.specs.Seen.{AllRecorded, Seen, seen-later, seen-both, NodeOk, g-keep, names-node, node-poison}
 use Rattle.onerun.specs.Scope.{answer-env, seen-env, g-insert, g-hold, g-framed}
 use Rattle.onerun.specs.Types.{PairsTyped, no-typed, more-typed, t-recordGood, low-good, void-good}
 use Rattle.onerun.specs.Operators.{g-fuse, g-unary, g-cast}
@@ -53,20 +55,25 @@ module _ (r : Run) where
 
   -- what a node answers, and what is visited below it
   abbrev pub Visited : Node → World → Answer → Type 0
-  Visited x u a = NodeOk r (slotOf x) (visitedBelow x) u a
+  Visited x u a = NodeOk r (slotOf x) (countFrom (slotOf x + 1) (argumentsOf x)) (visitedBelow x) u a
+
+  own-slots : (x : Node) {u : World} {a : Answer} → Visited x u a → r .clean → AllRecorded r u (slotsOf x)
+  unfolding countFrom
+  own-slots x h q = rw (add-one (argumentsOf x)) (and (h .own .own q) (h .arguments q))
 
   whole : (x : Node) {u : World} {a : Answer} → Visited x u a → r .clean → Seen r u (x ∷ visitedBelow x)
-  whole x h q = and (h .own .own q) (h .seen q)
+  whole x h q = and {a = x} (own-slots x h q) (h .seen q)
 
   -- nodes visited before
-  more-node : {slot : ℕ} {xs ys : List Node} {s : World} {x : Result World Refusal Answer} → (Silent r s → r .clean → Seen r s xs) → Gives r (NodeOk r slot ys) s x → Gives r (NodeOk r slot (xs ++ ys)) s x
-  more-node h g = g-map r (λ u a t f z. record { own = f z .value .own; seen = λ q. seen-both r (seen-later r (f z) (h (before r t z) q)) (f z .value .seen q) }) g
+  more-node : {slot : ℕ} {args : List ℕ} {xs ys : List Node} {s : World} {x : Result World Refusal Answer} → (Silent r s → r .clean → Seen r s xs) → Gives r (NodeOk r slot args ys) s x
+      → Gives r (NodeOk r slot args (xs ++ ys)) s x
+  more-node h g = g-map r (λ u a t f z. record { own = f z .value .own; arguments = f z .value .arguments; seen = λ q. seen-both r (seen-later r (f z) (h (before r t z) q)) (f z .value .seen q) }) g
 
   more-block : {xs ys : List Node} {s : World} {x : Result World Refusal Answer} → (Silent r s → r .clean → Seen r s xs) → Gives r (BlockOk r ys) s x → Gives r (BlockOk r (xs ++ ys)) s x
   more-block h g = g-map r (λ u a t f z. record { answer = f z .value .answer; seen = λ q. seen-both r (seen-later r (f z) (h (before r t z) q)) (f z .value .seen q) }) g
 
   g-goOn : {slot : ℕ} {ys : List Node} (m : Member) (b : Bool) (f : Bool → Walk Answer) {s : World} → (Silent r s → Holds r s) → (Silent r s → MemberOk r m) → (Silent r s → b ≡ true → OfNames r)
-      → ((b : Bool) → (Silent r s → b ≡ true → OfNames r) → Gives r (NodeOk r slot ys) s (f b s)) → Gives r (NodeOk r slot ys) s (goOn m b f s)
+      → ((b : Bool) → (Silent r s → b ≡ true → OfNames r) → Gives r (NodeOk r slot [] ys) s (f b s)) → Gives r (NodeOk r slot [] ys) s (goOn m b f s)
   unfolding goOn
   g-goOn alike b f h k l g = g b l
   g-goOn silent b f h k l g = g true (λ z _. ofNames (k z))
@@ -98,7 +105,7 @@ module _ (r : Run) where
     pub seen : r .clean → Seen r u ys
 
   mutual
-    unfolding node Proper visitedBelow slotOf providedOf S.poison
+    unfolding node Proper visitedBelow slotOf argumentsOf countFrom providedOf S.poison
 
     pub g-node : (x : Node) → Proper (Below r) (NameAt r) x → {s : World} → (Silent r s → Holds r s) → Gives r (Visited x) s (node (r .ctx) x s)
     g-node (Atom n slot token k) p {s} h = g-keep r (λ z q. end) (g-set r slot (p .0) h (λ z. low-good r (s .types) k (p .1 .low) (p .1 .high)))
@@ -192,14 +199,15 @@ module _ (r : Run) where
           seen = λ q. seen-both r (seen-later r (f₂ z) (seen-later r (f₁ z₁) (whole x (f (before r t₁ z₁) .value) q))) (f₂ z .value .seen q);
         }))))
 
-    g-array : (n slot token : ℕ) (xs : Nodes) → slot < r .ctx .void → ProperAll (Below r) (NameAt r) xs → {s : World} → (Silent r s → Holds r s) → Gives r (NodeOk r slot (visitedAmong xs)) s (array (r .ctx) n slot token xs s)
+    g-array : (n slot token : ℕ) (xs : Nodes) → slot < r .ctx .void → ProperAll (Below r) (NameAt r) xs → {s : World} → (Silent r s → Holds r s)
+        → Gives r (NodeOk r slot [] (visitedAmong xs)) s (array (r .ctx) n slot token xs s)
     g-array n slot token done o p h = node-poison r (g-report r h n (λ l z. emptyArray-well token))
     g-array n slot token (then x xs) o p h =
         g-next r _ (g-node x (p .0) h) (λ a u t f. more-node (λ z q. whole x (f z .value) q)
         (g-members n slot xs false o (p .1) (λ z. f z .holds) (λ z. f z .value .own .answer) (λ z e. absurd (false≢true e))))
 
     g-members : (n slot : ℕ) (xs : Nodes) (b : Bool) {a : Answer} → slot < r .ctx .void → ProperAll (Below r) (NameAt r) xs → {s : World} → (Silent r s → Holds r s) → (Silent r s → AnswerOk r s a) → (Silent r s → b ≡ true → OfNames r)
-        → Gives r (NodeOk r slot (visitedAmong xs)) s (members (r .ctx) n slot a b xs s)
+        → Gives r (NodeOk r slot [] (visitedAmong xs)) s (members (r .ctx) n slot a b xs s)
     g-members n slot done b o p h k l = g-keep r (λ z q. end) (g-arrayOf r h n slot o k b l)
     g-members n slot (then x xs) b o p h k l =
         g-next r _ (g-node x (p .0) h) (λ y u t f. g-next r _ (g-member r n (spanOf x) (λ z. f z .holds) (λ z. answer-later r (f z) (k (before r t z))) (λ z. f z .value .own .answer)) (λ m v t₁ g.

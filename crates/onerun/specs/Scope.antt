@@ -16,7 +16,7 @@ use Rattle.onerun.specs.Claim.{Run, All, end, and, Bound, LocalOk, Funct
 use Rattle.onerun.specs.Claim as C
 use Rattle.onerun.specs.Grows.{all-map, local-grow}
 use Rattle.onerun.specs.Logic.{Later, Silent, before, After, Gives, gives, stopped, g-next, g-return}
-use Rattle.onerun.specs.Seen.{Seen}
+use Rattle.onerun.specs.Seen.{AllRecorded, Seen}
 
 module _ (r : Run) where
   -- what only slots say stays where only the environment differs
@@ -27,8 +27,11 @@ module _ (r : Run) where
   answer-env (C.known h) = C.known (recorded-env h)
   answer-env (poison l) = poison l
 
+  pub slots-env : {s : World} {e : List Local} {slots : List ℕ} → AllRecorded r s slots → AllRecorded r (withEnv s e) slots
+  slots-env h = all-map (λ slot x. recorded-env x) h
+
   pub seen-env : {s : World} {e : List Local} {ys : List Node} → Seen r s ys → Seen r (withEnv s e) ys
-  seen-env h = all-map (λ y x. recorded-env x) h
+  seen-env h = all-map (λ y x. slots-env x) h
 
   pub holds-env : {s : World} {e : List Local} → All (LocalOk r (s .types)) e → Holds r s → Holds r (withEnv s e)
   holds-env l h = record {

@@ -195,7 +195,7 @@ module _ (r : Run) where
       pub seen : r .clean → Seen r u ys
 
     pub g-call : (ys : List Node) (P : ℕ → Type 0) (f : Callee) → ProperCallee P (NameAt r) f → (visits : Walk Bool) {s : World} → (Silent r s → Holds r s) → Gives r (Visits ys) s (visits s)
-        → Gives r (NodeOk r slot ys) s (call (r .ctx) n slot f given visits s)
+        → Gives r (NodeOk r slot [] ys) s (call (r .ctx) n slot f given visits s)
     unfolding call ProperCallee poison
     g-call ys P (ownFunction name) p visits h v =
         g-next r _ v (λ b u t x. g-keep r (λ z. x z .value .seen) (g-resolveCall name p (λ z. x z .holds) (λ z. x z .value .provided)))

@@ -119,7 +119,7 @@ module _ {T : Texts} {image places words : List ℕ} {r w : ℕ} {st : State} {b
   begin-gives n slot name ret args body p =
       g-next (walkRun T image words) _ (g-fnArguments (walkRun T image words) n (slot + 1) args (p .args) (p .slots) (λ z. y .holds)) (λ ps u₁ t₁ x₁.
       g-next (walkRun T image words) _ (g-typeFrom (walkRun T image words) n ret (p .ret) (λ z. x₁ z .holds)) (λ word u₂ t₂ x₂.
-      g-next (walkRun T image words) _ (g-enter (walkRun T image words) name ps word (λ z. x₂ z .holds) (λ z. record { sig = signature-ok (walkRun T image words) (params-grow (walkRun T image words) (x₂ z .grown) (x₁ (before (walkRun T image words) t₂ z) .value)) (x₂ z .value) })) (λ _ u₃ t₃ x₃.
+      g-next (walkRun T image words) _ (g-enter (walkRun T image words) name ps word (λ z. x₂ z .holds) (λ z. record { sig = signature-ok (walkRun T image words) (params-grow (walkRun T image words) (x₂ z .grown) (x₁ (before (walkRun T image words) t₂ z) .value .params)) (x₂ z .value) })) (λ _ u₃ t₃ x₃.
       g-return (walkRun T image words) (λ z. x₃ z .holds) (λ z. typed-grow (walkRun T image words) (x₃ z .grown) (x₂ (before (walkRun T image words) t₃ z) .value)))))
 
   -- ── After a function of the walk ──
@@ -156,7 +156,8 @@ module _ {T : Texts} {image places words : List ℕ} {r w : ℕ} {st : State} {b
   void-answer = C.known (y .holds .voids)
 
 -- a node's answer, and a block's
-pub node-answer : {T : Texts} {image words : List ℕ} {slot : ℕ} {ys : List Node} {r w : ℕ} {st st₁ : State} {b b₁ : Lent} {a : Answer} → Passes T image words (NodeOk (walkRun T image words) slot ys) r w st b st₁ b₁ a
+pub node-answer : {T : Texts} {image words : List ℕ} {slot : ℕ} {args : List ℕ} {ys : List Node} {r w : ℕ} {st st₁ : State} {b b₁ : Lent} {a : Answer}
+    → Passes T image words (NodeOk (walkRun T image words) slot args ys) r w st b st₁ b₁ a
     → AnswerOk (walkRun T image words) (whole words st₁ b₁) a
 node-answer p = p .after .value .own .answer
 

@@ -14,14 +14,14 @@ use Rattle.ptype.specs.Words.{tyOf}
 use Rattle.library.specs.Package.{poolOf, packagesOf}
 use Rattle.ast.specs.Image.{nodeCount, typeCount, rootCount, slotCount, nodePlace}
 use Rattle.ast.specs.TypeExpr.{typeOf}
-use Rattle.ast.specs.Node.{Node, treeOf, slotOf}
+use Rattle.ast.specs.Node.{treeOf}
 use Rattle.ast.specs.Claims.{twice}
 use Rattle.refusals.specs.Inputs.{Inputs, Buffers, textsIn}
 use Rattle.refusals.specs.Refusals.{refusalOf}
 use Rattle.rules.specs.World.{World}
-use Rattle.rules.specs.Walk.{startOf, walkFirst}
-use Rattle.rules.specs.Check.{Ended, zeros, zeroed, checkOf}
-use Rattle.rules.specs.Visited.{visitedIn, numberOf}
+use Rattle.rules.specs.Walk.{startOf, walkFirst, walkLater}
+use Rattle.rules.specs.Check.{Ended, zeros, zeroed, endOf, checkOf}
+use Rattle.rules.specs.Visited.{visitedIn, numberOf, visitedSlots}
 use Rattle.rules.specs.Names.{nodeNames, typeNames, wordNames, packageNames}
 
 -- P holds of each of a list
@@ -118,14 +118,14 @@ abbrev pub typeIn : Inputs → Ended → (slot : ℕ) → Ty
 typeIn i e slot = tyOf (textsIn i) (e .after .types) (getD (e .after .slots) slot 0)
 
 -- "a recorded type free of Unknown and of slots": "A recorded type is a slot word other than 0"; "free of a kind means at any depth"
-pub record HasConcreteType (i : Inputs) (e : Ended) (x : Node) : Type 0 where
-  pub recorded : getD (e .after .slots) (slotOf x) 0 ≡ 0 → ⊥
-  pub noUnknown : containsUnknown (typeIn i e (slotOf x)) ≡ false
-  pub noSlot : containsSlot (typeIn i e (slotOf x)) ≡ false
+pub record HasConcreteType (i : Inputs) (e : Ended) (slot : ℕ) : Type 0 where
+  pub recorded : getD (e .after .slots) slot 0 ≡ 0 → ⊥
+  pub noUnknown : containsUnknown (typeIn i e slot) ≡ false
+  pub noSlot : containsSlot (typeIn i e slot) ≡ false
 
--- "Then every visited node has a recorded type free of Unknown and of slots."
+-- "Then every visited node has a recorded type free of Unknown and of slots": in each slot that it owns, an Fn's argument slots too
 unfoldable pub Clean : Type 0
-Clean = (i : Inputs) (b : Buffers) → AnsweredClean (checkOf i b) → Every (HasConcreteType i (checkOf i b)) (visitedIn (i .image))
+Clean = (i : Inputs) (b : Buffers) → AnsweredClean (checkOf i b) → Every (HasConcreteType i (checkOf i b)) (visitedSlots (i .image))
 
 -- "output buffers or scratch are lengthened, whatever they held": only the lengths are compared
 pub record Longer (b b′ : Buffers) : Type 0 where
@@ -238,19 +238,20 @@ unfoldable pub entriesOf : Inputs → Ended → List Entry
 entriesOf i e = entriesFrom (textsIn i) (e .after .types) (e .after .functions) (e .functionWords) (e .functionWords) 0
 
 -- "every diagnostic comes from the new statements": "A diagnostic comes from a new statement if the rules raise it in the walk from its
--- root". So the walk of the old roots, in the larger case, raises none.
-pub record OldRootsSilent (i i′ : Inputs) (b′ : Buffers) : Type 0 where
+-- root". So the walk of the old roots, in the larger case, raises none, and the larger answer is what the walk of the others makes of its end.
+pub record OldRootsSilent (i i′ : Inputs) (b′ : Buffers) (e′ : Ended) : Type 0 where
   pub world : World
   pub walked : walkFirst i′ (rootCount (i .image)) (startOf i′ b′) ≡ ok tt world
   pub silent : world .diagnostics .used ≡ 0
+  pub others : e′ ≡ endOf b′ (walkLater i′ (rootCount (i .image)) world)
 
 -- both answers, all additions taken together
 pub record Kept (i i′ : Inputs) (b′ : Buffers) (e e′ : Ended) : Type 0 where
-  -- "every node visited before has the same type in both answers"
-  pub types : Every (λ x. typeIn i′ e′ (slotOf x) ≡ typeIn i e (slotOf x)) (visitedIn (i .image))
+  -- "every node visited before has the same type in both answers": in each slot that it owns
+  pub types : Every (λ slot. typeIn i′ e′ slot ≡ typeIn i e slot) (visitedSlots (i .image))
   -- "every old function the same signature and place"
   pub functions : take (length (entriesOf i e)) (entriesOf i′ e′) ≡ entriesOf i e
-  pub diagnostics : OldRootsSilent i i′ b′
+  pub diagnostics : OldRootsSilent i i′ b′ e′
 
 -- "Suppose further that any or all of this is done at once: .. If the larger case is answered, .." One claim about both answers.
 unfoldable pub Larger : Type 0
@@ -265,10 +266,10 @@ LargerWithoutStatements =
     → AnsweredClean (checkOf i b) → Answered (checkOf i′ b′) → checkOf i′ b′ .diagnostics ≡ 0
 
 -- ── Visited once ──
--- After refusals 1 to 6 no node is visited twice and each owns its slot alone, so that the Rust's `already_checked` never finds anything.
+-- After refusals 1 to 6 no node is visited twice and each owns its slots alone, so that the Rust's `already_checked` never finds anything.
 pub record VisitedOnce (image : List ℕ) : Type 0 where
   pub numbers : twice [] (map numberOf (visitedIn image)) ≡ false
-  pub slots : twice [] (map slotOf (visitedIn image)) ≡ false
+  pub slots : twice [] (visitedSlots image) ≡ false
 
 unfoldable pub EachVisitedOnce : Type 0
 EachVisitedOnce = (i : Inputs) (b : Buffers) → refusalOf i b ≡ none → VisitedOnce (i .image)

@@ -1,8 +1,10 @@
 -- Which nodes are visited (document 01, "Added for demand 3"): "Visited here are the roots and each part of a visited node but a call's
 -- target." A static notion: it asks nothing of the walk. Definitions.
-use Prim.Native.Nat.{ℕ}
+use Prim.Native.Nat.{ℕ, _+_}
 use mathlib.Core.List.{List, [], _∷_, _++_}
-use Rattle.ast.specs.Node.{Node, Nodes, Cases, Values, Atom, Ident, Bin, Unary, Let, Fn, Match, Call, Field, Cast, Import, Extern, Record, Array, Absent, done, then, noCase, case, noValue, value, rootsOf}
+use lib.ListN.{length}
+use Rattle.ast.specs.Node.{Node, Nodes, Cases, Values, Atom, Ident, Bin, Unary, Let, Fn, Match, Call, Field, Cast, Import, Extern, Record, Array, Absent, done, then, noCase, case, noValue, value, slotOf, rootsOf}
+use Rattle.ast.specs.Claims.{countFrom}
 
 -- what is visited below a visited node, and a list of visited nodes with what is visited below each
 unfoldable mutual
@@ -56,3 +58,34 @@ numberOf (Extern n slot token name fs) = n
 numberOf (Record n slot token fs) = n
 numberOf (Array n slot token ms) = n
 numberOf (Absent n) = n
+
+-- the arguments of an Fn
+unfoldable pub argumentsOf : Node → ℕ
+argumentsOf (Fn n slot name ret args body) = length args
+argumentsOf (Atom n slot token k) = 0
+argumentsOf (Ident n slot name) = 0
+argumentsOf (Bin n slot token op l r) = 0
+argumentsOf (Unary n slot token op r) = 0
+argumentsOf (Let n slot name r) = 0
+argumentsOf (Match n slot cs token d) = 0
+argumentsOf (Call n slot target args) = 0
+argumentsOf (Field n slot target name) = 0
+argumentsOf (Cast n slot token l t) = 0
+argumentsOf (Import n slot token paths) = 0
+argumentsOf (Extern n slot token name fs) = 0
+argumentsOf (Record n slot token fs) = 0
+argumentsOf (Array n slot token ms) = 0
+argumentsOf (Absent n) = 0
+
+-- "An Fn owns its slot and one after it per argument."
+abbrev pub slotsOf : Node → List ℕ
+slotsOf x = countFrom (slotOf x) (argumentsOf x + 1)
+
+-- the slots that some nodes own, one after the other
+unfoldable pub allSlots : List Node → List ℕ
+allSlots [] = []
+allSlots (x ∷ xs) = slotsOf x ++ allSlots xs
+
+-- the slots that the visited nodes of an image own
+unfoldable pub visitedSlots : (image : List ℕ) → List ℕ
+visitedSlots image = allSlots (visitedIn image)

@@ -1,5 +1,5 @@
 -- The walk as a whole, of accepted inputs (typecheck/lib.rs: `Typechecker::new`, `check`). Definitions.
-use Prim.Native.Nat.{ℕ}
+use Prim.Native.Nat.{ℕ, _+_, _-_}
 use mathlib.Core.Bool.{_&&_, cond}
 use mathlib.Core.List.{List, [], _∷_, _++_}
 use lib.ListN.{length, replicate}
@@ -10,7 +10,7 @@ use Rattle.ptype.specs.Ty.{depthOf}
 use Rattle.ptype.specs.Words.{voidWord}
 use Rattle.ptype.specs.Add.{buffer, typeRoom, write}
 use Rattle.ast.specs.Image.{nodeCount, rootCount, slotCount}
-use Rattle.ast.specs.Node.{firstRoots}
+use Rattle.ast.specs.Node.{Nodes, treeOf, nodesFrom, firstRoots}
 use Rattle.refusals.specs.Inputs.{Inputs, Buffers, textsIn}
 use Rattle.rules.specs.declared.Answer.the-variants.{Known}
 use Rattle.library.specs.Package.{Param, Function, Package, poolOf, packagesOf}
@@ -73,6 +73,16 @@ walkFirst i k = do
   copyPool (nodeCount (i .image)) (poolOf (i .library))
   measure (ctxOf i) (nodeCount (i .image)) (poolTypes (poolOf (i .library)) ++ packageTypes (packagesOf (i .library)))
   _ ← last (ctxOf i) (Known (slotCount (i .image))) (firstRoots (i .image) k)
+  skip
+
+-- the roots after the first k
+unfoldable pub laterRoots : (image : List ℕ) → (k : ℕ) → Nodes
+laterRoots image k = nodesFrom (treeOf image) image (4 + k) (rootCount image - k)
+
+-- and of those, from where the walk of the first k ended: `walkFirst i k >> walkLater i k` is the walk of all of them (tworuns: `walk-parts`)
+unfoldable pub walkLater : Inputs → (k : ℕ) → Walk Done
+walkLater i k = do
+  _ ← last (ctxOf i) (Known (slotCount (i .image))) (laterRoots (i .image) k)
   skip
 
 -- and of all of them

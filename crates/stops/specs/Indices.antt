@@ -4,34 +4,22 @@ use Prim.Native.Nat.{ℕ, zero, suc, _+_, _≤_, _<_}
 use native.Mathlib.Omega.{arith}
 use mathlib.Core.Path.{_≡_, refl}
 use mathlib.Core.Option.{none}
-use mathlib.Core.List.{List, [], _∷_, _++_}
+use mathlib.Core.List.{List, [], _∷_}
 use Rattle.ast.specs.Image.{slotCount}
 use Rattle.ast.specs.Node.{Node, slotOf}
 use Rattle.ast.specs.Claims.{countFrom}
 use Rattle.refusals.specs.Inputs.{Inputs, Buffers}
 use Rattle.refusals.specs.Refusals.{refusalOf}
-use Rattle.rules.specs.Visited.{visitedIn}
+use Rattle.rules.specs.Visited.{visitedIn, argumentsOf, slotsOf, allSlots}
 use Rattle.rules.specs.Promises.{Every}
-use Rattle.accepts.specs.Count.{total, total-append, upTo, one, one-same, count, once-le}
+use Rattle.accepts.specs.Count.{total, total-append, upTo, one-same, count, once-le}
 use Rattle.accepts.specs.Passed.{passed}
-use Rattle.accepts.specs.VisitedParts.{argumentsOf, slotsOf}
-use Rattle.accepts.specs.Once.{slots-once}
-use Rattle.accepts.specs.OtherSlots.{owned}
+use Rattle.accepts.specs.Once.{slots-count, slots-once}
 use Rattle.stops.specs.NoStop.{visited-low}
 
 -- "An Fn owns its slot and one after it per argument": the types that a node's rule allocates at most
 abbrev pub allocates : Node → ℕ
 allocates x = argumentsOf x + 1
-
--- the slots that some nodes own, one after the other
-allSlots : List Node → List ℕ
-allSlots [] = []
-allSlots (x ∷ xs) = slotsOf x ++ allSlots xs
-
-slots-count : (slot : ℕ) (xs : List Node) → count slot (allSlots xs) ≡ owned slot xs
-unfolding allSlots total
-slots-count slot [] = refl
-slots-count slot (x ∷ xs) = omega (arith, total-append (one slot) (slotsOf x) (allSlots xs), slots-count slot xs)
 
 from-long : (first n : ℕ) → total (λ (_ : ℕ). 1) (countFrom first n) ≡ n
 unfolding total countFrom

@@ -20,7 +20,7 @@ use Rattle.rules.specs.declared.Answer.the-variants.{Known}
 use Rattle.rules.specs.World.{World}
 use Rattle.rules.specs.Steps.{Done, skip}
 use Rattle.rules.specs.Rules.{last}
-use Rattle.rules.specs.Visited.{visitedIn}
+use Rattle.rules.specs.Visited.{visitedIn, slotsOf}
 use Rattle.rules.specs.Walk.{ctxOf, startOf, copyPool, measure, walkFirst, walk, walkOf}
 use Rattle.rules.specs.Promises.{Every}
 use Rattle.laws.specs.Keeps.{Keeps, kept, stopped}
@@ -30,7 +30,6 @@ use Rattle.tworuns.specs.Walk.{over}
 use Rattle.tworuns.specs.Accepted.{TypeOf, libraryTypes, fresh-start}
 use Rattle.library_laws.specs.Types.{library-types}
 use Rattle.accepts.specs.Count.{total, one-other, count}
-use Rattle.accepts.specs.VisitedParts.{slotsOf}
 use Rattle.accepts.specs.OfImage.{of-image, tree-number}
 use Rattle.accepts.specs.VisitedOf.{visited-every}
 use Rattle.accepts.specs.Once.{slots-once}

@@ -161,7 +161,7 @@ module _ (c : Ctx) where
         (then-left ys _ _ refl (g-fnArguments run n (slot + 1) args pa low (alone run (λ _. h))) (K.in-fnArguments (Leaves ys) Any (Free ys) (leaves-kept ys) c n (slot + 1) args free (withEnv s [])) (λ ps u₁ x₁ l₁.
         then-left ys _ _ refl (g-typeFrom run n e p (λ _. x₁ .holds)) (K.in-typeFrom (Leaves ys) Any (Free ys) (leaves-kept ys) c n e u₁) (λ ret u₂ x₂ l₂.
         then-left ys _ _ refl
-        (g-enter run name ps ret (λ _. x₂ .holds) (λ _. record { sig = signature-ok run (params-grow run (x₂ .grown) (x₁ .value)) (x₂ .value) }))
+        (g-enter run name ps ret (λ _. x₂ .holds) (λ _. record { sig = signature-ok run (params-grow run (x₂ .grown) (x₁ .value .params)) (x₂ .value) }))
         (K.in-enter (Leaves ys) Any (Free ys) (leaves-kept ys) (leaves-enters ys) name ps ret u₂) (λ _ u₃ x₃ l₃.
         let r₁ : Ready u₁ ys = ready-then [] ys (record { once = d .once; unset = d .unset; fit = d .fit }) l₁ in
         next-same _ (same u₃ (ready-then [] ys (ready-then [] ys r₁ l₂) l₃) (x₃ .holds)))))))) (λ _. refl)

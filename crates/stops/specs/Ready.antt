@@ -14,13 +14,12 @@ use Rattle.image_laws.specs.Accepted.{Accepted}
 use Rattle.trees.specs.Trees.{tree-atom, tree-ident, tree-bin, tree-unary, tree-let, tree-fn, tree-match, tree-call, tree-field, tree-cast, tree-import, tree-extern, tree-record, tree-array}
 use Rattle.rules.specs.World.{Ctx, World}
 use Rattle.rules.specs.Rules.{node, block, cases}
-use Rattle.rules.specs.Visited.{visitedBelow, visitedAmong, visitedInCases}
+use Rattle.rules.specs.Visited.{visitedBelow, visitedAmong, visitedInCases, slotsOf, argumentsOf}
 use Rattle.rules.specs.Promises.{Every}
 use Rattle.laws.specs.SlotsOf.{ArgSlots, SlotsOf, SlotsOfAll}
 use Rattle.laws.specs.Keeps.{Keeps, Kept, Enters}
 use Rattle.laws.specs.Keeps as K
 use Rattle.accepts.specs.Count.{total, total-append, one-same, count}
-use Rattle.accepts.specs.VisitedParts.{slotsOf, argumentsOf}
 use Rattle.accepts.specs.Once.{own-slot}
 use Rattle.accepts.specs.OtherSlots.{owned, among-hold}
 use Rattle.accepts.specs.OtherSlots as O

@@ -38,7 +38,7 @@ module _ (c : Ctx) where
   -- ── What the arguments of a call, and the cases of a Match, leave ──
 
   -- a node's answer, where it is its own slot's
-  own-typed : (slot : ℕ) {ys : List Node} {s : World} {x : Result World Refusal Answer} → Owns slot x → Gives (run c) (NodeOk (run c) slot ys) s x
+  own-typed : (slot : ℕ) {args : List ℕ} {ys : List Node} {s : World} {x : Result World Refusal Answer} → Owns slot x → Gives (run c) (NodeOk (run c) slot args ys) s x
       → Gives (run c) (λ u a. isPoison a ≡ false → Recorded (run c) u slot) s x
   unfolding isPoison
   own-typed slot (knows u) (gives t k) = gives t (λ z. let x = k z in record { grown = x .grown; recorded = x .recorded; holds = x .holds; value = λ e. has (x .value .own .answer) })

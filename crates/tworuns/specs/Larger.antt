@@ -1,7 +1,7 @@
 -- "Suppose further that any or all of this is done at once": packages after the library's last, statements after the script's last,
 -- longer buffers. The walk of the old roots goes as before, and what follows keeps what it left. Assumes what refusals 1 to 6 leave
 -- (`Accepts`), and that old packages and roots are read from the extended words as before (`Extends`).
-use Prim.Native.Nat.{ℕ, _+_, _≤_, _<_}
+use Prim.Native.Nat.{ℕ, _+_, _-_, _≤_, _<_}
 use native.Mathlib.Omega.{arith}
 use mathlib.Core.Path.{_≡_, refl, sym, ap, _∙_, subst}
 use mathlib.Core.Option.{Option, none, some}
@@ -9,20 +9,21 @@ use mathlib.Core.List.{List, [], _∷_, _++_, append-assoc}
 use lib.ListN.{getD, length, take, drop, length-take}
 use lib.Seq.{take-take, take-append-seam}
 use Rattle.tok.specs.Text.{Texts, longer, nameBytes}
-use Rattle.tok.specs.Step.{Result, ok, refused, Refusal, next}
+use Rattle.tok.specs.Step.{Result, ok, refused, Refusal, next, _>>_}
 use Rattle.ptype.specs.Words.{tyOf}
 use Rattle.ptype.specs.GrowLaws.{nameBytes-longer}
 use Rattle.ast.specs.Image.{nodeCount, rootCount, slotCount}
-use Rattle.ast.specs.Node.{Node, Nodes, treeOf, nodesFrom, firstRoots, rootsOf, slotOf}
+use Rattle.ast.specs.Node.{Nodes, treeOf, nodesFrom, firstRoots, rootsOf}
 use Rattle.library.specs.Package.{Package, poolOf, packagesOf}
 use Rattle.refusals.specs.Inputs.{Inputs, Buffers, textsIn}
 use Rattle.refusals.specs.Refusals.{refusalOf}
 use Rattle.rules.specs.declared.Answer.{Answer}
+use Rattle.rules.specs.declared.Answer.the-variants.{Known}
 use Rattle.rules.specs.World.{Ctx, World}
 use Rattle.rules.specs.Steps.{Done}
 use Rattle.rules.specs.Rules.{last}
-use Rattle.rules.specs.Visited.{visitedIn}
-use Rattle.rules.specs.Walk.{ctxOf, startOf, poolTypes, walkFirst, walk, walkOf}
+use Rattle.rules.specs.Visited.{visitedIn, visitedSlots}
+use Rattle.rules.specs.Walk.{ctxOf, startOf, poolTypes, walkFirst, laterRoots, walkLater, walk, walkOf}
 use Rattle.rules.specs.Check.{endOf, unlessRefused, checkOf}
 use Rattle.rules.specs.Promises.{Every, Answered, AnsweredClean, Longer, MorePackages, MoreStatements, typeIn, Entry, entriesOf, OldRootsSilent, Kept}
 use Rattle.laws.specs.SlotsOf.{SlotsOfAll, all-among}
@@ -39,13 +40,13 @@ use Rattle.tworuns.specs.Entries.{wordsOf, NotZero, Stays, walk-holds, s
 use Rattle.tworuns.specs.Signatures.{forward, forward-append, entriesAt, entries-front, entries-length, entries-own, entries-same, forward-same}
 use Rattle.tworuns.specs.Refused.{Numbered, numbered}
 use Rattle.tworuns.specs.Accepted.{TypeOf, Accepted, Accepts, libraryTypes, walk-over, fresh-start}
-use Rattle.tworuns.specs.Split.{nodes-joined, Split, goes, stays, over-split}
-use Rattle.tworuns.specs.Kept.{Goes, New, last-goes, among-own}
+use Rattle.tworuns.specs.Split.{nodes-joined, last-dropped, Split, goes, stays, over-split, split-is}
+use Rattle.tworuns.specs.Kept.{Goes, New, last-goes, slots-low}
 
--- a slot that a node of the list owns
-pub data OwnedIn (slot : ℕ) : List Node → Type 0 where
-  here : {x : Node} {xs : List Node} → slotOf x ≡ slot → OwnedIn slot (x ∷ xs)
-  further : {x : Node} {xs : List Node} → OwnedIn slot xs → OwnedIn slot (x ∷ xs)
+-- a slot of those that are owned
+pub data OwnedIn (slot : ℕ) : List ℕ → Type 0 where
+  here : {x : ℕ} {xs : List ℕ} → x ≡ slot → OwnedIn slot (x ∷ xs)
+  further : {x : ℕ} {xs : List ℕ} → OwnedIn slot xs → OwnedIn slot (x ∷ xs)
 
 -- the roots after the first k
 abbrev pub rootsAfter : (image : List ℕ) → (k more : ℕ) → Nodes
@@ -56,12 +57,26 @@ pub record Extended (i i′ : Inputs) (newRoots : ℕ) : Type 0 where
   pub more : List Package
   pub packages : packagesOf (i′ .library) ≡ packagesOf (i .library) ++ more
   pub roots : firstRoots (i′ .image) (rootCount (i .image)) ≡ rootsOf (i .image)
-  pub others : SlotsOfAll (New (λ slot. OwnedIn slot (visitedIn (i .image)))) (rootsAfter (i′ .image) (rootCount (i .image)) newRoots)
+  pub others : SlotsOfAll (New (λ slot. OwnedIn slot (visitedSlots (i .image)))) (rootsAfter (i′ .image) (rootCount (i .image)) newRoots)
 
 unfoldable pub Extends : Type 0
 Extends =
     (i i′ : Inputs) (b b′ : Buffers) → MorePackages i i′ → (m : MoreStatements i i′) → refusalOf i b ≡ none → refusalOf i′ b′ ≡ none
     → Extended i i′ (length (m .roots))
+
+-- the walk of the first k roots, and of more
+walk-split : (i : Inputs) (k more : ℕ) (s : World) → Split (ctxOf i) (rootsAfter (i .image) k more) (walkFirst i k s) (walkFirst i (k + more) s)
+unfolding firstRoots
+walk-split i k more s =
+    rw (walk-over i k, walk-over i (k + more), nodes-joined (treeOf (i .image)) (i .image) 4 k more)
+    (over-split (ctxOf i) (nodeCount (i .image)) (poolOf (i .library)) (libraryTypes (i .library)) _ (rootsAfter (i .image) k more) s)
+
+-- THE LAW: the first k roots, then the others, are the whole walk.
+pub walk-parts : (i : Inputs) (k : ℕ) → k ≤ rootCount (i .image) → (s : World) → walk i s ≡ (walkFirst i k >> walkLater i k) s
+unfolding walk walkLater laterRoots ctxOf
+walk-parts i k l s =
+    let e : k + (rootCount (i .image) - k) ≡ rootCount (i .image) = omega arith in
+    ap (λ (n : ℕ). walkFirst i n s) (sym e) ∙ split-is (walk-split i k (rootCount (i .image) - k) s)
 
 -- an answer is the walk's
 pub record Ends (i : Inputs) (b : Buffers) : Type 0 where
@@ -151,10 +166,8 @@ module _ {i i′ : Inputs} (mp : MorePackages i i′) (ms : MoreStatements i i�
 
     -- and then the new ones
     all-split : Split (ctxOf i′) new (walkFirst i′ (rootCount (i .image)) (startOf i′ b′)) (walkOf i′ b′)
-    unfolding walkOf walk firstRoots
-    all-split =
-        rw (more-roots, walk-over i′ (rootCount (i .image)), walk-over i′ (rootCount (i .image) + length (ms .roots)), nodes-joined (treeOf (i′ .image)) (i′ .image) 4 (rootCount (i .image)) (length (ms .roots)))
-        (over-split (ctxOf i′) (nodeCount (i′ .image)) (poolOf (i′ .library)) (libraryTypes (i′ .library)) _ new (startOf i′ b′))
+    unfolding walkOf walk
+    all-split = rw (more-roots) (walk-split i′ (rootCount (i .image)) (length (ms .roots)) (startOf i′ b′))
 
 -- The worlds after the old roots, and after all: the first run with no diagnostic, the second answered.
 pub record Together (r : Runs) (c : Ctx) (new : Nodes) (u w : World) (x : Result World Refusal Done) : Type 0 where
@@ -180,10 +193,10 @@ pub after : {R : World → World → Type 0} {Q : ℕ → Type 0} {m w : World} 
 after {R} {m = m} (kept {u = u} p) e = subst (λ (t : World). R m t) (same-world e) p
 after (stopped q) e = absurd (not-ok e)
 
-all-owned : (xs : List Node) → Every (λ x. OwnedIn (slotOf x) xs) xs
+all-owned : (xs : List ℕ) → Every (λ x. OwnedIn x xs) xs
 unfolding Every
 all-owned [] = tt
-all-owned (x ∷ xs) = (here refl, every-map (λ y. OwnedIn (slotOf y) xs) (λ y. OwnedIn (slotOf y) (x ∷ xs)) (λ y h. further h) xs (all-owned xs))
+all-owned (x ∷ xs) = (here refl, every-map (λ y. OwnedIn y xs) (λ y. OwnedIn y (x ∷ xs)) (λ y h. further h) xs (all-owned xs))
 
 -- the entries of an answer: those of the own functions
 entries-of : {i : Inputs} {b : Buffers} (f : Ends i b) → Accepted i b → entriesOf i (checkOf i b) ≡ entriesAt (textsIn i) (f .world .types .words) 0 (forward (f .world .own))
@@ -201,35 +214,46 @@ module _ {i i′ : Inputs} {b b′ : Buffers} (mp : MorePackages i i′) (ms : M
   run = together (rw (f .walked) at (old-walks mp ms long a a′ x)) (all-split mp ms long a a′ x) clean (f′ .walked)
 
   -- "every diagnostic comes from the new statements"
-  pub old-silent : OldRootsSilent i i′ b′
-  old-silent = record { world = run .middle; walked = run .first; silent = sym (run .agree .diagnostics .used) ∙ clean }
+  new-walked : walkLater i′ (rootCount (i .image)) (run .middle) ≡ ok tt (f′ .world)
+  unfolding walkLater laterRoots ctxOf
+  new-walked =
+      let e : rootCount (i′ .image) - rootCount (i .image) ≡ length (ms .roots) = omega (arith, more-roots mp ms) in
+      rw e (last-dropped (ctxOf i′) (Known (slotCount (i′ .image))) (run .answer) (rootsAfter (i′ .image) (rootCount (i .image)) (length (ms .roots))) (run .middle) ∙ run .rest)
 
-  went : Goes (λ slot. OwnedIn slot (visitedIn (i .image))) (run .middle) (f′ .world)
-  went = after (last-goes (λ slot. OwnedIn slot (visitedIn (i .image))) (ctxOf i′) (run .answer) (rootsAfter (i′ .image) (rootCount (i .image)) (length (ms .roots))) (x .others) (run .middle)) (run .rest)
+  pub old-silent : OldRootsSilent i i′ b′ (checkOf i′ b′)
+  old-silent = record {
+    world = run .middle;
+    walked = run .first;
+    silent = sym (run .agree .diagnostics .used) ∙ clean;
+    others = f′ .ended ∙ ap (endOf b′) (sym new-walked);
+  }
+
+  went : Goes (λ slot. OwnedIn slot (visitedSlots (i .image))) (run .middle) (f′ .world)
+  went = after (last-goes (λ slot. OwnedIn slot (visitedSlots (i .image))) (ctxOf i′) (run .answer) (rootsAfter (i′ .image) (rootCount (i .image)) (length (ms .roots))) (x .others) (run .middle)) (run .rest)
 
   -- "every node visited before has the same type in both answers"
-  type-kept : (n : Node) → slotOf n < slotCount (i .image) → OwnedIn (slotOf n) (visitedIn (i .image))
-      → tyOf (textsIn i′) (f′ .world .types .words) (getD (f′ .world .slots) (slotOf n) 0) ≡ tyOf (textsIn i) (f .world .types .words) (getD (f .world .slots) (slotOf n) 0)
+  type-kept : (slot : ℕ) → slot < slotCount (i .image) → OwnedIn slot (visitedSlots (i .image))
+      → tyOf (textsIn i′) (f′ .world .types .words) (getD (f′ .world .slots) slot 0) ≡ tyOf (textsIn i) (f .world .types .words) (getD (f .world .slots) slot 0)
   unfolding ctxOf
-  type-kept n l o =
-      let h = run .agree .slots (slotOf n) (slotOf n) (own l) in
-      ap (tyOf (textsIn i′) (f′ .world .types .words)) (went .slots (slotOf n) o)
+  type-kept slot l o =
+      let h = run .agree .slots slot slot (own l) in
+      ap (tyOf (textsIn i′) (f′ .world .types .words)) (went .slots slot o)
       ∙ (means-tyOf (means-grow (went .types) (h .right)) (omega (arith, h .low)) ∙ sym (tree-first (both i i′) h))
 
-  pub types-kept : Every (λ n. typeIn i′ (checkOf i′ b′) (slotOf n) ≡ typeIn i (checkOf i b) (slotOf n)) (visitedIn (i .image))
-  unfolding endOf visitedIn rootsOf ctxOf
+  pub types-kept : Every (λ slot. typeIn i′ (checkOf i′ b′) slot ≡ typeIn i (checkOf i b) slot) (visitedSlots (i .image))
+  unfolding endOf visitedIn visitedSlots rootsOf ctxOf
   types-kept =
       rw (f .ended, f′ .ended)
-      (every-both Owned Low Same (λ n o l. type-kept n l o) (visitedIn (i .image)) (all-owned (visitedIn (i .image))) (among-own (both i i′) (rootsOf (i .image)) (a .roots)))
+      (every-both Owned Low Same (λ slot o l. type-kept slot l o) (visitedSlots (i .image)) (all-owned (visitedSlots (i .image))) (slots-low (both i i′) (rootsOf (i .image)) (a .roots)))
     where
-      Owned : Node → Type 0
-      Owned n = OwnedIn (slotOf n) (visitedIn (i .image))
+      Owned : ℕ → Type 0
+      Owned slot = OwnedIn slot (visitedSlots (i .image))
 
-      Low : Node → Type 0
-      Low n = slotOf n < slotCount (i .image)
+      Low : ℕ → Type 0
+      Low slot = slot < slotCount (i .image)
 
-      Same : Node → Type 0
-      Same n = tyOf (textsIn i′) (f′ .world .types .words) (getD (f′ .world .slots) (slotOf n) 0) ≡ tyOf (textsIn i) (f .world .types .words) (getD (f .world .slots) (slotOf n) 0)
+      Same : ℕ → Type 0
+      Same slot = tyOf (textsIn i′) (f′ .world .types .words) (getD (f′ .world .slots) slot 0) ≡ tyOf (textsIn i) (f .world .types .words) (getD (f .world .slots) slot 0)
 
   -- "every old function the same signature and place"
   more-own : Scope (run .middle) (f′ .world)

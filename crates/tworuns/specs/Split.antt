@@ -40,10 +40,20 @@ last-joined c (then x xs) ys a s = go (node c x s) (λ b t. last-joined c xs ys 
     go (ok b t) h = h b t
     go (refused e) h = refl
 
+-- the answer before the first of the nodes does not matter where the last one's is dropped
+pub last-dropped : (c : Ctx) (a b : Answer) (xs : Nodes) (s : World) → _≡_ {A = Result World Refusal Done} (next (last c a xs s) (λ _ t. ok tt t)) (next (last c b xs s) (λ _ t. ok tt t))
+unfolding last
+last-dropped c a b done s = refl
+last-dropped c a b (then x xs) s = refl
+
 -- the walk of the first roots, and of all
 pub data Split (c : Ctx) (new : Nodes) : Result World Refusal Done → Result World Refusal Done → Type 0 where
   goes : {u : World} (a : Answer) → Split c new (ok tt u) (next (last c a new u) (λ _ t. ok tt t))
   stays : {e : Refusal} → Split c new (refused e) (refused e)
+
+pub split-is : {c : Ctx} {new : Nodes} {x y : Result World Refusal Done} → Split c new x y → y ≡ next x (λ _ u. next (last c (Known (c .void)) new u) (λ _ t. ok tt t))
+split-is {c} {new} (goes {u = u} a) = last-dropped c a (Known (c .void)) new u
+split-is stays = refl
 
 pub over-split : (c : Ctx) (n : ℕ) (pool words : List ℕ) (old new : Nodes) (s : World) → Split c new (over c n pool words old s) (over c n pool words (joined old new) s)
 unfolding over
