@@ -1,8 +1,9 @@
 -- The mission's demands as theorems: a value of each promise's type (rules: `Promises`). They assume nothing.
-use Rattle.rules.specs.Promises.{Demand1, NamesWellFormed, AnsweredLonger, Larger, LargerWithoutStatements, EachVisitedOnce}
+use Rattle.rules.specs.Promises.{Demand1, NamesWellFormed, AnsweredLonger, Larger, LargerWithoutStatements, NothingAdded, PackagesAlone, StatementsAlone, EachVisitedOnce}
 use Rattle.tworuns.specs.Longer as L
 use Rattle.tworuns.specs.Larger as M
 use Rattle.accepts.specs.Once as O
+use Rattle.accepts.specs.Alone as A
 use Rattle.accepts.specs.AcceptedInputs.{accepts}
 use Rattle.accepts.specs.Extended.{extends}
 use Rattle.accepts.specs.Table.{table-holds}
@@ -33,6 +34,20 @@ larger = M.larger accepts extends
 pub larger-without-statements : LargerWithoutStatements
 unfolding LargerWithoutStatements
 larger-without-statements = M.larger-without-statements accepts extends
+
+-- "any or all of this": an addition may be of nothing
+pub nothing-added : NothingAdded
+unfolding NothingAdded
+nothing-added = A.nothing-added
+
+-- packages alone, and statements alone
+pub packages-alone : PackagesAlone
+unfolding PackagesAlone
+packages-alone = A.packages-alone
+
+pub statements-alone : StatementsAlone
+unfolding StatementsAlone
+statements-alone = A.statements-alone
 
 -- no node's rule is entered twice
 pub each-visited-once : EachVisitedOnce

@@ -17,4 +17,5 @@ pub mod LowSlots
 pub mod FreshRoots
 pub mod Table
 pub mod NamesWell
+pub mod Alone
 pub mod Demands

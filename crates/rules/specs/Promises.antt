@@ -265,6 +265,29 @@ LargerWithoutStatements =
     (i i′ : Inputs) (b b′ : Buffers) → MorePackages i i′ → (more : MoreStatements i i′) → more .roots ≡ [] → Longer b b′
     → AnsweredClean (checkOf i b) → Answered (checkOf i′ b′) → checkOf i′ b′ .diagnostics ≡ 0
 
+-- "any or all of this": an addition may be of nothing, so that each alone, and any two, are instances of `Larger`. What passes refusals 1 to 6
+-- is itself with no packages, no statements and no words of buffers added.
+pub record AddsNothing (i : Inputs) (b : Buffers) : Type 0 where
+  pub packages : MorePackages i i
+  pub statements : MoreStatements i i
+  pub noRoots : statements .roots ≡ []
+  pub buffers : Longer b b
+
+unfoldable pub NothingAdded : Type 0
+NothingAdded = (i : Inputs) (b : Buffers) → refusalOf i b ≡ none → AddsNothing i b
+
+-- "any packages are added after the library's last", alone: the script is the same, and there is no diagnostic still
+unfoldable pub PackagesAlone : Type 0
+PackagesAlone =
+    (i i′ : Inputs) (b : Buffers) → MorePackages i i′ → i′ .script ≡ i .script → i′ .image ≡ i .image
+    → AnsweredClean (checkOf i b) → Answered (checkOf i′ b) → Kept i i′ b (checkOf i b) (checkOf i′ b) × (checkOf i′ b .diagnostics ≡ 0)
+
+-- "any statements are added after the script's last", alone: the library is the same. (Longer buffers alone: `AnsweredLonger`.)
+unfoldable pub StatementsAlone : Type 0
+StatementsAlone =
+    (i i′ : Inputs) (b : Buffers) → MoreStatements i i′ → i′ .libraryText ≡ i .libraryText → i′ .library ≡ i .library
+    → AnsweredClean (checkOf i b) → Answered (checkOf i′ b) → Kept i i′ b (checkOf i b) (checkOf i′ b)
+
 -- ── Visited once ──
 -- After refusals 1 to 6 no node is visited twice and each owns its slots alone, so that the Rust's `already_checked` never finds anything.
 pub record VisitedOnce (image : List ℕ) : Type 0 where
