@@ -1,20 +1,24 @@
--- Refusal 3: what is visited in an accepted image owns slots below V, and its names lie in the script text (`SoundAll`). By induction on
--- numbers. Assumes nothing but that the image is accepted.
+-- Refusal 3: what is visited in an accepted image owns slots below V, its names lie in the script text, and a call's target is an Ident or a
+-- Field (`SoundAll`). By induction on numbers. Assumes nothing but that the image is accepted.
 use Prim.Native.Nat.{ℕ, zero, suc, _+_, _≤_, _<_}
 use native.Mathlib.Omega.{arith}
 use mathlib.Core.Path.{_≡_, refl}
+use mathlib.Core.Bool.{true}
+use mathlib.Core.Logic.{inl, inr}
 use mathlib.Core.List.{List}
 use borrow.Author.Tests.{ne-eqb}
 use Rattle.tok.specs.Text.{Texts}
 use Rattle.tok.specs.Name.{inScript}
 use Rattle.tok.proofs.NameLaws.{goodName-payload}
-use Rattle.ptype.specs.Kinds.{Plain}
+use Rattle.ptype.specs.Kinds.{Plain, one-of}
 use Rattle.ptype.specs.Inside.{Lies}
 use Rattle.ptype.specs.GrowLaws.{accepted-lies}
 use Rattle.ast.specs.Image.{wordAt, nodeCount, typeCount, rootCount, slotCount, nodePlace, typePlace, recordKind}
 use Rattle.ast.specs.TypeExpr.{typeFieldsFrom, typeOf, argsFrom}
 use Rattle.ast.specs.Node.{Node, Atom, Ident, Bin, Unary, Let, Fn, Match, Call, Field, Cast, Import, Extern, Record, Array, Absent, nodesFrom, casesFrom, valuesFrom, wordsFrom, externsFrom, treeOf, firstRoots, rootsOf}
 use Rattle.ast.specs.Outline.{Counts}
+use Rattle.ast.specs.NodeRecords.{callable}
+use Rattle.image_laws.specs.OutlineAt.{outlineAt}
 use Rattle.image_laws.specs.Many.{Each}
 use Rattle.image_laws.specs.RecordWords.{Named, Under, Pair, CasesWords, defaultWords, caseWords, FunctionsWords, noFunctions, functionWords}
 use Rattle.image_laws.specs.NodesRead.{NodeRead, atom-words, ident-words, bin-words, unary-words, let-words, fn-words, match-words, call-words, field-words, cast-words, import-words, extern-words, record-words, array-words}
@@ -55,23 +59,14 @@ module _ (P N : ℕ → Type 0) where
   field-callee name h (Array n slot token ms) s = tt
   field-callee name h (Absent n) s = tt
 
-  callee-sound : (x : Node) → Sound P N x → SoundCallee P N (calleeOf x)
+  -- "target (Ident or Field)"
+  ident-callee : (x : Node) (n slot name : ℕ) → x ≡ Ident n slot name → Sound P N x → SoundCallee P N (calleeOf x)
   unfolding Sound SoundCallee calleeOf
-  callee-sound (Field n slot target name) s = field-callee name (s .2) target (s .1)
-  callee-sound (Ident n slot name) s = s .1
-  callee-sound (Atom n slot token k) s = tt
-  callee-sound (Bin n slot token op l r) s = tt
-  callee-sound (Unary n slot token op r) s = tt
-  callee-sound (Let n slot x r) s = tt
-  callee-sound (Fn n slot x ret args body) s = tt
-  callee-sound (Match n slot cs token d) s = tt
-  callee-sound (Call n slot target args) s = tt
-  callee-sound (Cast n slot token l t) s = tt
-  callee-sound (Import n slot token paths) s = tt
-  callee-sound (Extern n slot token x fs) s = tt
-  callee-sound (Record n slot token fs) s = tt
-  callee-sound (Array n slot token ms) s = tt
-  callee-sound (Absent n) s = tt
+  ident-callee x n slot name e h = rw e ((rw e at h) .1)
+
+  target-callee : (x : Node) (n slot name : ℕ) (target : Node) → x ≡ Field n slot target name → Sound P N x → SoundCallee P N (calleeOf x)
+  unfolding Sound SoundCallee calleeOf
+  target-callee x n slot name target e h = let k = rw e at h in rw e (field-callee name (k .2) target (k .1))
 
 module _ (t : Texts) {image : List ℕ} (a : Accepted (t .script) image) where
   -- slots below V, and names in the script text
@@ -155,6 +150,15 @@ module _ (t : Texts) {image : List ℕ} (a : Accepted (t .script) image) where
     cases-sound (defaultWords m l b) = tt
     cases-sound (caseWords {at = at} m q body others) = (go (wordAt image (at + 1)) (q .under), nodes-sound (wordAt image (at + 2)) (at + 3) body, cases-sound others)
 
+    callee-sound : n < nodeCount image → {m : ℕ} → m < n → callable (outlineAt image m) ≡ true → SoundCallee Low In (calleeOf (treeOf image m))
+    unfolding outlineAt
+    callee-sound l {m} h c =
+        let q : m < nodeCount image = omega arith in
+        elim (one-of 1 8 (recordKind image (nodePlace image m)) c) [
+          | inl e ↦ ident-callee Low In (treeOf image m) _ _ _ (tree-ident a m q e) (go m h)
+          | inr e ↦ target-callee Low In (treeOf image m) _ _ _ _ (tree-field a m q e) (go m h)
+        ]
+
     module _ (l : n < nodeCount image) where
       r : NodeRead c image n
       r = a .node n l
@@ -177,7 +181,7 @@ module _ (t : Texts) {image : List ℕ} (a : Accepted (t .script) image) where
       by-kind (suc (suc (suc (suc (suc (suc zero)))))) e = let w = match-words r e in rw (tree-match a n l e) (own, cases-sound (w .cases), nodes-sound _ _ (cases-default (w .cases)))
       by-kind (suc (suc (suc (suc (suc (suc (suc zero))))))) e =
           let w = call-words r e in
-          rw (tree-call a n l e) (own, callee-sound Low In (treeOf image (wordAt image (nodePlace image n + 2))) (go _ (w .target .under)), nodes-sound _ _ (w .args))
+          rw (tree-call a n l e) (own, callee-sound l (w .target .under) (w .callable), nodes-sound _ _ (w .args))
       by-kind (suc (suc (suc (suc (suc (suc (suc (suc zero)))))))) e = let w = field-words r e in rw (tree-field a n l e) (own, go _ (w .target .under), lies (w .name))
       by-kind (suc (suc (suc (suc (suc (suc (suc (suc (suc zero))))))))) e = let w = cast-words r e in rw (tree-cast a n l e) (own, go _ (w .left .under), type-sound _ (w .type .under))
       by-kind (suc (suc (suc (suc (suc (suc (suc (suc (suc (suc zero)))))))))) e = rw (tree-import a n l e) (own, names-sound _ _ (import-words r e .paths))

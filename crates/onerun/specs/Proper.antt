@@ -113,7 +113,7 @@ module _ (P N : ℕ → Type 0) where
   sound-callee (ownFunction name) h = h
   sound-callee (packageFunction pkg name) h = h
   sound-callee (throughField name) h = tt
-  sound-callee noCallee h = tt
+  sound-callee noCallee h = h
 
   mutual
     unfolding Proper Sound

@@ -1,5 +1,5 @@
--- What the walk relies on of a tree: its own slots and names have a property each, and its kinds of type are plain ones. An accepted image has
--- only such trees. Definitions.
+-- What the walk relies on of a tree: its own slots and names have a property each, its kinds of type are plain ones, and a call's target is an
+-- Ident or a Field. An accepted image has only such trees. Definitions.
 use Prim.Native.Nat.{ℕ, _+_}
 use mathlib.Core.List.{List, [], _∷_}
 use Rattle.ptype.specs.Kinds.{Plain}
@@ -34,11 +34,12 @@ module _ (P N : ℕ → Type 0) where
   SoundNames [] = Unit {0}
   SoundNames (n ∷ ns) = N n × SoundNames ns
 
+  -- "target (Ident or Field)"
   unfoldable pub SoundCallee : Callee → Type 0
   SoundCallee (ownFunction name) = N name
   SoundCallee (packageFunction pkg name) = N pkg × N name
   SoundCallee (throughField name) = Unit {0}
-  SoundCallee noCallee = Unit {0}
+  SoundCallee noCallee = ⊥
 
   unfoldable mutual
     pub Sound : Node → Type 0
