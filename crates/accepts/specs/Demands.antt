@@ -1,5 +1,5 @@
 -- The mission's demands as theorems: a value of each promise's type (rules: `Promises`). They assume nothing.
-use Rattle.rules.specs.Promises.{Demand1, NamesWellFormed, AnsweredLonger, Larger, LargerWithoutStatements, NothingAdded, PackagesAlone, StatementsAlone, EachVisitedOnce}
+use Rattle.rules.specs.Promises.{Demand1, NamesWellFormed, AnsweredLonger, Larger, LargerWithoutStatements, NothingAdded, PackagesAlone, StatementsAlone, EachVisitedOnce, FunctionsVisited}
 use Rattle.tworuns.specs.Longer as L
 use Rattle.tworuns.specs.Larger as M
 use Rattle.accepts.specs.Once as O
@@ -23,6 +23,11 @@ names-well-formed = names-read-well
 pub answered-longer : AnsweredLonger
 unfolding AnsweredLonger
 answered-longer = L.answered-longer accepts
+
+-- "An old function is a visited Fn of the smaller script, its signature its entry in the functions buffer, its place the position there."
+pub functions-visited : FunctionsVisited
+unfolding FunctionsVisited
+functions-visited = M.functions-visited accepts
 
 -- "If the larger case is answered, every node visited before has the same type in both answers, every old function the same signature and
 -- place, and every diagnostic comes from the new statements"

@@ -11,9 +11,9 @@ use Rattle.refusals.specs.Inputs.{Inputs, Buffers}
 use Rattle.refusals.specs.Refusals.{refusalOf}
 use Rattle.rules.specs.Check.{Ended, checkOf}
 use Rattle.rules.specs.Visited.{visitedSlots}
-use Rattle.rules.specs.Promises.{Every, Answered, TableHolds, Demand1, NamesReadWell, NamesWellFormed, VisitedOnce, EachVisitedOnce, messageOf, primaryOf, MessagesWellFormed, AnsweredClean, HasConcreteType, Clean, Longer, Alike, AnsweredLonger, MorePackages, MoreStatements, Kept, Larger, LargerWithoutStatements}
+use Rattle.rules.specs.Promises.{Every, Answered, TableHolds, Demand1, NamesReadWell, NamesWellFormed, VisitedOnce, EachVisitedOnce, messageOf, primaryOf, MessagesWellFormed, AnsweredClean, HasConcreteType, Clean, Longer, Alike, AnsweredLonger, MorePackages, MoreStatements, Kept, Larger, LargerWithoutStatements, entriesOf, oldFunctions, FunctionsVisited}
 use Rattle.tworuns.specs.Larger.{ends}
-use Rattle.accepts.specs.Demands.{demand-1, names-well-formed, each-visited-once, answered-longer, larger, larger-without-statements}
+use Rattle.accepts.specs.Demands.{demand-1, names-well-formed, each-visited-once, answered-longer, functions-visited, larger, larger-without-statements}
 use Rattle.clean.specs.Clean.{clean}
 use Rattle.clean.specs.Messages.{messages-well-formed}
 use Rattle.checker.specs.declared.Checked.{Checked}
@@ -50,6 +50,11 @@ module _ (i : Inputs) (b a : Buffers) (r : Checked) (e : checkOf i b ≡ endedOf
   pub check-clean : AnsweredClean (endedOf r a) → Every (HasConcreteType i (endedOf r a)) (visitedSlots (i .image))
   unfolding Clean
   check-clean = subst (λ x. AnsweredClean x → Every (HasConcreteType i x) (visitedSlots (i .image))) e (clean i b)
+
+  -- an entry for each visited Fn, in the order of visits, and no other
+  pub check-functions : AnsweredClean (endedOf r a) → entriesOf i (endedOf r a) ≡ oldFunctions i
+  unfolding FunctionsVisited
+  check-functions = subst (λ x. AnsweredClean x → entriesOf i x ≡ oldFunctions i) e (functions-visited i b)
 
   -- "with longer buffers alone it is answered, alike in every number returned and in every word and byte used"
   pub check-longer : (b′ a′ : Buffers) (r′ : Checked) → checkOf i b′ ≡ endedOf r′ a′ → Longer b b′ → Answered (endedOf r a) → Alike (slotCount (i .image)) (endedOf r a) (endedOf r′ a′)

@@ -3,3 +3,4 @@ mod Table
 mod Installer
 mod Readings
 mod PromisesOnRows
+mod FunctionsOnRow

@@ -6,15 +6,16 @@ use lib.ListN.{replicate, take, length}
 use native.Mathlib.Omega.{arith}
 use Rattle.tok.specs.Text.{text}
 use Rattle.tok.specs.Step.{Result, ok, refused, Refusal}
-use Rattle.refusals.specs.Inputs.{Inputs, Buffers}
+use Rattle.refusals.specs.Inputs.{Inputs, Buffers, textsIn}
 use Rattle.ast.specs.Image.{recordAfter, nodePlace}
 use Rattle.rules.specs.Check.{Ended, endOf}
-use Rattle.rules.specs.Run.{checkRun, slotsRun, entriesRun, walkRun, laterRun}
+use Rattle.rules.specs.Run.{checkRun, visitedRun, slotsRun, entriesRun, walkRun, laterRun}
 use Rattle.rules.specs.World.{World}
 use Rattle.rules.specs.Steps.{Done}
 use Rattle.rules.specs.Walk.{walkFirst, walkLater, startOf}
 use Rattle.rules.specs.Visited.{visitedSlots}
-use Rattle.rules.specs.Promises.{typeIn, entriesOf, Every, AnsweredClean, HasConcreteType, MorePackages, MoreStatements, Kept, OldRootsSilent}
+use Rattle.rules.specs.Promises.{typeIn, entriesOf, Every, AnsweredClean, HasConcreteType, MorePackages, MoreStatements, Kept, OldRootsSilent, fnEntries, oldFunctions}
+use Rattle.rules.specs.Functions.{headOf, fnsAmong, fnsIn}
 
 -- row (a), `let a = 1`, and buffers just as long as it needs
 small : Inputs
@@ -134,9 +135,19 @@ same-entries : take (length (entriesRun small smallEnd)) (entriesRun large large
 unfolding entriesRun smallEnd largeEnd checkRun small large buffers text
 same-entries = refl
 
+-- row (a) has no Fn
+functions-run : (i : Inputs) → oldFunctions i ≡ fnEntries (textsIn i) 0 (fnsAmong (visitedRun (i .image)))
+unfolding oldFunctions fnsIn visitedRun
+functions-run i = refl
+
+old-entries : entriesRun small smallEnd ≡ fnEntries (textsIn small) 0 (fnsAmong (visitedRun (small .image)))
+unfolding entriesRun visitedRun fnsAmong headOf fnEntries smallEnd checkRun small buffers text
+old-entries = refl
+
 kept : Kept small large (buffers 6 10) smallEnd largeEnd
 kept = record {
   types = rw (slots-run (small .image)) same-types;
+  oldEntries = rw (entries-run small smallEnd, functions-run small) old-entries;
   functions = rw (entries-run small smallEnd, entries-run large largeEnd) same-entries;
   diagnostics = silent;
 }

@@ -9,6 +9,7 @@ pub mod Walk
 pub mod Check
 pub mod Rows
 pub mod Visited
+pub mod Functions
 pub mod Names
 pub mod Promises
 pub mod Run

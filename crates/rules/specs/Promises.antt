@@ -13,7 +13,7 @@ use Rattle.ptype.specs.Ty.{Ty, containsUnknown, containsSlot}
 use Rattle.ptype.specs.Words.{tyOf}
 use Rattle.library.specs.Package.{poolOf, packagesOf}
 use Rattle.ast.specs.Image.{nodeCount, typeCount, rootCount, slotCount, nodePlace}
-use Rattle.ast.specs.TypeExpr.{typeOf}
+use Rattle.ast.specs.TypeExpr.{Arg, typeOf}
 use Rattle.ast.specs.Node.{treeOf}
 use Rattle.ast.specs.Claims.{twice}
 use Rattle.refusals.specs.Inputs.{Inputs, Buffers, textsIn}
@@ -22,6 +22,7 @@ use Rattle.rules.specs.World.{World}
 use Rattle.rules.specs.Walk.{startOf, walkFirst, walkLater}
 use Rattle.rules.specs.Check.{Ended, zeros, zeroed, endOf, checkOf}
 use Rattle.rules.specs.Visited.{visitedIn, numberOf, visitedSlots}
+use Rattle.rules.specs.Functions.{typeMeant, FnHead, fnsIn}
 use Rattle.rules.specs.Names.{nodeNames, typeNames, wordNames, packageNames}
 
 -- P holds of each of a list
@@ -207,6 +208,21 @@ pub record Entry : Type 0 where
   pub parameters : List Parameter
   pub ret : Ty
 
+-- The entries that Fns ask for, the first at a place: "its place the position there". An entry of n arguments has 3 + 2n words.
+unfoldable pub fnParameters : Texts → List Arg → List Parameter
+fnParameters texts [] = []
+fnParameters texts (a ∷ rest) = record { name = nameBytes texts (a .name); type = typeMeant texts (a .type) } ∷ fnParameters texts rest
+
+unfoldable pub fnEntries : Texts → (place : ℕ) → List FnHead → List Entry
+fnEntries texts at [] = []
+fnEntries texts at (f ∷ fs) =
+    record { place = at; name = nameBytes texts (f .name); parameters = fnParameters texts (f .args); ret = typeMeant texts (f .ret) }
+    ∷ fnEntries texts (at + 3 + 2 * length (f .args)) fs
+
+-- "An old function is a visited Fn of the smaller script, its signature its entry in the functions buffer, its place the position there."
+unfoldable pub oldFunctions : Inputs → List Entry
+oldFunctions i = fnEntries (textsIn i) 0 (fnsIn (i .image))
+
 -- k pairs from word `at` on
 unfoldable pub parametersAt : Texts → (types functions : List ℕ) → (at k : ℕ) → List Parameter
 parametersAt texts types functions at zero = []
@@ -237,6 +253,10 @@ entriesFrom texts types functions used (suc m) at =
 unfoldable pub entriesOf : Inputs → Ended → List Entry
 entriesOf i e = entriesFrom (textsIn i) (e .after .types) (e .after .functions) (e .functionWords) (e .functionWords) 0
 
+-- an answer without diagnostics has an entry for each visited Fn, in the order of visits, and no other
+unfoldable pub FunctionsVisited : Type 0
+FunctionsVisited = (i : Inputs) (b : Buffers) → AnsweredClean (checkOf i b) → entriesOf i (checkOf i b) ≡ oldFunctions i
+
 -- "every diagnostic comes from the new statements": "A diagnostic comes from a new statement if the rules raise it in the walk from its
 -- root". So the walk of the old roots, in the larger case, raises none, and the larger answer is what the walk of the others makes of its end.
 pub record OldRootsSilent (i i′ : Inputs) (b′ : Buffers) (e′ : Ended) : Type 0 where
@@ -249,7 +269,9 @@ pub record OldRootsSilent (i i′ : Inputs) (b′ : Buffers) (e′ : Ended) : Ty
 pub record Kept (i i′ : Inputs) (b′ : Buffers) (e e′ : Ended) : Type 0 where
   -- "every node visited before has the same type in both answers": in each slot that it owns
   pub types : Every (λ slot. typeIn i′ e′ slot ≡ typeIn i e slot) (visitedSlots (i .image))
-  -- "every old function the same signature and place"
+  -- "every old function the same signature and place": the entries of the smaller answer are the old functions', and the larger one's first
+  -- entries are the same, each at the same place
+  pub oldEntries : entriesOf i e ≡ oldFunctions i
   pub functions : take (length (entriesOf i e)) (entriesOf i′ e′) ≡ entriesOf i e
   pub diagnostics : OldRootsSilent i i′ b′ e′
 

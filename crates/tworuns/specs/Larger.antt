@@ -25,7 +25,7 @@ use Rattle.rules.specs.Rules.{last}
 use Rattle.rules.specs.Visited.{visitedIn, visitedSlots}
 use Rattle.rules.specs.Walk.{ctxOf, startOf, poolTypes, walkFirst, laterRoots, walkLater, walk, walkOf}
 use Rattle.rules.specs.Check.{endOf, unlessRefused, checkOf}
-use Rattle.rules.specs.Promises.{Every, Answered, AnsweredClean, Longer, MorePackages, MoreStatements, typeIn, Entry, entriesOf, OldRootsSilent, Kept}
+use Rattle.rules.specs.Promises.{Every, Answered, AnsweredClean, Longer, MorePackages, MoreStatements, typeIn, Entry, entriesOf, oldFunctions, OldRootsSilent, Kept}
 use Rattle.laws.specs.SlotsOf.{SlotsOfAll, all-among}
 use Rattle.laws.specs.Keeps.{Keeps, kept, stopped, in-last}
 use Rattle.laws.specs.Grow.{kept-ok}
@@ -38,6 +38,7 @@ use Rattle.tworuns.specs.Exprs.{Names}
 use Rattle.tworuns.specs.Walk.{every-both, every-map, Walks, walks, cuts, parts, Beginning, over-walks}
 use Rattle.tworuns.specs.Entries.{wordsOf, NotZero, Stays, walk-holds, start-holds}
 use Rattle.tworuns.specs.Signatures.{forward, forward-append, entriesAt, entries-front, entries-length, entries-own, entries-same, forward-same}
+use Rattle.tworuns.specs.FnEntries.{walked-fns}
 use Rattle.tworuns.specs.Refused.{Numbered, numbered}
 use Rattle.tworuns.specs.Accepted.{TypeOf, Accepted, Accepts, libraryTypes, walk-over, fresh-start}
 use Rattle.tworuns.specs.Split.{nodes-joined, last-dropped, Split, goes, stays, over-split, split-is}
@@ -208,6 +209,11 @@ entries-of {i} {b} f a =
     let used : u .functions .used ≡ length (wordsOf (u .own)) = ap (λ (x : Buffer). x .used) (h .functions) in
     rw (f .ended, h .functions) (entries-own (textsIn i) (u .types .words) (b .functions) (u .own) (omega arith))
 
+-- and where no diagnostic was raised, those of the visited Fns
+old-entries : {i : Inputs} {b : Buffers} (f : Ends i b) → Accepted i b → f .world .diagnostics .used ≡ 0 → entriesOf i (checkOf i b) ≡ oldFunctions i
+unfolding oldFunctions
+old-entries {i} {b} f a clean = entries-of f a ∙ walked-fns i b _ _ (a .roots) (f .world) (f .walked) clean
+
 module _ {i i′ : Inputs} {b b′ : Buffers} (mp : MorePackages i i′) (ms : MoreStatements i i′) (long : Longer b b′) (a : Accepted i b) (a′ : Accepted i′ b′) (x : Extended i i′ (length (ms .roots)))
     (f : Ends i b) (f′ : Ends i′ b′) (clean : f .world .diagnostics .used ≡ 0) where
   run : Together (both i i′) (ctxOf i′) (rootsAfter (i′ .image) (rootCount (i .image)) (length (ms .roots))) (f .world) (f′ .world) (walkFirst i′ (rootCount (i .image)) (startOf i′ b′))
@@ -280,7 +286,7 @@ module _ {i i′ : Inputs} {b b′ : Buffers} (mp : MorePackages i i′) (ms : M
       ∙ (entries-front (textsIn i′) (w .types .words) olds news 0 ∙ (sym (entries-same (both i i′) (u .types) (w .types) same 0) ∙ sym e)))
 
   pub kept-all : Kept i i′ b′ (checkOf i b) (checkOf i′ b′)
-  kept-all = record { types = types-kept; functions = functions-kept; diagnostics = old-silent }
+  kept-all = record { types = types-kept; oldEntries = old-entries f a clean; functions = functions-kept; diagnostics = old-silent }
 
   -- "so that without new ones there is none"
   pub none-told : ms .roots ≡ [] → checkOf i′ b′ .diagnostics ≡ 0
@@ -313,3 +319,8 @@ larger-without-statements acc ext i i′ b b′ mp ms e long clean answered =
     let f = ends i b (clean .answered) in
     let f′ = ends i′ b′ answered in
     none-told mp ms long (acc i b (f .passed)) (acc i′ b′ (f′ .passed)) (ext i i′ b b′ mp ms (f .passed) (f′ .passed)) f f′ (clean-world f (clean .clean)) e
+
+-- and `FunctionsVisited`
+pub functions-visited : Accepts → (i : Inputs) (b : Buffers) → AnsweredClean (checkOf i b) → entriesOf i (checkOf i b) ≡ oldFunctions i
+unfolding Accepts
+functions-visited acc i b clean = let f = ends i b (clean .answered) in old-entries f (acc i b (f .passed)) (clean-world f (clean .clean))

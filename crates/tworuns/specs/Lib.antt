@@ -25,4 +25,8 @@ pub mod Longer
 pub mod Split
 pub mod Kept
 pub mod Signatures
+pub mod ExprTrees
+pub mod Met
+pub mod Fns
+pub mod FnEntries
 pub mod Larger

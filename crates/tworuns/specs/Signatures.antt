@@ -72,15 +72,15 @@ unfolding entryOf
 length-entry f = let e = length-pairs (f .sig .params) in omega (arith, length-append (f .name ∷ length (f .sig .params) ∷ pairsOf (f .sig .params)) (f .sig .ret ∷ []))
 
 module _ (t : Texts) (types : List ℕ) where
-  parametersOf : List Param → List Parameter
+  unfoldable pub parametersOf : List Param → List Parameter
   parametersOf [] = []
   parametersOf (p ∷ ps) = record { name = nameBytes t (p .name); type = tyOf t types (p .type) } ∷ parametersOf ps
 
-  entryFor : (place : ℕ) → Function → Entry
+  unfoldable pub entryFor : (place : ℕ) → Function → Entry
   entryFor at f = record { place = at; name = nameBytes t (f .name); parameters = parametersOf (f .sig .params); ret = tyOf t types (f .sig .ret) }
 
   -- the entries of functions from a place on
-  pub entriesAt : (place : ℕ) → List Function → List Entry
+  unfoldable pub entriesAt : (place : ℕ) → List Function → List Entry
   entriesAt at [] = []
   entriesAt at (f ∷ fs) = entryFor at f ∷ entriesAt (at + 3 + 2 * length (f .sig .params)) fs
 
