@@ -1,28 +1,26 @@
 -- Adding types: the word that is given means the type that it should, of which the same is claimed. Assumes nothing.
-use Prim.Native.Nat.{ℕ, _+_, _/_, _≤_, min}
+use Prim.Native.Nat.{ℕ, _/_, _≤_}
 use native.Mathlib.Nat.{max-le}
 use native.Mathlib.Omega.{arith}
 use mathlib.Core.Path.{_≡_, refl}
-use mathlib.Core.Bool.{Bool, true, false}
+use mathlib.Core.Bool.{true, false}
 use mathlib.Core.List.{List, [], _∷_}
-use lib.Dec.{leb}
 use lib.ListN.{length}
-use borrow.Author.Tests.{leb-true}
 use Rattle.tok.specs.Word.{payloadOf, wordOf}
 use Rattle.tok.specs.Text.{nameBytes}
-use Rattle.tok.specs.Step.{refusal, give, refuse, when}
+use Rattle.tok.specs.Step.{Result, Refusal}
 use Rattle.tok.proofs.WordLaws.{kindOf-wordOf, payloadOf-lt}
 use Rattle.tok.proofs.NameLaws.{nameBytes-payload}
 use Rattle.ptype.specs.Ty.{Ty, Fields, plain, wrap, rec, named, noField, field, depthOf, deepest, containsSlot, anySlot}
-use Rattle.ptype.specs.Words.{tyOf, voidWord, unknownWord}
-use Rattle.ptype.specs.Add.{Buffer, append, typeRoom, addType, addWrap, addRecord}
+use Rattle.ptype.specs.Words.{voidWord, unknownWord}
+use Rattle.ptype.specs.Add.{Buffer, addWrap, addRecord}
 use Rattle.ptype.specs.Kinds.{wraps, Plain}
 use Rattle.ast.specs.TypeExpr.{TypeExpr, TypeFields, AtomType, ForeignType, OptionType, ArrayType, RecordType, noType, typeField}
 use Rattle.ast.specs.TypeFrom.{typeFrom, fieldsFromExprs}
-use Rattle.tworuns.specs.Means.{Means, grown-same, means-tyOf}
+use Rattle.tworuns.specs.Means.{grown-same}
 use Rattle.tworuns.specs.Means as M
 use Rattle.tworuns.specs.Types.{PairsMean, noPair, pair, means-wrap, means-record}
-use Rattle.tworuns.specs.Written.{grown-append}
+use Rattle.tworuns.specs.ExprTrees.{Adds, adds, stops, one-type}
 use Rattle.tworuns.specs.Operators.{plain-low}
 use Rattle.onerun.specs.Claim.{Run, OfNames, NameAt, flat, wrapped, recorded, called, FineFields, noMore, oneMore, Is, Good}
 use Rattle.onerun.specs.Grows.{typed-grow}
@@ -45,39 +43,21 @@ module _ (r : Run) where
   more-pairs m h rest = record { pairs = pair refl (h .means) (rest .pairs); low = max-le (h .low) (rest .low); fine = oneMore m (h .fine) (rest .fine) }
 
   -- One step: new words for one type.
-  pub record Added (x : Ty) (d : Buffer) (w : ℕ) : Type 0 where
-    pub means : Means (r .ctx .texts) (d .words) (d .used) w x
-    pub low : depthOf x ≤ 32
-
-  t-add : {b : Buffer} (n k : ℕ) (new : List ℕ) (x : Ty) → depthOf x ≤ 33
-      → (b .used + length new ≤ min (length (b .words)) 8192 → Means (r .ctx .texts) (append b new .words) (append b new .used) (wordOf k (b .used)) x)
-      → GivesT r (Added x) b (addType (r .ctx .texts) n k new b)
-  unfolding addType when
-  t-add {b} n k new x low m = go (leb (b .used + length new) (typeRoom b)) refl
-    where
-      deep : Means (r .ctx .texts) (append b new .words) (append b new .used) (wordOf k (b .used)) x
-          → (t : Bool) → leb (depthOf (tyOf (r .ctx .texts) (append b new .words) (wordOf k (b .used)))) 32 ≡ t
-          → GivesT r (Added x) b (when t (give (wordOf k (b .used)) (append b new)) (refuse (refusal 8 n)) b)
-      deep i true e = typed (grown-append b new) (record { means = i; low = leb-true (depthOf x) 32 (rw (means-tyOf i low) at e) })
-      deep i false e = stoppedT
-
-      go : (t : Bool) → leb (b .used + length new) (typeRoom b) ≡ t
-          → GivesT r (Added x) b
-          (when t (when (leb (depthOf (tyOf (r .ctx .texts) (append b new .words) (wordOf k (b .used)))) 32) (give (wordOf k (b .used)) (append b new)) (refuse (refusal 8 n))) (refuse (refusal 7 n)) b)
-      go true e = deep (m (leb-true (b .used + length new) (typeRoom b) e)) (leb (depthOf (tyOf (r .ctx .texts) (append b new .words) (wordOf k (b .used)))) 32) refl
-      go false e = stoppedT
+  t-adds : {A : Type 0} {Q : Buffer → A → Type 0} {b : Buffer} {y : Result Buffer Refusal A} → Adds Q b y → GivesT r Q b y
+  t-adds (adds g q) = typed g q
+  t-adds stops = stoppedT
 
   pub t-wrap : {b : Buffer} (n k inner : ℕ) {x : Ty} → wraps k ≡ true → Is r b inner x → GivesT r (λ d w. Is r d w (wrap k x)) b (addWrap (r .ctx .texts) n k inner b)
   unfolding addWrap depthOf
   t-wrap {b} n k inner {x} h i =
       t-map r (λ w d y. record { means = y .means; low = y .low; fine = wrapped (i .fine) })
-      (t-add n k (inner ∷ []) (wrap k x) (omega (arith, i .low)) (λ f. means-wrap b k inner h (i .means) f))
+      (t-adds (one-type (r .ctx .texts) n k (inner ∷ []) (wrap k x) (omega (arith, i .low)) (λ f. means-wrap b k inner h (i .means) f)))
 
   pub t-record : {b : Buffer} (n : ℕ) (ps : List ℕ) {fs : Fields} → PairsAre b ps fs → GivesT r (λ d w. Is r d w (rec fs)) b (addRecord (r .ctx .texts) n ps b)
   unfolding addRecord depthOf
   t-record {b} n ps {fs} i =
       t-map r (λ w d y. record { means = y .means; low = y .low; fine = recorded (i .fine) })
-      (t-add n 8 (length ps / 2 ∷ ps) (rec fs) (omega (arith, i .low)) (λ f. means-record b ps (i .pairs) (omega arith)))
+      (t-adds (one-type (r .ctx .texts) n 8 (length ps / 2 ∷ ps) (rec fs) (omega (arith, i .low)) (λ f. means-record b ps (i .pairs) (omega arith))))
 
   -- The same of types free of slots.
   pub record PairsTyped (b : Buffer) (ps : List ℕ) : Type 0 where
