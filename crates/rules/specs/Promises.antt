@@ -208,7 +208,7 @@ pub record Entry : Type 0 where
   pub parameters : List Parameter
   pub ret : Ty
 
--- The entries that Fns ask for, the first at a place: "its place the position there". An entry of n arguments has 3 + 2n words.
+-- What the entries of Fns say, the first at a place: the next one stands "3 + 2 × arguments" words further on.
 unfoldable pub fnParameters : Texts → List Arg → List Parameter
 fnParameters texts [] = []
 fnParameters texts (a ∷ rest) = record { name = nameBytes texts (a .name); type = typeMeant texts (a .type) } ∷ fnParameters texts rest
@@ -253,7 +253,7 @@ entriesFrom texts types functions used (suc m) at =
 unfoldable pub entriesOf : Inputs → Ended → List Entry
 entriesOf i e = entriesFrom (textsIn i) (e .after .types) (e .after .functions) (e .functionWords) (e .functionWords) 0
 
--- an answer without diagnostics has an entry for each visited Fn, in the order of visits, and no other
+-- An answer without diagnostics has an entry for each visited Fn, in the order of visits, and no other.
 unfoldable pub FunctionsVisited : Type 0
 FunctionsVisited = (i : Inputs) (b : Buffers) → AnsweredClean (checkOf i b) → entriesOf i (checkOf i b) ≡ oldFunctions i
 
@@ -269,8 +269,8 @@ pub record OldRootsSilent (i i′ : Inputs) (b′ : Buffers) (e′ : Ended) : Ty
 pub record Kept (i i′ : Inputs) (b′ : Buffers) (e e′ : Ended) : Type 0 where
   -- "every node visited before has the same type in both answers": in each slot that it owns
   pub types : Every (λ slot. typeIn i′ e′ slot ≡ typeIn i e slot) (visitedSlots (i .image))
-  -- "every old function the same signature and place": the entries of the smaller answer are the old functions', and the larger one's first
-  -- entries are the same, each at the same place
+  -- "every old function the same signature and place"
+  -- The smaller answer's entries are those of the old functions; the larger answer's first entries are the same, each at the same place.
   pub oldEntries : entriesOf i e ≡ oldFunctions i
   pub functions : take (length (entriesOf i e)) (entriesOf i′ e′) ≡ entriesOf i e
   pub diagnostics : OldRootsSilent i i′ b′ e′

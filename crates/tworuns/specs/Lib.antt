@@ -1,6 +1,7 @@
 -- Two runs of the rules, one over longer buffers, longer texts and a longer library. In reading order: what a type word means; what the
 -- two runs have in common; what they rely on of a tree; the logic and the primitive steps; types, calls and rules; the theorem of
--- nodes; the pool and the walk as a whole; then the theorems `answered-longer`, `larger` and `larger-without-statements`.
+-- nodes; the pool and the walk as a whole; own functions and the Fns that are visited; then the theorems `answered-longer`, `larger`,
+-- `larger-without-statements` and `functions-visited`.
 pub mod Means
 pub mod Runs
 pub mod Sound
