@@ -16,6 +16,7 @@ pub mod AcceptedInputs
 pub mod LowSlots
 pub mod FreshRoots
 pub mod Table
+pub mod Certain
 pub mod NamesWell
 pub mod Alone
 pub mod Demands

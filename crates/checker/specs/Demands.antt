@@ -4,16 +4,16 @@ use Prim.Native.Nat.{ℕ, _≤_, _<_}
 use mathlib.Core.Path.{_≡_, subst, sym}
 use mathlib.Core.Bool.{true}
 use mathlib.Core.Option.{none}
-use mathlib.Core.List.{[]}
+use mathlib.Core.List.{List, []}
 use Rattle.utf8.specs.Rfc3629.{wellFormed}
 use Rattle.ast.specs.Image.{slotCount}
 use Rattle.refusals.specs.Inputs.{Inputs, Buffers}
 use Rattle.refusals.specs.Refusals.{refusalOf}
 use Rattle.rules.specs.Check.{Ended, checkOf}
 use Rattle.rules.specs.Visited.{visitedSlots}
-use Rattle.rules.specs.Promises.{Every, Answered, TableHolds, Demand1, NamesReadWell, NamesWellFormed, VisitedOnce, EachVisitedOnce, messageOf, primaryOf, MessagesWellFormed, AnsweredClean, HasConcreteType, Clean, Longer, Alike, AnsweredLonger, MorePackages, MoreStatements, Kept, Larger, LargerWithoutStatements, entriesOf, oldFunctions, FunctionsVisited}
+use Rattle.rules.specs.Promises.{Every, Answered, TableHolds, Demand1, NamesReadWell, NamesWellFormed, VisitedOnce, EachVisitedOnce, messageOf, primaryOf, MessagesWellFormed, AnsweredClean, HasConcreteType, Clean, Longer, Alike, AnsweredLonger, MorePackages, MoreStatements, Kept, Larger, LargerWithoutStatements, entriesOf, oldFunctions, FunctionsVisited, AgreesTo, RefusedAlike, withImage, ImagePlaceCertain, withLibrary, LibraryPlaceCertain}
 use Rattle.tworuns.specs.Larger.{ends}
-use Rattle.accepts.specs.Demands.{demand-1, names-well-formed, each-visited-once, answered-longer, functions-visited, larger, larger-without-statements}
+use Rattle.accepts.specs.Demands.{demand-1, names-well-formed, each-visited-once, answered-longer, functions-visited, larger, larger-without-statements, image-place-certain, library-place-certain}
 use Rattle.clean.specs.Clean.{clean}
 use Rattle.clean.specs.Messages.{messages-well-formed}
 use Rattle.checker.specs.declared.Checked.{Checked}
@@ -62,6 +62,23 @@ module _ (i : Inputs) (b a : Buffers) (r : Checked) (e : checkOf i b ≡ endedOf
   check-longer b′ a′ r′ e′ l =
       subst (λ x. Answered x → Alike (slotCount (i .image)) x (endedOf r′ a′)) e
       (subst (λ y. Answered (checkOf i b) → Alike (slotCount (i .image)) (checkOf i b) y) e′ (answered-longer i b b′ l))
+
+-- two answers, for lists that agree up to and including the offending word: "The offending word is the first at which, reading forward, the
+-- fault is certain"
+module _ (i : Inputs) (b a a′ : Buffers) (r r′ : Checked) (e : checkOf i b ≡ endedOf r a) where
+  pub check-image-place : (image : List ℕ) → checkOf (withImage i image) b ≡ endedOf r′ a′ → endedOf r a .number ≡ 3
+      → AgreesTo (endedOf r a .place) (i .image) image → RefusedAlike (endedOf r a) (endedOf r′ a′)
+  unfolding ImagePlaceCertain
+  check-image-place image e′ =
+      subst (λ x. x .number ≡ 3 → AgreesTo (x .place) (i .image) image → RefusedAlike x (endedOf r′ a′)) e
+      (subst (λ y. checkOf i b .number ≡ 3 → AgreesTo (checkOf i b .place) (i .image) image → RefusedAlike (checkOf i b) y) e′ (image-place-certain i b image))
+
+  pub check-library-place : (script image library : List ℕ) → checkOf (withLibrary i script image library) b ≡ endedOf r′ a′ → endedOf r a .number ≡ 2
+      → AgreesTo (endedOf r a .place) (i .library) library → RefusedAlike (endedOf r a) (endedOf r′ a′)
+  unfolding LibraryPlaceCertain
+  check-library-place script image library e′ =
+      subst (λ x. x .number ≡ 2 → AgreesTo (x .place) (i .library) library → RefusedAlike x (endedOf r′ a′)) e
+      (subst (λ y. checkOf i b .number ≡ 2 → AgreesTo (checkOf i b .place) (i .library) library → RefusedAlike (checkOf i b) y) e′ (library-place-certain i b script image library))
 
 -- both answers, all additions taken together
 module _ (i i′ : Inputs) (b b′ a a′ : Buffers) (r r′ : Checked) (e : checkOf i b ≡ endedOf r a) (e′ : checkOf i′ b′ ≡ endedOf r′ a′)

@@ -77,6 +77,36 @@ pub record TableHolds (i : Inputs) (b : Buffers) (e : Ended) : Type 0 where
 unfoldable pub Demand1 : Type 0
 Demand1 = (i : Inputs) (b : Buffers) → TableHolds i b (checkOf i b)
 
+-- "The offending word is the first at which, reading forward, the fault is certain": the words up to and including it decide refusals 2 and 3,
+-- whatever stands after it.
+
+-- the words up to and including word p are the same; where p is the length, all of them
+abbrev pub AgreesTo : (p : ℕ) → (words words′ : List ℕ) → Type 0
+AgreesTo p words words′ = take (p + 1) words′ ≡ take (p + 1) words
+
+-- the same number and place
+pub record RefusedAlike (e e′ : Ended) : Type 0 where
+  pub number : e′ .number ≡ e .number
+  pub place : e′ .place ≡ e .place
+
+-- 3: of another image nothing else is asked
+abbrev pub withImage : Inputs → (image : List ℕ) → Inputs
+withImage i image = record { script = i .script; image = image; libraryText = i .libraryText; library = i .library }
+
+unfoldable pub ImagePlaceCertain : Type 0
+ImagePlaceCertain =
+    (i : Inputs) (b : Buffers) (image : List ℕ) → checkOf i b .number ≡ 3 → AgreesTo (checkOf i b .place) (i .image) image
+    → RefusedAlike (checkOf i b) (checkOf (withImage i image) b)
+
+-- 2: script and image may be any, since the library is asked before them
+abbrev pub withLibrary : Inputs → (script image library : List ℕ) → Inputs
+withLibrary i script image library = record { script = script; image = image; libraryText = i .libraryText; library = library }
+
+unfoldable pub LibraryPlaceCertain : Type 0
+LibraryPlaceCertain =
+    (i : Inputs) (b : Buffers) (script image library : List ℕ) → checkOf i b .number ≡ 2 → AgreesTo (checkOf i b .place) (i .library) library
+    → RefusedAlike (checkOf i b) (checkOf (withLibrary i script image library) b)
+
 -- ── Demand 2, its first half ──
 -- "names are read, and messages written, only as UTF-8 well formed by it [RFC 3629]"
 
