@@ -6,15 +6,17 @@ use Rattle.ast.specs.Image.{wordAt}
 use Rattle.ast.specs.TypeExpr.{TypeExpr, Arg, typeOf, argsFrom}
 use Rattle.type_expr.specs.Ready.{TypeReady}
 use Rattle.rules.specs.declared.Answer.{Answer}
-use Rattle.rules.specs.World.{Ctx, Walk}
+use Rattle.tok.specs.Step.{Result, Refusal, next}
+use Rattle.rules.specs.World.{Ctx, Local, World, Walk, withEnv}
 use Rattle.rules.specs.Rules.{fn, unlessDefined}
 use Rattle.visit.specs.declared.State.{State}
 use Rattle.visit.specs.declared.Visit.{Visit}
 use Rattle.visit.specs.declared.Visit.the-variants as X
 use Rattle.visit.specs.declared.Gave.{Gave}
 use Rattle.visit.specs.declared.Gave.the-variants as G
-use Rattle.visit.specs.Whole.{Lent, whole}
-use Rattle.visit.specs.Within.{Visits}
+use Rattle.state.specs.Store.{envUp}
+use Rattle.visit.specs.Whole.{Lent, whole, visited}
+use Rattle.visit.specs.Within.{Keeps}
 use Rattle.visit.specs.Walks.{Gives}
 use Rattle.visit.specs.Free.{Free, FreeRows}
 use Rattle.visiting.specs.Blocks.{innerOf}
@@ -62,12 +64,26 @@ pub record EndReady (image places : List ℕ) (at : ℕ) : Type 0 where
   pub ret : TypeReady image places (wordAt image (at + 3))
   pub inside : at + 5 ≤ 8192
 
--- What is said: the name is new, and the part before the body is done, in the state without the names outside; or the rule has ended,
--- whatever the body.
-pub data Begins (c : Ctx) (image : List ℕ) (at n : ℕ) (words : List ℕ) (st : State) (b b′ : Lent) : Begun → Type 0 where
-  goes : {w : ℕ} {st′ : State} → ((m : Walk Answer) → unlessDefined c n (nameAt image at) m (whole words st b) ≡ m (whole words st b))
-      → Gives (beginAt c image at n) (2 * countAt image at) (3 + 2 * countAt image at) words (innerOf st) b b′ (G.Word w st′) → Begins c image at n words st b b′ (B.Body w st′)
-  ends : {v : Visit} → ((body : Walk Answer) (r w : ℕ) → Visits (fnAt c image at n body) r w words st b b′ v) → Begins c image at n words st b b′ (B.Ended v)
+-- what follows the part before the body: the body, and the part after it with the names in scope that were there before
+abbrev pub bodyAndEnd : Ctx → (image : List ℕ) → (at n : ℕ) → (body : Walk Answer) → List Local → (ret : ℕ) → Walk Answer
+bodyAndEnd c image at n body e ret = λ w₁. next (body w₁) (λ computed. λ w₂. endAt c image at n ret computed (withEnv w₂ e))
+
+-- The paper's number and values for each case of an answer: the body and what follows it are due; or the rule has answered.
+unfoldable pub begunIn : Ctx → (image : List ℕ) → (at n : ℕ) → (words : List ℕ) → State → (b b′ : Lent) → Begun → (body : Walk Answer) → Result World Refusal Answer
+begunIn c image at n words st b b′ (B.Body ret st′) body =
+    bodyAndEnd c image at n body (envUp (b .scratch) (st .base) (st .depth)) ret (whole words st′ b′)
+begunIn c image at n words st b b′ (B.Ended v) body = visited words b′ v
+
+-- before the body its part of the rule is done, in the state without the names outside; a rule that has answered took nothing
+pub data KeepsBegun (c : Ctx) (image : List ℕ) (at n : ℕ) (words : List ℕ) (st : State) (b b′ : Lent) : Begun → Type 0 where
+  goes : {w : ℕ} {st′ : State} → Gives (beginAt c image at n) (2 * countAt image at) (3 + 2 * countAt image at) words (innerOf st) b b′ (G.Word w st′)
+      → KeepsBegun c image at n words st b b′ (B.Body w st′)
+  ends : {v : Visit} → Keeps 0 0 st b b′ v → KeepsBegun c image at n words st b b′ (B.Ended v)
+
+-- What is said of it. Buffers b came in, b′ are the buffers now, r is the answer.
+pub record Begins (c : Ctx) (image : List ℕ) (at n : ℕ) (words : List ℕ) (st : State) (b b′ : Lent) (r : Begun) : Type 0 where
+  pub step : (body : Walk Answer) → fnAt c image at n body (whole words st b) ≡ begunIn c image at n words st b b′ r body
+  pub keeps : KeepsBegun c image at n words st b b′ r
 
 -- the answer once the entry is made, or refused
 unfoldable pub gaveOf : Gave → Begun

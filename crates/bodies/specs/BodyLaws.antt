@@ -32,12 +32,12 @@ use Rattle.visiting.specs.Blocks.{innerOf, outer-within, outer-names}
 use Rattle.walking.specs.Blocks.{block-last}
 use Rattle.functions.specs.declared.Met.{Met}
 use Rattle.functions.specs.declared.Met.the-variants as M
-use Rattle.functions.specs.Defined.{fnBegin, fnEnd, Meets, fn-parts}
+use Rattle.functions.specs.Defined.{fnBegin, fnEnd, metIn, Meets, fn-parts}
 use Rattle.functions.specs.Defined as D
 use Rattle.functions.specs.Entering.{FnReady}
 use Rattle.bodies.specs.declared.Begun.{Begun}
 use Rattle.bodies.specs.declared.Begun.the-variants as B
-use Rattle.bodies.specs.Bodies.{slotAt, nameAt, countAt, fnAt, beginAt, endAt, BeginReady, Begins, goes, ends, gaveOf}
+use Rattle.bodies.specs.Bodies.{slotAt, nameAt, countAt, fnAt, beginAt, endAt, BeginReady, bodyAndEnd, begunIn, KeepsBegun, goes, ends, Begins, gaveOf}
 
 -- ── What the parts ask for ──
 
@@ -62,35 +62,39 @@ module _ {image places : List ℕ} {at : ℕ} {st : State} {functions scratch : 
 
 -- ── Before the body ──
 
--- what follows the part before the body, with the names of before at its end
-abbrev rest : Ctx → (image : List ℕ) → (at n : ℕ) → (body : Walk Answer) → List Local → (ret : ℕ) → Walk Answer
-rest c image at n body e ret = λ w₁. next (body w₁) (λ computed. λ w₂. endAt c image at n ret computed (withEnv w₂ e))
-
-abbrev Passing : Ctx → (image : List ℕ) → (at n : ℕ) → (words : List ℕ) → State → Lent → Type 0
-Passing c image at n words st b = (m : Walk Answer) → unlessDefined c n (nameAt image at) m (whole words st b) ≡ m (whole words st b)
-
 module _ (c : Ctx) (image : List ℕ) (at n : ℕ) (words : List ℕ) where
+  took-none : {st : State} {b b₁ : Lent} {v : Visit} → D.KeepsMet st b b₁ (M.Already v) → Keeps 0 0 st b b₁ v
+  took-none (D.already k) = k
+
   pub begins-already : {st : State} {b b₁ : Lent} {v : Visit} → Meets c n (nameAt image at) words st b b₁ (M.Already v) → Begins c image at n words st b b₁ (B.Ended v)
-  begins-already (D.already f) = ends (λ body r w. visits-most (omega arith) (omega arith) (f _))
+  unfolding metIn begunIn
+  begins-already x = record { step = λ body. x .step _; keeps = ends (took-none (x .keeps)) }
 
-  refused-there : {st : State} {b b₂ : Lent} {number place : ℕ} → Passing c image at n words st b
-      → Gives (beginAt c image at n) (2 * countAt image at) (3 + 2 * countAt image at) words (innerOf st) b b₂ (G.Refused number place) → (body : Walk Answer) (r w : ℕ)
-      → Visits (fnAt c image at n body) r w words st b b₂ (X.Refused number place)
-  unfolding gaveIn visited envUp
-  refused-there {st} {b} pass x body r w = record {
-    step = pass _ ∙ fn-parts c n _ _ _ _ body (whole words st b) ∙ ap (λ z. next z (rest c image at n body (envUp (b .scratch) (st .base) (st .depth)))) (x .step);
-    keeps = refuses;
-  }
+  abbrev outside : State → Lent → List Local
+  outside st b = envUp (b .scratch) (st .base) (st .depth)
 
-  gave-begins : {st : State} {b b₂ : Lent} (g : Gave) → Passing c image at n words st b
+  -- the name is new: the rule is its parts, and the first of them gave g
+  goes-on : {st : State} {b b₁ b₂ : Lent} {g : Gave} → Meets c n (nameAt image at) words st b b₁ M.New → b₁ ≡ b
+      → Gives (beginAt c image at n) (2 * countAt image at) (3 + 2 * countAt image at) words (innerOf st) b b₂ g → (body : Walk Answer)
+      → fnAt c image at n body (whole words st b) ≡ next (gaveIn words b₂ g) (bodyAndEnd c image at n body (outside st b))
+  unfolding metIn envUp
+  goes-on {st} {b} h e x body =
+      (h .step _ ∙ rw e refl) ∙ fn-parts c n _ _ _ _ body (whole words st b) ∙ ap (λ z. next z (bodyAndEnd c image at n body (outside st b))) (x .step)
+
+  gave-begins : {st : State} {b b₁ b₂ : Lent} (g : Gave) → Meets c n (nameAt image at) words st b b₁ M.New → b₁ ≡ b
       → Gives (beginAt c image at n) (2 * countAt image at) (3 + 2 * countAt image at) words (innerOf st) b b₂ g → Begins c image at n words st b b₂ (gaveOf g)
-  unfolding gaveOf
-  gave-begins (G.Word w st′) pass x = goes pass x
-  gave-begins (G.Refused number place) pass x = ends (λ body r w. refused-there pass x body r w)
+  unfolding gaveOf gaveIn begunIn visited
+  gave-begins (G.Word w st′) h e x = record { step = goes-on h e x; keeps = goes x }
+  gave-begins (G.Refused number place) h e x = record { step = goes-on h e x; keeps = ends refuses }
+
+  left-as-were : {st : State} {b b₁ : Lent} → D.KeepsMet st b b₁ M.New → b₁ ≡ b
+  left-as-were (D.new e) = e
 
   pub begins-new : {st : State} {b b₁ b₂ : Lent} {g : Gave} {r : Begun} → Meets c n (nameAt image at) words st b b₁ M.New
       → Gives (beginAt c image at n) (2 * countAt image at) (3 + 2 * countAt image at) words (innerOf st) b₁ b₂ g → r ≡ gaveOf g → Begins c image at n words st b b₂ r
-  begins-new {g = g} (D.new e pass) x f = rw f (gave-begins g pass (rw e at x))
+  begins-new {g = g} h x f =
+      let e = left-as-were (h .keeps) in
+      rw f (gave-begins g h e (rw e at x))
 
 -- ── What the code has of them ──
 
@@ -152,12 +156,11 @@ keeps-none : {r w : ℕ} {st : State} {b b₂ : Lent} {v : Visit} → Stopped v 
 keeps-none at-refusal = refuses
 
 module _ (c : Ctx) (image : List ℕ) (at n : ℕ) (words : List ℕ) {st : State} {b b₁ : Lent} {ret : ℕ} {st₁ : State} (xs : Nodes) {rb wb : ℕ} {b₂ : Lent} {v : Visit} where
-  so-far : Begins c image at n words st b b₁ (B.Body ret st₁) → Visits (last c (Known (c .void)) xs) rb wb words st₁ b₁ b₂ v → fnAt c image at n (block c xs) (whole words st b) ≡ ended c image at n ret words (envUp (b₁ .scratch) (st₁ .base) (st₁ .depth)) (envUp (b .scratch) (st .base) (st .depth)) b₂ v
-  unfolding gaveIn framed envUp
-  so-far (goes pass x) body =
-      pass _
-      ∙ fn-parts c n _ _ _ _ (block c xs) (whole words st b)
-      ∙ ap (λ z. next z (rest c image at n (block c xs) (envUp (b .scratch) (st .base) (st .depth)))) (x .step)
+  so-far : Begins c image at n words st b b₁ (B.Body ret st₁) → Visits (last c (Known (c .void)) xs) rb wb words st₁ b₁ b₂ v
+      → fnAt c image at n (block c xs) (whole words st b) ≡ ended c image at n ret words (envUp (b₁ .scratch) (st₁ .base) (st₁ .depth)) (envUp (b .scratch) (st .base) (st .depth)) b₂ v
+  unfolding begunIn framed envUp
+  so-far begun body =
+      begun .step (block c xs)
       ∙ ap (λ z. next z (λ computed t. endAt c image at n ret computed (withEnv t (envUp (b .scratch) (st .base) (st .depth)))))
       (block-last c xs (whole words st₁ b₁) ∙ ap (λ z. next z (λ a t. ok a (withEnv t (envUp (b₁ .scratch) (st₁ .base) (st₁ .depth))))) (body .step))
 
@@ -168,13 +171,14 @@ module _ (c : Ctx) (image : List ℕ) (at n : ℕ) (words : List ℕ) {st : Stat
     keeps = keeps-none s;
   }
 
-  inside : {a : Answer} {st₂ : State} → Begins c image at n words st b b₁ (B.Body ret st₁) → Visits (last c (Known (c .void)) xs) rb wb words st₁ b₁ b₂ v → Came v a st₂ → Within (2 * countAt image at + rb) (3 + 2 * countAt image at + wb) (innerOf st) b st₂ b₂
-  inside (goes pass x) body came = within-then (giving (x .keeps)) (kept came (body .keeps))
+  inside : {a : Answer} {st₂ : State} → KeepsBegun c image at n words st b b₁ (B.Body ret st₁) → Visits (last c (Known (c .void)) xs) rb wb words st₁ b₁ b₂ v → Came v a st₂
+      → Within (2 * countAt image at + rb) (3 + 2 * countAt image at + wb) (innerOf st) b st₂ b₂
+  inside (goes x) body came = within-then (giving (x .keeps)) (kept came (body .keeps))
 
   pub fn-visited : {computed : Answer} {st₂ : State} {b₃ : Lent} {v₃ : Visit} → Begins c image at n words st b b₁ (B.Body ret st₁) → Visits (last c (Known (c .void)) xs) rb wb words st₁ b₁ b₂ v → Came v computed st₂
       → Visits (endAt c image at n ret computed) 0 0 words (leftOf st₂ st) b₂ b₃ v₃ → Visits (fnAt c image at n (block c xs)) (2 * countAt image at + rb) (3 + 2 * countAt image at + wb) words st b b₃ v₃
   fn-visited {computed} begun body came end =
-      let p = inside begun body came in
+      let p = inside (begun .keeps) body came in
       visits-most (omega arith) (omega arith) (record {
         step = so-far begun body ∙ ended-came c image at n ret words _ _ b₂ came ∙ ap (endAt c image at n ret computed) (outer-names st p words) ∙ end .step;
         keeps = keeps-after (outer-within st p) (end .keeps);

@@ -11,7 +11,7 @@ ghost use Rattle.rules.specs.Rules.{condition, compareBranches, matched};
 ghost use Rattle.state.specs.Context.{ctx};
 ghost use Rattle.state.specs.World.{Goes};
 ghost use Rattle.spans.specs.Ready.{NodesReady, CasesReady};
-ghost use Rattle.visit.specs.Whole.{lent};
+ghost use Rattle.visit.specs.Whole.{Lent, lent};
 ghost use Rattle.visit.specs.Within.{Visits};
 ghost use Rattle.visit.specs.Walks.{Walks};
 ghost use Rattle.branches.specs.Branches.{isField, nodeAnswer, bodyAnswer, branchesFrom};
@@ -43,7 +43,10 @@ pub fn condition<'a>(
     answer: Answer,
 ) -> Walked
     ensures { λ r. let T : Texts = textsOf (now (script .entry)) (now (library .entry)) in
-        ⌜ ((ls : List Package) (v : ℕ) (words f e : List ℕ) → Walks (condition (ctx T ls v) n (wordAt (now (image .entry)) at) answer) 0 0 words st (lent (now (slots .entry)) f (now (types .entry)) (now (diagnostics .entry)) (now (messages .entry)) e) (lent (now (slots .entry)) f (now (types .entry)) (now (diagnostics .exit)) (now (messages .exit)) e) r) ⌝ }
+        ⌜ ((ls : List Package) (v : ℕ) (words f e : List ℕ) →
+        let b : Lent = lent (now (slots .entry)) f (now (types .entry)) (now (diagnostics .entry)) (now (messages .entry)) e in
+        let b′ : Lent = lent (now (slots .entry)) f (now (types .entry)) (now (diagnostics .exit)) (now (messages .exit)) e in
+        Walks (condition (ctx T ls v) n (wordAt (now (image .entry)) at) answer) 0 0 words st b b′ r) ⌝ }
 {
     let used = st.used;
     let token = word_at(image, at);
@@ -134,7 +137,8 @@ fn compare_branches<'a>(
 ) -> Went
     requires { ⌜ CasesReady (now image) (now places) n at count ⌝ }
     ensures { λ r. let T : Texts = textsOf (now (script .entry)) (now (library .entry)) in
-        ⌜ ((ls : List Package) (v : ℕ) → Goes (compareBranches (ctx T ls v) n default (branchesFrom (now (image .entry)) (now (slots .entry)) at count)) (now (slots .entry)) (now (types .entry)) (now (diagnostics .entry)) (now (messages .entry)) used (now (slots .entry)) (now (types .entry)) (now (diagnostics .exit)) (now (messages .exit)) r) ⌝ }
+        ⌜ ((ls : List Package) (v : ℕ) → Goes (compareBranches (ctx T ls v) n default (branchesFrom (now (image .entry)) (now (slots .entry)) at count)) (now (slots .entry))
+        (now (types .entry)) (now (diagnostics .entry)) (now (messages .entry)) used (now (slots .entry)) (now (types .entry)) (now (diagnostics .exit)) (now (messages .exit)) r) ⌝ }
 {
     let mut here = used;
     let mut place = at;
@@ -182,7 +186,10 @@ pub fn end<'a>(
 ) -> Visit
     requires { ⌜ CasesReady (now image) (now places) n (at + 3) (wordAt (now image) (at + 2)) ⌝ }
     ensures { λ r. let T : Texts = textsOf (now (script .entry)) (now (library .entry)) in let I : List ℕ = now (image .entry) in
-        ⌜ ((ls : List Package) (v : ℕ) (words f e : List ℕ) → Visits (matched (ctx T ls v) n (wordAt I (at + 1)) (branchesFrom I (now (slots .entry)) (at + 3) (wordAt I (at + 2))) default) 0 0 words st (lent (now (slots .entry)) f (now (types .entry)) (now (diagnostics .entry)) (now (messages .entry)) e) (lent (now (slots .exit)) f (now (types .entry)) (now (diagnostics .exit)) (now (messages .exit)) e) r) ⌝ }
+        ⌜ ((ls : List Package) (v : ℕ) (words f e : List ℕ) →
+        let b : Lent = lent (now (slots .entry)) f (now (types .entry)) (now (diagnostics .entry)) (now (messages .entry)) e in
+        let b′ : Lent = lent (now (slots .exit)) f (now (types .entry)) (now (diagnostics .exit)) (now (messages .exit)) e in
+        Visits (matched (ctx T ls v) n (wordAt I (at + 1)) (branchesFrom I (now (slots .entry)) (at + 3) (wordAt I (at + 2))) default) 0 0 words st b b′ r) ⌝ }
 {
     let Answer::Known(slot) = default else {
         return Visit::Poison(st);

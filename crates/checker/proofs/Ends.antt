@@ -1,6 +1,6 @@
 -- Each way out of the check's functions, over variables for what the calls gave. By cases. Assumes nothing.
 use Prim.Native.Nat.{ℕ, _+_, _≤_}
-use mathlib.Core.Path.{_≡_, refl, sym, ap, _∙_}
+use mathlib.Core.Path.{_≡_, refl, sym, ap, _∙_, subst}
 use mathlib.Core.Option.{Option, none, some}
 use mathlib.Core.List.{List, [], _∷_}
 use mathlib.Core.Logic.{⊎-elim}
@@ -8,7 +8,7 @@ use native.Mathlib.Omega.{arith}
 use lib.ListN.{length, replicate}
 use types.Run.{OneOf}
 use denote.Enum.Declared.{tagOf}
-use borrow.Author.Tests.{eqb-false}
+use borrow.Author.Tests.{eqb-false, ne-eqb}
 use Rattle.tok.specs.Step.{Result, ok, refused, Refusal, refusal, next}
 use Rattle.tok.specs.Text.{Texts, textsOf}
 use Rattle.library.specs.Package.{poolOf}
@@ -33,10 +33,13 @@ use Rattle.visit.specs.declared.Visit.the-variants as X
 use Rattle.visit.specs.declared.Walked.{Walked}
 use Rattle.visit.specs.declared.Walked.the-variants as W
 use Rattle.visit.specs.Whole.{Lent, lent, whole, visited}
-use Rattle.visit.specs.Within.{Keeps, knows, poisons, refuses, Visits}
+use Rattle.visit.specs.Within.{knows, poisons, Visits}
+use Rattle.visit.specs.Within as in-part
 use Rattle.visit.specs.Walks.{walkedIn}
 use Rattle.visit.specs.Free.{FreeRows}
+use Rattle.laws.specs.Keeps.{Keeps, stopped}
 use Rattle.tworuns.specs.Accepted.{fresh-start}
+use Rattle.tworuns.specs.Entries.{NotZero, Stays, walk-holds}
 use Rattle.accepts.specs.Passed.{passed}
 use Rattle.accepts.specs.Fresh.{Fresh}
 use Rattle.accepts.specs.FreshRoots.{roots-fresh}
@@ -49,7 +52,7 @@ use Rattle.zero.specs.Zero.{zeroFirst, zero-ends}
 use Rattle.start.specs.Begin.{beginning, firstState, Starts, walk-begins}
 use Rattle.checker.specs.declared.Checked.{Checked}
 use Rattle.checker.specs.declared.Checked.the-variants as C
-use Rattle.checker.specs.Ended.{endedOf, beforeOf, doneOf, Answers, overOf, RoomAfter, WalkEnds}
+use Rattle.checker.specs.Ended.{endedOf, checkedOf, EndsAs, beforeOf, doneOf, Answers, overOf, EndsWell, WalkEnds}
 use Rattle.refuse.proofs.Before.{the-type}
 
 -- ── Before the walk ──
@@ -64,31 +67,49 @@ passed-not t =
     (λ t. ⊎-elim (λ z. eqb-false 0 5 refl z) (λ z. eqb-false 0 6 refl z) t) t) t) t) t
 
 -- a cause that was found is the answer, and every buffer is as it was
-found-before : (i : Inputs) (b : Buffers) (q : Before) → refusalIn q ≡ refusalOf i b → OneOf (1 ∷ 2 ∷ 3 ∷ 4 ∷ 5 ∷ 6 ∷ []) (tagOf the-type q) → checkOf i b ≡ endedOf (beforeOf q) b
+found-before : (i : Inputs) (b : Buffers) (q : Before) → refusalIn q ≡ refusalOf i b → OneOf (1 ∷ 2 ∷ 3 ∷ 4 ∷ 5 ∷ 6 ∷ []) (tagOf the-type q) → EndsAs (checkOf i b) b (beforeOf q)
 unfolding checkOf unlessRefused
 found-before i b Passed h t = absurd (passed-not t)
-found-before i b Scratch h t = rw (← h)
-found-before i b (Library p) h t = rw (← h)
-found-before i b (Image p) h t = rw (← h)
-found-before i b (Claims p) h t = rw (← h)
-found-before i b (Depth p) h t = rw (← h)
-found-before i b Room h t = rw (← h)
+found-before i b Scratch h t = rw (← h) (record { means = refl; only = refl })
+found-before i b (Library p) h t = rw (← h) (record { means = refl; only = refl })
+found-before i b (Image p) h t = rw (← h) (record { means = refl; only = refl })
+found-before i b (Claims p) h t = rw (← h) (record { means = refl; only = refl })
+found-before i b (Depth p) h t = rw (← h) (record { means = refl; only = refl })
+found-before i b Room h t = rw (← h) (record { means = refl; only = refl })
 
 module _ (i : Inputs) (b : Buffers) (q : Before) (h : refusalIn q ≡ refusalOf i b) where
-  pub refused-before : {r : Checked} → OneOf (1 ∷ 2 ∷ 3 ∷ 4 ∷ 5 ∷ 6 ∷ []) (tagOf the-type q) → r ≡ beforeOf q → checkOf i b ≡ endedOf r b
-  refused-before t e = found-before i b q h t ∙ ap (λ x. endedOf x b) (sym e)
+  pub refused-before : {r : Checked} → OneOf (1 ∷ 2 ∷ 3 ∷ 4 ∷ 5 ∷ 6 ∷ []) (tagOf the-type q) → r ≡ beforeOf q → (checkOf i b ≡ endedOf r b) × (r ≡ checkedOf (checkOf i b))
+  refused-before t e =
+      let f = found-before i b q h t in
+      rw e (f .means, f .only)
 
   pub passed-before : q ≡ Passed → refusalOf i b ≡ none
   passed-before e = sym h ∙ ap refusalIn e
 
 -- ── The walk ──
 
+not-ok : {r : Refusal} {s : World} → _≡_ {A = Result World Refusal Done} (ok tt s) (refused r) → ⊥
+not-ok e = let z : _≡_ {A = ℕ} 0 1 = cc in omega arith
+
+-- the walk is refused with a number
+numbered : (i : Inputs) (b : Buffers) {number place : ℕ} → walkOf i b ≡ refused (refusal number place) → number ≡ 0 → ⊥
+unfolding walkOf walk NotZero
+numbered i b {number} e = by (walkOf i b) e (walk-holds (b .functions) i (rootCount (i .image)) (startOf i b))
+  where
+    same-number : {r : Refusal} {place : ℕ} → _≡_ {A = Result World Refusal Done} (refused r) (refused (refusal number place)) → r .number ≡ number
+    same-number e = cc
+
+    by : (x : Result World Refusal Done) {place : ℕ} → x ≡ refused (refusal number place) → Keeps (Stays (b .functions)) NotZero (startOf i b) x → number ≡ 0 → ⊥
+    by (ok a s) e k z = absurd (not-ok e)
+    by (refused r) e (stopped q) z = q (same-number e ∙ z)
+
 -- the entries lie in the functions buffer where the visits kept within their part of it
-rows-kept : {rm rows : ℕ} {st : State} {b b′ : Lent} {v : Visit} → FreeRows rows st (b .functions) → Keeps rm rows st b b′ v → RoomAfter (b′ .functions) v
-unfolding RoomAfter
-rows-kept g (knows w) = omega (arith, g .after, w .written, w .functions)
-rows-kept g (poisons w) = omega (arith, g .after, w .written, w .functions)
-rows-kept g refuses = tt
+module _ (i : Inputs) (b₀ : Buffers) {b b′ : Lent} where
+  ends-well : {rm rows : ℕ} {st : State} (v : Visit) → FreeRows rows st (b .functions) → walkOf i b₀ ≡ overOf (i .library) b′ v → in-part.Keeps rm rows st b b′ v → EndsWell (b′ .functions) v
+  unfolding EndsWell visited
+  ends-well (X.Known slot st) g e (knows w) = omega (arith, g .after, w .written, w .functions)
+  ends-well (X.Poison st) g e (poisons w) = omega (arith, g .after, w .written, w .functions)
+  ends-well (X.Refused number place) g e k = numbered i b₀ e
 
 module _ (i : Inputs) (b : Buffers) where
   -- it begins, and then its roots are visited
@@ -107,14 +128,18 @@ module _ (script image text words s f t d m e : List ℕ) {s₁ t₁ : List ℕ}
   begun = walk-is inputs before ∙ rw (h .step script text f d m e)
 
   pub walk-refused : {number place : ℕ} → r ≡ W.Refused number place → WalkEnds inputs before (lent s₁ f t₁ d m e) (X.Refused number place)
-  unfolding walkedIn visited RoomAfter
-  walk-refused p = record { step = begun ∙ rw p; room = tt }
+  unfolding walkedIn visited EndsWell
+  walk-refused {number} {place} p =
+      let is : walkOf inputs before ≡ overOf words (lent s₁ f t₁ d m e) (X.Refused number place) = begun ∙ rw p in
+      record { step = is; well = numbered inputs before is }
 
   module _ {st : State} (p : r ≡ W.On st) where
     walk-visits : {b′ : Lent} {v : Visit} {room rows : ℕ} → FreeRows rows st f
         → Visits (last (ctxIn (textsOf script text) image words) (Known (slotCount image)) (nodesAt image 4 (rootCount image))) room rows words st (lent s₁ f t₁ d m e) b′ v → WalkEnds inputs before b′ v
     unfolding walkedIn ctxOf rootsOf firstRoots
-    walk-visits g q = record { step = begun ∙ rw (p, q .step); room = rows-kept g (q .keeps) }
+    walk-visits {b′} {v} g q =
+        let is : walkOf inputs before ≡ overOf words b′ v = begun ∙ rw (p, q .step) in
+        record { step = is; well = ends-well inputs before v g is (q .keeps) }
 
     -- what the visits of the roots ask for
     roots-begun : beginning inputs (startOf inputs before) ≡ ok tt (whole words (startState (firstState (length (poolOf words)) .used)) (lent s₁ f t₁ d m e))
@@ -155,19 +180,24 @@ module _ {T : Texts} {image words : List ℕ} {st : State} {b : Lent} where
 -- ── What is left in the buffers ──
 
 module _ (words s f t d m e : List ℕ) (v : Visit) where
+  abbrev finished : Ended
+  finished = endOf (buffersOf s f t d m e) (overOf words (lent s f t d m e) v)
+
   module _ {e′ : List ℕ} {st : State} {r : Checked} (h : Answers f st e e′ r) where
-    pub finish-known : {slot : ℕ} → v ≡ X.Known slot st → endOf (buffersOf s f t d m e) (overOf words (lent s f t d m e) v) ≡ endedOf r (buffersOf s f t d m e′)
+    pub finish-known : {slot : ℕ} → v ≡ X.Known slot st → EndsAs finished (buffersOf s f t d m e′) r
     unfolding endOf visited
-    finish-known p = rw (p, h .counts, h .zero)
+    finish-known p = rw (p, h .counts, h .zero) (record { means = refl; only = refl })
 
-    pub finish-poison : v ≡ X.Poison st → endOf (buffersOf s f t d m e) (overOf words (lent s f t d m e) v) ≡ endedOf r (buffersOf s f t d m e′)
+    pub finish-poison : v ≡ X.Poison st → EndsAs finished (buffersOf s f t d m e′) r
     unfolding endOf visited
-    finish-poison p = rw (p, h .counts, h .zero)
+    finish-poison p = rw (p, h .counts, h .zero) (record { means = refl; only = refl })
 
-  pub finish-refused : {b′ : Buffers} {number place wide : ℕ} → b′ ≡ zeroed (buffersOf s f t d m e) → v ≡ X.Refused number place → wide ≡ place
-      → endOf (buffersOf s f t d m e) (overOf words (lent s f t d m e) v) ≡ endedOf (C.Refused number wide) b′
-  unfolding endOf visited
-  finish-refused z p q = rw (p, q, z)
+  pub finish-refused : {b′ : Buffers} {number place wide : ℕ} → EndsWell f v → b′ ≡ zeroed (buffersOf s f t d m e) → v ≡ X.Refused number place → wide ≡ place
+      → EndsAs finished b′ (C.Refused number wide)
+  unfolding endOf visited EndsWell
+  finish-refused {number = number} h z p q =
+      let k : number ≡ 0 → ⊥ = rw p at h in
+      rw (p, q, z) (record { means = refl; only = rw (ne-eqb number 0 k) refl })
 
 -- an answer's counts and scratch
 pub answers : (f e : List ℕ) (st : State) {e′ : List ℕ} {k : ℕ} → e′ ≡ zeroFirst (length e) e → k ≡ entriesEnd f 0 0 (st .functions)
@@ -175,12 +205,12 @@ pub answers : (f e : List ℕ) (st : State) {e′ : List ℕ} {k : ℕ} → e′
 answers f e st z q = record { counts = rw q; zero = z ∙ zero-ends e }
 
 -- the entries lie in the functions buffer, by the answer
-pub room-known : (f : List ℕ) {v : Visit} {slot : ℕ} {st : State} → RoomAfter f v → v ≡ X.Known slot st → entriesEnd f 0 0 (st .functions) ≤ length f
-unfolding RoomAfter
+pub room-known : (f : List ℕ) {v : Visit} {slot : ℕ} {st : State} → EndsWell f v → v ≡ X.Known slot st → entriesEnd f 0 0 (st .functions) ≤ length f
+unfolding EndsWell
 room-known f h p = rw p at h
 
-pub room-poison : (f : List ℕ) {v : Visit} {st : State} → RoomAfter f v → v ≡ X.Poison st → entriesEnd f 0 0 (st .functions) ≤ length f
-unfolding RoomAfter
+pub room-poison : (f : List ℕ) {v : Visit} {st : State} → EndsWell f v → v ≡ X.Poison st → entriesEnd f 0 0 (st .functions) ≤ length f
+unfolding EndsWell
 room-poison f h p = rw p at h
 
 -- ── The check ──
@@ -200,9 +230,9 @@ unfolding checkOf unlessRefused
 accepted-is i b h = rw h
 
 module _ {i : Inputs} {s f t d m e s′ f′ t′ d′ m′ e′ : List ℕ} {v : Visit} (w : WalkEnds i (buffersOf s f t d m e) (lent s′ f′ t′ d′ m′ e′) v) where
-  pub accepted-ends : {x : Ended} → refusalOf i (buffersOf s f t d m e) ≡ none
+  pub accepted-ends : {after : Buffers} {r : Checked} → refusalOf i (buffersOf s f t d m e) ≡ none
       → length s′ ≡ length s → length f′ ≡ length f → length t′ ≡ length t → length d′ ≡ length d → length m′ ≡ length m → length e′ ≡ length e
-      → endOf (buffersOf s′ f′ t′ d′ m′ e′) (overOf (i .library) (lent s′ f′ t′ d′ m′ e′) v) ≡ x → checkOf i (buffersOf s f t d m e) ≡ x
-  accepted-ends h p₁ p₂ p₃ p₄ p₅ p₆ q =
+      → EndsAs (endOf (buffersOf s′ f′ t′ d′ m′ e′) (overOf (i .library) (lent s′ f′ t′ d′ m′ e′) v)) after r → EndsAs (checkOf i (buffersOf s f t d m e)) after r
+  accepted-ends {after} {r} h p₁ p₂ p₃ p₄ p₅ p₆ q = subst (λ x. EndsAs x after r) (sym (
       accepted-is i (buffersOf s f t d m e) h ∙ ap (endOf (buffersOf s f t d m e)) (w .step)
-      ∙ sym (end-as-long s′ f′ t′ d′ m′ e′ s f t d m e p₁ p₂ p₃ p₄ p₅ p₆ (overOf (i .library) (lent s′ f′ t′ d′ m′ e′) v)) ∙ q
+      ∙ sym (end-as-long s′ f′ t′ d′ m′ e′ s f t d m e p₁ p₂ p₃ p₄ p₅ p₆ (overOf (i .library) (lent s′ f′ t′ d′ m′ e′) v)))) q

@@ -2,7 +2,9 @@
 -- each other. Definitions.
 use Prim.Native.Nat.{ℕ, _≤_}
 use mathlib.Core.Path.{_≡_}
+use mathlib.Core.Bool.{cond}
 use mathlib.Core.List.{List}
+use lib.Dec.{eqb}
 use lib.ListN.{length}
 use Rattle.tok.specs.Step.{Result, Refusal, refusal, next}
 use Rattle.refusals.specs.Inputs.{Inputs, Buffers}
@@ -33,6 +35,15 @@ endedOf (C.Done functionWords typeWords diagnostics messageBytes) b = record {
 }
 endedOf (C.Refused number place) b = refusedWith (refusal number place) b
 
+-- Which case an end is answered by: Done where the number is 0, else Refused. So no refusal of number 0 is ever answered.
+abbrev pub checkedOf : Ended → Checked
+checkedOf e = cond (eqb (e .number) 0) (C.Done (e .functionWords) (e .typeWords) (e .diagnostics) (e .messageBytes)) (C.Refused (e .number) (e .place))
+
+-- r is the answer where the rules end in e, with the buffers afterwards: it means that, and no other case does
+pub record EndsAs (e : Ended) (after : Buffers) (r : Checked) : Type 0 where
+  pub means : e ≡ endedOf r after
+  pub only : r ≡ checkedOf e
+
 -- what is found before the walk; where nothing is found no refusal is answered, and number 0 stands for none
 abbrev pub beforeOf : Before → Checked
 beforeOf Passed = C.Refused 0 0
@@ -56,13 +67,13 @@ pub record Answers (functions : List ℕ) (st : State) (scratch scratch′ : Lis
 abbrev pub overOf : (library : List ℕ) → Lent → Visit → Result World Refusal Done
 overOf library b r = next (visited library b r) (λ _. skip)
 
--- the entries of the functions buffer lie in it
-unfoldable pub RoomAfter : (functions : List ℕ) → Visit → Type 0
-RoomAfter functions (X.Known slot st) = entriesEnd functions 0 0 (st .functions) ≤ length functions
-RoomAfter functions (X.Poison st) = entriesEnd functions 0 0 (st .functions) ≤ length functions
-RoomAfter functions (X.Refused number place) = Unit {0}
+-- the entries of the functions buffer lie in it; a refusal has a number
+unfoldable pub EndsWell : (functions : List ℕ) → Visit → Type 0
+EndsWell functions (X.Known slot st) = entriesEnd functions 0 0 (st .functions) ≤ length functions
+EndsWell functions (X.Poison st) = entriesEnd functions 0 0 (st .functions) ≤ length functions
+EndsWell functions (X.Refused number place) = number ≡ 0 → ⊥
 
 -- the walk of accepted inputs: b came in, b′ are the buffers now, r is what the roots answered
 pub record WalkEnds (i : Inputs) (b : Buffers) (b′ : Lent) (r : Visit) : Type 0 where
   pub step : walkOf i b ≡ overOf (i .library) b′ r
-  pub room : RoomAfter (b′ .functions) r
+  pub well : EndsWell (b′ .functions) r

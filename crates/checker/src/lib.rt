@@ -5,6 +5,7 @@ ghost use mathlib.Core.Option.{none};
 ghost use mathlib.Core.List.{List};
 ghost use Prim.Native.Nat.{ℕ, _≤_};
 ghost use lib.ListN.{length};
+ghost use Rattle.refusals.specs.Inputs.{Inputs, Buffers};
 ghost use Rattle.refusals.specs.Refusals.{refusalOf};
 ghost use Rattle.refuse.specs.Answer.{inputsOf, buffersOf};
 ghost use Rattle.rules.specs.Check.{endOf, checkOf};
@@ -14,7 +15,7 @@ ghost use Rattle.ast.specs.Image.{nodeCount, rootCount};
 ghost use Rattle.places.specs.Places.{placesOf};
 ghost use Rattle.visit.specs.Whole.{Lent, lent};
 ghost use Rattle.walking.specs.Contracts.{ListVisit, ListVisited};
-ghost use Rattle.checker.specs.Ended.{endedOf, beforeOf, Answers, overOf, RoomAfter, WalkEnds};
+ghost use Rattle.checker.specs.Ended.{endedOf, checkedOf, EndsAs, beforeOf, Answers, overOf, EndsWell, WalkEnds};
 use refuse::Before;
 use visit::State;
 use visit::Visit;
@@ -98,8 +99,11 @@ fn finish(
     scratch: &mut [u32],
     visit: Visit,
 ) -> Checked
-    requires { ⌜ RoomAfter (now functions) visit ⌝ }
-    ensures { λ r. ⌜ ((words : List ℕ) → endOf (buffersOf (now (slots .entry)) (now (functions .entry)) (now (types .entry)) (now (diagnostics .entry)) (now (messages .entry)) (now (scratch .entry))) (overOf words (lent (now (slots .entry)) (now (functions .entry)) (now (types .entry)) (now (diagnostics .entry)) (now (messages .entry)) (now (scratch .entry))) visit) ≡ endedOf r (buffersOf (now (slots .exit)) (now (functions .exit)) (now (types .exit)) (now (diagnostics .exit)) (now (messages .exit)) (now (scratch .exit)))) ⌝ }
+    requires { ⌜ EndsWell (now functions) visit ⌝ }
+    ensures { λ r. let before : Buffers = buffersOf (now (slots .entry)) (now (functions .entry)) (now (types .entry)) (now (diagnostics .entry)) (now (messages .entry)) (now (scratch .entry)) in
+        let b : Lent = lent (now (slots .entry)) (now (functions .entry)) (now (types .entry)) (now (diagnostics .entry)) (now (messages .entry)) (now (scratch .entry)) in
+        let after : Buffers = buffersOf (now (slots .exit)) (now (functions .exit)) (now (types .exit)) (now (diagnostics .exit)) (now (messages .exit)) (now (scratch .exit)) in
+        ⌜ ((words : List ℕ) → EndsAs (endOf before (overOf words b visit)) after r) ⌝ }
 {
     match visit {
         Visit::Known(_, st) => {
@@ -177,8 +181,13 @@ fn walk<'a>(
     image: &[u32],
     library: &[u32],
 ) -> Visit
-    requires { ⌜ refusalOf (inputsOf (now script) (now image) (now text) (now library)) (buffersOf (now slots) (now functions) (now types) (now diagnostics) (now messages) (now scratch)) ≡ none ⌝ }
-    ensures { λ r. ⌜ WalkEnds (inputsOf (now (script .entry)) (now (image .entry)) (now (text .entry)) (now (library .entry))) (buffersOf (now (slots .entry)) (now (functions .entry)) (now (types .entry)) (now (diagnostics .entry)) (now (messages .entry)) (now (scratch .entry))) (lent (now (slots .exit)) (now (functions .exit)) (now (types .exit)) (now (diagnostics .exit)) (now (messages .exit)) (now (scratch .exit))) r ⌝ }
+    requires { let i : Inputs = inputsOf (now script) (now image) (now text) (now library) in
+        let b : Buffers = buffersOf (now slots) (now functions) (now types) (now diagnostics) (now messages) (now scratch) in
+        ⌜ refusalOf i b ≡ none ⌝ }
+    ensures { λ r. let i : Inputs = inputsOf (now (script .entry)) (now (image .entry)) (now (text .entry)) (now (library .entry)) in
+        let b : Buffers = buffersOf (now (slots .entry)) (now (functions .entry)) (now (types .entry)) (now (diagnostics .entry)) (now (messages .entry)) (now (scratch .entry)) in
+        let b′ : Lent = lent (now (slots .exit)) (now (functions .exit)) (now (types .exit)) (now (diagnostics .exit)) (now (messages .exit)) (now (scratch .exit)) in
+        ⌜ WalkEnds i b b′ r ⌝ }
 {
     match start::begin(slots, types, image, library) {
         Walked::Refused(number, place) => {
@@ -215,8 +224,13 @@ fn check_accepted<'a>(
     image: &[u32],
     library: &[u32],
 ) -> Checked
-    requires { ⌜ refusalOf (inputsOf (now script) (now image) (now text) (now library)) (buffersOf (now slots) (now functions) (now types) (now diagnostics) (now messages) (now scratch)) ≡ none ⌝ }
-    ensures { λ r. ⌜ checkOf (inputsOf (now (script .entry)) (now (image .entry)) (now (text .entry)) (now (library .entry))) (buffersOf (now (slots .entry)) (now (functions .entry)) (now (types .entry)) (now (diagnostics .entry)) (now (messages .entry)) (now (scratch .entry))) ≡ endedOf r (buffersOf (now (slots .exit)) (now (functions .exit)) (now (types .exit)) (now (diagnostics .exit)) (now (messages .exit)) (now (scratch .exit))) ⌝ }
+    requires { let i : Inputs = inputsOf (now script) (now image) (now text) (now library) in
+        let b : Buffers = buffersOf (now slots) (now functions) (now types) (now diagnostics) (now messages) (now scratch) in
+        ⌜ refusalOf i b ≡ none ⌝ }
+    ensures { λ r. let i : Inputs = inputsOf (now (script .entry)) (now (image .entry)) (now (text .entry)) (now (library .entry)) in
+        let before : Buffers = buffersOf (now (slots .entry)) (now (functions .entry)) (now (types .entry)) (now (diagnostics .entry)) (now (messages .entry)) (now (scratch .entry)) in
+        let after : Buffers = buffersOf (now (slots .exit)) (now (functions .exit)) (now (types .exit)) (now (diagnostics .exit)) (now (messages .exit)) (now (scratch .exit)) in
+        ⌜ EndsAs (checkOf i before) after r ⌝ }
 {
     let visit = walk(
         slots,
@@ -255,7 +269,10 @@ pub fn check<'a>(
     messages: &mut [u8],
     scratch: &mut [u32],
 ) -> Checked
-    ensures { λ r. ⌜ checkOf (inputsOf (now (script .entry)) (now (image .entry)) (now (text .entry)) (now (library .entry))) (buffersOf (now (slots .entry)) (now (functions .entry)) (now (types .entry)) (now (diagnostics .entry)) (now (messages .entry)) (now (scratch .entry))) ≡ endedOf r (buffersOf (now (slots .exit)) (now (functions .exit)) (now (types .exit)) (now (diagnostics .exit)) (now (messages .exit)) (now (scratch .exit))) ⌝ }
+    ensures { λ r. let i : Inputs = inputsOf (now (script .entry)) (now (image .entry)) (now (text .entry)) (now (library .entry)) in
+        let before : Buffers = buffersOf (now (slots .entry)) (now (functions .entry)) (now (types .entry)) (now (diagnostics .entry)) (now (messages .entry)) (now (scratch .entry)) in
+        let after : Buffers = buffersOf (now (slots .exit)) (now (functions .exit)) (now (types .exit)) (now (diagnostics .exit)) (now (messages .exit)) (now (scratch .exit)) in
+        ⌜ (checkOf i before ≡ endedOf r after) × (r ≡ checkedOf (checkOf i before)) ⌝ }
 {
     let before = refuse::refuse(
         script,

@@ -7,7 +7,7 @@ ghost use Rattle.tok.specs.Text.{Texts};
 ghost use Rattle.library.specs.Package.{Package};
 ghost use Rattle.ast.specs.Node.{externsFrom};
 ghost use Rattle.state.specs.Context.{ctx};
-ghost use Rattle.visit.specs.Whole.{lent};
+ghost use Rattle.visit.specs.Whole.{Lent, lent};
 ghost use Rattle.visit.specs.Within.{Visits};
 ghost use Rattle.room_laws.specs.Room.{externWords};
 ghost use Rattle.extern_package.specs.Packing.{FunctionsRoom, WritesFunctions, ExternReady, externRule, externHeld};
@@ -88,7 +88,10 @@ pub fn extern_package(
 ) -> Visit
     requires { ⌜ ExternReady (now image) (now places) st (now scratch) from end count ⌝ }
     ensures { λ r.
-        ⌜ ((T : Texts) (ls : List Package) (v : ℕ) (words f d m : List ℕ) → Visits (externRule (ctx T ls v) n slot name (externsFrom (now (image .entry)) from count)) (externWords (externsFrom (now (image .entry)) from count)) 0 words st (lent (now (slots .entry)) f (now (types .entry)) d m (now (scratch .entry))) (lent (now (slots .exit)) f (now (types .exit)) d m (now (scratch .exit))) r) ⌝ }
+        ⌜ ((T : Texts) (ls : List Package) (v : ℕ) (words f d m : List ℕ) →
+        let b : Lent = lent (now (slots .entry)) f (now (types .entry)) d m (now (scratch .entry)) in
+        let b′ : Lent = lent (now (slots .exit)) f (now (types .exit)) d m (now (scratch .exit)) in
+        Visits (externRule (ctx T ls v) n slot name (externsFrom (now (image .entry)) from count)) (externWords (externsFrom (now (image .entry)) from count)) 0 words st b b′ r) ⌝ }
 {
     let size = 3 + (end - from);
     let start = st.held - size;

@@ -10,7 +10,7 @@ ghost use Rattle.add.specs.Parts.{opened};
 ghost use Rattle.places.specs.NodesAt.{NodeReady};
 ghost use Rattle.spans.specs.Ready.{ValuesReady};
 ghost use Rattle.rules.specs.Steps.{onTypes};
-ghost use Rattle.visit.specs.Whole.{lent};
+ghost use Rattle.visit.specs.Whole.{Lent, lent};
 ghost use Rattle.visit.specs.Within.{Visits};
 ghost use Rattle.visit.specs.Walks.{Gives};
 ghost use Rattle.fields.specs.Read.{nodeValue, pairsRead};
@@ -68,7 +68,10 @@ fn close(
     word: u32,
 ) -> Visit
     requires { ⌜ at ≤ 8192 ⌝ }
-    ensures { λ r. ⌜ ((T : Texts) (words f d m e : List ℕ) → Visits (recordEnd T n (getD (now (image .entry)) (at + 1) 0) word) 0 0 words st (lent (now (slots .entry)) f (now (types .entry)) d m e) (lent (now (slots .exit)) f (now (types .entry)) d m e) r) ⌝ }
+    ensures { λ r. ⌜ ((T : Texts) (words f d m e : List ℕ) →
+        let b : Lent = lent (now (slots .entry)) f (now (types .entry)) d m e in
+        let b′ : Lent = lent (now (slots .exit)) f (now (types .entry)) d m e in
+        Visits (recordEnd T n (getD (now (image .entry)) (at + 1) 0) word) 0 0 words st b b′ r) ⌝ }
 {
     if !add::is_shallow(types, word) {
         return Visit::Refused(8, n);
@@ -127,7 +130,10 @@ pub fn make(
 ) -> Visit
     requires { ⌜ ValuesReady (now image) (now places) n (at + 3) count ⌝ }
     ensures { λ r. let I : List ℕ = now (image .entry) in
-        ⌜ ((T : Texts) (words f d m e : List ℕ) → Visits (recordOf T n (getD I (at + 1) 0) (pairsRead I (now (slots .entry)) (at + 3) count)) 0 0 words st (lent (now (slots .entry)) f (now (types .entry)) d m e) (lent (now (slots .exit)) f (now (types .exit)) d m e) r) ⌝ }
+        ⌜ ((T : Texts) (words f d m e : List ℕ) →
+        let b : Lent = lent (now (slots .entry)) f (now (types .entry)) d m e in
+        let b′ : Lent = lent (now (slots .exit)) f (now (types .exit)) d m e in
+        Visits (recordOf T n (getD I (at + 1) 0) (pairsRead I (now (slots .entry)) (at + 3) count)) 0 0 words st b b′ r) ⌝ }
 {
     let opened = open(types, st, n, count);
     match opened {

@@ -52,7 +52,7 @@ use Rattle.visit.specs.StoreLaws.{length-entry, own-more, ends-more}
 use Rattle.parameters.specs.Typing.{withTypesUsed, Typed, type-word, type-refused}
 use Rattle.parameters.specs.Arguments.{arguedIn, Argues}
 use Rattle.functions.specs.declared.Met.the-variants as M
-use Rattle.functions.specs.Defined.{fnBegin, fnEnd, Meets, new, already}
+use Rattle.functions.specs.Defined.{fnBegin, fnEnd, metIn, new, already, Meets}
 use Rattle.functions.specs.Entering.{CopyRoom, EntryRoom, FnReady, enteredWith, ends-many, length-params}
 
 -- ── A name that was met ──
@@ -64,16 +64,16 @@ module _ (T : Texts) (n name : ℕ) (st : State) (f : List ℕ) (own : Own) (eo 
   chosen o eq ls v words s t d m e r = ap (λ x. onOption x r (λ _. poison n (definedAlready name (nameBytes T name))) (whole words st (lent s f t d m e))) (sym eo ∙ eq)
 
   pub name-new : own ≡ O.Nothing → (ls : List Package) (v : ℕ) (words s t d m e : List ℕ) → Meets (ctx T ls v) n name words st (lent s f t d m e) (lent s f t d m e) M.New
-  unfolding onOption
-  name-new eq ls v words s t d m e = new refl (λ r. chosen none (ap (λ x. ownOf f x) eq) ls v words s t d m e r)
+  unfolding onOption metIn
+  name-new eq ls v words s t d m e = record { step = λ r. chosen none (ap (λ x. ownOf f x) eq) ls v words s t d m e r; keeps = new refl }
 
   pub name-met : {at : ℕ} {d m d′ m′ : List ℕ} {q : Reported} {r : Step} {x : Visit} → own ≡ O.At at → Reports (definedAlready name (nameBytes T name)) d m (st .used .told) d′ m′ q
       → r ≡ poisonOf n (st .used) q → x ≡ visitOf st r
       → (ls : List Package) (v : ℕ) (words s t e : List ℕ) → Meets (ctx T ls v) n name words st (lent s f t d m e) (lent s f t d′ m′ e) (M.Already x)
-  unfolding onOption
-  name-met {d = d} {m} eq p er ex ls v words s t e = rw (ex, er) (already (λ r.
+  unfolding onOption metIn
+  name-met {d = d} {m} eq p er ex ls v words s t e =
       let y = steps-visits {st = st} {s = s} {t = t} (poisons-step n p) words f e in
-      record { step = chosen _ (ap (λ x. ownOf f x) eq) ls v words s t d m e r ∙ y .step; keeps = y .keeps }))
+      rw (ex, er) (record { step = λ r. chosen _ (ap (λ x. ownOf f x) eq) ls v words s t d m e r ∙ y .step; keeps = already (y .keeps) })
 
 -- ── Pairs copied ──
 

@@ -17,8 +17,8 @@ use Rattle.rules.specs.Steps.{Done, skip, ifKnown, ty, tree, tyTree, setKnown, 
 use Rattle.rules.specs.Rules.{fnArguments, checkReturn, fn, unlessDefined}
 use Rattle.visit.specs.declared.State.{State}
 use Rattle.visit.specs.declared.Visit.{Visit}
-use Rattle.visit.specs.Whole.{Lent, whole}
-use Rattle.visit.specs.Within.{Visits}
+use Rattle.visit.specs.Whole.{Lent, whole, visited}
+use Rattle.visit.specs.Within.{Keeps}
 use Rattle.functions.specs.declared.Met.{Met}
 use Rattle.functions.specs.declared.Met.the-variants as M
 
@@ -36,10 +36,20 @@ fnEnd c n slot name retExpr ret computed = do
   checkReturn c n name retExpr ret computed
   setKnown slot ret
 
--- What is answered of a name: it is new, and the rule goes on; or it was met, and what then is the rule's answer.
-pub data Meets (c : Ctx) (n name : ℕ) (library : List ℕ) (st : State) (b b′ : Lent) : Met → Type 0 where
-  new : b′ ≡ b → ((m : Walk Answer) → unlessDefined c n name m (whole library st b) ≡ m (whole library st b)) → Meets c n name library st b b′ M.New
-  already : {v : Visit} → ((m : Walk Answer) → Visits (unlessDefined c n name m) 0 0 library st b b′ v) → Meets c n name library st b b′ (M.Already v)
+-- The paper's number and values for each case of an answer: the name is new, and the rest m of the rule follows; or the rule has answered.
+unfoldable pub metIn : (library : List ℕ) → State → Lent → Met → (m : Walk Answer) → Result World Refusal Answer
+metIn library st b M.New m = m (whole library st b)
+metIn library st b (M.Already v) m = visited library b v
+
+-- a new name changes nothing; where it was met nothing is taken
+pub data KeepsMet (st : State) (b b′ : Lent) : Met → Type 0 where
+  new : b′ ≡ b → KeepsMet st b b′ M.New
+  already : {v : Visit} → Keeps 0 0 st b b′ v → KeepsMet st b b′ (M.Already v)
+
+-- What is answered of a name. Buffers b came in, b′ are the buffers now, r is the answer.
+pub record Meets (c : Ctx) (n name : ℕ) (library : List ℕ) (st : State) (b b′ : Lent) (r : Met) : Type 0 where
+  pub step : (m : Walk Answer) → unlessDefined c n name m (whole library st b) ≡ metIn library st b′ r m
+  pub keeps : KeepsMet st b b′ r
 
 -- ── The rule is its parts ──
 

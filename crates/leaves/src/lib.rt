@@ -4,7 +4,7 @@ ghost use mathlib.Core.List.{List};
 ghost use Prim.Native.Nat.{ℕ, _<_};
 ghost use Rattle.tok.specs.Text.{Texts, textsOf};
 ghost use Rattle.tok.specs.Word.{wordOf};
-ghost use Rattle.visit.specs.Whole.{lent};
+ghost use Rattle.visit.specs.Whole.{Lent, lent};
 ghost use Rattle.walking.specs.Contracts.{NodeVisited};
 ghost use Rattle.leaves.specs.Leaves.{LeafReady};
 use tok::kind;
@@ -44,7 +44,10 @@ pub fn leaf<'a>(
 ) -> Visit
     requires { ⌜ LeafReady (textsOf (now script) (now library)) (now image) (now places) (now words) n st (now scratch) ⌝ }
     ensures { λ r. let T : Texts = textsOf (now (script .entry)) (now (library .entry)) in
-        ⌜ ((f : List ℕ) → NodeVisited T (now (image .entry)) (now (words .entry)) n st (lent (now (slots .entry)) f (now (types .entry)) (now (diagnostics .entry)) (now (messages .entry)) (now (scratch .entry))) (lent (now (slots .exit)) f (now (types .exit)) (now (diagnostics .exit)) (now (messages .exit)) (now (scratch .exit))) r) ⌝ }
+        ⌜ ((f : List ℕ) →
+        let b : Lent = lent (now (slots .entry)) f (now (types .entry)) (now (diagnostics .entry)) (now (messages .entry)) (now (scratch .entry)) in
+        let b′ : Lent = lent (now (slots .exit)) f (now (types .exit)) (now (diagnostics .exit)) (now (messages .exit)) (now (scratch .exit)) in
+        NodeVisited T (now (image .entry)) (now (words .entry)) n st b b′ r) ⌝ }
 {
     let at = places::node_place(places, n);
     let head = word_at(image, at);

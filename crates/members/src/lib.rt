@@ -13,7 +13,7 @@ ghost use Rattle.rules.specs.Steps.{poison};
 ghost use Rattle.rules.specs.Rules.{arrayOf};
 ghost use Rattle.state.specs.Context.{ctx};
 ghost use Rattle.places.specs.NodesAt.{NodeReady};
-ghost use Rattle.visit.specs.Whole.{lent};
+ghost use Rattle.visit.specs.Whole.{Lent, lent};
 ghost use Rattle.visit.specs.Within.{Visits};
 ghost use Rattle.visit.specs.Plain.{withUsed};
 ghost use Rattle.members.specs.Turns.{memberTurn, Turns, endedOf};
@@ -42,7 +42,10 @@ pub fn empty(
     n: u32,
 ) -> Visit
     requires { ⌜ at ≤ 8192 ⌝ }
-    ensures { λ r. ⌜ ((words s f t e : List ℕ) → Visits (poison n (emptyArray (getD (now (image .entry)) (at + 2) 0))) 0 0 words st (lent s f t (now (diagnostics .entry)) (now (messages .entry)) e) (lent s f t (now (diagnostics .exit)) (now (messages .exit)) e) r) ⌝ }
+    ensures { λ r. ⌜ ((words s f t e : List ℕ) →
+        let b : Lent = lent s f t (now (diagnostics .entry)) (now (messages .entry)) e in
+        let b′ : Lent = lent s f t (now (diagnostics .exit)) (now (messages .exit)) e in
+        Visits (poison n (emptyArray (getD (now (image .entry)) (at + 2) 0))) 0 0 words st b b′ r) ⌝ }
 {
     let used = st.used;
     let step = values::empty_array(diagnostics, messages, used, n, word_at(image, at + 2));
@@ -82,7 +85,10 @@ pub fn member<'a>(
 ) -> Turn
     requires { ⌜ NodeReady (now image) (now places) part ⌝ }
     ensures { λ r. let T : Texts = textsOf (now (script .entry)) (now (library .entry)) in
-        ⌜ ((ls : List Package) (v : ℕ) (words f e : List ℕ) → Turns (memberTurn (ctx T ls v) n (spanOf (treeOf (now (image .entry)) part)) first second poisoned) words st (lent (now (slots .entry)) f (now (types .entry)) (now (diagnostics .entry)) (now (messages .entry)) e) (lent (now (slots .entry)) f (now (types .entry)) (now (diagnostics .exit)) (now (messages .exit)) e) r) ⌝ }
+        ⌜ ((ls : List Package) (v : ℕ) (words f e : List ℕ) →
+        let b : Lent = lent (now (slots .entry)) f (now (types .entry)) (now (diagnostics .entry)) (now (messages .entry)) e in
+        let b′ : Lent = lent (now (slots .entry)) f (now (types .entry)) (now (diagnostics .exit)) (now (messages .exit)) e in
+        Turns (memberTurn (ctx T ls v) n (spanOf (treeOf (now (image .entry)) part)) first second poisoned) words st b b′ r) ⌝ }
 {
     let used = st.used;
     let span = spans::span_of(image, places, part);
@@ -144,7 +150,10 @@ pub fn end(
     poisoned: bool,
 ) -> Visit
     requires { ⌜ at ≤ 8192 ⌝ }
-    ensures { λ r. ⌜ ((T : Texts) (ls : List Package) (v : ℕ) (words f d m e : List ℕ) → Visits (arrayOf (ctx T ls v) n (getD (now (image .entry)) (at + 1) 0) first poisoned) 0 0 words st (lent (now (slots .entry)) f (now (types .entry)) d m e) (lent (now (slots .exit)) f (now (types .exit)) d m e) r) ⌝ }
+    ensures { λ r. ⌜ ((T : Texts) (ls : List Package) (v : ℕ) (words f d m e : List ℕ) →
+        let b : Lent = lent (now (slots .entry)) f (now (types .entry)) d m e in
+        let b′ : Lent = lent (now (slots .exit)) f (now (types .exit)) d m e in
+        Visits (arrayOf (ctx T ls v) n (getD (now (image .entry)) (at + 1) 0) first poisoned) 0 0 words st b b′ r) ⌝ }
 {
     let used = st.used;
     let step = values::array_of(

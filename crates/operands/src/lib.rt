@@ -7,7 +7,7 @@ ghost use Prim.Native.Nat.{ℕ, _+_, _≤_};
 ghost use Rattle.tok.specs.Text.{Texts, textsOf};
 ghost use Rattle.library.specs.Package.{Package};
 ghost use Rattle.state.specs.Context.{ctx};
-ghost use Rattle.visit.specs.Whole.{lent};
+ghost use Rattle.visit.specs.Whole.{Lent, lent};
 ghost use Rattle.visit.specs.Within.{Visits};
 ghost use Rattle.visit.specs.Walks.{Gives};
 ghost use Rattle.operands.specs.Ends.{operandAt, binEnd, oneEnd, oneRoom, castType, castEnd, moreTypes};
@@ -58,7 +58,10 @@ pub fn bin_end<'a>(
 ) -> Visit
     requires { ⌜ at ≤ 8192 ⌝ }
     ensures { λ r. let T : Texts = textsOf (now (script .entry)) (now (library .entry)) in
-        ⌜ ((ls : List Package) (v : ℕ) (words f e : List ℕ) → Visits (binEnd (ctx T ls v) (now (image .entry)) n at left right) 0 0 words st (lent (now (slots .entry)) f (now (types .entry)) (now (diagnostics .entry)) (now (messages .entry)) e) (lent (now (slots .exit)) f (now (types .entry)) (now (diagnostics .exit)) (now (messages .exit)) e) r) ⌝ }
+        ⌜ ((ls : List Package) (v : ℕ) (words f e : List ℕ) →
+        let b : Lent = lent (now (slots .entry)) f (now (types .entry)) (now (diagnostics .entry)) (now (messages .entry)) e in
+        let b′ : Lent = lent (now (slots .exit)) f (now (types .entry)) (now (diagnostics .exit)) (now (messages .exit)) e in
+        Visits (binEnd (ctx T ls v) (now (image .entry)) n at left right) 0 0 words st b b′ r) ⌝ }
 {
     let Answer::Known(left_slot) = left else {
         return Visit::Poison(st);
@@ -107,7 +110,10 @@ pub fn one_end<'a>(
 ) -> Visit
     requires { ⌜ OneReady (now image) at st (now scratch) ⌝ }
     ensures { λ r. let T : Texts = textsOf (now (script .entry)) (now (library .entry)) in
-        ⌜ ((ls : List Package) (v : ℕ) (words f : List ℕ) → Visits (oneEnd (ctx T ls v) (now (image .entry)) n at answer) (oneRoom (now (image .entry)) at) 0 words st (lent (now (slots .entry)) f (now (types .entry)) (now (diagnostics .entry)) (now (messages .entry)) (now (scratch .entry))) (lent (now (slots .exit)) f (now (types .entry)) (now (diagnostics .exit)) (now (messages .exit)) (now (scratch .exit))) r) ⌝ }
+        ⌜ ((ls : List Package) (v : ℕ) (words f : List ℕ) →
+        let b : Lent = lent (now (slots .entry)) f (now (types .entry)) (now (diagnostics .entry)) (now (messages .entry)) (now (scratch .entry)) in
+        let b′ : Lent = lent (now (slots .exit)) f (now (types .entry)) (now (diagnostics .exit)) (now (messages .exit)) (now (scratch .exit)) in
+        Visits (oneEnd (ctx T ls v) (now (image .entry)) n at answer) (oneRoom (now (image .entry)) at) 0 words st b b′ r) ⌝ }
 {
     let k = kind(word_at(image, at));
     let slot = word_at(image, at + 1);
@@ -197,7 +203,10 @@ pub fn cast_begin(
 ) -> Gave
     requires { ⌜ CastReady (now image) (now places) at ⌝ }
     ensures { λ r.
-        ⌜ ((T : Texts) (ls : List Package) (v : ℕ) (words s f d m e : List ℕ) → Gives (castType (ctx T ls v) (now (image .entry)) n at) 0 0 words st (lent s f (now (types .entry)) d m e) (lent s f (now (types .exit)) d m e) r) ⌝ }
+        ⌜ ((T : Texts) (ls : List Package) (v : ℕ) (words s f d m e : List ℕ) →
+        let b : Lent = lent s f (now (types .entry)) d m e in
+        let b′ : Lent = lent s f (now (types .exit)) d m e in
+        Gives (castType (ctx T ls v) (now (image .entry)) n at) 0 0 words st b b′ r) ⌝ }
 {
     let used = st.used;
     let expr = word_at(image, at + 4);
@@ -225,7 +234,10 @@ pub fn cast_end<'a>(
 ) -> Visit
     requires { ⌜ at ≤ 8192 ⌝ }
     ensures { λ r. let T : Texts = textsOf (now (script .entry)) (now (library .entry)) in
-        ⌜ ((ls : List Package) (v : ℕ) (words f e : List ℕ) → Visits (castEnd (ctx T ls v) (now (image .entry)) n at to answer) 0 0 words st (lent (now (slots .entry)) f (now (types .entry)) (now (diagnostics .entry)) (now (messages .entry)) e) (lent (now (slots .exit)) f (now (types .entry)) (now (diagnostics .exit)) (now (messages .exit)) e) r) ⌝ }
+        ⌜ ((ls : List Package) (v : ℕ) (words f e : List ℕ) →
+        let b : Lent = lent (now (slots .entry)) f (now (types .entry)) (now (diagnostics .entry)) (now (messages .entry)) e in
+        let b′ : Lent = lent (now (slots .exit)) f (now (types .entry)) (now (diagnostics .exit)) (now (messages .exit)) e in
+        Visits (castEnd (ctx T ls v) (now (image .entry)) n at to answer) 0 0 words st b b′ r) ⌝ }
 {
     let Answer::Known(value) = answer else {
         return Visit::Poison(st);

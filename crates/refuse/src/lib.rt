@@ -6,7 +6,7 @@ ghost use Prim.Native.Nat.{ℕ};
 ghost use lib.ListN.{length};
 ghost use Rattle.tok.specs.Text.{textsOf};
 ghost use Rattle.ast.specs.ImageFault.{imageRead};
-ghost use Rattle.refusals.specs.Inputs.{Buffers};
+ghost use Rattle.refusals.specs.Inputs.{Inputs, Buffers};
 ghost use Rattle.refusals.specs.Refusals.{orElse, refusalOfImage, refusalOf};
 ghost use Rattle.claims.specs.Marks.{claimsIn};
 ghost use Rattle.depth.specs.Depths.{depthIn};
@@ -59,7 +59,9 @@ fn of_claims(image: &[u32], slots: usize, functions: usize) -> Before
 
 // Refusals 3 to 6.
 fn of_image(script: &[u8], image: &[u32], slots: usize, functions: usize) -> Before
-    ensures { λ r. ⌜ ((library : List ℕ) (b : Buffers) → slots ≡ length (b .slots) → functions ≡ length (b .functions) → refusalIn r ≡ refusalOfImage b (imageRead (textsOf (now (script .entry)) library) (now (image .entry)))) ⌝ }
+    ensures { λ r.
+        ⌜ ((library : List ℕ) (b : Buffers) → slots ≡ length (b .slots) → functions ≡ length (b .functions) → refusalIn r ≡ refusalOfImage b (imageRead (textsOf (now (script .entry))
+        library) (now (image .entry)))) ⌝ }
 {
     match image::read(script, image) {
         Verdict::Offends(word) => return Before::Image(word),
@@ -80,7 +82,9 @@ pub fn refuse<'a>(
     messages: &[u8],
     scratch: &[u32],
 ) -> Before
-    ensures { λ r. ⌜ refusalIn r ≡ refusalOf (inputsOf (now (script .entry)) (now (image .entry)) (now (text .entry)) (now (library .entry))) (buffersOf (now (slots .entry)) (now (functions .entry)) (now (types .entry)) (now (diagnostics .entry)) (now (messages .entry)) (now (scratch .entry))) ⌝ }
+    ensures { λ r. let before : Buffers = buffersOf (now (slots .entry)) (now (functions .entry)) (now (types .entry)) (now (diagnostics .entry)) (now (messages .entry)) (now (scratch .entry)) in
+        let i : Inputs = inputsOf (now (script .entry)) (now (image .entry)) (now (text .entry)) (now (library .entry)) in
+        ⌜ refusalIn r ≡ refusalOf i before ⌝ }
 {
     if scratch.len() < SCRATCH_WORDS {
         return Before::Scratch;

@@ -6,7 +6,6 @@ use mathlib.Core.List.{List}
 use native.Mathlib.Omega.{arith}
 use lib.ListN.{length, take, getD, replicate, length-replicate}
 use lib.Dec.{eqb}
-use borrow.Author.Tests.{ne-eqb}
 use Rattle.ptype.specs.Add.{overwrite}
 use Rattle.ast.specs.Image.{slotCount}
 use Rattle.refusals.specs.Inputs.{Inputs, Buffers}
@@ -15,7 +14,7 @@ use Rattle.refuse.specs.Answer.{inputsOf}
 use Rattle.bench_rows.specs.Bench.{imageLength, libraryLength, fits, inputsIn}
 use Rattle.checker.specs.declared.Checked.{Checked}
 use Rattle.checker.specs.declared.Checked.the-variants as C
-use Rattle.checker.specs.Ended.{endedOf}
+use Rattle.checker.specs.Ended.{endedOf, checkedOf}
 use Rattle.checker.specs.Demands.{check-table}
 use Rattle.rows_input.specs.WordsLaws.{image-whole, library-whole}
 use Rattle.rows_part.specs.declared.Row.{Row}
@@ -23,15 +22,6 @@ use Rattle.rows_part.specs.declared.Row.the-variants.{Slot, Refused, Input}
 use Rattle.rows_part.specs.Printing.{firstRow, firstOf}
 use Rattle.rows_begin.specs.declared.Begun.{Begun}
 use Rattle.rows_begin.specs.Beginning.{begunIn, alone, narrowed, begunOf, Runs, endedFrom, Begins}
-
--- ---- `first_row`
-pub first-slot : (number place : ℕ) → number ≡ 0 → Slot 0 ≡ firstRow number place
-unfolding firstRow
-first-slot number place h = rw h
-
-pub first-refused : (number place : ℕ) → (number ≡ 0 → ⊥) → Refused number place ≡ firstRow number place
-unfolding firstRow
-first-refused number place h = rw (ne-eqb number 0 h)
 
 -- ---- `narrow`
 pub narrow-small : (n : ℕ) → n < 4294967295 → n ≡ narrowed n
@@ -45,29 +35,41 @@ pub done-rows : (v : ℕ) {c : Checked} {f t d m f′ d′ : ℕ} → c ≡ C.Do
     → record { first = Slot 0; last = v; words = f′; types = t; count = d′; bytes = m } ≡ begunOf v c
 done-rows v e p q = rw (e, p, q)
 
-pub refused-rows : (v : ℕ) {c : Checked} {number place : ℕ} {x : Row} → c ≡ C.Refused number place → x ≡ firstRow number place
-    → record { first = x; last = v; words = 0; types = 0; count = 0; bytes = 0 } ≡ begunOf v c
-refused-rows v e p = rw (e, p)
+pub refused-rows : (v : ℕ) {c : Checked} {number place : ℕ} → c ≡ C.Refused number place → record { first = Refused number place; last = v; words = 0; types = 0; count = 0; bytes = 0 } ≡ begunOf v c
+refused-rows v e = rw e
 
 -- ---- `run`
 module _ (i : Inputs) (b b′ : Buffers) where
+  -- no refusal of number 0 is answered
+  numbered : {number place : ℕ} → C.Refused number place ≡ checkedOf (endedOf (C.Refused number place) b′) → eqb number 0 ≡ false
+  numbered {number} {place} p = by (eqb number 0) p
+    where
+      not-done : C.Refused number place ≡ C.Done 0 0 0 0 → ⊥
+      not-done e = let z : _≡_ {A = ℕ} 0 1 = cc in omega arith
+
+      by : (t : Bool) → C.Refused number place ≡ cond t (C.Done 0 0 0 0) (C.Refused number place) → t ≡ false
+      by true e = absurd (not-done e)
+      by false e = refl
+
   -- counts of an answer are small, since so few words of functions are lent
-  begun-is : (v : ℕ) (c : Checked) → checkOf i b ≡ endedOf c b′ → length (b .functions) ≡ 8192 → begunOf v c ≡ begunIn v (endedOf c b′)
+  begun-is : (v : ℕ) (c : Checked) → checkOf i b ≡ endedOf c b′ → c ≡ checkedOf (checkOf i b) → length (b .functions) ≡ 8192 → begunOf v c ≡ begunIn v (endedOf c b′)
   unfolding firstRow
-  begun-is v (C.Done f t d m) e l =
+  begun-is v (C.Done f t d m) e a l =
       let h = check-table i b b′ (C.Done f t d m) e .answered refl in
       let p : narrowed f ≡ f = omega (arith, h .functions .fits) in
       let q : narrowed d ≡ d = omega (arith, h .mostDiagnostics) in
       rw (p, q)
-  begun-is v (C.Refused number place) e l = refl
+  begun-is v (C.Refused number place) e a l =
+      let z = numbered (rw e at a) in
+      rw z
 
   after-is : (c : Checked) → b′ ≡ endedOf c b′ .after
   after-is (C.Done f t d m) = refl
   after-is (C.Refused number place) = refl
 
-  pub runs : {r : Begun} {v : ℕ} (c : Checked) → checkOf i b ≡ endedOf c b′ → length (b .functions) ≡ 8192 → r ≡ begunOf v c → v ≡ slotCount (i .image) → Runs i b b′ r
-  runs {v = v} c e l p q = record {
-    begun = p ∙ begun-is v c e l ∙ rw (← e, q);
+  pub runs : {r : Begun} {v : ℕ} (c : Checked) → checkOf i b ≡ endedOf c b′ → c ≡ checkedOf (checkOf i b) → length (b .functions) ≡ 8192 → r ≡ begunOf v c → v ≡ slotCount (i .image) → Runs i b b′ r
+  runs {v = v} c e a l p q = record {
+    begun = p ∙ begun-is v c e a l ∙ rw (← e, q);
     after = after-is c ∙ ap (λ x. x .after) (sym e);
   }
 

@@ -11,7 +11,7 @@ use Rattle.checker.specs.declared.Checked.{Checked}
 use Rattle.checker.specs.declared.Checked.the-variants as C
 use Rattle.rows_part.specs.declared.Row.{Row}
 use Rattle.rows_part.specs.declared.Row.the-variants.{Slot, Refused, Input}
-use Rattle.rows_part.specs.Printing.{Answer, answerOf, firstRow, firstOf}
+use Rattle.rows_part.specs.Printing.{Answer, answerOf, firstOf}
 use Rattle.rows_begin.specs.declared.Begun.{Begun}
 
 -- what is printed, of what the check ended in and the number of slots
@@ -29,7 +29,7 @@ narrowed n = min n 4294967295
 -- the same of the check's answer in code
 abbrev pub begunOf : (slots : ℕ) → Checked → Begun
 begunOf v (C.Done f t d m) = record { first = Slot 0; last = v; words = narrowed f; types = t; count = narrowed d; bytes = m }
-begunOf v (C.Refused number place) = record { first = firstRow number place; last = v; words = 0; types = 0; count = 0; bytes = 0 }
+begunOf v (C.Refused number place) = record { first = Refused number place; last = v; words = 0; types = 0; count = 0; bytes = 0 }
 
 -- the check of inputs: buffers b came in and b′ went out
 pub record Runs (i : Inputs) (b b′ : Buffers) (r : Begun) : Type 0 where

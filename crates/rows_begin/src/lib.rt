@@ -1,8 +1,8 @@
 // From the printing program's input to the rows (document 01, "Bench rows"): the four parts are read, and the check runs on them.
 ghost use mathlib.Core.Path.{_≡_};
 ghost use lib.ListN.{take};
+ghost use Rattle.refusals.specs.Inputs.{Inputs, Buffers};
 ghost use Rattle.refuse.specs.Answer.{inputsOf, buffersOf};
-ghost use Rattle.rows_part.specs.Printing.{firstRow};
 ghost use Rattle.rows_begin.specs.Beginning.{alone, narrowed, begunOf, Runs, Begins};
 use checker::Checked;
 use rows_part::Row;
@@ -45,16 +45,6 @@ fn row_alone(first: Row) -> Begun
     }
 }
 
-// The first row: the first slot's, or the refusal's.
-fn first_row(number: u32, place: usize) -> Row
-    ensures { λ r. ⌜ r ≡ firstRow number place ⌝ }
-{
-    if number == 0 {
-        return Row::Slot(0);
-    }
-    Row::Refused(number, place)
-}
-
 // A count as a word: the counts of an answer are smaller than the largest.
 fn narrow(n: usize) -> u32
     ensures { λ r. ⌜ r ≡ narrowed n ⌝ }
@@ -86,9 +76,8 @@ fn rows_of(checked: Checked, slots: u32) -> Begun
             };
         }
         Checked::Refused { number, place } => {
-            let first = first_row(number, place);
             return Begun {
-                first,
+                first: Row::Refused(number, place),
                 last: slots,
                 words: 0,
                 types: 0,
@@ -112,7 +101,10 @@ fn run<'a>(
     messages: &mut [u8; 65_536],
     scratch: &mut [u32; 16_384],
 ) -> Begun
-    ensures { λ r. ⌜ Runs (inputsOf (now (script .entry)) (now (image .entry)) (now (text .entry)) (now (library .entry))) (buffersOf (now (slots .entry)) (now (functions .entry)) (now (types .entry)) (now (diagnostics .entry)) (now (messages .entry)) (now (scratch .entry))) (buffersOf (now (slots .exit)) (now (functions .exit)) (now (types .exit)) (now (diagnostics .exit)) (now (messages .exit)) (now (scratch .exit))) r ⌝ }
+    ensures { λ r. let before : Buffers = buffersOf (now (slots .entry)) (now (functions .entry)) (now (types .entry)) (now (diagnostics .entry)) (now (messages .entry)) (now (scratch .entry)) in
+        let after : Buffers = buffersOf (now (slots .exit)) (now (functions .exit)) (now (types .exit)) (now (diagnostics .exit)) (now (messages .exit)) (now (scratch .exit)) in
+        let i : Inputs = inputsOf (now (script .entry)) (now (image .entry)) (now (text .entry)) (now (library .entry)) in
+        ⌜ Runs i before after r ⌝ }
 {
     let checked = checker::check(
         script,
@@ -139,7 +131,9 @@ pub fn begin(
     messages: &mut [u8; 65_536],
     scratch: &mut [u32; 16_384],
 ) -> Begun
-    ensures { λ r. ⌜ Begins (now (bytes .entry)) (buffersOf (now (slots .entry)) (now (functions .entry)) (now (types .entry)) (now (diagnostics .entry)) (now (messages .entry)) (now (scratch .entry))) (buffersOf (now (slots .exit)) (now (functions .exit)) (now (types .exit)) (now (diagnostics .exit)) (now (messages .exit)) (now (scratch .exit))) r ⌝ }
+    ensures { λ r. let before : Buffers = buffersOf (now (slots .entry)) (now (functions .entry)) (now (types .entry)) (now (diagnostics .entry)) (now (messages .entry)) (now (scratch .entry)) in
+        let after : Buffers = buffersOf (now (slots .exit)) (now (functions .exit)) (now (types .exit)) (now (diagnostics .exit)) (now (messages .exit)) (now (scratch .exit)) in
+        ⌜ Begins (now (bytes .entry)) before after r ⌝ }
 {
     if !rows_input::fits(bytes) {
         return row_alone(Row::Input);

@@ -6,7 +6,7 @@ use Rattle.refusals.specs.Inputs.{Inputs, Buffers}
 use Rattle.rules.specs.Check.{Ended, checkOf}
 use Rattle.checker.specs.declared.Checked.{Checked}
 use Rattle.checker.specs.declared.Checked.the-variants as C
-use Rattle.checker.specs.Ended.{endedOf}
+use Rattle.checker.specs.Ended.{endedOf, checkedOf}
 use Rattle.shelfstork.specs.Told.{told, numbersOf, Tells}
 
 numbers-are : (r : Checked) (b : Buffers) → numbersOf r ≡ told (endedOf r b)
@@ -17,8 +17,8 @@ after-is : (r : Checked) (b : Buffers) → b ≡ endedOf r b .after
 after-is (C.Done f t d m) b = refl
 after-is (C.Refused n p) b = refl
 
-pub tells : {i : Inputs} {b b′ : Buffers} {answer : List ℕ} (r : Checked) → checkOf i b ≡ endedOf r b′ → answer ≡ numbersOf r → Tells i b b′ answer
-tells {b′ = b′} r e q = record {
+pub tells : {i : Inputs} {b b′ : Buffers} {answer : List ℕ} (r : Checked) → (checkOf i b ≡ endedOf r b′) × (r ≡ checkedOf (checkOf i b)) → answer ≡ numbersOf r → Tells i b b′ answer
+tells {b′ = b′} r (e, _) q = record {
   numbers = q ∙ numbers-are r b′ ∙ ap told (sym e);
   after = after-is r b′ ∙ ap (λ x. x .after) (sym e);
 }

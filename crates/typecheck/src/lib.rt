@@ -3,7 +3,7 @@
 // The buffers are lent in one order: slots, functions, types, diagnostics, messages, scratch; then the two texts, the image, the library's
 // words, the places of the image's records, the state.
 ghost use Rattle.tok.specs.Text.{Texts, textsOf};
-ghost use Rattle.visit.specs.Whole.{lent};
+ghost use Rattle.visit.specs.Whole.{Lent, lent};
 ghost use Rattle.ready.specs.Ready.{NodeVisit};
 ghost use Rattle.walking.specs.Kinds.{Operand, OneOperand, Listed, Sequence, Is};
 ghost use Rattle.walking.specs.Contracts.{ClassVisit, ListVisit, CaseVisit, NodeVisited, ListVisited, CaseVisited};
@@ -48,8 +48,13 @@ pub fn node<'a>(
     st: State,
     n: u32,
 ) -> Visit
-    requires { let T : Texts = textsOf (now script) (now library) in ⌜ NodeVisit T (now image) (now places) (now words) n st (lent (now slots) (now functions) (now types) (now diagnostics) (now messages) (now scratch)) ⌝ }
-    ensures { λ r. let T : Texts = textsOf (now (script .entry)) (now (library .entry)) in ⌜ NodeVisited T (now (image .entry)) (now (words .entry)) n st (lent (now (slots .entry)) (now (functions .entry)) (now (types .entry)) (now (diagnostics .entry)) (now (messages .entry)) (now (scratch .entry))) (lent (now (slots .exit)) (now (functions .exit)) (now (types .exit)) (now (diagnostics .exit)) (now (messages .exit)) (now (scratch .exit))) r ⌝ }
+    requires { let T : Texts = textsOf (now script) (now library) in
+        let b : Lent = lent (now slots) (now functions) (now types) (now diagnostics) (now messages) (now scratch) in
+        ⌜ NodeVisit T (now image) (now places) (now words) n st b ⌝ }
+    ensures { λ r. let T : Texts = textsOf (now (script .entry)) (now (library .entry)) in
+        let b : Lent = lent (now (slots .entry)) (now (functions .entry)) (now (types .entry)) (now (diagnostics .entry)) (now (messages .entry)) (now (scratch .entry)) in
+        let b′ : Lent = lent (now (slots .exit)) (now (functions .exit)) (now (types .exit)) (now (diagnostics .exit)) (now (messages .exit)) (now (scratch .exit)) in
+        ⌜ NodeVisited T (now (image .entry)) (now (words .entry)) n st b b′ r ⌝ }
 {
     let k = kind(word_at(image, places::node_place(places, n)));
     if walking::is_leaf(k) {
@@ -119,8 +124,13 @@ fn part<'a>(
     st: State,
     n: u32,
 ) -> Visit
-    requires { let T : Texts = textsOf (now script) (now library) in ⌜ NodeVisit T (now image) (now places) (now words) n st (lent (now slots) (now functions) (now types) (now diagnostics) (now messages) (now scratch)) ⌝ }
-    ensures { λ r. let T : Texts = textsOf (now (script .entry)) (now (library .entry)) in ⌜ NodeVisited T (now (image .entry)) (now (words .entry)) n st (lent (now (slots .entry)) (now (functions .entry)) (now (types .entry)) (now (diagnostics .entry)) (now (messages .entry)) (now (scratch .entry))) (lent (now (slots .exit)) (now (functions .exit)) (now (types .exit)) (now (diagnostics .exit)) (now (messages .exit)) (now (scratch .exit))) r ⌝ }
+    requires { let T : Texts = textsOf (now script) (now library) in
+        let b : Lent = lent (now slots) (now functions) (now types) (now diagnostics) (now messages) (now scratch) in
+        ⌜ NodeVisit T (now image) (now places) (now words) n st b ⌝ }
+    ensures { λ r. let T : Texts = textsOf (now (script .entry)) (now (library .entry)) in
+        let b : Lent = lent (now (slots .entry)) (now (functions .entry)) (now (types .entry)) (now (diagnostics .entry)) (now (messages .entry)) (now (scratch .entry)) in
+        let b′ : Lent = lent (now (slots .exit)) (now (functions .exit)) (now (types .exit)) (now (diagnostics .exit)) (now (messages .exit)) (now (scratch .exit)) in
+        ⌜ NodeVisited T (now (image .entry)) (now (words .entry)) n st b b′ r ⌝ }
 {
     node(
         slots,
@@ -155,8 +165,13 @@ fn operand<'a>(
     st: State,
     n: u32,
 ) -> Visit
-    requires { let T : Texts = textsOf (now script) (now library) in ⌜ ClassVisit Operand T (now image) (now places) (now words) n st (lent (now slots) (now functions) (now types) (now diagnostics) (now messages) (now scratch)) ⌝ }
-    ensures { λ r. let T : Texts = textsOf (now (script .entry)) (now (library .entry)) in ⌜ NodeVisited T (now (image .entry)) (now (words .entry)) n st (lent (now (slots .entry)) (now (functions .entry)) (now (types .entry)) (now (diagnostics .entry)) (now (messages .entry)) (now (scratch .entry))) (lent (now (slots .exit)) (now (functions .exit)) (now (types .exit)) (now (diagnostics .exit)) (now (messages .exit)) (now (scratch .exit))) r ⌝ }
+    requires { let T : Texts = textsOf (now script) (now library) in
+        let b : Lent = lent (now slots) (now functions) (now types) (now diagnostics) (now messages) (now scratch) in
+        ⌜ ClassVisit Operand T (now image) (now places) (now words) n st b ⌝ }
+    ensures { λ r. let T : Texts = textsOf (now (script .entry)) (now (library .entry)) in
+        let b : Lent = lent (now (slots .entry)) (now (functions .entry)) (now (types .entry)) (now (diagnostics .entry)) (now (messages .entry)) (now (scratch .entry)) in
+        let b′ : Lent = lent (now (slots .exit)) (now (functions .exit)) (now (types .exit)) (now (diagnostics .exit)) (now (messages .exit)) (now (scratch .exit)) in
+        ⌜ NodeVisited T (now (image .entry)) (now (words .entry)) n st b b′ r ⌝ }
 {
     let k = kind(word_at(image, places::node_place(places, n)));
     if k == BIN {
@@ -226,8 +241,13 @@ fn bin<'a>(
     st: State,
     n: u32,
 ) -> Visit
-    requires { let T : Texts = textsOf (now script) (now library) in ⌜ ClassVisit (Is 2) T (now image) (now places) (now words) n st (lent (now slots) (now functions) (now types) (now diagnostics) (now messages) (now scratch)) ⌝ }
-    ensures { λ r. let T : Texts = textsOf (now (script .entry)) (now (library .entry)) in ⌜ NodeVisited T (now (image .entry)) (now (words .entry)) n st (lent (now (slots .entry)) (now (functions .entry)) (now (types .entry)) (now (diagnostics .entry)) (now (messages .entry)) (now (scratch .entry))) (lent (now (slots .exit)) (now (functions .exit)) (now (types .exit)) (now (diagnostics .exit)) (now (messages .exit)) (now (scratch .exit))) r ⌝ }
+    requires { let T : Texts = textsOf (now script) (now library) in
+        let b : Lent = lent (now slots) (now functions) (now types) (now diagnostics) (now messages) (now scratch) in
+        ⌜ ClassVisit (Is 2) T (now image) (now places) (now words) n st b ⌝ }
+    ensures { λ r. let T : Texts = textsOf (now (script .entry)) (now (library .entry)) in
+        let b : Lent = lent (now (slots .entry)) (now (functions .entry)) (now (types .entry)) (now (diagnostics .entry)) (now (messages .entry)) (now (scratch .entry)) in
+        let b′ : Lent = lent (now (slots .exit)) (now (functions .exit)) (now (types .exit)) (now (diagnostics .exit)) (now (messages .exit)) (now (scratch .exit)) in
+        ⌜ NodeVisited T (now (image .entry)) (now (words .entry)) n st b b′ r ⌝ }
 {
     let at = places::node_place(places, n);
     let left = part(
@@ -298,8 +318,13 @@ fn one<'a>(
     st: State,
     n: u32,
 ) -> Visit
-    requires { let T : Texts = textsOf (now script) (now library) in ⌜ ClassVisit OneOperand T (now image) (now places) (now words) n st (lent (now slots) (now functions) (now types) (now diagnostics) (now messages) (now scratch)) ⌝ }
-    ensures { λ r. let T : Texts = textsOf (now (script .entry)) (now (library .entry)) in ⌜ NodeVisited T (now (image .entry)) (now (words .entry)) n st (lent (now (slots .entry)) (now (functions .entry)) (now (types .entry)) (now (diagnostics .entry)) (now (messages .entry)) (now (scratch .entry))) (lent (now (slots .exit)) (now (functions .exit)) (now (types .exit)) (now (diagnostics .exit)) (now (messages .exit)) (now (scratch .exit))) r ⌝ }
+    requires { let T : Texts = textsOf (now script) (now library) in
+        let b : Lent = lent (now slots) (now functions) (now types) (now diagnostics) (now messages) (now scratch) in
+        ⌜ ClassVisit OneOperand T (now image) (now places) (now words) n st b ⌝ }
+    ensures { λ r. let T : Texts = textsOf (now (script .entry)) (now (library .entry)) in
+        let b : Lent = lent (now (slots .entry)) (now (functions .entry)) (now (types .entry)) (now (diagnostics .entry)) (now (messages .entry)) (now (scratch .entry)) in
+        let b′ : Lent = lent (now (slots .exit)) (now (functions .exit)) (now (types .exit)) (now (diagnostics .exit)) (now (messages .exit)) (now (scratch .exit)) in
+        ⌜ NodeVisited T (now (image .entry)) (now (words .entry)) n st b b′ r ⌝ }
 {
     let at = places::node_place(places, n);
     let value = operands::operand_of(image, at);
@@ -353,8 +378,13 @@ fn cast<'a>(
     st: State,
     n: u32,
 ) -> Visit
-    requires { let T : Texts = textsOf (now script) (now library) in ⌜ ClassVisit (Is 9) T (now image) (now places) (now words) n st (lent (now slots) (now functions) (now types) (now diagnostics) (now messages) (now scratch)) ⌝ }
-    ensures { λ r. let T : Texts = textsOf (now (script .entry)) (now (library .entry)) in ⌜ NodeVisited T (now (image .entry)) (now (words .entry)) n st (lent (now (slots .entry)) (now (functions .entry)) (now (types .entry)) (now (diagnostics .entry)) (now (messages .entry)) (now (scratch .entry))) (lent (now (slots .exit)) (now (functions .exit)) (now (types .exit)) (now (diagnostics .exit)) (now (messages .exit)) (now (scratch .exit))) r ⌝ }
+    requires { let T : Texts = textsOf (now script) (now library) in
+        let b : Lent = lent (now slots) (now functions) (now types) (now diagnostics) (now messages) (now scratch) in
+        ⌜ ClassVisit (Is 9) T (now image) (now places) (now words) n st b ⌝ }
+    ensures { λ r. let T : Texts = textsOf (now (script .entry)) (now (library .entry)) in
+        let b : Lent = lent (now (slots .entry)) (now (functions .entry)) (now (types .entry)) (now (diagnostics .entry)) (now (messages .entry)) (now (scratch .entry)) in
+        let b′ : Lent = lent (now (slots .exit)) (now (functions .exit)) (now (types .exit)) (now (diagnostics .exit)) (now (messages .exit)) (now (scratch .exit)) in
+        ⌜ NodeVisited T (now (image .entry)) (now (words .entry)) n st b b′ r ⌝ }
 {
     let at = places::node_place(places, n);
     let made = operands::cast_begin(types, image, places, at, st, n);
@@ -414,8 +444,13 @@ pub fn nodes<'a>(
     at: usize,
     k: usize,
 ) -> Visit
-    requires { let T : Texts = textsOf (now script) (now library) in ⌜ ListVisit T (now image) (now places) (now words) owner at k st (lent (now slots) (now functions) (now types) (now diagnostics) (now messages) (now scratch)) ⌝ }
-    ensures { λ r. let T : Texts = textsOf (now (script .entry)) (now (library .entry)) in ⌜ ListVisited T (now (image .entry)) (now (words .entry)) at k st (lent (now (slots .entry)) (now (functions .entry)) (now (types .entry)) (now (diagnostics .entry)) (now (messages .entry)) (now (scratch .entry))) (lent (now (slots .exit)) (now (functions .exit)) (now (types .exit)) (now (diagnostics .exit)) (now (messages .exit)) (now (scratch .exit))) r ⌝ }
+    requires { let T : Texts = textsOf (now script) (now library) in
+        let b : Lent = lent (now slots) (now functions) (now types) (now diagnostics) (now messages) (now scratch) in
+        ⌜ ListVisit T (now image) (now places) (now words) owner at k st b ⌝ }
+    ensures { λ r. let T : Texts = textsOf (now (script .entry)) (now (library .entry)) in
+        let b : Lent = lent (now (slots .entry)) (now (functions .entry)) (now (types .entry)) (now (diagnostics .entry)) (now (messages .entry)) (now (scratch .entry)) in
+        let b′ : Lent = lent (now (slots .exit)) (now (functions .exit)) (now (types .exit)) (now (diagnostics .exit)) (now (messages .exit)) (now (scratch .exit)) in
+        ⌜ ListVisited T (now (image .entry)) (now (words .entry)) at k st b b′ r ⌝ }
 {
     let mut answer = Answer::Known(word_at(image, 3));
     let mut here = st;
@@ -466,8 +501,13 @@ fn block<'a>(
     at: usize,
     k: usize,
 ) -> Visit
-    requires { let T : Texts = textsOf (now script) (now library) in ⌜ ListVisit T (now image) (now places) (now words) owner at k st (lent (now slots) (now functions) (now types) (now diagnostics) (now messages) (now scratch)) ⌝ }
-    ensures { λ r. let T : Texts = textsOf (now (script .entry)) (now (library .entry)) in ⌜ ListVisited T (now (image .entry)) (now (words .entry)) at k st (lent (now (slots .entry)) (now (functions .entry)) (now (types .entry)) (now (diagnostics .entry)) (now (messages .entry)) (now (scratch .entry))) (lent (now (slots .exit)) (now (functions .exit)) (now (types .exit)) (now (diagnostics .exit)) (now (messages .exit)) (now (scratch .exit))) r ⌝ }
+    requires { let T : Texts = textsOf (now script) (now library) in
+        let b : Lent = lent (now slots) (now functions) (now types) (now diagnostics) (now messages) (now scratch) in
+        ⌜ ListVisit T (now image) (now places) (now words) owner at k st b ⌝ }
+    ensures { λ r. let T : Texts = textsOf (now (script .entry)) (now (library .entry)) in
+        let b : Lent = lent (now (slots .entry)) (now (functions .entry)) (now (types .entry)) (now (diagnostics .entry)) (now (messages .entry)) (now (scratch .entry)) in
+        let b′ : Lent = lent (now (slots .exit)) (now (functions .exit)) (now (types .exit)) (now (diagnostics .exit)) (now (messages .exit)) (now (scratch .exit)) in
+        ⌜ ListVisited T (now (image .entry)) (now (words .entry)) at k st b b′ r ⌝ }
 {
     let mut answer = Answer::Known(word_at(image, 3));
     let mut here = st;
@@ -516,8 +556,13 @@ fn listed<'a>(
     st: State,
     n: u32,
 ) -> Visit
-    requires { let T : Texts = textsOf (now script) (now library) in ⌜ ClassVisit Listed T (now image) (now places) (now words) n st (lent (now slots) (now functions) (now types) (now diagnostics) (now messages) (now scratch)) ⌝ }
-    ensures { λ r. let T : Texts = textsOf (now (script .entry)) (now (library .entry)) in ⌜ NodeVisited T (now (image .entry)) (now (words .entry)) n st (lent (now (slots .entry)) (now (functions .entry)) (now (types .entry)) (now (diagnostics .entry)) (now (messages .entry)) (now (scratch .entry))) (lent (now (slots .exit)) (now (functions .exit)) (now (types .exit)) (now (diagnostics .exit)) (now (messages .exit)) (now (scratch .exit))) r ⌝ }
+    requires { let T : Texts = textsOf (now script) (now library) in
+        let b : Lent = lent (now slots) (now functions) (now types) (now diagnostics) (now messages) (now scratch) in
+        ⌜ ClassVisit Listed T (now image) (now places) (now words) n st b ⌝ }
+    ensures { λ r. let T : Texts = textsOf (now (script .entry)) (now (library .entry)) in
+        let b : Lent = lent (now (slots .entry)) (now (functions .entry)) (now (types .entry)) (now (diagnostics .entry)) (now (messages .entry)) (now (scratch .entry)) in
+        let b′ : Lent = lent (now (slots .exit)) (now (functions .exit)) (now (types .exit)) (now (diagnostics .exit)) (now (messages .exit)) (now (scratch .exit)) in
+        ⌜ NodeVisited T (now (image .entry)) (now (words .entry)) n st b b′ r ⌝ }
 {
     let k = kind(word_at(image, places::node_place(places, n)));
     if k == FN {
@@ -587,8 +632,13 @@ fn func<'a>(
     st: State,
     n: u32,
 ) -> Visit
-    requires { let T : Texts = textsOf (now script) (now library) in ⌜ ClassVisit (Is 5) T (now image) (now places) (now words) n st (lent (now slots) (now functions) (now types) (now diagnostics) (now messages) (now scratch)) ⌝ }
-    ensures { λ r. let T : Texts = textsOf (now (script .entry)) (now (library .entry)) in ⌜ NodeVisited T (now (image .entry)) (now (words .entry)) n st (lent (now (slots .entry)) (now (functions .entry)) (now (types .entry)) (now (diagnostics .entry)) (now (messages .entry)) (now (scratch .entry))) (lent (now (slots .exit)) (now (functions .exit)) (now (types .exit)) (now (diagnostics .exit)) (now (messages .exit)) (now (scratch .exit))) r ⌝ }
+    requires { let T : Texts = textsOf (now script) (now library) in
+        let b : Lent = lent (now slots) (now functions) (now types) (now diagnostics) (now messages) (now scratch) in
+        ⌜ ClassVisit (Is 5) T (now image) (now places) (now words) n st b ⌝ }
+    ensures { λ r. let T : Texts = textsOf (now (script .entry)) (now (library .entry)) in
+        let b : Lent = lent (now (slots .entry)) (now (functions .entry)) (now (types .entry)) (now (diagnostics .entry)) (now (messages .entry)) (now (scratch .entry)) in
+        let b′ : Lent = lent (now (slots .exit)) (now (functions .exit)) (now (types .exit)) (now (diagnostics .exit)) (now (messages .exit)) (now (scratch .exit)) in
+        ⌜ NodeVisited T (now (image .entry)) (now (words .entry)) n st b b′ r ⌝ }
 {
     let at = places::node_place(places, n);
     let count = wide(word_at(image, at + 4));
@@ -670,8 +720,13 @@ fn case<'a>(
     n: u32,
     at: usize,
 ) -> Visit
-    requires { let T : Texts = textsOf (now script) (now library) in ⌜ CaseVisit T (now image) (now places) (now words) n at st (lent (now slots) (now functions) (now types) (now diagnostics) (now messages) (now scratch)) ⌝ }
-    ensures { λ r. let T : Texts = textsOf (now (script .entry)) (now (library .entry)) in ⌜ CaseVisited T (now (image .entry)) (now (words .entry)) n at st (lent (now (slots .entry)) (now (functions .entry)) (now (types .entry)) (now (diagnostics .entry)) (now (messages .entry)) (now (scratch .entry))) (lent (now (slots .exit)) (now (functions .exit)) (now (types .exit)) (now (diagnostics .exit)) (now (messages .exit)) (now (scratch .exit))) r ⌝ }
+    requires { let T : Texts = textsOf (now script) (now library) in
+        let b : Lent = lent (now slots) (now functions) (now types) (now diagnostics) (now messages) (now scratch) in
+        ⌜ CaseVisit T (now image) (now places) (now words) n at st b ⌝ }
+    ensures { λ r. let T : Texts = textsOf (now (script .entry)) (now (library .entry)) in
+        let b : Lent = lent (now (slots .entry)) (now (functions .entry)) (now (types .entry)) (now (diagnostics .entry)) (now (messages .entry)) (now (scratch .entry)) in
+        let b′ : Lent = lent (now (slots .exit)) (now (functions .exit)) (now (types .exit)) (now (diagnostics .exit)) (now (messages .exit)) (now (scratch .exit)) in
+        ⌜ CaseVisited T (now (image .entry)) (now (words .entry)) n at st b b′ r ⌝ }
 {
     let v = part(
         slots,
@@ -754,8 +809,13 @@ fn cases<'a>(
     st: State,
     n: u32,
 ) -> Visit
-    requires { let T : Texts = textsOf (now script) (now library) in ⌜ ClassVisit (Is 6) T (now image) (now places) (now words) n st (lent (now slots) (now functions) (now types) (now diagnostics) (now messages) (now scratch)) ⌝ }
-    ensures { λ r. let T : Texts = textsOf (now (script .entry)) (now (library .entry)) in ⌜ NodeVisited T (now (image .entry)) (now (words .entry)) n st (lent (now (slots .entry)) (now (functions .entry)) (now (types .entry)) (now (diagnostics .entry)) (now (messages .entry)) (now (scratch .entry))) (lent (now (slots .exit)) (now (functions .exit)) (now (types .exit)) (now (diagnostics .exit)) (now (messages .exit)) (now (scratch .exit))) r ⌝ }
+    requires { let T : Texts = textsOf (now script) (now library) in
+        let b : Lent = lent (now slots) (now functions) (now types) (now diagnostics) (now messages) (now scratch) in
+        ⌜ ClassVisit (Is 6) T (now image) (now places) (now words) n st b ⌝ }
+    ensures { λ r. let T : Texts = textsOf (now (script .entry)) (now (library .entry)) in
+        let b : Lent = lent (now (slots .entry)) (now (functions .entry)) (now (types .entry)) (now (diagnostics .entry)) (now (messages .entry)) (now (scratch .entry)) in
+        let b′ : Lent = lent (now (slots .exit)) (now (functions .exit)) (now (types .exit)) (now (diagnostics .exit)) (now (messages .exit)) (now (scratch .exit)) in
+        ⌜ NodeVisited T (now (image .entry)) (now (words .entry)) n st b b′ r ⌝ }
 {
     let at = places::node_place(places, n);
     let count = wide(word_at(image, at + 2));
@@ -846,8 +906,13 @@ fn sequence<'a>(
     st: State,
     n: u32,
 ) -> Visit
-    requires { let T : Texts = textsOf (now script) (now library) in ⌜ ClassVisit Sequence T (now image) (now places) (now words) n st (lent (now slots) (now functions) (now types) (now diagnostics) (now messages) (now scratch)) ⌝ }
-    ensures { λ r. let T : Texts = textsOf (now (script .entry)) (now (library .entry)) in ⌜ NodeVisited T (now (image .entry)) (now (words .entry)) n st (lent (now (slots .entry)) (now (functions .entry)) (now (types .entry)) (now (diagnostics .entry)) (now (messages .entry)) (now (scratch .entry))) (lent (now (slots .exit)) (now (functions .exit)) (now (types .exit)) (now (diagnostics .exit)) (now (messages .exit)) (now (scratch .exit))) r ⌝ }
+    requires { let T : Texts = textsOf (now script) (now library) in
+        let b : Lent = lent (now slots) (now functions) (now types) (now diagnostics) (now messages) (now scratch) in
+        ⌜ ClassVisit Sequence T (now image) (now places) (now words) n st b ⌝ }
+    ensures { λ r. let T : Texts = textsOf (now (script .entry)) (now (library .entry)) in
+        let b : Lent = lent (now (slots .entry)) (now (functions .entry)) (now (types .entry)) (now (diagnostics .entry)) (now (messages .entry)) (now (scratch .entry)) in
+        let b′ : Lent = lent (now (slots .exit)) (now (functions .exit)) (now (types .exit)) (now (diagnostics .exit)) (now (messages .exit)) (now (scratch .exit)) in
+        ⌜ NodeVisited T (now (image .entry)) (now (words .entry)) n st b b′ r ⌝ }
 {
     let k = kind(word_at(image, places::node_place(places, n)));
     if k == CALL {
@@ -917,8 +982,13 @@ fn call<'a>(
     st: State,
     n: u32,
 ) -> Visit
-    requires { let T : Texts = textsOf (now script) (now library) in ⌜ ClassVisit (Is 7) T (now image) (now places) (now words) n st (lent (now slots) (now functions) (now types) (now diagnostics) (now messages) (now scratch)) ⌝ }
-    ensures { λ r. let T : Texts = textsOf (now (script .entry)) (now (library .entry)) in ⌜ NodeVisited T (now (image .entry)) (now (words .entry)) n st (lent (now (slots .entry)) (now (functions .entry)) (now (types .entry)) (now (diagnostics .entry)) (now (messages .entry)) (now (scratch .entry))) (lent (now (slots .exit)) (now (functions .exit)) (now (types .exit)) (now (diagnostics .exit)) (now (messages .exit)) (now (scratch .exit))) r ⌝ }
+    requires { let T : Texts = textsOf (now script) (now library) in
+        let b : Lent = lent (now slots) (now functions) (now types) (now diagnostics) (now messages) (now scratch) in
+        ⌜ ClassVisit (Is 7) T (now image) (now places) (now words) n st b ⌝ }
+    ensures { λ r. let T : Texts = textsOf (now (script .entry)) (now (library .entry)) in
+        let b : Lent = lent (now (slots .entry)) (now (functions .entry)) (now (types .entry)) (now (diagnostics .entry)) (now (messages .entry)) (now (scratch .entry)) in
+        let b′ : Lent = lent (now (slots .exit)) (now (functions .exit)) (now (types .exit)) (now (diagnostics .exit)) (now (messages .exit)) (now (scratch .exit)) in
+        ⌜ NodeVisited T (now (image .entry)) (now (words .entry)) n st b b′ r ⌝ }
 {
     let at = places::node_place(places, n);
     if calls::through_field(image, places, at) {
@@ -987,8 +1057,13 @@ fn record_node<'a>(
     st: State,
     n: u32,
 ) -> Visit
-    requires { let T : Texts = textsOf (now script) (now library) in ⌜ ClassVisit (Is 12) T (now image) (now places) (now words) n st (lent (now slots) (now functions) (now types) (now diagnostics) (now messages) (now scratch)) ⌝ }
-    ensures { λ r. let T : Texts = textsOf (now (script .entry)) (now (library .entry)) in ⌜ NodeVisited T (now (image .entry)) (now (words .entry)) n st (lent (now (slots .entry)) (now (functions .entry)) (now (types .entry)) (now (diagnostics .entry)) (now (messages .entry)) (now (scratch .entry))) (lent (now (slots .exit)) (now (functions .exit)) (now (types .exit)) (now (diagnostics .exit)) (now (messages .exit)) (now (scratch .exit))) r ⌝ }
+    requires { let T : Texts = textsOf (now script) (now library) in
+        let b : Lent = lent (now slots) (now functions) (now types) (now diagnostics) (now messages) (now scratch) in
+        ⌜ ClassVisit (Is 12) T (now image) (now places) (now words) n st b ⌝ }
+    ensures { λ r. let T : Texts = textsOf (now (script .entry)) (now (library .entry)) in
+        let b : Lent = lent (now (slots .entry)) (now (functions .entry)) (now (types .entry)) (now (diagnostics .entry)) (now (messages .entry)) (now (scratch .entry)) in
+        let b′ : Lent = lent (now (slots .exit)) (now (functions .exit)) (now (types .exit)) (now (diagnostics .exit)) (now (messages .exit)) (now (scratch .exit)) in
+        ⌜ NodeVisited T (now (image .entry)) (now (words .entry)) n st b b′ r ⌝ }
 {
     let at = places::node_place(places, n);
     let count = (payload(word_at(image, at)) - 3) / 2;
@@ -1035,8 +1110,13 @@ fn array<'a>(
     st: State,
     n: u32,
 ) -> Visit
-    requires { let T : Texts = textsOf (now script) (now library) in ⌜ ClassVisit (Is 13) T (now image) (now places) (now words) n st (lent (now slots) (now functions) (now types) (now diagnostics) (now messages) (now scratch)) ⌝ }
-    ensures { λ r. let T : Texts = textsOf (now (script .entry)) (now (library .entry)) in ⌜ NodeVisited T (now (image .entry)) (now (words .entry)) n st (lent (now (slots .entry)) (now (functions .entry)) (now (types .entry)) (now (diagnostics .entry)) (now (messages .entry)) (now (scratch .entry))) (lent (now (slots .exit)) (now (functions .exit)) (now (types .exit)) (now (diagnostics .exit)) (now (messages .exit)) (now (scratch .exit))) r ⌝ }
+    requires { let T : Texts = textsOf (now script) (now library) in
+        let b : Lent = lent (now slots) (now functions) (now types) (now diagnostics) (now messages) (now scratch) in
+        ⌜ ClassVisit (Is 13) T (now image) (now places) (now words) n st b ⌝ }
+    ensures { λ r. let T : Texts = textsOf (now (script .entry)) (now (library .entry)) in
+        let b : Lent = lent (now (slots .entry)) (now (functions .entry)) (now (types .entry)) (now (diagnostics .entry)) (now (messages .entry)) (now (scratch .entry)) in
+        let b′ : Lent = lent (now (slots .exit)) (now (functions .exit)) (now (types .exit)) (now (diagnostics .exit)) (now (messages .exit)) (now (scratch .exit)) in
+        ⌜ NodeVisited T (now (image .entry)) (now (words .entry)) n st b b′ r ⌝ }
 {
     let at = places::node_place(places, n);
     let count = payload(word_at(image, at)) - 3;

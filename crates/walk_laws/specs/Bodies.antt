@@ -23,7 +23,7 @@ use Rattle.visit.specs.declared.State.{State}
 use Rattle.visit.specs.declared.Visit.{Visit}
 use Rattle.visit.specs.declared.Gave.the-variants as G
 use Rattle.visit.specs.Whole.{Lent}
-use Rattle.visit.specs.Within.{Visits}
+use Rattle.visit.specs.Within.{Keeps, Visits}
 use Rattle.visit.specs.Walks.{Gives}
 use Rattle.visit.specs.Free.{free-less}
 use Rattle.visiting.specs.Then.{Came, Stopped, leftOf, visits-most}
@@ -35,7 +35,7 @@ use Rattle.ready.specs.Unvisited.{begin-apart}
 use Rattle.ready.specs.After.{fn-proper, after-begin, ready-inner}
 use Rattle.bodies.specs.declared.Begun.{Begun}
 use Rattle.bodies.specs.declared.Begun.the-variants as B
-use Rattle.bodies.specs.Bodies.{slotAt, nameAt, returnAt, countAt, argsAt, fnAt, endAt, BeginReady, EndReady, Begins, goes, ends}
+use Rattle.bodies.specs.Bodies.{slotAt, nameAt, returnAt, countAt, argsAt, fnAt, endAt, BeginReady, EndReady, begunIn, KeepsBegun, goes, ends, Begins}
 use Rattle.bodies.specs.BodyLaws.{body-stops, fn-visited}
 use Rattle.walking.specs.Kinds.{Is}
 use Rattle.walking.specs.Contracts.{ctxIn, nodesAt, ClassVisit, ListVisit, ListVisited, NodeVisited}
@@ -99,22 +99,26 @@ module _ {T : Texts} {image places words : List ℕ} {n at : ℕ} {st : State} {
   -- ── The ways out ──
 
   pub fn-ends : {b₁ : Lent} {r : Begun} {v : Visit} → Begins (ctxIn T image words) image at n words st b b₁ r → r ≡ B.Ended v → NodeVisited T image words n st b b₁ v
+  unfolding begunIn
   fn-ends x q = fn-node (by (rw q at x))
     where
+      took-none : {b₁ : Lent} {v : Visit} → KeepsBegun (ctxIn T image words) image at n words st b b₁ (B.Ended v) → Keeps 0 0 st b b₁ v
+      took-none (ends k) = k
+
       by : {b₁ : Lent} {v : Visit} → Begins (ctxIn T image words) image at n words st b b₁ (B.Ended v)
           → Visits (fnAt (ctxIn T image words) image at n (block (ctxIn T image words) (bodyAt image at))) (2 * countAt image at + rooms (bodyAt image at)) (3 + 2 * countAt image at + rowsAll (bodyAt image at)) words st b b₁ v
-      by (ends f) = f _ _ _
+      by f = visits-most (omega arith) (omega arith) (record { step = f .step _; keeps = took-none (f .keeps) })
 
   module _ {b₁ : Lent} {r : Begun} {ret : ℕ} {st₁ : State} (x : Begins (ctxIn T image words) image at n words st b b₁ r) (q : r ≡ B.Body ret st₁) where
     started : Begins (ctxIn T image words) image at n words st b b₁ (B.Body ret st₁)
     started = rw q at x
 
-    body-room : Begins (ctxIn T image words) image at n words st b b₁ (B.Body ret st₁) → Ready T image places words (rooms (bodyAt image at)) (rowsAll (bodyAt image at)) st₁ b₁
-    body-room (goes pass y) = ready-then (ready-inner all-room) (after-begin (ready-inner all-room) n _ (fn-proper (h .visit .ready .given) (h .visit .below) is-fn) y refl)
+    body-room : KeepsBegun (ctxIn T image words) image at n words st b b₁ (B.Body ret st₁) → Ready T image places words (rooms (bodyAt image at)) (rowsAll (bodyAt image at)) st₁ b₁
+    body-room (goes y) = ready-then (ready-inner all-room) (after-begin (ready-inner all-room) n _ (fn-proper (h .visit .ready .given) (h .visit .below) is-fn) y refl)
 
-    body-fresh : Begins (ctxIn T image words) image at n words st b b₁ (B.Body ret st₁) → Fresh (visitedAmong (bodyAt image at)) (b₁ .slots)
+    body-fresh : KeepsBegun (ctxIn T image words) image at n words st b b₁ (B.Body ret st₁) → Fresh (visitedAmong (bodyAt image at)) (b₁ .slots)
     unfolding visitedBelow
-    body-fresh (goes pass y) =
+    body-fresh (goes y) =
         fresh-rest (readFn (treeOf image) image n at ∷ []) (visitedAmong (bodyAt image at)) (rw is-fn at (h .visit .fresh))
         (begin-apart (ctxIn T image words) n (slotAt image at) (nameAt image at) (returnAt image at) (argsAt image at) (bodyAt image at) y refl)
 
@@ -124,8 +128,8 @@ module _ {T : Texts} {image places words : List ℕ} {n at : ℕ} {st : State} {
       below = omega (arith, h .visit .below);
       nodes = facts .body;
       inside = omega (arith, record-room (node-ready (h .visit)) e, facts .long);
-      ready = body-room started;
-      fresh = body-fresh started;
+      ready = body-room (started .keeps);
+      fresh = body-fresh (started .keeps);
     })
 
     module _ {count long : ℕ} {b₂ : Lent} {v : Visit} (ec : count ≡ countAt image at) (el : long ≡ recordLength image at) (y : ListVisited T image words (at + 5 + 2 * count) (long - (5 + 2 * count)) st₁ b₁ b₂ v) where

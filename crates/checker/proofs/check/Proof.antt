@@ -56,7 +56,7 @@ same-length-12 : tie.Need-same-length-12
 same-length-12 c = search needs
 
 returns-2 : tie.Need-returns-2
-returns-2 c = search needs
+returns-2 c = (c .before .before .before .before .before .before .before .before .before .before .before .before .check-accepted .ensures .means, c .before .before .before .before .before .before .before .before .before .before .before .before .check-accepted .ensures .only)
 
 pub check-spec : {M : Type 1} → statement M
 check-spec =

@@ -5,7 +5,6 @@ use Rattle.rows_begin.proofs.rows_of.Statement.{statement}
 use Rattle.rows_begin.proofs.rows_of.Tie as tie
 use Rattle.rows_begin.proofs.rows_of.Reads as reads
 use Rattle.rows_begin.proofs.rows_of.Lts as lts
-use Rattle.rows_begin.proofs.first_row.Reads as first-row-reads
 
 -- src/lib.rt:65:13
 enum-known-checked : tie.Need-enum-known-checked
@@ -27,13 +26,9 @@ returns c = done-rows _ (c .before .before .before .checked .given .1) (c .befor
 enum-known-checked-2 : tie.Need-enum-known-checked-2
 enum-known-checked-2 c = search needs
 
--- src/lib.rt:80:17
-first-row-requires : tie.Need-first-row-requires
-first-row-requires c κs = search needs
-
 -- src/lib.rt:81:13
 returns-2 : tie.Need-returns-2
-returns-2 c = refused-rows _ (c .before .before .checked2 .given .1) (c .first-row .ensures)
+returns-2 c = refused-rows _ (c .before .checked2 .given .1)
 
 pub rows-of-spec : {M : Type 1} → statement M
 rows-of-spec =
@@ -44,5 +39,4 @@ rows-of-spec =
     narrow-requires-2
     returns
     enum-known-checked-2
-    first-row-requires
     returns-2)

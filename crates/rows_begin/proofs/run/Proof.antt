@@ -23,7 +23,7 @@ rows-of-requires c κs = search needs
 
 -- src/lib.rt:94:1
 returns : tie.Need-returns
-returns c = runs _ _ _ (c .before .before .check .result) (c .before .before .check .ensures) (c .before .before .before .before .before .before .before .check-arg2 .given .0 .1) (c .rows-of .ensures) (c .before .word-at .ensures)
+returns c = runs _ _ _ (c .before .before .check .result) (c .before .before .check .ensures .0) (c .before .before .check .ensures .1) (c .before .before .before .before .before .before .before .check-arg2 .given .0 .1) (c .rows-of .ensures) (c .before .word-at .ensures)
 
 pub run-spec : {M : Type 1} → statement M
 run-spec = tie.close (tie.spec check-requires word-at-requires rows-of-requires returns)
