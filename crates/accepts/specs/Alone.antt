@@ -10,7 +10,7 @@ use lib.ListN.{length, getD, take, drop, take-append-drop}
 use lib.Seq.{length-take-le, drop-cons, drop-append-le, drop-drop}
 use Rattle.library.specs.Package.{poolOf}
 use Rattle.library.specs.Accepted.{library-fine}
-use Rattle.ast.specs.Image.{wordAt, nodeCount, typeCount, rootCount, slotCount, nodePlace}
+use Rattle.ast.specs.Image.{nodeCount, typeCount, rootCount, slotCount, nodePlace}
 use Rattle.image_laws.specs.Accepted.{Accepted}
 use Rattle.refusals.specs.Inputs.{Inputs, Buffers, textsIn}
 use Rattle.refusals.specs.Refusals.{refusalOf}
@@ -124,15 +124,15 @@ nothing-added i b e =
 
 -- ── Each addition alone ──
 
-pub packages-alone : (i i′ : Inputs) (b : Buffers) → MorePackages i i′ → i′ .script ≡ i .script → i′ .image ≡ i .image → AnsweredClean (checkOf i b) → Answered (checkOf i′ b)
-    → Kept i i′ b (checkOf i b) (checkOf i′ b) × (checkOf i′ b .diagnostics ≡ 0)
-packages-alone i i′ b m t l clean answered =
+pub packages-alone : (i i′ : Inputs) (b b′ : Buffers) → MorePackages i i′ → i′ .script ≡ i .script → i′ .image ≡ i .image → Longer b b′
+    → AnsweredClean (checkOf i b) → Answered (checkOf i′ b′) → Kept i i′ b′ (checkOf i b) (checkOf i′ b′) × (checkOf i′ b′ .diagnostics ≡ 0)
+packages-alone i i′ b b′ m t l long clean answered =
     let s = same-script i i′ b (ends i b (clean .answered) .passed) t l in (
-      larger accepts extends i i′ b b m (s .more) (same-buffers b) clean answered,
-      larger-without-statements accepts extends i i′ b b m (s .more) (s .noRoots) (same-buffers b) clean answered,
+      larger accepts extends i i′ b b′ m (s .more) long clean answered,
+      larger-without-statements accepts extends i i′ b b′ m (s .more) (s .noRoots) long clean answered,
     )
 
-pub statements-alone : (i i′ : Inputs) (b : Buffers) → MoreStatements i i′ → i′ .libraryText ≡ i .libraryText → i′ .library ≡ i .library → AnsweredClean (checkOf i b) → Answered (checkOf i′ b)
-    → Kept i i′ b (checkOf i b) (checkOf i′ b)
-statements-alone i i′ b m t l clean answered =
-    larger accepts extends i i′ b b (same-library i i′ b (ends i b (clean .answered) .passed) t l) m (same-buffers b) clean answered
+pub statements-alone : (i i′ : Inputs) (b b′ : Buffers) → MoreStatements i i′ → i′ .libraryText ≡ i .libraryText → i′ .library ≡ i .library → Longer b b′
+    → AnsweredClean (checkOf i b) → Answered (checkOf i′ b′) → Kept i i′ b′ (checkOf i b) (checkOf i′ b′)
+statements-alone i i′ b b′ m t l long clean answered =
+    larger accepts extends i i′ b b′ (same-library i i′ b (ends i b (clean .answered) .passed) t l) m long clean answered

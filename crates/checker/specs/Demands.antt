@@ -11,9 +11,9 @@ use Rattle.refusals.specs.Inputs.{Inputs, Buffers}
 use Rattle.refusals.specs.Refusals.{refusalOf}
 use Rattle.rules.specs.Check.{Ended, checkOf}
 use Rattle.rules.specs.Visited.{visitedSlots}
-use Rattle.rules.specs.Promises.{Every, Answered, TableHolds, Demand1, NamesReadWell, NamesWellFormed, VisitedOnce, EachVisitedOnce, messageOf, primaryOf, MessagesWellFormed, AnsweredClean, HasConcreteType, Clean, Longer, Alike, AnsweredLonger, MorePackages, MoreStatements, Kept, Larger, LargerWithoutStatements, entriesOf, oldFunctions, FunctionsVisited, AgreesTo, RefusedAlike, withImage, ImagePlaceCertain, withLibrary, LibraryPlaceCertain}
+use Rattle.rules.specs.Promises.{Every, Answered, TableHolds, Demand1, NamesReadWell, NamesWellFormed, VisitedOnce, EachVisitedOnce, messageOf, primaryOf, MessagesWellFormed, AnsweredClean, HasConcreteType, Clean, Longer, Alike, AnsweredLonger, MorePackages, MoreStatements, Kept, Larger, LargerWithoutStatements, entriesOf, oldFunctions, FunctionsVisited, AgreesTo, RefusedAlike, withImage, ImagePlaceCertain, withLibrary, LibraryPlaceCertain, PackagesAlone, StatementsAlone}
 use Rattle.tworuns.specs.Larger.{ends}
-use Rattle.accepts.specs.Demands.{demand-1, names-well-formed, each-visited-once, answered-longer, functions-visited, larger, larger-without-statements, image-place-certain, library-place-certain}
+use Rattle.accepts.specs.Demands.{demand-1, names-well-formed, each-visited-once, answered-longer, functions-visited, larger, larger-without-statements, image-place-certain, library-place-certain, packages-alone, statements-alone}
 use Rattle.clean.specs.Clean.{clean}
 use Rattle.clean.specs.Messages.{messages-well-formed}
 use Rattle.checker.specs.declared.Checked.{Checked}
@@ -97,3 +97,19 @@ module _ (i i′ : Inputs) (b b′ a a′ : Buffers) (r r′ : Checked) (e : che
   check-larger-silent empty =
       subst (λ x. AnsweredClean x → Answered (endedOf r′ a′) → endedOf r′ a′ .diagnostics ≡ 0) e
       (subst (λ y. AnsweredClean (checkOf i b) → Answered y → y .diagnostics ≡ 0) e′ (larger-without-statements i i′ b b′ packages statements empty longer))
+
+-- each addition alone
+module _ (i i′ : Inputs) (b b′ a a′ : Buffers) (r r′ : Checked) (e : checkOf i b ≡ endedOf r a) (e′ : checkOf i′ b′ ≡ endedOf r′ a′) (longer : Longer b b′) where
+  pub check-packages : MorePackages i i′ → i′ .script ≡ i .script → i′ .image ≡ i .image → AnsweredClean (endedOf r a) → Answered (endedOf r′ a′)
+      → Kept i i′ b′ (endedOf r a) (endedOf r′ a′) × (endedOf r′ a′ .diagnostics ≡ 0)
+  unfolding PackagesAlone
+  check-packages packages script image =
+      subst (λ x. AnsweredClean x → Answered (endedOf r′ a′) → Kept i i′ b′ x (endedOf r′ a′) × (endedOf r′ a′ .diagnostics ≡ 0)) e
+      (subst (λ y. AnsweredClean (checkOf i b) → Answered y → Kept i i′ b′ (checkOf i b) y × (y .diagnostics ≡ 0)) e′ (packages-alone i i′ b b′ packages script image longer))
+
+  pub check-statements : MoreStatements i i′ → i′ .libraryText ≡ i .libraryText → i′ .library ≡ i .library → AnsweredClean (endedOf r a) → Answered (endedOf r′ a′)
+      → Kept i i′ b′ (endedOf r a) (endedOf r′ a′)
+  unfolding StatementsAlone
+  check-statements statements text library =
+      subst (λ x. AnsweredClean x → Answered (endedOf r′ a′) → Kept i i′ b′ x (endedOf r′ a′)) e
+      (subst (λ y. AnsweredClean (checkOf i b) → Answered y → Kept i i′ b′ (checkOf i b) y) e′ (statements-alone i i′ b b′ statements text library longer))

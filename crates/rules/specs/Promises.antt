@@ -328,17 +328,18 @@ pub record AddsNothing (i : Inputs) (b : Buffers) : Type 0 where
 unfoldable pub NothingAdded : Type 0
 NothingAdded = (i : Inputs) (b : Buffers) → refusalOf i b ≡ none → AddsNothing i b
 
--- "any packages are added after the library's last", alone: the script is the same, and there is no diagnostic still
+-- "any packages are added after the library's last", with the same script: then there is no diagnostic still. Of the buffers, here and below,
+-- it is enough that none is shorter. (Longer buffers alone: `AnsweredLonger`.)
 unfoldable pub PackagesAlone : Type 0
 PackagesAlone =
-    (i i′ : Inputs) (b : Buffers) → MorePackages i i′ → i′ .script ≡ i .script → i′ .image ≡ i .image
-    → AnsweredClean (checkOf i b) → Answered (checkOf i′ b) → Kept i i′ b (checkOf i b) (checkOf i′ b) × (checkOf i′ b .diagnostics ≡ 0)
+    (i i′ : Inputs) (b b′ : Buffers) → MorePackages i i′ → i′ .script ≡ i .script → i′ .image ≡ i .image → Longer b b′
+    → AnsweredClean (checkOf i b) → Answered (checkOf i′ b′) → Kept i i′ b′ (checkOf i b) (checkOf i′ b′) × (checkOf i′ b′ .diagnostics ≡ 0)
 
--- "any statements are added after the script's last", alone: the library is the same. (Longer buffers alone: `AnsweredLonger`.)
+-- "any statements are added after the script's last", with the same library
 unfoldable pub StatementsAlone : Type 0
 StatementsAlone =
-    (i i′ : Inputs) (b : Buffers) → MoreStatements i i′ → i′ .libraryText ≡ i .libraryText → i′ .library ≡ i .library
-    → AnsweredClean (checkOf i b) → Answered (checkOf i′ b) → Kept i i′ b (checkOf i b) (checkOf i′ b)
+    (i i′ : Inputs) (b b′ : Buffers) → MoreStatements i i′ → i′ .libraryText ≡ i .libraryText → i′ .library ≡ i .library → Longer b b′
+    → AnsweredClean (checkOf i b) → Answered (checkOf i′ b′) → Kept i i′ b′ (checkOf i b) (checkOf i′ b′)
 
 -- ── Visited once ──
 -- After refusals 1 to 6 no node is visited twice and each owns its slots alone, so that the Rust's `already_checked` never finds anything.
