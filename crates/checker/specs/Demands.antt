@@ -11,9 +11,9 @@ use Rattle.refusals.specs.Inputs.{Inputs, Buffers}
 use Rattle.refusals.specs.Refusals.{refusalOf}
 use Rattle.rules.specs.Check.{Ended, checkOf}
 use Rattle.rules.specs.Visited.{visitedSlots}
-use Rattle.rules.specs.Promises.{Every, Answered, TableHolds, Demand1, NamesReadWell, NamesWellFormed, VisitedOnce, EachVisitedOnce, messageOf, primaryOf, MessagesWellFormed, AnsweredClean, HasConcreteType, Clean, Longer, Alike, AnsweredLonger, MorePackages, MoreStatements, Kept, Larger, LargerWithoutStatements, entriesOf, oldFunctions, FunctionsVisited, AgreesTo, RefusedAlike, withImage, ImagePlaceCertain, withLibrary, LibraryPlaceCertain, PackagesAlone, StatementsAlone}
+use Rattle.rules.specs.Promises.{Every, Answered, TableHolds, Demand1, NamesReadWell, NamesWellFormed, VisitedOnce, EachVisitedOnce, messageOf, primaryOf, MessagesWellFormed, AnsweredClean, HasConcreteType, Clean, Longer, Alike, AnsweredLonger, MorePackages, MoreStatements, Kept, Larger, LargerWithoutStatements, entriesOf, oldFunctions, FunctionsVisited, AgreesTo, RefusedAlike, withImage, ImagePlaceCertain, withLibrary, LibraryPlaceCertain, PackagesAlone, StatementsAlone, AddsNothing, NothingAdded}
 use Rattle.tworuns.specs.Larger.{ends}
-use Rattle.accepts.specs.Demands.{demand-1, names-well-formed, each-visited-once, answered-longer, functions-visited, larger, larger-without-statements, image-place-certain, library-place-certain, packages-alone, statements-alone}
+use Rattle.accepts.specs.Demands.{demand-1, names-well-formed, each-visited-once, answered-longer, functions-visited, larger, larger-without-statements, image-place-certain, library-place-certain, packages-alone, statements-alone, nothing-added}
 use Rattle.clean.specs.Clean.{clean}
 use Rattle.clean.specs.Messages.{messages-well-formed}
 use Rattle.checker.specs.declared.Checked.{Checked}
@@ -62,6 +62,11 @@ module _ (i : Inputs) (b a : Buffers) (r : Checked) (e : checkOf i b ≡ endedOf
   check-longer b′ a′ r′ e′ l =
       subst (λ x. Answered x → Alike (slotCount (i .image)) x (endedOf r′ a′)) e
       (subst (λ y. Answered (checkOf i b) → Alike (slotCount (i .image)) (checkOf i b) y) e′ (answered-longer i b b′ l))
+
+  -- "any or all of this": what was answered is itself with nothing added
+  pub check-nothing : Answered (endedOf r a) → AddsNothing i b
+  unfolding NothingAdded
+  check-nothing z = nothing-added i b (answered-passes z)
 
 -- two answers, for lists that agree up to and including the offending word: "The offending word is the first at which, reading forward, the
 -- fault is certain"
