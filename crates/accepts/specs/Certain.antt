@@ -11,6 +11,7 @@ use Rattle.library.specs.LibraryFault.{libraryFault}
 use Rattle.ast.specs.Image.{rootCount, slotCount}
 use Rattle.ast.specs.Node.{rootsOf}
 use Rattle.ast.specs.ImageFault.{Outlines, imageRead, imageFault}
+use Rattle.image_laws.specs.Accepted.{refused-read}
 use Rattle.refusals.specs.Inputs.{Inputs, Buffers, textsIn}
 use Rattle.refusals.specs.Refusals.{orElse, scratchFault, refusalOfOutlines, refusalOfImage, refusalOf}
 use Rattle.rules.specs.World.{World}
@@ -98,11 +99,6 @@ unfolding orElse
 library-two (some q) b r p e = ap some (ap placeOf e)
 library-two none b r p e = absurd (image-two b r p e)
 
-fault-refused : (r : Result Cursor ℕ Outlines) (p : ℕ) → faultOf r ≡ some p → r ≡ refused p
-unfolding faultOf
-fault-refused (ok o c) p e = absurd (no-some (sym e))
-fault-refused (refused q) p e = cc
-
 -- ── The laws ──
 
 module _ (i : Inputs) (b : Buffers) where
@@ -113,7 +109,7 @@ module _ (i : Inputs) (b : Buffers) where
       let scratch = else-later 1 3 (scratchFault b) _ p (λ z. omega arith) (refused-before i b 3 (omega arith) (omega arith) e) in
       let library = else-later 2 3 (libraryFault (textsIn i) (i .library)) _ p (λ z. omega arith) (scratch .1) in
       let first : imageRead (textsIn i) (i .image) ≡ refused p = image-three b _ p (library .1) in
-      let second : imageRead (textsIn i) image ≡ refused p = fault-refused _ p (image-certain (textsIn i) (i .image) image p (ap faultOf first) a) in
+      let second : imageRead (textsIn i) image ≡ refused p = refused-read (textsIn i) image p (image-certain (textsIn i) (i .image) image p (ap faultOf first) a) in
       let h = check-refused (withImage i image) b 3 p (rw (scratch .0, library .0, second) refl) in
       record { number = h .0 ∙ sym e; place = h .1 }
 

@@ -1,12 +1,13 @@
 -- Refusal 3: an image that agrees with a refused one up to and including the offending word is refused at the same word. Each rule of the
 -- image's words reads forward. Assumes nothing.
-use Prim.Native.Nat.{ℕ, zero, suc, _+_, _*_, _-_, _/_}
+use Prim.Native.Nat.{ℕ, zero, suc, _+_, _*_, _-_, _≤_, _<_}
 use mathlib.Core.Bool.{Bool}
-use mathlib.Core.Path.{_≡_}
-use mathlib.Core.Option.{some}
+use mathlib.Core.Path.{_≡_, refl, sym}
+use mathlib.Core.Option.{none, some}
 use mathlib.Core.List.{List, [], _∷_, _++_}
 use native.Mathlib.Omega.{arith}
 use lib.ListN.{length, getD, take}
+use lib.Seq.{take-take, length-take-le}
 use lib.Dec.{ltb}
 use Rattle.tok.specs.Word.{kindOf, payloadOf}
 use Rattle.tok.specs.Text.{Texts}
@@ -18,7 +19,7 @@ use Rattle.ast.specs.Nodes.{Kind, nodeKinds, nodeKind, node, nodes}
 use Rattle.ast.specs.TypeRecords.{TypeKind, typeAtom, typeForeign, typeInner, typeField, typeRecord, typeKinds, typeKind, typeExpression, typeExpressions}
 use Rattle.ast.specs.ImageFault.{image, imageRead, imageFault}
 use Rattle.library.specs.Each.{Each}
-use Rattle.certain.specs.Forward.{Agree, Forward, forward-return, forward-then, forward-many, forward-word, forward-ends, alike-fault, long-fault}
+use Rattle.certain.specs.Forward.{Agree, ForwardTo, Forward, forward-return, forward-then, forward-many, forward-word, forward-ends, PlaceIn, place-in, alike-fault, alike-after, long-fault, long-place, long-after}
 
 -- what holds of each of a list, and of what stands for those past its end
 each-of : {A : Type 0} (P : A → Type 0) (l : List A) (d : A) → Each P l → P d → (i : ℕ) → P (getD l i d)
@@ -33,8 +34,8 @@ module _ {k : ℕ} {words words′ : List ℕ} (agree : Agree k words words′) 
   word-then rule f h = forward-then (word rule) f (forward-word agree rule (λ _. 0)) h
 
   -- a number of words of one rule, and the rest after them
-  words-then : {B : Type 0} (n : ℕ) (rule : ℕ → Bool) (f : List ℕ → Read B) → ((ws : List ℕ) → Forward k words words′ (f ws))
-      → Forward k words words′ (_>>=_ (many n (word rule)) f)
+  words-then : {B : Type 0} {P : ℕ → Type 0} (n : ℕ) (rule : ℕ → Bool) (f : List ℕ → Read B) → ((ws : List ℕ) → ForwardTo k words words′ P (f ws))
+      → ForwardTo k words words′ P (_>>=_ (many n (word rule)) f)
   words-then n rule f h = forward-then (many n (word rule)) f (forward-many n (word rule) (forward-word agree rule (λ _. 0))) h
 
   typed-names : (c : Counts) (n : ℕ) → Forward k words words′ (typedNames c n)
@@ -221,7 +222,7 @@ module _ {k : ℕ} {words words′ : List ℕ} (agree : Agree k words words′) 
 
   -- ── The image ──
 
-  image-forward : (t : Texts) → Forward k words words′ (image t)
+  image-forward : (t : Texts) → ForwardTo k words words′ (λ to. length words′ ≤ to) (image t)
   unfolding image
   image-forward t =
       forward-then _ _ (forward-word agree _ _) λ n.
@@ -230,12 +231,29 @@ module _ {k : ℕ} {words words′ : List ℕ} (agree : Agree k words words′) 
       forward-then _ _ (forward-word agree _ _) λ v.
       words-then _ _ _ λ roots.
       forward-then _ _ (nodes-forward _ n 0 []) λ found.
-      forward-then _ _ (expressions-forward _ types 0) λ _.
-      forward-then _ _ (forward-ends agree) λ _. forward-return _
+      forward-then _ _ (expressions-forward _ types 0) λ _. forward-ends agree _
 
--- THE LAW: the words up to and including the offending word decide it.
+-- THE LAWS: the words up to and including the offending word decide it.
 pub image-certain : (t : Texts) (words words′ : List ℕ) (p : ℕ) → imageFault t words ≡ some p → take (p + 1) words′ ≡ take (p + 1) words → imageFault t words′ ≡ some p
 unfolding imageFault imageRead
 image-certain t words words′ p e a =
     let agree : Agree (p + 1) words words′ = record { front = a } in
     long-fault _ _ p (ltb mostBytes (length (t .script))) (alike-fault p (omega arith) (image-forward agree t .alike 0 4 (omega arith))) e
+
+-- It is a word of the image or the image's length, and no later than word 8,192.
+pub image-place-in : (t : Texts) (words : List ℕ) (p : ℕ) → imageFault t words ≡ some p → PlaceIn words p
+unfolding imageFault imageRead
+image-place-in t words p e =
+    let agree : Agree 0 words words = record { front = refl } in
+    long-place _ words p (ltb mostBytes (length (t .script))) (place-in words p (image-forward agree t .onward .inside (length words) (start 4 words) (omega arith) (omega arith))) e
+
+-- "nothing after": where the first n words are an accepted image, a word after them offends, the first. So, with n = 8,192, "a buffer over
+-- 8,192 words offends at word 8,192".
+pub image-after : (t : Texts) (words : List ℕ) (n : ℕ) → n < length words → imageFault t (take n words) ≡ none → imageFault t words ≡ some n
+unfolding imageFault imageRead
+image-after t words n l e =
+    let agree : Agree n (take n words) words = record { front = sym (take-take n n words (omega arith)) } in
+    let long : length (take n words) ≡ n = length-take-le n words (omega arith) in
+    let reads = image-forward agree t in
+    long-after _ _ n (ltb mostBytes (length (t .script)))
+    (alike-after (sym long) l (reads .onward .inside (length (take n words)) (start 4 (take n words)) (omega arith) (omega arith)) (reads .alike 0 4 (omega arith))) e

@@ -3,13 +3,13 @@
 use Prim.Native.Nat.{ℕ, zero, suc, _+_, _*_, _≤_, _<_}
 use mathlib.Core.Bool.{Bool, true, _&&_, _||_, cond}
 use mathlib.Core.Path.{_≡_, refl, sym, ap, ap₂, _∙_}
-use mathlib.Core.Option.{some}
+use mathlib.Core.Option.{none, some}
 use mathlib.Core.List.{List, [], _∷_, _++_}
 use native.Mathlib.Omega.{arith}
 use native.Mathlib.Nat.{zero-add, suc-add}
 use native.Mathlib.Decide.{decLt}
 use lib.ListN.{length, getD, take, drop, length-take, List·getD-eq-default}
-use lib.Seq.{getD-take, getD-drop, take-take, take-nil}
+use lib.Seq.{getD-take, getD-drop, length-take-le, take-take, take-nil}
 use lib.Dec.{leb, ltb, eqb}
 use borrow.Author.Tests.{lt-ltb, le-ltb}
 use Rattle.utf8.specs.Rfc3629.{range}
@@ -22,7 +22,7 @@ use Rattle.library.specs.Pool.{Pool, poolWord, goodWrapped, goodRecord, goodNam
 use Rattle.library.specs.Package.{Function, Package}
 use Rattle.library.specs.PackageRecords.{argument, functionRecord, functionRecords, packageRecord}
 use Rattle.library.specs.LibraryFault.{poolOf, library, libraryRead, libraryFault}
-use Rattle.certain.specs.Forward.{Onward, onward-return, onward-then, onward-word, Agree, same-word, Alike, both, Any, Forward, alike-then, alike-map, alike-word, forward-return, forward-then, forward-many, forward-word, forward-ends, alike-fault, long-fault}
+use Rattle.certain.specs.Forward.{Onward, onward-return, onward-then, onward-word, Agree, same-word, Alike, both, ForwardTo, Forward, alike-then, alike-map, alike-word, forward-return, forward-then, forward-many, forward-word, forward-ends, PlaceIn, place-in, alike-fault, alike-after, long-fault, long-place, long-after}
 
 -- ── Packages: one pool for both ──
 
@@ -155,38 +155,59 @@ module _ {k : ℕ} {words words′ : List ℕ} (agree : Agree k words words′) 
 
 -- ── The library ──
 
-module _ {k : ℕ} {words words′ : List ℕ} (agree : Agree k words words′) (t : Texts) where
-  -- what follows the pool
-  abbrev afterPool : Pool → ℕ → Read (List Package)
-  afterPool p count = _>>=_ (many count (packageRecord p)) (λ packages. _>>=_ ends (λ _. return packages))
+-- what follows the pool
+abbrev afterPool : Pool → ℕ → Read (List Package)
+afterPool p count = _>>=_ (many count (packageRecord p)) (λ packages. _>>=_ ends (λ _. return packages))
 
-  after-forward : (p : Pool) (count : ℕ) → Forward k words words′ (afterPool p count)
-  after-forward p count = forward-then _ _ (forward-many count _ (package-forward agree p)) λ packages. forward-then _ _ (forward-ends agree) λ _. forward-return packages
+module _ {k : ℕ} {words words′ : List ℕ} (agree : Agree k words words′) (t : Texts) where
+  after-forward : (p : Pool) (count : ℕ) → ForwardTo k words words′ (λ to. length words′ ≤ to) (afterPool p count)
+  after-forward p count = forward-then _ _ (forward-many count _ (package-forward agree p)) λ packages. forward-ends agree packages
+
+  pool-after : (size count : ℕ) → Onward (_>>=_ (poolFrom (poolOf t words size) size 0) (λ _. afterPool (poolOf t words size) count))
+  pool-after size count = onward-then _ _ (pool-onward (poolOf t words size) size 0) λ _. after-forward (poolOf t words size) count .onward
 
   -- the pool of the one list, and of the other, with what follows
   pool-then : (size count at least : ℕ) → at ≡ 2 → at ≤ k
-      → Alike k words words′ Any (next (poolFrom (poolOf t words size) size 0 (standing words at least)) (λ _. afterPool (poolOf t words size) count))
+      → Alike k words words′ (λ _ to. length words′ ≤ to) (next (poolFrom (poolOf t words size) size 0 (standing words at least)) (λ _. afterPool (poolOf t words size) count))
       (next (poolFrom (poolOf t words′ size) size 0 (standing words′ at least)) (λ _. afterPool (poolOf t words′ size) count))
   pool-then size count at least e l =
       alike-then _ _ (pool-alike agree t size size 0 at least (omega arith) l (omega arith)) (λ _ at₁ least₁ l₁ h.
       rw (pool-same agree t size (omega arith)) (after-forward (poolOf t words size) count .alike at₁ least₁ l₁))
       (λ _. after-forward (poolOf t words size) count .onward)
 
-  library-alike : Alike k words words′ Any (library t words (start 2 words)) (library t words′ (start 2 words′))
+  library-alike : Alike k words words′ (λ _ to. length words′ ≤ to) (library t words (start 2 words)) (library t words′ (start 2 words′))
   unfolding library
   library-alike =
       alike-then _ _ (alike-word agree _ _ _ 0 2 (omega arith) (λ _ w. refl)) (λ size at₁ least₁ l₁ e₁.
       alike-then _ _ (alike-word agree _ _ _ at₁ least₁ l₁ (λ _ w. refl)) (λ count at₂ least₂ l₂ e₂.
       pool-then size count at₂ least₂ (omega arith) l₂)
-      (λ count. pool-onward-then size count))
-      (λ size. onward-then _ _ (onward-word _ _) λ count. pool-onward-then size count)
-    where
-      pool-onward-then : (size count : ℕ) → Onward (_>>=_ (poolFrom (poolOf t words size) size 0) (λ _. afterPool (poolOf t words size) count))
-      pool-onward-then size count = onward-then _ _ (pool-onward (poolOf t words size) size 0) λ _. after-forward (poolOf t words size) count .onward
+      (λ count. pool-after size count))
+      (λ size. onward-then _ _ (onward-word _ _) λ count. pool-after size count)
 
--- THE LAW: the words up to and including the offending word decide it.
+  library-onward : Onward (library t words)
+  unfolding library
+  library-onward = onward-then _ _ (onward-word _ _) λ size. onward-then _ _ (onward-word _ _) λ count. pool-after size count
+
+-- THE LAWS: the words up to and including the offending word decide it.
 pub library-certain : (t : Texts) (words words′ : List ℕ) (p : ℕ) → libraryFault t words ≡ some p → take (p + 1) words′ ≡ take (p + 1) words → libraryFault t words′ ≡ some p
 unfolding libraryFault libraryRead
 library-certain t words words′ p e a =
     let agree : Agree (p + 1) words words′ = record { front = a } in
     long-fault _ _ p (ltb mostBytes (length (t .library))) (alike-fault p (omega arith) (library-alike agree t)) e
+
+-- It is a word of the library or the library's length, and no later than word 8,192.
+pub library-place-in : (t : Texts) (words : List ℕ) (p : ℕ) → libraryFault t words ≡ some p → PlaceIn words p
+unfolding libraryFault libraryRead
+library-place-in t words p e =
+    let agree : Agree 0 words words = record { front = refl } in
+    long-place _ words p (ltb mostBytes (length (t .library))) (place-in words p (library-onward agree t .inside (length words) (start 2 words) (omega arith) (omega arith))) e
+
+-- Where the first n words are an accepted library, a word after them offends, the first. So, with n = 8,192, "a buffer over 8,192 words
+-- offends at word 8,192".
+pub library-after : (t : Texts) (words : List ℕ) (n : ℕ) → n < length words → libraryFault t (take n words) ≡ none → libraryFault t words ≡ some n
+unfolding libraryFault libraryRead
+library-after t words n l e =
+    let agree : Agree n (take n words) words = record { front = sym (take-take n n words (omega arith)) } in
+    let long : length (take n words) ≡ n = length-take-le n words (omega arith) in
+    long-after _ _ n (ltb mostBytes (length (t .library)))
+    (alike-after (sym long) l (library-onward agree t .inside (length (take n words)) (start 2 (take n words)) (omega arith) (omega arith)) (library-alike agree t)) e
