@@ -16,11 +16,11 @@ use Rattle.refusals.specs.Inputs.{Inputs, Buffers, textsIn}
 use Rattle.refusals.specs.Refusals.{orElse, scratchFault, refusalOfOutlines, refusalOfImage, refusalOf}
 use Rattle.rules.specs.World.{World}
 use Rattle.rules.specs.Steps.{Done}
-use Rattle.rules.specs.Walk.{startOf, walk, walkOf}
+use Rattle.rules.specs.Walk.{walk, walkOf}
 use Rattle.rules.specs.Check.{endOf, unlessRefused, checkOf}
 use Rattle.rules.specs.Promises.{AgreesTo, RefusedAlike, withImage, withLibrary}
 use Rattle.laws.specs.Keeps.{Keeps, kept, stopped}
-use Rattle.laws.specs.Grow.{Grow, Walked, full, deep, told, walk-grows}
+use Rattle.laws.specs.Grow.{Walked, full, deep, told, walk-grows}
 use Rattle.certain.specs.ImageCertain.{image-certain}
 use Rattle.certain.specs.LibraryCertain.{library-certain}
 use Rattle.certain.specs.LibraryText.{library-alone}
@@ -62,18 +62,18 @@ check-refused i b n p e = (rw e refl, rw e refl)
 
 -- ── Which cause a number tells ──
 
-abbrev numberOf : Option Refusal → ℕ
-numberOf none = 0
-numberOf (some r) = r .number
+abbrev refusalNumber : Option Refusal → ℕ
+refusalNumber none = 0
+refusalNumber (some r) = r .number
 
-abbrev placeOf : Option Refusal → ℕ
-placeOf none = 0
-placeOf (some r) = r .place
+abbrev refusalPlace : Option Refusal → ℕ
+refusalPlace none = 0
+refusalPlace (some r) = r .place
 
 -- not this cause: a later one
 else-later : (n m : ℕ) (f : Option ℕ) (later : Option Refusal) (p : ℕ) → (n ≡ m → ⊥) → orElse n f later ≡ some (refusal m p) → (f ≡ none) × (later ≡ some (refusal m p))
 unfolding orElse
-else-later n m (some q) later p d e = absurd (d (ap numberOf e))
+else-later n m (some q) later p d e = absurd (d (ap refusalNumber e))
 else-later n m none later p d e = (refl, e)
 
 -- 4 to 6 have numbers of their own
@@ -85,18 +85,18 @@ outlines-late b o n p l e =
 -- 3
 image-three : (b : Buffers) (r : Result Cursor ℕ Outlines) (p : ℕ) → refusalOfImage b r ≡ some (refusal 3 p) → r ≡ refused p
 unfolding refusalOfImage
-image-three b (refused q) p e = ap refused (ap placeOf e)
+image-three b (refused q) p e = ap refused (ap refusalPlace e)
 image-three b (ok o c) p e = absurd (outlines-late b o 3 p (omega arith) e)
 
 image-two : (b : Buffers) (r : Result Cursor ℕ Outlines) (p : ℕ) → refusalOfImage b r ≡ some (refusal 2 p) → ⊥
 unfolding refusalOfImage
-image-two b (refused q) p e = let z : _≡_ {A = ℕ} 3 2 = ap numberOf e in omega arith
+image-two b (refused q) p e = let z : _≡_ {A = ℕ} 3 2 = ap refusalNumber e in omega arith
 image-two b (ok o c) p e = outlines-late b o 2 p (omega arith) e
 
 -- 2
 library-two : (f : Option ℕ) (b : Buffers) (r : Result Cursor ℕ Outlines) (p : ℕ) → orElse 2 f (refusalOfImage b r) ≡ some (refusal 2 p) → f ≡ some p
 unfolding orElse
-library-two (some q) b r p e = ap some (ap placeOf e)
+library-two (some q) b r p e = ap some (ap refusalPlace e)
 library-two none b r p e = absurd (image-two b r p e)
 
 -- ── The laws ──

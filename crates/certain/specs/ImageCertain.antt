@@ -13,7 +13,7 @@ use Rattle.tok.specs.Word.{kindOf, payloadOf}
 use Rattle.tok.specs.Text.{Texts}
 use Rattle.tok.specs.Step.{_>>=_}
 use Rattle.tok.specs.Reader.{Read, word, many, start, mostBytes}
-use Rattle.ast.specs.Outline.{Outline, Counts, Here, part, parts, name, typedName, typedNames}
+use Rattle.ast.specs.Outline.{Outline, Counts, Here, typedName, typedNames}
 use Rattle.ast.specs.NodeRecords.{atom, ident, bin, unary, binding, fn, cases, match, call, field, cast, imports, externFunctions, extern, namedPart, recordNode, array}
 use Rattle.ast.specs.Nodes.{Kind, nodeKinds, nodeKind, node, nodes}
 use Rattle.ast.specs.TypeRecords.{TypeKind, typeAtom, typeForeign, typeInner, typeField, typeRecord, typeKinds, typeKind, typeExpression, typeExpressions}
@@ -22,7 +22,7 @@ use Rattle.library.specs.Each.{Each}
 use Rattle.certain.specs.Forward.{Agree, ForwardTo, Forward, forward-return, forward-then, forward-many, forward-word, forward-ends, PlaceIn, place-in, alike-fault, alike-after, long-fault, long-place, long-after}
 
 -- what holds of each of a list, and of what stands for those past its end
-each-of : {A : Type 0} (P : A → Type 0) (l : List A) (d : A) → Each P l → P d → (i : ℕ) → P (getD l i d)
+pub each-of : {A : Type 0} (P : A → Type 0) (l : List A) (d : A) → Each P l → P d → (i : ℕ) → P (getD l i d)
 unfolding Each
 each-of P [] d h p i = p
 each-of P (x ∷ xs) d h p zero = h .0

@@ -1,8 +1,8 @@
 -- Refusal 2: a library that agrees with a refused one up to and including the offending word is refused at the same word. A pool word's rule
 -- asks only pool words before it; the rules of packages are asked where the pool stands whole before them. Assumes nothing.
 use Prim.Native.Nat.{ℕ, zero, suc, _+_, _*_, _≤_, _<_}
-use mathlib.Core.Bool.{Bool, true, _&&_, _||_, cond}
-use mathlib.Core.Path.{_≡_, refl, sym, ap, ap₂, _∙_}
+use mathlib.Core.Bool.{cond}
+use mathlib.Core.Path.{_≡_, refl, sym, ap, _∙_}
 use mathlib.Core.Option.{none, some}
 use mathlib.Core.List.{List, [], _∷_, _++_}
 use native.Mathlib.Omega.{arith}
@@ -12,11 +12,10 @@ use lib.ListN.{length, getD, take, drop, length-take, List·getD-eq-default}
 use lib.Seq.{getD-take, getD-drop, length-take-le, take-take, take-nil}
 use lib.Dec.{leb, ltb, eqb}
 use borrow.Author.Tests.{lt-ltb, le-ltb}
-use Rattle.utf8.specs.Rfc3629.{range}
 use Rattle.tok.specs.Word.{kindOf, payloadOf}
 use Rattle.tok.specs.Text.{Texts}
 use Rattle.tok.specs.Step.{next, _>>=_, return}
-use Rattle.tok.specs.Reader.{Read, word, many, start, ends, mostBytes}
+use Rattle.tok.specs.Reader.{Read, many, start, ends, mostBytes}
 use Rattle.reader.specs.Reading.{standing}
 use Rattle.library.specs.Pool.{Pool, poolWord, goodWrapped, goodRecord, goodNamed, goodType, fields, goodPoolWord, pairsAfter, poolFrom}
 use Rattle.library.specs.Package.{Function, Package}
