@@ -15,7 +15,7 @@ use Rattle.image_laws.specs.Accepted.{Accepted}
 use Rattle.refusals.specs.Inputs.{Inputs, Buffers, textsIn}
 use Rattle.refusals.specs.Refusals.{refusalOf}
 use Rattle.rules.specs.Check.{checkOf}
-use Rattle.rules.specs.Promises.{Answered, AnsweredClean, Longer, rootWords, nodeWords, typeWords, packageWords, MorePackages, MoreStatements, Kept, AddsNothing}
+use Rattle.rules.specs.Promises.{Answered, AnsweredClean, Longer, rootWords, nodeRecords, typeRecords, packageWords, MorePackages, MoreStatements, Kept, AddsNothing}
 use Rattle.tworuns.specs.Larger.{ends, larger, larger-without-statements}
 use Rattle.accepts.specs.Passed.{passed}
 use Rattle.accepts.specs.LongerImage.{roots-end, nodes-end}
@@ -37,17 +37,17 @@ module _ {text image : List ℕ} (a : Accepted text image) where
   types = nodePlace image (nodeCount image)
 
   -- "the roots; node records; type records; nothing after"
-  after-counts : drop 4 image ≡ rootWords image ++ nodeWords image ++ typeWords image
+  after-counts : drop 4 image ≡ rootWords image ++ nodeRecords image ++ typeRecords image
   after-counts =
       let long : length (take types image) ≡ types = length-take-le types image (nodes-end a) in
       sym (take-append-drop (rootCount image) (drop 4 image))
       ∙ ap (λ (r : List ℕ). rootWords image ++ r)
       (drop-drop (rootCount image) 4 image
       ∙ (ap (drop (4 + rootCount image)) (sym (take-append-drop types image)) ∙ drop-append-le (4 + rootCount image) (take types image) (drop types image) (omega (arith, roots-end a))))
-      ∙ sym (append-assoc (rootWords image) (nodeWords image) (typeWords image))
+      ∙ sym (append-assoc (rootWords image) (nodeRecords image) (typeRecords image))
 
   -- "counts N nodes, T type expressions, R roots, V slots", and what is after them
-  image-parts : image ≡ nodeCount image ∷ typeCount image ∷ rootCount image ∷ slotCount image ∷ rootWords image ++ nodeWords image ++ typeWords image
+  image-parts : image ≡ nodeCount image ∷ typeCount image ∷ rootCount image ∷ slotCount image ∷ rootWords image ++ nodeRecords image ++ typeRecords image
   image-parts =
       let e = roots-end a in
       let f = nodes-end a in
@@ -98,11 +98,11 @@ same-script i i′ b e t l = record {
           add-zero (rootCount (i .image)),
           add-zero (slotCount (i .image)),
           append-nil (rootWords (i .image)),
-          append-nil (nodeWords (i .image)),
-          append-nil (typeWords (i .image)),
+          append-nil (nodeRecords (i .image)),
+          append-nil (typeRecords (i .image)),
         )
         (image-parts (passed i b e .image));
-    whole = ap nodeWords l ∙ sym (append-nil (nodeWords (i .image)));
+    whole = ap nodeRecords l ∙ sym (append-nil (nodeRecords (i .image)));
   };
   noRoots = refl;
 }

@@ -24,7 +24,7 @@ use Rattle.rules.specs.Calls.{Callee, ownFunction, packageFunction, throughFiel
 use Rattle.rules.specs.Rules.{fnArguments, fn, unlessDefined, Member, alike, silent, differs, goOn, node, block, last, visitAll, cases, values, array, members}
 use Rattle.rules.specs.Visited.{visitedBelow, visitedAmong, visitedInCases, visitedInValues, visitedIn}
 use Rattle.rules.specs.Walk.{ctxOf, startOf, copyPool, walkFirst, walk, walkOf}
-use Rattle.laws.specs.Keeps.{Keeps, kept, stopped, Kept}
+use Rattle.laws.specs.Keeps.{Keeps, kept, stopped, StepsKeep}
 use Rattle.laws.specs.Keeps as K
 use Rattle.accepts.specs.Count.{total, total-append}
 use Rattle.accepts.specs.Passed.{Passed}
@@ -40,7 +40,7 @@ Any k = Unit {0}
 record Still (s u : World) : Type 0 where
   used : u .functions .used ≡ s .functions .used
 
-still-kept : Kept Still Any Any
+still-kept : StepsKeep Still Any Any
 still-kept = record {
   same = λ s. record { used = refl };
   trans = λ {s} {t} {u} x y. record { used = y .used ∙ x .used };

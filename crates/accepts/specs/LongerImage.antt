@@ -20,7 +20,7 @@ use Rattle.trees.specs.TypeTrees.{type-same, type-step}
 use Rattle.trees.specs.SameRecords.{node-same}
 use Rattle.trees.specs.Trees.{tree-step}
 use Rattle.refusals.specs.Inputs.{Inputs}
-use Rattle.rules.specs.Promises.{MoreStatements, rootWords, nodeWords, typeWords}
+use Rattle.rules.specs.Promises.{MoreStatements, rootWords, nodeRecords, typeRecords}
 
 -- ── Where records stand in an accepted image ──
 
@@ -88,10 +88,10 @@ module _ {i i′ : Inputs} (m : MoreStatements i i′) (a : Accepted (i .script)
   roots-long : length (rootWords old) ≡ rootCount old
   roots-long = simp (length-take, length-drop) (omega (arith, nodes-end a, roots-end a))
 
-  nodes-long : length (nodeWords old) ≡ nodePlace old (nodeCount old) - (4 + rootCount old)
+  nodes-long : length (nodeRecords old) ≡ nodePlace old (nodeCount old) - (4 + rootCount old)
   nodes-long = simp (length-take, length-drop) (omega (arith, nodes-end a, roots-end a))
 
-  types-long : length (typeWords old) ≡ length old - nodePlace old (nodeCount old)
+  types-long : length (typeRecords old) ≡ length old - nodePlace old (nodeCount old)
   types-long = length-drop (nodePlace old (nodeCount old)) old
 
   -- the three parts
@@ -99,10 +99,10 @@ module _ {i i′ : Inputs} (m : MoreStatements i i′) (a : Accepted (i .script)
   allRoots = rootWords old ++ m .roots
 
   abbrev allNodes : List ℕ
-  allNodes = nodeWords old ++ m .nodes
+  allNodes = nodeRecords old ++ m .nodes
 
   abbrev allTypes : List ℕ
-  allTypes = typeWords old ++ m .types
+  allTypes = typeRecords old ++ m .types
 
   front-long : length (allRoots ++ allNodes) ≡ length allRoots + length allNodes
   front-long = length-append allRoots allNodes
@@ -111,7 +111,7 @@ module _ {i i′ : Inputs} (m : MoreStatements i i′) (a : Accepted (i .script)
   all-roots-long = omega (arith, length-append (rootWords old) (m .roots), roots-long)
 
   all-nodes-long : length allNodes ≡ nodePlace old (nodeCount old) - (4 + rootCount old) + length (m .nodes)
-  all-nodes-long = omega (arith, length-append (nodeWords old) (m .nodes), nodes-long)
+  all-nodes-long = omega (arith, length-append (nodeRecords old) (m .nodes), nodes-long)
 
   -- the word after the four counts, and so on
   word-after : (n : ℕ) → wordAt new (4 + n) ≡ getD ((allRoots ++ allNodes) ++ allTypes) n 0
@@ -146,7 +146,7 @@ module _ {i i′ : Inputs} (m : MoreStatements i i′) (a : Accepted (i .script)
       ∙ word-after (length allRoots + d)
       ∙ List·getD-append (allRoots ++ allNodes) allTypes 0 (length allRoots + d) (omega arith)
       ∙ getD-append-add allRoots allNodes d 0
-      ∙ List·getD-append (nodeWords old) (m .nodes) 0 d (omega arith)
+      ∙ List·getD-append (nodeRecords old) (m .nodes) 0 d (omega arith)
       ∙ getD-drop (4 + rootCount old) (take (nodePlace old (nodeCount old)) old) d 0
       ∙ getD-take (nodePlace old (nodeCount old)) old (4 + rootCount old + d) 0 (omega arith)
       ∙ ap (wordAt old) back
@@ -165,7 +165,7 @@ module _ {i i′ : Inputs} (m : MoreStatements i i′) (a : Accepted (i .script)
       ap (wordAt new) at
       ∙ word-after (length (allRoots ++ allNodes) + d)
       ∙ getD-append-add (allRoots ++ allNodes) allTypes d 0
-      ∙ List·getD-append (typeWords old) (m .types) 0 d (omega arith)
+      ∙ List·getD-append (typeRecords old) (m .types) 0 d (omega arith)
       ∙ getD-drop (nodePlace old (nodeCount old)) old d 0
       ∙ ap (wordAt old) back
 
@@ -187,7 +187,7 @@ module _ {i i′ : Inputs} (m : MoreStatements i i′) (a : Accepted (i .script)
   nodes-place : nodePlace new (nodeCount new) ≡ nodePlace old (nodeCount old) + j
   nodes-place =
       let e = ap (λ (l : List ℕ). length l) (m .whole) in
-      let s : length (nodeWords new) ≡ nodePlace new (nodeCount new) - (4 + rootCount new) = simp (length-take, length-drop) (omega (arith, nodes-end a′, roots-end a′)) in
+      let s : length (nodeRecords new) ≡ nodePlace new (nodeCount new) - (4 + rootCount new) = simp (length-take, length-drop) (omega (arith, nodes-end a′, roots-end a′)) in
       omega (arith, all-nodes-long, roots-more, roots-end a, roots-end a′)
 
   type-place : (t : ℕ) → t ≤ typeCount old → typePlace new t ≡ typePlace old t + j

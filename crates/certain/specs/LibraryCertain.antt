@@ -20,7 +20,7 @@ use Rattle.reader.specs.Reading.{standing}
 use Rattle.library.specs.Pool.{Pool, poolWord, goodWrapped, goodRecord, goodNamed, goodType, fields, goodPoolWord, pairsAfter, poolFrom}
 use Rattle.library.specs.Package.{Function, Package}
 use Rattle.library.specs.PackageRecords.{argument, functionRecord, functionRecords, packageRecord}
-use Rattle.library.specs.LibraryFault.{poolOf, library, libraryRead, libraryFault}
+use Rattle.library.specs.LibraryFault.{poolRead, library, libraryRead, libraryFault}
 use Rattle.certain.specs.Forward.{Onward, onward-return, onward-then, onward-word, Agree, same-word, Alike, both, ForwardTo, Forward, alike-then, alike-map, alike-word, forward-return, forward-then, forward-many, forward-word, forward-ends, PlaceIn, place-in, alike-fault, alike-after, long-fault, long-place, long-after}
 
 -- ── Packages: one pool for both ──
@@ -74,10 +74,10 @@ drop-take (suc n) m (x ∷ xs) = ap (λ j. drop (suc n) (take j (x ∷ xs))) (su
 
 module _ {k : ℕ} {words words′ : List ℕ} (agree : Agree k words words′) (t : Texts) (size : ℕ) where
   abbrev pool : Pool
-  pool = poolOf t words size
+  pool = poolRead t words size
 
   abbrev pool′ : Pool
-  pool′ = poolOf t words′ size
+  pool′ = poolRead t words′ size
 
   -- a pool that stands whole among the first k words is the same
   pool-same : size + 2 ≤ k → pool′ ≡ pool
@@ -162,17 +162,17 @@ module _ {k : ℕ} {words words′ : List ℕ} (agree : Agree k words words′) 
   after-forward : (p : Pool) (count : ℕ) → ForwardTo k words words′ (λ to. length words′ ≤ to) (afterPool p count)
   after-forward p count = forward-then _ _ (forward-many count _ (package-forward agree p)) λ packages. forward-ends agree packages
 
-  pool-after : (size count : ℕ) → Onward (_>>=_ (poolFrom (poolOf t words size) size 0) (λ _. afterPool (poolOf t words size) count))
-  pool-after size count = onward-then _ _ (pool-onward (poolOf t words size) size 0) λ _. after-forward (poolOf t words size) count .onward
+  pool-after : (size count : ℕ) → Onward (_>>=_ (poolFrom (poolRead t words size) size 0) (λ _. afterPool (poolRead t words size) count))
+  pool-after size count = onward-then _ _ (pool-onward (poolRead t words size) size 0) λ _. after-forward (poolRead t words size) count .onward
 
   -- the pool of the one list, and of the other, with what follows
   pool-then : (size count at least : ℕ) → at ≡ 2 → at ≤ k
-      → Alike k words words′ (λ _ to. length words′ ≤ to) (next (poolFrom (poolOf t words size) size 0 (standing words at least)) (λ _. afterPool (poolOf t words size) count))
-      (next (poolFrom (poolOf t words′ size) size 0 (standing words′ at least)) (λ _. afterPool (poolOf t words′ size) count))
+      → Alike k words words′ (λ _ to. length words′ ≤ to) (next (poolFrom (poolRead t words size) size 0 (standing words at least)) (λ _. afterPool (poolRead t words size) count))
+      (next (poolFrom (poolRead t words′ size) size 0 (standing words′ at least)) (λ _. afterPool (poolRead t words′ size) count))
   pool-then size count at least e l =
       alike-then _ _ (pool-alike agree t size size 0 at least (omega arith) l (omega arith)) (λ _ at₁ least₁ l₁ h.
-      rw (pool-same agree t size (omega arith)) (after-forward (poolOf t words size) count .alike at₁ least₁ l₁))
-      (λ _. after-forward (poolOf t words size) count .onward)
+      rw (pool-same agree t size (omega arith)) (after-forward (poolRead t words size) count .alike at₁ least₁ l₁))
+      (λ _. after-forward (poolRead t words size) count .onward)
 
   library-alike : Alike k words words′ (λ _ to. length words′ ≤ to) (library t words (start 2 words)) (library t words′ (start 2 words′))
   unfolding library

@@ -16,7 +16,7 @@ use Rattle.tok.specs.Reader.{start, mostWords, mostBytes}
 use Rattle.library.specs.Pool.{Pool, fields, goodPoolWord, pairsAfter, poolFrom}
 use Rattle.library.specs.Package.{Function}
 use Rattle.library.specs.PackageRecords.{argument, functionRecord, functionRecords, packageRecord}
-use Rattle.library.specs.LibraryFault.{poolOf, library, libraryRead, libraryFault}
+use Rattle.library.specs.LibraryFault.{poolRead, library, libraryRead, libraryFault}
 use Rattle.certain.specs.Owed.{Owed, OwedTo, owed-as, owed-return, owed-then, owing-then, owed-word, owed-pairs, owed-ends, paid-fault, GoesOn, goes-on}
 use Rattle.certain.specs.LibraryCertain.{library-certain}
 
@@ -88,7 +88,7 @@ library-owed t words =
     owing-then 1 _ _ _ λ size _.
     owed-as (suc size) (1 + size) (omega arith)
     (owing-then size _ _ _ λ count _.
-    let p : Pool = poolOf t words size in
+    let p : Pool = poolRead t words size in
     owed-as (size - 0 + (2 * count + 0)) (size + 2 * count) (omega arith)
     (owed-then (size - 0) (2 * count + 0) _ _ (pool-owed p size 0 (omega arith) (omega arith)) λ _ _.
     owed-then (2 * count) 0 _ _ (owed-pairs count _ (package-owed p)) λ packages _.

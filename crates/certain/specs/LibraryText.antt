@@ -21,8 +21,8 @@ use Rattle.ptype.specs.GrowLaws.{unfolded-longer}
 use Rattle.library.specs.Pool.{Pool, poolAt, goodWrapped, goodRecord, goodNamed, goodType, name, fields, goodPoolWord, pairsAfter, poolFrom}
 use Rattle.library.specs.Slots.{poolTy, slotNames, noSlot, slotNamesOf, allAmong, returnStands}
 use Rattle.library.specs.Package.{Param, Function, functionAt, functionEnd}
-use Rattle.library.specs.PackageRecords.{some, sameGroup, goodGroup, goodFlag, goodSignatureType, argument, goodReturn, functionRecord, functionRecords, packageRecord}
-use Rattle.library.specs.LibraryFault.{poolOf, library, libraryRead, libraryFault}
+use Rattle.library.specs.PackageRecords.{anyFunction, sameGroup, goodGroup, goodFlag, goodSignatureType, argument, goodReturn, functionRecord, functionRecords, packageRecord}
+use Rattle.library.specs.LibraryFault.{poolRead, library, libraryRead, libraryFault}
 use Rattle.library.specs.Each.{Each}
 use Rattle.library.specs.TypeWords.{goodType-true}
 use Rattle.library.specs.PoolRead.{PoolFine, pool-reads}
@@ -67,8 +67,8 @@ and-same : (a b b′ : Bool) → (a ≡ true → b ≡ b′) → (a && b) ≡ (a
 and-same true b b′ h = h refl
 and-same false b b′ h = refl
 
-some-same : (test test′ : Function → Bool) (fs : List Function) → Each (λ f. test f ≡ test′ f) fs → some test fs ≡ some test′ fs
-unfolding some Each
+some-same : (test test′ : Function → Bool) (fs : List Function) → Each (λ f. test f ≡ test′ f) fs → anyFunction test fs ≡ anyFunction test′ fs
+unfolding anyFunction Each
 some-same test test′ [] h = refl
 some-same test test′ (f ∷ fs) h = ap₂ _||_ (h .0) (some-same test test′ fs (h .1))
 
@@ -217,7 +217,7 @@ module _ (s l words : List ℕ) where
   unfolding library
   library-same =
       let size : ℕ = getD words 0 0 in
-      let p : Pool = poolOf (textsOf [] l) words size in
+      let p : Pool = poolRead (textsOf [] l) words size in
       shown-same _ _ (reads-word (λ _. true) (λ p. p) words 0 2) λ l₁ w₁ f₁.
       shown-same _ _ (reads-word (λ _. true) (λ k. 2 * k) words 1 l₁) λ l₂ w₂ f₂.
       then-same _ _ (pool-reads p words (pool-in (textsOf [] l) words size) l₂ w₂) (pool-same s l size (p .words) size 0 _) λ l₃ w₃ fine.

@@ -16,7 +16,7 @@ use Rattle.err.specs.Report.{sixWords, bytesOf, oneMore}
 use Rattle.rules.specs.Steps.{Done}
 use Rattle.rules.specs.Walk.{startOf, copyPool, walkFirst}
 use Rattle.laws.specs.SlotsOf.{SlotsOfAll}
-use Rattle.laws.specs.Keeps.{Keeps, kept, stopped, Kept, at-when, at-walk, Enters}
+use Rattle.laws.specs.Keeps.{Keeps, kept, stopped, StepsKeep, at-when, at-walk, Enters}
 use Rattle.laws.specs.Writes.{length-write, front-write, past-write}
 
 -- b became d: more is used, of as many words; what was used stays, and what lies past the used part. m words to each.
@@ -89,7 +89,7 @@ module _ (v : ℕ) where
   abbrev pub Below : ℕ → Type 0
   Below slot = slot < v + 1
 
-  pub grow-kept : Kept (Grow v) Walked Below
+  pub grow-kept : StepsKeep (Grow v) Walked Below
   grow-kept = record {
     same = same;
     trans = λ {s} {t} {u} x y. record {

@@ -40,7 +40,7 @@ pub data Keeps (R : World → World → Type 0) (Q : ℕ → Type 0) (s : World)
   stopped : {r : Refusal} → Q (r .number) → Keeps R Q s (refused r)
 
 -- What is asked of R and Q: a preorder with the primitive steps in it, but for `enter`, and the three refusals of the walk.
-pub record Kept (R : World → World → Type 0) (Q P : ℕ → Type 0) : Type 0 where
+pub record StepsKeep (R : World → World → Type 0) (Q P : ℕ → Type 0) : Type 0 where
   pub same : (s : World) → R s s
   pub trans : {s t u : World} → R s t → R t u → R s u
   pub slot : (slot word : ℕ) (s : World) → P slot → R s (withSlots s (set (s .slots) slot word))
@@ -60,7 +60,7 @@ pub record Kept (R : World → World → Type 0) (Q P : ℕ → Type 0) : Type 0
 pub record Enters (R : World → World → Type 0) : Type 0 where
   pub enters : (name : ℕ) (ps : List Param) (ret : ℕ) (s : World) → R s (withFunctions s (append (s .functions) (entryOf name ps ret)) (function name (signature ps ret false) ∷ s .own))
 
-module _ (R : World → World → Type 0) (Q P : ℕ → Type 0) (law : Kept R Q P) where
+module _ (R : World → World → Type 0) (Q P : ℕ → Type 0) (law : StepsKeep R Q P) where
   abbrev pub In : {A : Type 0} → Walk A → Type 0
   In m = (s : World) → Keeps R Q s (m s)
 

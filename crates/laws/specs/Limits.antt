@@ -15,7 +15,7 @@ use Rattle.err.specs.Report.{hasRoom, oneMore, sixWords, bytesOf}
 use Rattle.rules.specs.Steps.{outputOf}
 use Rattle.rules.specs.Rules.{node}
 use Rattle.laws.specs.SlotsOf.{all-slots}
-use Rattle.laws.specs.Keeps.{Keeps, Kept, in-node, Enters}
+use Rattle.laws.specs.Keeps.{Keeps, StepsKeep, in-node, Enters}
 use Rattle.laws.specs.Writes.{length-write}
 
 -- "At most 8,192 words of the types buffer, 256 diagnostics and 65,536 message bytes are used", and no more than are lent
@@ -53,7 +53,7 @@ told-room d s e h = record {
   messages = append-room (s .messages) (bytesOf d) 65536 (leb-true (s .messages .used + length (bytesOf d)) (min (length (s .messages .words)) 65536) (and-right (ltb (s .diagnostics .used) (min (length (s .diagnostics .words) / 6) 256)) _ e));
 }
 
-pub limits-kept : Kept Stays Any Any
+pub limits-kept : StepsKeep Stays Any Any
 limits-kept = record {
   same = λ s h. h;
   trans = λ {s} {t} {u} x y h. y (x h);

@@ -7,7 +7,7 @@ use Rattle.library.specs.Package.{Function, Package}
 use Rattle.rules.specs.World.{Ctx, Local, World}
 use Rattle.rules.specs.Rules.{node}
 use Rattle.laws.specs.SlotsOf.{all-slots}
-use Rattle.laws.specs.Keeps.{Keeps, Kept, in-node, Enters}
+use Rattle.laws.specs.Keeps.{Keeps, StepsKeep, in-node, Enters}
 
 pub record Front {A : Type 0} (old new : List A) : Type 0 where
   pub part : List A
@@ -36,7 +36,7 @@ Any k = Unit {0}
 still : (s : World) → Scope s s
 still s = record { env = front-same (s .env); packages = front-same (s .packages); own = front-same (s .own) }
 
-pub scope-kept : Kept Scope Any Any
+pub scope-kept : StepsKeep Scope Any Any
 scope-kept = record {
   same = still;
   trans = λ {s} {t} {u} x y. record { env = front-trans (x .env) (y .env); packages = front-trans (x .packages) (y .packages); own = front-trans (x .own) (y .own) };

@@ -4,7 +4,7 @@ use mathlib.Core.Path.{_≡_, refl, _∙_}
 use lib.ListN.{getD}
 use lib.Seq.{getD-set-other}
 use Rattle.rules.specs.World.{World}
-use Rattle.laws.specs.Keeps.{Kept, Enters}
+use Rattle.laws.specs.Keeps.{StepsKeep, Enters}
 
 pub record Still (a : ℕ) (s u : World) : Type 0 where
   pub still : getD (u .slots) a 0 ≡ getD (s .slots) a 0
@@ -21,7 +21,7 @@ module _ (a : ℕ) where
   unmoved : {s u : World} → u .slots ≡ s .slots → Still a s u
   unmoved e = record { still = rw e refl }
 
-  pub still-kept : Kept (Still a) Any (Other a)
+  pub still-kept : StepsKeep (Still a) Any (Other a)
   still-kept = record {
     same = λ s. unmoved refl;
     trans = λ {s} {t} {u} x y. record { still = y .still ∙ x .still };

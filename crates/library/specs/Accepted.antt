@@ -16,14 +16,14 @@ use Rattle.tok.specs.Reader.{Cursor, start, faultOf, mostBytes, mostWords, unle
 use Rattle.reader.specs.Reads.{Within, Reads, reads, faults, reads-then, reads-word, reads-end}
 use Rattle.library.specs.Pool.{Pool}
 use Rattle.library.specs.Package.{packagesOf}
-use Rattle.library.specs.LibraryFault.{poolOf, library, libraryRead, libraryFault}
+use Rattle.library.specs.LibraryFault.{poolRead, library, libraryRead, libraryFault}
 use Rattle.library.specs.Each.{Each}
 use Rattle.library.specs.PoolRead.{PoolIn, PoolFine, pool-reads}
 use Rattle.library.specs.PackagesRead.{PackageFine, packagesEnd, packages-reads}
 
 -- "Library: pool length P, package count, P pool words, then the packages"
 abbrev pub libraryPool : Texts → List ℕ → Pool
-libraryPool t words = poolOf t words (getD words 0 0)
+libraryPool t words = poolRead t words (getD words 0 0)
 
 abbrev pub packagesPlace : List ℕ → ℕ
 packagesPlace words = 2 + getD words 0 0
@@ -36,7 +36,7 @@ pub record LibraryFine (t : Texts) (words : List ℕ) : Type 0 where
   pub poolWithin : packagesPlace words ≤ length words
   pub small : length words ≤ mostWords
 
-pub pool-in : (t : Texts) (words : List ℕ) (size : ℕ) → PoolIn (poolOf t words size) words
+pub pool-in : (t : Texts) (words : List ℕ) (size : ℕ) → PoolIn (poolRead t words size) words
 pool-in t words size = record {
   at = λ i l. sym (getD-take size (drop 2 words) i 0 l ∙ getD-drop 2 words i 0 ∙ ap (λ n. getD words n 0) (add-comm 2 i));
 }

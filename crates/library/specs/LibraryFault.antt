@@ -13,8 +13,8 @@ use Rattle.library.specs.Package.{Package}
 use Rattle.library.specs.PackageRecords.{packageRecord}
 
 -- the pool words are words 2 to P + 1 of the library
-abbrev pub poolOf : Texts → List ℕ → ℕ → Pool
-poolOf t words size = record { texts = t; size = size; words = take size (drop 2 words) }
+abbrev pub poolRead : Texts → List ℕ → ℕ → Pool
+poolRead t words size = record { texts = t; size = size; words = take size (drop 2 words) }
 
 -- "Library: pool length P, package count, P pool words, then the packages". P owes P words, the package count two for
 -- each package. Words after the last package offend, at the first.
@@ -22,8 +22,8 @@ unfoldable pub library : Texts → List ℕ → Read (List Package)
 library t words = do
   size ← owing (λ _. true) (λ p. p)
   count ← owing (λ _. true) (λ k. 2 * k)
-  _ ← poolFrom (poolOf t words size) size 0
-  packages ← many count (packageRecord (poolOf t words size))
+  _ ← poolFrom (poolRead t words size) size 0
+  packages ← many count (packageRecord (poolRead t words size))
   _ ← ends
   return packages
 

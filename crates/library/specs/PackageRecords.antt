@@ -11,9 +11,9 @@ use Rattle.library.specs.Pool.{Pool, goodType, name}
 use Rattle.library.specs.Slots.{noSlot, returnStands}
 use Rattle.library.specs.Package.{Param, param, signature, Function, function, Package, pkg}
 
-unfoldable pub some : (Function → Bool) → List Function → Bool
-some test [] = false
-some test (f ∷ fs) = test f || some test fs
+unfoldable pub anyFunction : (Function → Bool) → List Function → Bool
+anyFunction test [] = false
+anyFunction test (f ∷ fs) = test f || anyFunction test fs
 
 abbrev pub sameGroup : Texts → ℕ → Function → Bool
 sameGroup t group f = sameBytes (nameBytes t group) (nameBytes t (f .name))
@@ -22,11 +22,11 @@ sameGroup t group f = sameBytes (nameBytes t group) (nameBytes t (f .name))
 -- earlier one of the group has flag 1 ..
 unfoldable pub goodGroup : Pool → (before : List Function) → (group : ℕ) → Bool
 goodGroup p before group =
-    goodName inLibrary (p .texts .library) group && not (some (λ f. sameGroup (p .texts) group f && f .sig .withSlots) before)
+    goodName inLibrary (p .texts .library) group && not (anyFunction (λ f. sameGroup (p .texts) group f && f .sig .withSlots) before)
 
 -- .. else the flag where it is 1 itself. "a flag (1 has slots, 0 not)"
 unfoldable pub goodFlag : Pool → (before : List Function) → (group flag : ℕ) → Bool
-goodFlag p before group flag = ltb flag 2 && (eqb flag 0 || not (some (sameGroup (p .texts) group) before))
+goodFlag p before group flag = ltb flag 2 && (eqb flag 0 || not (anyFunction (sameGroup (p .texts) group) before))
 
 -- "A type outside the pool may refer to any pool index." "Slots stand only under flag 1"
 unfoldable pub goodSignatureType : Pool → (flag : ℕ) → ℕ → Bool

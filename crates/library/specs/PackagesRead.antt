@@ -17,7 +17,7 @@ use Rattle.reader.specs.Reads.{Within, Reads, reads, reads-map, reads-done, rea
 use Rattle.library.specs.Pool.{Pool, goodType, name}
 use Rattle.library.specs.Slots.{noSlot, returnStands}
 use Rattle.library.specs.Package.{Param, param, Signature, Function, function, Package, pkg, paramsFrom, functionAt, functionEnd, functionsFrom, functionsEnd, packagesFrom}
-use Rattle.library.specs.PackageRecords.{some, sameGroup, goodGroup, goodFlag, goodSignatureType, argument, goodReturn, functionRecord, functionRecords, packageRecord}
+use Rattle.library.specs.PackageRecords.{anyFunction, sameGroup, goodGroup, goodFlag, goodSignatureType, argument, goodReturn, functionRecord, functionRecords, packageRecord}
 use Rattle.library.specs.Each.{Each}
 
 -- ── What is shown ──
@@ -70,8 +70,8 @@ module _ (p : Pool) (words : List ℕ) (flag : ℕ) where
 
 -- "A group of several in one package has flag 0": what the group and the flag have shown
 pub record GroupFine (p : Pool) (before : List Function) (f : Function) : Type 0 where
-  pub others : some (λ g. sameGroup (p .texts) (f .name) g && g .sig .withSlots) before ≡ false
-  pub own : f .sig .withSlots ≡ true → some (sameGroup (p .texts) (f .name)) before ≡ false
+  pub others : anyFunction (λ g. sameGroup (p .texts) (f .name) g && g .sig .withSlots) before ≡ false
+  pub own : f .sig .withSlots ≡ true → anyFunction (sameGroup (p .texts) (f .name)) before ≡ false
 
 group-name : (p : Pool) (before : List Function) (group : ℕ) → goodGroup p before group ≡ true → goodName inLibrary (p .texts .library) group ≡ true
 unfolding goodGroup
@@ -85,7 +85,7 @@ group-shown p before group flag s es e f =
     let g = and-eq-true-iff (ltb flag 2) _ .0 f in
     record { others = not-true _ (h .1); own = λ y. by (ℕ-discrete flag 0) (g .1) (sym es ∙ y) }
   where
-    by : Dec (flag ≡ 0) → (eqb flag 0 || not (some (sameGroup (p .texts) group) before)) ≡ true → eqb flag 1 ≡ true → some (sameGroup (p .texts) group) before ≡ false
+    by : Dec (flag ≡ 0) → (eqb flag 0 || not (anyFunction (sameGroup (p .texts) group) before)) ≡ true → eqb flag 1 ≡ true → anyFunction (sameGroup (p .texts) group) before ≡ false
     by (yes z) g y = absurd (omega (arith, eqb-true flag 1 y))
     by (no z) g y = not-true _ (rw (ne-eqb flag 0 z) at g)
 

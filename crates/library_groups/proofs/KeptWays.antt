@@ -10,7 +10,7 @@ use Rattle.tok.specs.Text.{Texts, nameBytes, sameBytes}
 use Rattle.tok.proofs.TextLaws.{sameBytes-true}
 use Rattle.library.specs.Pool.{poolIn}
 use Rattle.library.specs.Package.{Function, functionAt, functionEnd, functionsFrom, functionsEnd}
-use Rattle.library.specs.PackageRecords.{some, sameGroup}
+use Rattle.library.specs.PackageRecords.{anyFunction, sameGroup}
 use Rattle.library.specs.PackagesRead.{GroupFine}
 use Rattle.name_order.specs.Order.{placeIn, nameOf, Listed, Rearranged, Grouping}
 use Rattle.library_groups.specs.Kept.{slotted, GroupsKept, FunctionsListed, ListedEnd, NoneSlotted, FirstFault}
@@ -18,8 +18,8 @@ use Rattle.library_groups.proofs.PlaceWays.{ends-rise, ends-first}
 
 -- a test that fails for each of k functions
 some-none : (test : Function → Bool) (words : List ℕ) (k at : ℕ) → ((j : ℕ) → j < k → test (functionAt words (functionsEnd words at j)) ≡ false)
-    → some test (functionsFrom words at k) ≡ false
-unfolding some functionsFrom functionsEnd
+    → anyFunction test (functionsFrom words at k) ≡ false
+unfolding anyFunction functionsFrom functionsEnd
 some-none test words zero at h = refl
 some-none test words (suc k) at h = rw (h 0 (omega arith)) (some-none test words k (functionEnd words at) (λ j l. h (suc j) (omega arith)))
 

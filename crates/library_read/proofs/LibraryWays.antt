@@ -20,7 +20,7 @@ use Rattle.library.specs.PoolRead.{PoolFine, pool-reads}
 use Rattle.library.specs.SlotSums.{sumsTo, length-sumsTo, sums-right}
 use Rattle.library.specs.Package.{Package}
 use Rattle.library.specs.PackageRecords.{packageRecord}
-use Rattle.library.specs.LibraryFault.{poolOf, library, libraryRead, libraryFault}
+use Rattle.library.specs.LibraryFault.{poolRead, library, libraryRead, libraryFault}
 use Rattle.library.specs.Accepted.{pool-in}
 use Rattle.library_slots.specs.NamedLaws.{PoolAt}
 use Rattle.library_read.specs.Ready.{Ready}
@@ -65,10 +65,10 @@ module _ (t : Texts) (words : List ℕ) (c d e f : Reading) (size count n₁ n�
   count-read : onward words d (owing (λ _. true) (λ k. 2 * k)) ≡ gave words count e
   count-read = count-by (poolAt t size pool) words d e 2 count n₂ eq en₂ k₂ ∙ ap (λ w. gave words w e) (sym eq)
 
-  pool-read : onward words e (poolFrom (poolOf t words size) size 0) ≡ gave words tt f
+  pool-read : onward words e (poolFrom (poolRead t words size) size 0) ≡ gave words tt f
   pool-read = ap (λ l. onward words e (poolFrom (poolAt t size l) size 0)) (sym pool-is) ∙ k₃
 
-  up-to-pool : libraryFault t words ≡ faultOf (onward words f (rest count (poolOf t words size)))
+  up-to-pool : libraryFault t words ≡ faultOf (onward words f (rest count (poolRead t words size)))
   unfolding libraryFault libraryRead library rest
   up-to-pool =
       ap faultOf
@@ -84,7 +84,7 @@ module _ (t : Texts) (words : List ℕ) (c d e f : Reading) (size count n₁ n�
 
   -- else the pool is accepted
   module _ (a l : ℕ) (q : f ≡ At a l) where
-    read : onward words e (poolFrom (poolOf t words size) size 0) ≡ gave words tt (At a l)
+    read : onward words e (poolFrom (poolRead t words size) size 0) ≡ gave words tt (At a l)
     read = pool-read ∙ ap (gave words tt) q
 
     e-at : (m : ℕ) × (e ≡ At (placeOf e) m)
@@ -113,8 +113,8 @@ module _ (t : Texts) (words : List ℕ) (c d e f : Reading) (size count n₁ n�
     within-2 : Within words 2
     within-2 = subst (Within words) (ap (λ n. n + 1) place-d) (onward-within words d _ count (placeOf e) (e-at .0) d-reads counted)
 
-    pool-shown : Reads words tt (size + 2) (PoolFine (poolOf t words size)) (onward words e (poolFrom (poolOf t words size) size 0))
-    pool-shown = reads-onward words e _ (λ m. rw place-e (pool-reads (poolOf t words size) words (pool-in t words size) m within-2))
+    pool-shown : Reads words tt (size + 2) (PoolFine (poolRead t words size)) (onward words e (poolFrom (poolRead t words size) size 0))
+    pool-shown = reads-onward words e _ (λ m. rw place-e (pool-reads (poolRead t words size) words (pool-in t words size) m within-2))
 
     within : Within words (size + 2)
     within = onward-within words e _ tt a l pool-shown read
@@ -122,7 +122,7 @@ module _ (t : Texts) (words : List ℕ) (c d e f : Reading) (size count n₁ n�
     pool-long : length pool ≡ size
     pool-long = rw pool-is (simp (length-take, length-drop) (omega (arith, within .inList)))
 
-    same-pool : poolOf t words size ≡ poolIn t pool
+    same-pool : poolRead t words size ≡ poolIn t pool
     same-pool = ap₂ (λ n ws. poolAt t n ws) (sym pool-long) (sym pool-is)
 
     pub pool-at : PoolAt words pool

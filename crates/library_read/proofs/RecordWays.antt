@@ -26,7 +26,7 @@ use Rattle.library.specs.Each.{Each}
 use Rattle.library.specs.TypeWords.{TypeWord}
 use Rattle.library.specs.SlotMarks.{typesIn}
 use Rattle.library.specs.Package.{Param, param, Function, Package, paramsFrom, functionAt, functionEnd, functionsFrom, functionsEnd, packagesFrom}
-use Rattle.library.specs.PackageRecords.{some, sameGroup, goodGroup, goodFlag, goodSignatureType, argument, goodReturn, functionRecord, functionRecords, packageRecord}
+use Rattle.library.specs.PackageRecords.{anyFunction, sameGroup, goodGroup, goodFlag, goodSignatureType, argument, goodReturn, functionRecord, functionRecords, packageRecord}
 use Rattle.library.specs.PackagesRead.{ParamFine, GroupFine, FunctionsShown, argument-reads, arguments-reads, function-reads, functions-reads, packageAt, packageEnd, package-reads, packages-reads}
 use Rattle.library_pool.proofs.PoolWays.{word-by}
 use Rattle.library_read.specs.Ready.{Placed}
@@ -120,12 +120,12 @@ module _ (p : Pool) (words : List ℕ) where
   -- what the rule on groups says of a function's first two words, where it is known to hold
   module _ (before : List Function) (from : Reading) {kept : Bool} (fine : kept ≡ true → GroupFine p before (functionAt words (placeOf from))) (group : ℕ)
       (eg : group ≡ nextWord words from) where
-    pub others-kept : kept ≡ true → some (λ f. sameGroup (p .texts) group f && f .sig .withSlots) before ≡ false
+    pub others-kept : kept ≡ true → anyFunction (λ f. sameGroup (p .texts) group f && f .sig .withSlots) before ≡ false
     unfolding functionAt
     others-kept y = rw eg (fine y .others)
 
     pub own-kept : (c : Reading) (flag : ℕ) (g₁ : Bool) → onward words from (word (λ _. g₁)) ≡ gave words (nextWord words from) c → flag ≡ nextWord words c
-        → (a l : ℕ) → c ≡ At a l → kept ≡ true → flag ≡ 1 → some (sameGroup (p .texts) group) before ≡ false
+        → (a l : ℕ) → c ≡ At a l → kept ≡ true → flag ≡ 1 → anyFunction (sameGroup (p .texts) group) before ≡ false
     unfolding functionAt
     own-kept c flag g₁ k1 ef a l q y f =
         let there : a ≡ placeOf from + 1 =

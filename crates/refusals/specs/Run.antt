@@ -12,7 +12,7 @@ use Rattle.library.specs.Package.{paramsFrom, functionAt, functionsFrom, functi
 use Rattle.ptype.specs.Ty.{kindOfTy, sameTy, sameFields, containsUnknown, anyUnknown, containsSlot, anySlot, depthOf}
 use Rattle.ptype.specs.Words.{fieldsFrom, ways, unfolded, tyOf}
 use Rattle.library.specs.Slots.{poolTy, slotNames, slotNamesIn, noSlot, slotNamesOf, nameAmong, allAmong, returnStands}
-use Rattle.library.specs.PackageRecords.{some, goodGroup, goodFlag, goodSignatureType, argument, goodReturn, functionRecord, functionRecords, packageRecord}
+use Rattle.library.specs.PackageRecords.{anyFunction, goodGroup, goodFlag, goodSignatureType, argument, goodReturn, functionRecord, functionRecords, packageRecord}
 use Rattle.library.specs.LibraryFault.{library, libraryRead, libraryFault}
 use Rattle.ast.specs.Outline.{typedName}
 use Rattle.ast.specs.NodeRecords.{atom, ident, bin, unary, binding, goodArguments, fn, cases, match, call, field, cast, imports, goodExternCount, externFunctions, goodFunctionCount, extern, namedPart, recordNode, array}
@@ -25,5 +25,5 @@ use Rattle.ast.specs.Room.{entryWords, functionWords, roomFault}
 use Rattle.refusals.specs.Refusals.{orElse, scratchFault, refusalOfOutlines, refusalOfImage, refusalOf}
 
 unfoldable pub refusalRun : Inputs → Buffers → Option Refusal
-unfolding when forEach takeWord many endsAt faultOf unlessLong nameBytes sameBytes text utf8-2 utf8-3 utf8-4 wellFormed begun1 begun2 begun3 liesIn readsWell goodPayload goodName goodPlain goodWrapped goodRecord goodNamed goodType fields goodPoolWord poolFrom paramsFrom functionAt functionsFrom functionsEnd packagesFrom packagesOf findPackage findFunction groupOf kindOfTy sameTy sameFields containsUnknown anyUnknown containsSlot anySlot depthOf Rattle.ptype.specs.Ty.deepest fieldsFrom ways unfolded tyOf poolTy slotNames slotNamesIn noSlot slotNamesOf nameAmong allAmong returnStands some goodGroup goodFlag goodSignatureType argument goodReturn functionRecord functionRecords packageRecord library libraryRead libraryFault typedName atom ident bin unary binding goodArguments fn cases match call field cast imports goodExternCount externFunctions goodFunctionCount extern namedPart recordNode array nodeKinds nodeKind goodNodeHead node nodes typeAtom typeForeign typeInner typeField typeRecord typeKinds typeKind goodTypeHead typeExpression typeExpressions image imageRead imageFault among twice countFrom slotsOwned claimsTwice claimsFrom claimsFault Rattle.ast.specs.Depth.deepest depthFrom depthFault entryWords functionWords roomFault orElse scratchFault refusalOfOutlines refusalOfImage refusalOf
+unfolding when forEach takeWord many endsAt faultOf unlessLong nameBytes sameBytes text utf8-2 utf8-3 utf8-4 wellFormed begun1 begun2 begun3 liesIn readsWell goodPayload goodName goodPlain goodWrapped goodRecord goodNamed goodType fields goodPoolWord poolFrom paramsFrom functionAt functionsFrom functionsEnd packagesFrom packagesOf findPackage findFunction groupOf kindOfTy sameTy sameFields containsUnknown anyUnknown containsSlot anySlot depthOf Rattle.ptype.specs.Ty.deepest fieldsFrom ways unfolded tyOf poolTy slotNames slotNamesIn noSlot slotNamesOf nameAmong allAmong returnStands anyFunction goodGroup goodFlag goodSignatureType argument goodReturn functionRecord functionRecords packageRecord library libraryRead libraryFault typedName atom ident bin unary binding goodArguments fn cases match call field cast imports goodExternCount externFunctions goodFunctionCount extern namedPart recordNode array nodeKinds nodeKind goodNodeHead node nodes typeAtom typeForeign typeInner typeField typeRecord typeKinds typeKind goodTypeHead typeExpression typeExpressions image imageRead imageFault among twice countFrom slotsOwned claimsTwice claimsFrom claimsFault Rattle.ast.specs.Depth.deepest depthFrom depthFault entryWords functionWords roomFault orElse scratchFault refusalOfOutlines refusalOfImage refusalOf
 refusalRun = refusalOf

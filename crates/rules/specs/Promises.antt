@@ -189,11 +189,11 @@ AnsweredLonger = (i : Inputs) (b b′ : Buffers) → Longer b b′ → Answered 
 abbrev pub rootWords : List ℕ → List ℕ
 rootWords image = take (rootCount image) (drop 4 image)
 
-abbrev pub nodeWords : List ℕ → List ℕ
-nodeWords image = drop (4 + rootCount image) (take (nodePlace image (nodeCount image)) image)
+abbrev pub nodeRecords : List ℕ → List ℕ
+nodeRecords image = drop (4 + rootCount image) (take (nodePlace image (nodeCount image)) image)
 
-abbrev pub typeWords : List ℕ → List ℕ
-typeWords image = drop (nodePlace image (nodeCount image)) image
+abbrev pub typeRecords : List ℕ → List ℕ
+typeRecords image = drop (nodePlace image (nodeCount image)) image
 
 -- the packages of a library, as words
 abbrev pub packageWords : List ℕ → List ℕ
@@ -223,9 +223,9 @@ pub record MoreStatements (i i′ : Inputs) : Type 0 where
   pub longer :
       i′ .image
       ≡ (nodeCount (i .image) + moreNodes) ∷ (typeCount (i .image) + moreTypes) ∷ (rootCount (i .image) + length roots) ∷ (slotCount (i .image) + moreSlots)
-      ∷ (rootWords (i .image) ++ roots) ++ (nodeWords (i .image) ++ nodes) ++ (typeWords (i .image) ++ types)
+      ∷ (rootWords (i .image) ++ roots) ++ (nodeRecords (i .image) ++ nodes) ++ (typeRecords (i .image) ++ types)
   -- the words `nodes` are the new node records: the type records begin after them
-  pub whole : nodeWords (i′ .image) ≡ nodeWords (i .image) ++ nodes
+  pub whole : nodeRecords (i′ .image) ≡ nodeRecords (i .image) ++ nodes
 
 -- An entry of the functions buffer, unfolded: "functions in order (name, argument count, pairs, return type)"
 pub record Parameter : Type 0 where
@@ -270,18 +270,18 @@ entryAt texts types functions at k = record {
 }
 
 -- the entries from word `at` to the used part's end; an entry has three words at least, so that `most` of them are enough
-unfoldable pub entriesFrom : Texts → (types functions : List ℕ) → (used most at : ℕ) → List Entry
-entriesFrom texts types functions used zero at = []
-entriesFrom texts types functions used (suc m) at =
+unfoldable pub entriesUpTo : Texts → (types functions : List ℕ) → (used most at : ℕ) → List Entry
+entriesUpTo texts types functions used zero at = []
+entriesUpTo texts types functions used (suc m) at =
     elim (ltb at used) [
       | true ↦
           entryAt texts types functions at (getD functions (at + 1) 0)
-          ∷ entriesFrom texts types functions used m (at + 3 + 2 * getD functions (at + 1) 0)
+          ∷ entriesUpTo texts types functions used m (at + 3 + 2 * getD functions (at + 1) 0)
       | false ↦ []
     ]
 
 unfoldable pub entriesOf : Inputs → Ended → List Entry
-entriesOf i e = entriesFrom (textsIn i) (e .after .types) (e .after .functions) (e .functionWords) (e .functionWords) 0
+entriesOf i e = entriesUpTo (textsIn i) (e .after .types) (e .after .functions) (e .functionWords) (e .functionWords) 0
 
 -- An answer without diagnostics has an entry for each visited Fn, in the order of visits, and no other.
 unfoldable pub FunctionsVisited : Type 0

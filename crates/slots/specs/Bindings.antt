@@ -41,14 +41,7 @@ bindingsAfter (voidSlot bs slot) = bs
 unfoldable pub fitted : (room : ℕ) → Bound → Option Bound
 fitted room b = cond (leb (length (bindingsAfter b)) room) (some b) none
 
--- "21 and 22 slot conflict and Void": the code that is reported, 0 where none is
-abbrev pub codeOf : Bind → ℕ
-codeOf (Done count) = 0
-codeOf (Conflict count slot existing new) = 21
-codeOf (Void count slot) = 22
-codeOf NoRoom = 0
-
--- an answer and the pairs that it leaves, as what binding gives
+-- The paper's values for each case of an answer, with the pairs that it leaves: all bound; "21 and 22 slot conflict and Void"; or no room.
 abbrev pub boundOf : Texts → Bind → (pairs : List ℕ) → Option Bound
 boundOf texts (Done count) pairs = some (allBound (bindingsIn texts pairs count))
 boundOf texts (Conflict count slot existing new) pairs = some (conflict (bindingsIn texts pairs count) (nameBytes texts slot) existing new)

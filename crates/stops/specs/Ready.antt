@@ -17,7 +17,7 @@ use Rattle.rules.specs.Rules.{node, block, cases}
 use Rattle.rules.specs.Visited.{visitedBelow, visitedAmong, visitedInCases, slotsOf, argumentsOf}
 use Rattle.rules.specs.Promises.{Every}
 use Rattle.laws.specs.SlotsOf.{ArgSlots, SlotsOf, SlotsOfAll}
-use Rattle.laws.specs.Keeps.{Keeps, Kept, Enters}
+use Rattle.laws.specs.Keeps.{Keeps, StepsKeep, Enters}
 use Rattle.laws.specs.Keeps as K
 use Rattle.accepts.specs.Count.{total, total-append, one-same, count}
 use Rattle.accepts.specs.Once.{own-slot}
@@ -126,7 +126,7 @@ pub record Leaves (ys : List Node) (s u : World) : Type 0 where
 abbrev pub Any : ℕ → Type 0
 Any k = Unit {0}
 
-pub leaves-kept : (ys : List Node) → Kept (Leaves ys) Any (Free ys)
+pub leaves-kept : (ys : List Node) → StepsKeep (Leaves ys) Any (Free ys)
 leaves-kept ys = record {
   same = λ s. record { left = λ q l. refl };
   trans = λ {s} {t} {u} x y. record { left = λ q l. y .left q l ∙ x .left q l };

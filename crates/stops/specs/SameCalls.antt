@@ -19,7 +19,7 @@ use Rattle.library.specs.Package.{Param, Signature}
 use Rattle.rules.specs.World.{Ctx, World, Walk}
 use Rattle.rules.specs.Steps.{skip, ty, tree}
 use Rattle.rules.specs.Calls.{Callee, ownFunction, packageFunction, throughField, noCallee, Provided, slottedArgument, argument, arguments, checkCallArgs, resolveCall, inGroup, resolvePkgCall, call}
-use Rattle.laws.specs.Keeps.{Keeps, kept, stopped, Kept}
+use Rattle.laws.specs.Keeps.{Keeps, kept, stopped, StepsKeep}
 use Rattle.laws.specs.Keeps as K
 use Rattle.tworuns.specs.Means.{Means, Grown, grown-same, grown-trans}
 use Rattle.tworuns.specs.Means as M
@@ -107,7 +107,7 @@ module _ (c : Ctx) where
   abbrev None : ℕ → Type 0
   None slot = ⊥
 
-  stays-kept : Kept Stays Any None
+  stays-kept : StepsKeep Stays Any None
   stays-kept = record {
     same = still;
     trans = λ {s} {t} {u} x y. record { slots = y .slots ∙ x .slots; types = grown-trans (x .types) (y .types) };

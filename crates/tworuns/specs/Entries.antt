@@ -13,7 +13,7 @@ use Rattle.rules.specs.World.{World}
 use Rattle.rules.specs.Steps.{entryOf}
 use Rattle.rules.specs.Walk.{startOf, copyPool, walkFirst}
 use Rattle.laws.specs.SlotsOf.{all-among}
-use Rattle.laws.specs.Keeps.{Keeps, kept, stopped, Kept, at-when, at-walk, Enters}
+use Rattle.laws.specs.Keeps.{Keeps, kept, stopped, StepsKeep, at-when, at-walk, Enters}
 
 -- the words of functions, newest first in the list, in the order in which they were met
 unfoldable pub wordsOf : List Function → List ℕ
@@ -59,7 +59,7 @@ module _ (before : List ℕ) where
   unfolding wordsOf
   entered name ps ret s h = rw (h .functions) (append-more before (wordsOf (s .own)) (entryOf name ps ret))
 
-  holds-kept : Kept Stays NotZero Any
+  holds-kept : StepsKeep Stays NotZero Any
   unfolding NotZero
   holds-kept = record {
     same = λ s h. h;

@@ -65,7 +65,7 @@ module _ (i : Inputs) (b : Buffers) (P N : ℕ → Type 0) (sound : SoundAll P N
   abbrev Q : World → World → Type 0
   Q = Quiet (ctxOf i .texts)
 
-  law : K.Kept Q Any Any
+  law : K.StepsKeep Q Any Any
   law = quiet-kept (ctxOf i .texts)
 
   -- before the pool is copied no type word is used

@@ -43,7 +43,7 @@ module _ (c : Ctx) (P N : ℕ → Type 0) where
   abbrev Q : World → World → Type 0
   Q = Quiet (c .texts)
 
-  law : K.Kept Q Any Any
+  law : K.StepsKeep Q Any Any
   law = quiet-kept (c .texts)
 
   abbrev pub Meets : {A : Type 0} → List FnHead → World → Result World Refusal A → Type 0

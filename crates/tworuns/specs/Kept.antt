@@ -14,7 +14,7 @@ use Rattle.rules.specs.Rules.{last}
 use Rattle.rules.specs.Visited.{visitedBelow, visitedAmong, visitedInCases, visitedInValues, argumentsOf, slotsOf, allSlots}
 use Rattle.rules.specs.Promises.{Every}
 use Rattle.laws.specs.SlotsOf.{ArgSlots, SlotsOfAll}
-use Rattle.laws.specs.Keeps.{Keeps, Kept, in-last, Enters}
+use Rattle.laws.specs.Keeps.{Keeps, StepsKeep, in-last, Enters}
 use Rattle.tworuns.specs.Means.{Grown, grown-same, grown-trans}
 use Rattle.tworuns.specs.Written.{grown-append}
 use Rattle.tworuns.specs.Runs.{Runs}
@@ -40,7 +40,7 @@ module _ (Old : ℕ → Type 0) where
   set-other : (slot w : ℕ) (s : World) → New slot → (a : ℕ) → Old a → getD (set (s .slots) slot w) a 0 ≡ getD (s .slots) a 0
   set-other slot w s n a o = getD-set-other (s .slots) slot a w 0 (λ e. n (rw e at o))
 
-  goes-kept : Kept (Goes Old) Any New
+  goes-kept : StepsKeep (Goes Old) Any New
   goes-kept = record {
     same = same;
     trans = λ {s} {t} {u} x y. record { types = grown-trans (x .types) (y .types); slots = λ a o. y .slots a o ∙ x .slots a o };

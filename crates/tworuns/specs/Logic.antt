@@ -13,7 +13,7 @@ use Rattle.ptype.specs.Add.{Buffer}
 use Rattle.rules.specs.declared.Answer.{Answer}
 use Rattle.rules.specs.World.{World, Walk, withSlots}
 use Rattle.rules.specs.Steps.{Done, known, ifKnown, onOption, setKnown, raised, onTypes}
-use Rattle.laws.specs.Keeps.{Keeps, kept, Kept, Enters}
+use Rattle.laws.specs.Keeps.{Keeps, kept, StepsKeep, Enters}
 use Rattle.laws.specs.Keeps as K
 use Rattle.tworuns.specs.Means.{Grown, grown-same, grown-trans}
 use Rattle.tworuns.specs.Runs.{Runs, Relation, Both?, neither, present, Used, Slot, own, void, SameAnswer, Worlds, worlds-grow, SameType}
@@ -159,7 +159,7 @@ Told s u = s .diagnostics .used ≤ u .diagnostics .used
 abbrev pub Any : ℕ → Type 0
 Any k = Unit {0}
 
-pub told-kept : Kept Told Any Any
+pub told-kept : StepsKeep Told Any Any
 told-kept = record {
   same = λ s. omega arith;
   trans = λ {s} {t} {u} x y. omega arith;

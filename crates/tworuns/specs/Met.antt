@@ -12,7 +12,7 @@ use Rattle.library.specs.Package.{Param, param, Function}
 use Rattle.rules.specs.World.{World, Walk, withEnv}
 use Rattle.rules.specs.Steps.{framed, apart}
 use Rattle.rules.specs.Functions.{typeMeant, FnHead}
-use Rattle.laws.specs.Keeps.{Keeps, kept, stopped, Kept}
+use Rattle.laws.specs.Keeps.{Keeps, kept, stopped, StepsKeep}
 use Rattle.tworuns.specs.Means.{Grown, grown-same, grown-trans}
 use Rattle.tworuns.specs.Written.{grown-append}
 use Rattle.tworuns.specs.ExprTrees.{WordOf, word-grow}
@@ -75,7 +75,7 @@ module _ (t : Texts) where
   abbrev pub Quiet : World → World → Type 0
   Quiet s u = Went [] s u
 
-  pub quiet-kept : Kept Quiet Any Any
+  pub quiet-kept : StepsKeep Quiet Any Any
   quiet-kept = record {
     same = λ s. record { more = omega arith; grown = grown-same (s .types); met = λ e. noFn };
     trans = λ {s} {t} {u} x y. went-both x y;

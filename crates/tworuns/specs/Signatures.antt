@@ -13,7 +13,7 @@ use Rattle.ptype.specs.Words.{tyOf}
 use Rattle.ptype.specs.Add.{Buffer, write}
 use Rattle.library.specs.Package.{Param, Function}
 use Rattle.rules.specs.Steps.{pairsOf, entryOf}
-use Rattle.rules.specs.Promises.{Parameter, Entry, parametersAt, entryAt, entriesFrom}
+use Rattle.rules.specs.Promises.{Parameter, Entry, parametersAt, entryAt, entriesUpTo}
 use Rattle.tworuns.specs.Runs.{Runs, Each, end, and, SameParam, SameFunction, same-tree, each-length}
 use Rattle.tworuns.specs.Entries.{wordsOf}
 use Rattle.tworuns.specs.Written.{getD-written}
@@ -108,18 +108,18 @@ module _ (t : Texts) (types : List ℕ) where
     unfolding entryOf
     count-read f at h = stands-head (stands-tail (stands-front (f .name ∷ length (f .sig .params) ∷ pairsOf (f .sig .params)) (f .sig .ret ∷ []) h))
 
-    none-left : (used m at : ℕ) → used ≤ at → entriesFrom t types words used (suc m) at ≡ []
-    unfolding entriesFrom
-    none-left used m at l = rw (le-ltb at used l, entriesFrom)
+    none-left : (used m at : ℕ) → used ≤ at → entriesUpTo t types words used (suc m) at ≡ []
+    unfolding entriesUpTo
+    none-left used m at l = rw (le-ltb at used l, entriesUpTo)
 
     one-more : (used m at : ℕ) → at < used
-        → entriesFrom t types words used (suc m) at ≡ entryAt t types words at (getD words (at + 1) 0) ∷ entriesFrom t types words used m (at + 3 + 2 * getD words (at + 1) 0)
-    unfolding entriesFrom
-    one-more used m at l = rw (lt-ltb at used l, entriesFrom)
+        → entriesUpTo t types words used (suc m) at ≡ entryAt t types words at (getD words (at + 1) 0) ∷ entriesUpTo t types words used m (at + 3 + 2 * getD words (at + 1) 0)
+    unfolding entriesUpTo
+    one-more used m at l = rw (lt-ltb at used l, entriesUpTo)
 
     -- reading forward finds them
-    entries-read : (fs : List Function) (used m at : ℕ) → Stands words at (flat fs) → used ≡ at + length (flat fs) → length (flat fs) ≤ m → entriesFrom t types words used m at ≡ entriesAt at fs
-    unfolding entriesFrom entriesAt flat
+    entries-read : (fs : List Function) (used m at : ℕ) → Stands words at (flat fs) → used ≡ at + length (flat fs) → length (flat fs) ≤ m → entriesUpTo t types words used m at ≡ entriesAt at fs
+    unfolding entriesUpTo entriesAt flat
     entries-read [] used zero at h e l = refl
     entries-read [] used (suc m) at h e l = none-left used m at (omega arith)
     entries-read (f ∷ fs) used zero at h e l = absurd (omega (arith, length-append (entry f) (flat fs), length-entry f))
@@ -131,7 +131,7 @@ module _ (t : Texts) (types : List ℕ) where
         let place : at + length (entry f) ≡ at + 3 + 2 * length (f .sig .params) = omega arith in
         let next′ : Stands words (at + 3 + 2 * length (f .sig .params)) (flat fs) = rw place at next in
         one-more used m at (omega arith)
-        ∙ (ap (λ (c : ℕ). entryAt t types words at c ∷ entriesFrom t types words used m (at + 3 + 2 * c)) (count-read f at this)
+        ∙ (ap (λ (c : ℕ). entryAt t types words at c ∷ entriesUpTo t types words used m (at + 3 + 2 * c)) (count-read f at this)
         ∙ cc (entry-read f at this, entries-read fs used m (at + 3 + 2 * length (f .sig .params)) next′ (omega arith) (omega arith)))
 
   -- the first of them
@@ -147,7 +147,7 @@ module _ (t : Texts) (types : List ℕ) where
 
   -- what the functions buffer holds after a walk
   pub entries-own : (before : List ℕ) (own : List Function) → length (wordsOf own) ≤ length before
-      → entriesFrom t types (write before 0 (wordsOf own)) (length (wordsOf own)) (length (wordsOf own)) 0 ≡ entriesAt 0 (forward own)
+      → entriesUpTo t types (write before 0 (wordsOf own)) (length (wordsOf own)) (length (wordsOf own)) 0 ≡ entriesAt 0 (forward own)
   entries-own before own fits =
       let e = flat-forward own in
       let n : length (flat (forward own)) ≡ length (wordsOf own) = ap (λ (l : List ℕ). length l) e in
