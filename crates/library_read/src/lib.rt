@@ -18,7 +18,7 @@ ghost use Rattle.library.specs.Each.{Each};
 ghost use Rattle.library.specs.TypeWords.{TypeWord};
 ghost use Rattle.library.specs.Package.{param, paramsFrom, functionAt, functionsFrom, packagesFrom};
 ghost use Rattle.library.specs.PackagesRead.{GroupFine, packageAt};
-ghost use Rattle.library.specs.PackageRecords.{some, sameGroup, goodGroup, goodFlag, goodSignatureType, argument, functionRecord, functionRecords, packageRecord};
+ghost use Rattle.library.specs.PackageRecords.{anyFunction, sameGroup, goodGroup, goodFlag, goodSignatureType, argument, functionRecord, functionRecords, packageRecord};
 ghost use Rattle.library.specs.LibraryFault.{libraryFault};
 ghost use Rattle.library_read.specs.Ready.{Ready, Ordered, Placed};
 
@@ -34,7 +34,7 @@ fn group_met<'a>(
     group: u32,
 ) -> bool
     ensures { λ r. let T : Texts = textsOf (now (script .entry)) (now (library .entry)) in
-        ⌜ r ≡ some (sameGroup T group) (functionsFrom (now (words .entry)) from k) ⌝ }
+        ⌜ r ≡ anyFunction (sameGroup T group) (functionsFrom (now (words .entry)) from k) ⌝ }
 {
     let name = tok::name_bytes(script, library, group);
     match library::find_candidate(script, library, words, from, k, name) {
@@ -53,7 +53,7 @@ fn group_slotted<'a>(
     group: u32,
 ) -> bool
     ensures { λ r. let T : Texts = textsOf (now (script .entry)) (now (library .entry)) in
-        ⌜ r ≡ some (λ f. sameGroup T group f && f .sig .withSlots) (functionsFrom (now (words .entry)) from k) ⌝ }
+        ⌜ r ≡ anyFunction (λ f. sameGroup T group f && f .sig .withSlots) (functionsFrom (now (words .entry)) from k) ⌝ }
 {
     let name = tok::name_bytes(script, library, group);
     let mut at = from;
@@ -82,7 +82,7 @@ fn good_group<'a>(
     group: u32,
 ) -> bool
     ensures { λ r. let T : Texts = textsOf (now (script .entry)) (now (library .entry)) in
-        ⌜ ((size : ℕ) (types : List ℕ) → (kept ≡ true → some (λ f. sameGroup T group f && f .sig .withSlots) (functionsFrom (now (words .entry)) from k) ≡ false)
+        ⌜ ((size : ℕ) (types : List ℕ) → (kept ≡ true → anyFunction (λ f. sameGroup T group f && f .sig .withSlots) (functionsFrom (now (words .entry)) from k) ≡ false)
         → r ≡ goodGroup (poolAt T size types) (functionsFrom (now (words .entry)) from k) group) ⌝ }
 {
     if !tok::good_name(tok::IN_LIBRARY, library, group) {
@@ -106,7 +106,7 @@ fn good_flag<'a>(
     flag: u32,
 ) -> bool
     ensures { λ r. let T : Texts = textsOf (now (script .entry)) (now (library .entry)) in
-        ⌜ ((size : ℕ) (types : List ℕ) → (kept ≡ true → flag ≡ 1 → some (sameGroup T group) (functionsFrom (now (words .entry)) from k) ≡ false)
+        ⌜ ((size : ℕ) (types : List ℕ) → (kept ≡ true → flag ≡ 1 → anyFunction (sameGroup T group) (functionsFrom (now (words .entry)) from k) ≡ false)
         → r ≡ goodFlag (poolAt T size types) (functionsFrom (now (words .entry)) from k) group flag) ⌝ }
 {
     if flag >= 2 {
