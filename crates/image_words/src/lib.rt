@@ -7,6 +7,7 @@ ghost use Rattle.tok.specs.Reader.{word, below, many};
 ghost use Rattle.reader.specs.Reading.{onward, gave, nextWord};
 ghost use Rattle.image_laws.specs.RecordLaws.{pairRule};
 ghost use Rattle.image_words.specs.Leads.{Leads, isFault};
+ghost use Rattle.image_words.specs.Token.{goodToken};
 use reader::Reading;
 
 // Numbers.
@@ -40,12 +41,32 @@ pub fn stopped(from: Reading) -> bool
 
 // One word, and lists.
 
+// Whether a word is a name or token of the script text: its bytes are a part of the text itself, and well formed.
+fn good_token(script: &[u8], w: u32) -> bool
+    ensures { λ r. ⌜ r ≡ goodToken (now (script .entry)) w ⌝ }
+{
+    if tok::kind(w) != 12 {
+        return false;
+    }
+    if w / 0x200_0000 % 8 != 0 {
+        return false;
+    }
+    if w / 0x100_0000 % 2 != tok::IN_SCRIPT {
+        return false;
+    }
+    let span = tok::token_span(w);
+    if span.start + span.len > script.len() {
+        return false;
+    }
+    utf8::well_formed(tok::token_bytes(script, w))
+}
+
 // A name or token of the script text.
 pub fn token(script: &[u8], words: &[u32], from: Reading) -> Reading
     ensures { λ r. ⌜ onward (now (words .entry)) from (word (goodName inScript (now (script .entry)))) ≡ gave (now (words .entry)) (nextWord (now (words .entry)) from) r ⌝ }
 {
     let w = reader::next_word(words, from);
-    reader::word(words, from, tok::good_name(tok::IN_SCRIPT, script, w))
+    reader::word(words, from, good_token(script, w))
 }
 
 // n numbers below `most`.
