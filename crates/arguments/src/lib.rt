@@ -46,9 +46,10 @@ pub fn compared<'a>(
     if ptype::same_type(types, script, library, expected, provided) {
         return Went::On(used);
     }
+    let free = err_text::first_free(messages, used.told);
     let r = err_arguments::arg_mismatch(
         diagnostics,
-        messages,
+        &mut messages[free..],
         used.told,
         types,
         script,

@@ -121,9 +121,10 @@ pub fn check_plain<'a>(
     let required = signatures::argument_count(words, at);
     let ret = signatures::return_type(words, at);
     if count != required {
+        let free = err_text::first_free(messages, used.told);
         let r = err_calls::argument_count(
             diagnostics,
-            messages,
+            &mut messages[free..],
             used.told,
             script,
             library,

@@ -58,7 +58,8 @@ pub fn report_field(
     let used = st.used;
     let target = node_place(places, word_at(image, at + 2));
     let name = word_at(image, target + 3);
-    let r = err_calls::call_through_field(diagnostics, messages, used.told, name);
+    let free = err_text::first_free(messages, used.told);
+    let r = err_calls::call_through_field(diagnostics, &mut messages[free..], used.told, name);
     visit::answered(st, state::poisoned(n, used, r))
 }
 

@@ -7,7 +7,7 @@ ghost use Rattle.ptype.specs.Words.{tyOf};
 ghost use Rattle.display.specs.Writing.{Writes};
 ghost use Rattle.display.specs.Joined.{joined, sig};
 ghost use Rattle.err.specs.Message.{pkgName, callName, noSpecialisation, callThroughField, missingPackage, undefinedInPackage, undefinedOwn, argumentCount};
-ghost use Rattle.err.specs.Report.{Reports};
+ghost use Rattle.err_text.specs.Rest.{ReportsIn};
 ghost use Rattle.err_calls.specs.Candidates.{candidateAt, candidatesAt};
 use display::Wrote;
 use err::CallName;
@@ -17,16 +17,16 @@ use err::Reported;
 // 14: A call through a field of what is no name.
 pub fn call_through_field(
     diagnostics: &mut [u32],
-    messages: &mut [u8],
+    rest: &mut [u8],
     counts: Counts,
     name: u32,
 ) -> Reported
     ensures { λ r.
-        ⌜ Reports (callThroughField name) (now (diagnostics .entry)) (now (messages .entry)) counts (now (diagnostics .exit)) (now (messages .exit)) r ⌝ }
+        ⌜ ReportsIn (callThroughField name) (now (diagnostics .entry)) (now (rest .entry)) counts (now (diagnostics .exit)) (now (rest .exit)) r ⌝ }
 {
     let a = display::put_at(
-        messages,
-        Wrote::All(counts.bytes),
+        rest,
+        Wrote::All(0),
         b"only package functions can be called through field syntax",
     );
     err_text::report(diagnostics, counts, 14, tok::token_span(name), a, a)
@@ -35,25 +35,25 @@ pub fn call_through_field(
 // 15: A call into a package that is not held.
 pub fn missing_package<'a>(
     diagnostics: &mut [u32],
-    messages: &mut [u8],
+    rest: &mut [u8],
     counts: Counts,
     script: &'a [u8],
     library: &'a [u8],
     pkg: u32,
 ) -> Reported
     ensures { λ r. let T : Texts = textsOf (now (script .entry)) (now (library .entry)) in
-        ⌜ Reports (missingPackage pkg (nameBytes T pkg)) (now (diagnostics .entry)) (now (messages .entry)) counts (now (diagnostics .exit)) (now (messages .exit)) r ⌝ }
+        ⌜ ReportsIn (missingPackage pkg (nameBytes T pkg)) (now (diagnostics .entry)) (now (rest .entry)) counts (now (diagnostics .exit)) (now (rest .exit)) r ⌝ }
 {
-    let a = display::put_at(messages, Wrote::All(counts.bytes), b"Can't find package ");
-    let b = err_text::put_ticked(messages, a, script, library, pkg);
-    let c = display::put_at(messages, b, b"package used here");
+    let a = display::put_at(rest, Wrote::All(0), b"Can't find package ");
+    let b = err_text::put_ticked(rest, a, script, library, pkg);
+    let c = display::put_at(rest, b, b"package used here");
     err_text::report(diagnostics, counts, 15, tok::token_span(pkg), b, c)
 }
 
 // 16: A call of a function that the package does not have.
 pub fn undefined_in_package<'a>(
     diagnostics: &mut [u32],
-    messages: &mut [u8],
+    rest: &mut [u8],
     counts: Counts,
     script: &'a [u8],
     library: &'a [u8],
@@ -61,41 +61,33 @@ pub fn undefined_in_package<'a>(
     name: u32,
 ) -> Reported
     ensures { λ r. let T : Texts = textsOf (now (script .entry)) (now (library .entry)) in
-        ⌜ Reports (undefinedInPackage name (pkgName (nameBytes T pkg) (nameBytes T name))) (now (diagnostics .entry)) (now (messages .entry)) counts (now (diagnostics .exit)) (now (messages .exit)) r ⌝ }
+        ⌜ ReportsIn (undefinedInPackage name (pkgName (nameBytes T pkg) (nameBytes T name))) (now (diagnostics .entry)) (now (rest .entry)) counts (now (diagnostics .exit)) (now (rest .exit)) r ⌝ }
 {
-    let a = display::put_at(
-        messages,
-        Wrote::All(counts.bytes),
-        b"Call to undefined function ",
-    );
-    let b = err_text::put_call_name(messages, a, script, library, CallName::OfPackage(pkg, name));
+    let a = display::put_at(rest, Wrote::All(0), b"Call to undefined function ");
+    let b = err_text::put_call_name(rest, a, script, library, CallName::OfPackage(pkg, name));
     err_text::report(diagnostics, counts, 16, tok::token_span(name), b, b)
 }
 
 // 17: A call of a function that the script does not have.
 pub fn undefined_own<'a>(
     diagnostics: &mut [u32],
-    messages: &mut [u8],
+    rest: &mut [u8],
     counts: Counts,
     script: &'a [u8],
     library: &'a [u8],
     name: u32,
 ) -> Reported
     ensures { λ r. let T : Texts = textsOf (now (script .entry)) (now (library .entry)) in
-        ⌜ Reports (undefinedOwn name (nameBytes T name)) (now (diagnostics .entry)) (now (messages .entry)) counts (now (diagnostics .exit)) (now (messages .exit)) r ⌝ }
+        ⌜ ReportsIn (undefinedOwn name (nameBytes T name)) (now (diagnostics .entry)) (now (rest .entry)) counts (now (diagnostics .exit)) (now (rest .exit)) r ⌝ }
 {
-    let a = display::put_at(
-        messages,
-        Wrote::All(counts.bytes),
-        b"Call to undefined function ",
-    );
-    let b = err_text::put_ticked(messages, a, script, library, name);
+    let a = display::put_at(rest, Wrote::All(0), b"Call to undefined function ");
+    let b = err_text::put_ticked(rest, a, script, library, name);
     err_text::report(diagnostics, counts, 17, tok::token_span(name), b, b)
 }
 
 // Writes the types of the arguments of the signature that begins at a place of `words`, joined by `, `.
 fn put_candidate<'a>(
-    messages: &mut [u8],
+    rest: &mut [u8],
     at: Wrote,
     types: &[u32],
     script: &'a [u8],
@@ -104,18 +96,18 @@ fn put_candidate<'a>(
     start: u32,
 ) -> Wrote
     ensures { λ r. let T : Texts = textsOf (now (script .entry)) (now (library .entry)) in
-        ⌜ Writes (now (messages .entry)) at (now (messages .exit)) r (sig (candidateAt T (now (types .entry)) (now (words .entry)) start)) ⌝ }
+        ⌜ Writes (now (rest .entry)) at (now (rest .exit)) r (sig (candidateAt T (now (types .entry)) (now (words .entry)) start)) ⌝ }
 {
     let i = tok::wide(start);
     if i <= words.len() {
-        return display::show_arg_types(messages, at, types, script, library, &words[i..]);
+        return display::show_arg_types(rest, at, types, script, library, &words[i..]);
     }
-    display::put_at(messages, at, b"")
+    display::put_at(rest, at, b"")
 }
 
 // Writes the candidates whose signatures begin at the places `starts` of `words`, joined by ` | `.
 fn put_candidates<'a>(
-    messages: &mut [u8],
+    rest: &mut [u8],
     at: Wrote,
     types: &[u32],
     script: &'a [u8],
@@ -124,23 +116,23 @@ fn put_candidates<'a>(
     starts: &[u32],
 ) -> Wrote
     ensures { λ r. let T : Texts = textsOf (now (script .entry)) (now (library .entry)) in
-        ⌜ Writes (now (messages .entry)) at (now (messages .exit)) r (joined (text " | ") (map sig (candidatesAt T (now (types .entry)) (now (words .entry)) (now (starts .entry))))) ⌝ }
+        ⌜ Writes (now (rest .entry)) at (now (rest .exit)) r (joined (text " | ") (map sig (candidatesAt T (now (types .entry)) (now (words .entry)) (now (starts .entry))))) ⌝ }
 {
     let mut at = at;
     let mut i = 0;
     while i < starts.len() {
-        at = display::put_separator(messages, at, i, b" | ");
+        at = display::put_separator(rest, at, i, b" | ");
         let start = tok::word_at(starts, i);
-        at = put_candidate(messages, at, types, script, library, words, start);
+        at = put_candidate(rest, at, types, script, library, words, start);
         i += 1;
     }
-    display::put_at(messages, at, b"")
+    display::put_at(rest, at, b"")
 }
 
 // 18: A call of a group of several, none of which takes these argument types. The candidates' signatures begin at the places `starts` of `words`.
 pub fn no_specialisation<'a>(
     diagnostics: &mut [u32],
-    messages: &mut [u8],
+    rest: &mut [u8],
     counts: Counts,
     types: &[u32],
     script: &'a [u8],
@@ -152,21 +144,21 @@ pub fn no_specialisation<'a>(
     starts: &[u32],
 ) -> Reported
     ensures { λ r. let T : Texts = textsOf (now (script .entry)) (now (library .entry)) in let U : ℕ → Ty = tyOf T (now (types .entry)) in
-        ⌜ Reports (noSpecialisation token (callName T callee) (map U (now (provided .entry))) (candidatesAt T (now (types .entry)) (now (words .entry)) (now (starts .entry)))) (now (diagnostics .entry)) (now (messages .entry)) counts (now (diagnostics .exit)) (now (messages .exit)) r ⌝ }
+        ⌜ ReportsIn (noSpecialisation token (callName T callee) (map U (now (provided .entry))) (candidatesAt T (now (types .entry)) (now (words .entry)) (now (starts .entry)))) (now (diagnostics .entry)) (now (rest .entry)) counts (now (diagnostics .exit)) (now (rest .exit)) r ⌝ }
 {
-    let a = display::put_at(messages, Wrote::All(counts.bytes), b"no specialisation of ");
-    let b = err_text::put_call_name(messages, a, script, library, callee);
-    let c = display::put_at(messages, b, b" accepts (");
-    let d = display::show_types(messages, c, types, script, library, provided);
-    let e = display::put_at(messages, d, b"); available: ");
-    let f = put_candidates(messages, e, types, script, library, words, starts);
+    let a = display::put_at(rest, Wrote::All(0), b"no specialisation of ");
+    let b = err_text::put_call_name(rest, a, script, library, callee);
+    let c = display::put_at(rest, b, b" accepts (");
+    let d = display::show_types(rest, c, types, script, library, provided);
+    let e = display::put_at(rest, d, b"); available: ");
+    let f = put_candidates(rest, e, types, script, library, words, starts);
     err_text::report(diagnostics, counts, 18, tok::token_span(token), f, f)
 }
 
 // 19: A call with another number of arguments.
 pub fn argument_count<'a>(
     diagnostics: &mut [u32],
-    messages: &mut [u8],
+    rest: &mut [u8],
     counts: Counts,
     script: &'a [u8],
     library: &'a [u8],
@@ -176,12 +168,12 @@ pub fn argument_count<'a>(
     given: usize,
 ) -> Reported
     ensures { λ r. let T : Texts = textsOf (now (script .entry)) (now (library .entry)) in
-        ⌜ Reports (argumentCount token (callName T callee) required given) (now (diagnostics .entry)) (now (messages .entry)) counts (now (diagnostics .exit)) (now (messages .exit)) r ⌝ }
+        ⌜ ReportsIn (argumentCount token (callName T callee) required given) (now (diagnostics .entry)) (now (rest .entry)) counts (now (diagnostics .exit)) (now (rest .exit)) r ⌝ }
 {
-    let a = err_text::put_call_name(messages, Wrote::All(counts.bytes), script, library, callee);
-    let b = display::put_at(messages, a, b" requires ");
-    let c = display::put_decimal(messages, b, required);
-    let d = display::put_at(messages, c, b" arguments, got ");
-    let e = display::put_decimal(messages, d, given);
+    let a = err_text::put_call_name(rest, Wrote::All(0), script, library, callee);
+    let b = display::put_at(rest, a, b" requires ");
+    let c = display::put_decimal(rest, b, required);
+    let d = display::put_at(rest, c, b" arguments, got ");
+    let e = display::put_decimal(rest, d, given);
     err_text::report(diagnostics, counts, 19, tok::token_span(token), e, e)
 }

@@ -4,7 +4,7 @@ ghost use Rattle.tok.specs.Text.{Texts, textsOf, nameBytes};
 ghost use Rattle.ptype.specs.Ty.{Ty};
 ghost use Rattle.ptype.specs.Words.{tyOf};
 ghost use Rattle.err.specs.Message.{noBinding, letVoid, definedAlready, badReturn, badCondition, matchCases, emptyImport, noImport};
-ghost use Rattle.err.specs.Report.{Reports};
+ghost use Rattle.err_text.specs.Rest.{ReportsIn};
 use display::Wrote;
 use err::Counts;
 use err::Reported;
@@ -12,29 +12,29 @@ use err::Reported;
 // 3: A name that is not bound.
 pub fn no_binding<'a>(
     diagnostics: &mut [u32],
-    messages: &mut [u8],
+    rest: &mut [u8],
     counts: Counts,
     script: &'a [u8],
     library: &'a [u8],
     name: u32,
 ) -> Reported
     ensures { λ r. let T : Texts = textsOf (now (script .entry)) (now (library .entry)) in
-        ⌜ Reports (noBinding name (nameBytes T name)) (now (diagnostics .entry)) (now (messages .entry)) counts (now (diagnostics .exit)) (now (messages .exit)) r ⌝ }
+        ⌜ ReportsIn (noBinding name (nameBytes T name)) (now (diagnostics .entry)) (now (rest .entry)) counts (now (diagnostics .exit)) (now (rest .exit)) r ⌝ }
 {
-    let a = display::put_at(messages, Wrote::All(counts.bytes), b"binding ");
-    let b = err_text::put_ticked(messages, a, script, library, name);
-    let c = display::put_at(messages, b, b" not found");
+    let a = display::put_at(rest, Wrote::All(0), b"binding ");
+    let b = err_text::put_ticked(rest, a, script, library, name);
+    let c = display::put_at(rest, b, b" not found");
     err_text::report(diagnostics, counts, 3, tok::token_span(name), c, c)
 }
 
 // 7: A let whose right side returns nothing.
-pub fn let_void(diagnostics: &mut [u32], messages: &mut [u8], counts: Counts, name: u32) -> Reported
+pub fn let_void(diagnostics: &mut [u32], rest: &mut [u8], counts: Counts, name: u32) -> Reported
     ensures { λ r.
-        ⌜ Reports (letVoid name) (now (diagnostics .entry)) (now (messages .entry)) counts (now (diagnostics .exit)) (now (messages .exit)) r ⌝ }
+        ⌜ ReportsIn (letVoid name) (now (diagnostics .entry)) (now (rest .entry)) counts (now (diagnostics .exit)) (now (rest .exit)) r ⌝ }
 {
     let a = display::put_at(
-        messages,
-        Wrote::All(counts.bytes),
+        rest,
+        Wrote::All(0),
         b"RHS of let has to return a value, but it didnt",
     );
     err_text::report(diagnostics, counts, 7, tok::token_span(name), a, a)
@@ -43,24 +43,24 @@ pub fn let_void(diagnostics: &mut [u32], messages: &mut [u8], counts: Counts, na
 // 8: A function of a name already met.
 pub fn defined_already<'a>(
     diagnostics: &mut [u32],
-    messages: &mut [u8],
+    rest: &mut [u8],
     counts: Counts,
     script: &'a [u8],
     library: &'a [u8],
     name: u32,
 ) -> Reported
     ensures { λ r. let T : Texts = textsOf (now (script .entry)) (now (library .entry)) in
-        ⌜ Reports (definedAlready name (nameBytes T name)) (now (diagnostics .entry)) (now (messages .entry)) counts (now (diagnostics .exit)) (now (messages .exit)) r ⌝ }
+        ⌜ ReportsIn (definedAlready name (nameBytes T name)) (now (diagnostics .entry)) (now (rest .entry)) counts (now (diagnostics .exit)) (now (rest .exit)) r ⌝ }
 {
-    let a = err_text::put_ticked(messages, Wrote::All(counts.bytes), script, library, name);
-    let b = display::put_at(messages, a, b" is already defined");
+    let a = err_text::put_ticked(rest, Wrote::All(0), script, library, name);
+    let b = display::put_at(rest, a, b" is already defined");
     err_text::report(diagnostics, counts, 8, tok::token_span(name), b, b)
 }
 
 // 9: A function whose body is not of its return type. The token is the return type's.
 pub fn bad_return<'a>(
     diagnostics: &mut [u32],
-    messages: &mut [u8],
+    rest: &mut [u8],
     counts: Counts,
     types: &[u32],
     script: &'a [u8],
@@ -71,20 +71,20 @@ pub fn bad_return<'a>(
     computed: u32,
 ) -> Reported
     ensures { λ r. let T : Texts = textsOf (now (script .entry)) (now (library .entry)) in let U : ℕ → Ty = tyOf T (now (types .entry)) in
-        ⌜ Reports (badReturn token (nameBytes T name) (U ret) (U computed)) (now (diagnostics .entry)) (now (messages .entry)) counts (now (diagnostics .exit)) (now (messages .exit)) r ⌝ }
+        ⌜ ReportsIn (badReturn token (nameBytes T name) (U ret) (U computed)) (now (diagnostics .entry)) (now (rest .entry)) counts (now (diagnostics .exit)) (now (rest .exit)) r ⌝ }
 {
-    let a = err_text::put_ticked(messages, Wrote::All(counts.bytes), script, library, name);
-    let b = display::put_at(messages, a, b" should return ");
-    let c = display::show_type(messages, b, types, script, library, ret);
-    let d = display::put_at(messages, c, b", but returns ");
-    let e = display::show_type(messages, d, types, script, library, computed);
+    let a = err_text::put_ticked(rest, Wrote::All(0), script, library, name);
+    let b = display::put_at(rest, a, b" should return ");
+    let c = display::show_type(rest, b, types, script, library, ret);
+    let d = display::put_at(rest, c, b", but returns ");
+    let e = display::show_type(rest, d, types, script, library, computed);
     err_text::report(diagnostics, counts, 9, tok::token_span(token), e, e)
 }
 
 // 23: A match condition that is not Bool.
 pub fn bad_condition<'a>(
     diagnostics: &mut [u32],
-    messages: &mut [u8],
+    rest: &mut [u8],
     counts: Counts,
     types: &[u32],
     script: &'a [u8],
@@ -93,22 +93,18 @@ pub fn bad_condition<'a>(
     ty: u32,
 ) -> Reported
     ensures { λ r. let T : Texts = textsOf (now (script .entry)) (now (library .entry)) in let U : ℕ → Ty = tyOf T (now (types .entry)) in
-        ⌜ Reports (badCondition token (U ty)) (now (diagnostics .entry)) (now (messages .entry)) counts (now (diagnostics .exit)) (now (messages .exit)) r ⌝ }
+        ⌜ ReportsIn (badCondition token (U ty)) (now (diagnostics .entry)) (now (rest .entry)) counts (now (diagnostics .exit)) (now (rest .exit)) r ⌝ }
 {
-    let a = display::put_at(
-        messages,
-        Wrote::All(counts.bytes),
-        b"Match conditions must be Bool, got ",
-    );
-    let b = display::show_type(messages, a, types, script, library, ty);
-    let c = display::put_at(messages, b, b" instead");
+    let a = display::put_at(rest, Wrote::All(0), b"Match conditions must be Bool, got ");
+    let b = display::show_type(rest, a, types, script, library, ty);
+    let c = display::put_at(rest, b, b" instead");
     err_text::report(diagnostics, counts, 23, tok::token_span(token), c, c)
 }
 
 // 24: A match case that is not of the default's type.
 pub fn match_cases<'a>(
     diagnostics: &mut [u32],
-    messages: &mut [u8],
+    rest: &mut [u8],
     counts: Counts,
     types: &[u32],
     script: &'a [u8],
@@ -118,32 +114,32 @@ pub fn match_cases<'a>(
     ty: u32,
 ) -> Reported
     ensures { λ r. let T : Texts = textsOf (now (script .entry)) (now (library .entry)) in let U : ℕ → Ty = tyOf T (now (types .entry)) in
-        ⌜ Reports (matchCases token (U default) (U ty)) (now (diagnostics .entry)) (now (messages .entry)) counts (now (diagnostics .exit)) (now (messages .exit)) r ⌝ }
+        ⌜ ReportsIn (matchCases token (U default) (U ty)) (now (diagnostics .entry)) (now (rest .entry)) counts (now (diagnostics .exit)) (now (rest .exit)) r ⌝ }
 {
     let a = display::put_at(
-        messages,
-        Wrote::All(counts.bytes),
+        rest,
+        Wrote::All(0),
         b"Match cases must resolve to the same type, but got ",
     );
-    let b = display::show_type(messages, a, types, script, library, default);
-    let c = display::put_at(messages, b, b" and ");
-    let d = display::show_type(messages, c, types, script, library, ty);
+    let b = display::show_type(rest, a, types, script, library, default);
+    let c = display::put_at(rest, b, b" and ");
+    let d = display::show_type(rest, c, types, script, library, ty);
     err_text::report(diagnostics, counts, 24, tok::token_span(token), d, d)
 }
 
 // 25: An import of no paths.
 pub fn empty_import(
     diagnostics: &mut [u32],
-    messages: &mut [u8],
+    rest: &mut [u8],
     counts: Counts,
     token: u32,
 ) -> Reported
     ensures { λ r.
-        ⌜ Reports (emptyImport token) (now (diagnostics .entry)) (now (messages .entry)) counts (now (diagnostics .exit)) (now (messages .exit)) r ⌝ }
+        ⌜ ReportsIn (emptyImport token) (now (diagnostics .entry)) (now (rest .entry)) counts (now (diagnostics .exit)) (now (rest .exit)) r ⌝ }
 {
     let a = display::put_at(
-        messages,
-        Wrote::All(counts.bytes),
+        rest,
+        Wrote::All(0),
         b"Import without any paths to import is considered invalid",
     );
     err_text::report(diagnostics, counts, 25, tok::token_span(token), a, a)
@@ -152,20 +148,16 @@ pub fn empty_import(
 // 26: A path that names no package of the library.
 pub fn no_import<'a>(
     diagnostics: &mut [u32],
-    messages: &mut [u8],
+    rest: &mut [u8],
     counts: Counts,
     script: &'a [u8],
     library: &'a [u8],
     path: u32,
 ) -> Reported
     ensures { λ r. let T : Texts = textsOf (now (script .entry)) (now (library .entry)) in
-        ⌜ Reports (noImport path (nameBytes T path)) (now (diagnostics .entry)) (now (messages .entry)) counts (now (diagnostics .exit)) (now (messages .exit)) r ⌝ }
+        ⌜ ReportsIn (noImport path (nameBytes T path)) (now (diagnostics .entry)) (now (rest .entry)) counts (now (diagnostics .exit)) (now (rest .exit)) r ⌝ }
 {
-    let a = display::put_at(
-        messages,
-        Wrote::All(counts.bytes),
-        b"Wasnt able to find a package named ",
-    );
-    let b = err_text::put_ticked(messages, a, script, library, path);
+    let a = display::put_at(rest, Wrote::All(0), b"Wasnt able to find a package named ");
+    let b = err_text::put_ticked(rest, a, script, library, path);
     err_text::report(diagnostics, counts, 26, tok::token_span(path), b, b)
 }

@@ -106,7 +106,7 @@ fn callee(pkg: u32, name: u32) -> CallName {
 
 fn of_values<'a>(
     diagnostics: &mut [u32],
-    messages: &mut [u8],
+    rest: &mut [u8],
     counts: Counts,
     types: &[u32],
     script: &'a [u8],
@@ -115,12 +115,12 @@ fn of_values<'a>(
 ) -> Reported {
     let code = c.code;
     if code == 1 {
-        return err_values::empty_array(diagnostics, messages, counts, c.a);
+        return err_values::empty_array(diagnostics, rest, counts, c.a);
     }
     if code == 2 {
         return err_values::members_differ(
             diagnostics,
-            messages,
+            rest,
             counts,
             types,
             script,
@@ -133,7 +133,7 @@ fn of_values<'a>(
     if code == 4 {
         return err_values::unsupported(
             diagnostics,
-            messages,
+            rest,
             counts,
             types,
             script,
@@ -146,7 +146,7 @@ fn of_values<'a>(
     if code == 5 {
         return err_values::incompatible(
             diagnostics,
-            messages,
+            rest,
             counts,
             types,
             script,
@@ -160,7 +160,7 @@ fn of_values<'a>(
     if code == 6 {
         return err_values::bad_unary(
             diagnostics,
-            messages,
+            rest,
             counts,
             types,
             script,
@@ -170,12 +170,12 @@ fn of_values<'a>(
             c.c,
         );
     }
-    of_casts_and_fields(diagnostics, messages, counts, types, script, library, c)
+    of_casts_and_fields(diagnostics, rest, counts, types, script, library, c)
 }
 
 fn of_casts_and_fields<'a>(
     diagnostics: &mut [u32],
-    messages: &mut [u8],
+    rest: &mut [u8],
     counts: Counts,
     types: &[u32],
     script: &'a [u8],
@@ -186,7 +186,7 @@ fn of_casts_and_fields<'a>(
     if code == 10 {
         return err_values::redundant_cast(
             diagnostics,
-            messages,
+            rest,
             counts,
             types,
             script,
@@ -198,7 +198,7 @@ fn of_casts_and_fields<'a>(
     if code == 11 {
         return err_values::bad_cast(
             diagnostics,
-            messages,
+            rest,
             counts,
             types,
             script,
@@ -209,35 +209,17 @@ fn of_casts_and_fields<'a>(
         );
     }
     if code == 12 {
-        return err_values::no_record(
-            diagnostics,
-            messages,
-            counts,
-            types,
-            script,
-            library,
-            c.a,
-            c.b,
-        );
+        return err_values::no_record(diagnostics, rest, counts, types, script, library, c.a, c.b);
     }
     if code == 13 {
-        return err_values::no_field(
-            diagnostics,
-            messages,
-            counts,
-            types,
-            script,
-            library,
-            c.a,
-            c.b,
-        );
+        return err_values::no_field(diagnostics, rest, counts, types, script, library, c.a, c.b);
     }
-    of_names(diagnostics, messages, counts, types, script, library, c)
+    of_names(diagnostics, rest, counts, types, script, library, c)
 }
 
 fn of_names<'a>(
     diagnostics: &mut [u32],
-    messages: &mut [u8],
+    rest: &mut [u8],
     counts: Counts,
     types: &[u32],
     script: &'a [u8],
@@ -246,18 +228,18 @@ fn of_names<'a>(
 ) -> Reported {
     let code = c.code;
     if code == 3 {
-        return err_names::no_binding(diagnostics, messages, counts, script, library, c.a);
+        return err_names::no_binding(diagnostics, rest, counts, script, library, c.a);
     }
     if code == 7 {
-        return err_names::let_void(diagnostics, messages, counts, c.a);
+        return err_names::let_void(diagnostics, rest, counts, c.a);
     }
     if code == 8 {
-        return err_names::defined_already(diagnostics, messages, counts, script, library, c.a);
+        return err_names::defined_already(diagnostics, rest, counts, script, library, c.a);
     }
     if code == 9 {
         return err_names::bad_return(
             diagnostics,
-            messages,
+            rest,
             counts,
             types,
             script,
@@ -268,12 +250,12 @@ fn of_names<'a>(
             c.d,
         );
     }
-    of_matches_and_imports(diagnostics, messages, counts, types, script, library, c)
+    of_matches_and_imports(diagnostics, rest, counts, types, script, library, c)
 }
 
 fn of_matches_and_imports<'a>(
     diagnostics: &mut [u32],
-    messages: &mut [u8],
+    rest: &mut [u8],
     counts: Counts,
     types: &[u32],
     script: &'a [u8],
@@ -284,7 +266,7 @@ fn of_matches_and_imports<'a>(
     if code == 23 {
         return err_names::bad_condition(
             diagnostics,
-            messages,
+            rest,
             counts,
             types,
             script,
@@ -296,7 +278,7 @@ fn of_matches_and_imports<'a>(
     if code == 24 {
         return err_names::match_cases(
             diagnostics,
-            messages,
+            rest,
             counts,
             types,
             script,
@@ -307,17 +289,17 @@ fn of_matches_and_imports<'a>(
         );
     }
     if code == 25 {
-        return err_names::empty_import(diagnostics, messages, counts, c.a);
+        return err_names::empty_import(diagnostics, rest, counts, c.a);
     }
     if code == 26 {
-        return err_names::no_import(diagnostics, messages, counts, script, library, c.a);
+        return err_names::no_import(diagnostics, rest, counts, script, library, c.a);
     }
-    of_arguments(diagnostics, messages, counts, types, script, library, c)
+    of_arguments(diagnostics, rest, counts, types, script, library, c)
 }
 
 fn of_arguments<'a>(
     diagnostics: &mut [u32],
-    messages: &mut [u8],
+    rest: &mut [u8],
     counts: Counts,
     types: &[u32],
     script: &'a [u8],
@@ -329,7 +311,7 @@ fn of_arguments<'a>(
     if code == 20 {
         return err_arguments::arg_mismatch(
             diagnostics,
-            messages,
+            rest,
             counts,
             types,
             script,
@@ -344,7 +326,7 @@ fn of_arguments<'a>(
     if code == 21 {
         return err_arguments::slot_conflict(
             diagnostics,
-            messages,
+            rest,
             counts,
             types,
             script,
@@ -359,7 +341,7 @@ fn of_arguments<'a>(
     if code == 22 {
         return err_arguments::slot_void(
             diagnostics,
-            messages,
+            rest,
             counts,
             script,
             library,
@@ -373,7 +355,7 @@ fn of_arguments<'a>(
 
 fn of_calls<'a>(
     diagnostics: &mut [u32],
-    messages: &mut [u8],
+    rest: &mut [u8],
     counts: Counts,
     types: &[u32],
     script: &'a [u8],
@@ -382,15 +364,15 @@ fn of_calls<'a>(
 ) -> Reported {
     let code = c.code;
     if code == 14 {
-        return err_calls::call_through_field(diagnostics, messages, counts, c.a);
+        return err_calls::call_through_field(diagnostics, rest, counts, c.a);
     }
     if code == 15 {
-        return err_calls::missing_package(diagnostics, messages, counts, script, library, c.a);
+        return err_calls::missing_package(diagnostics, rest, counts, script, library, c.a);
     }
     if code == 16 {
         return err_calls::undefined_in_package(
             diagnostics,
-            messages,
+            rest,
             counts,
             script,
             library,
@@ -399,12 +381,12 @@ fn of_calls<'a>(
         );
     }
     if code == 17 {
-        return err_calls::undefined_own(diagnostics, messages, counts, script, library, c.a);
+        return err_calls::undefined_own(diagnostics, rest, counts, script, library, c.a);
     }
     if code == 19 {
         return err_calls::argument_count(
             diagnostics,
-            messages,
+            rest,
             counts,
             script,
             library,
@@ -414,12 +396,12 @@ fn of_calls<'a>(
             tok::wide(c.c),
         );
     }
-    of_values(diagnostics, messages, counts, types, script, library, c)
+    of_values(diagnostics, rest, counts, types, script, library, c)
 }
 
-fn written<'a>(
+fn of_groups<'a>(
     diagnostics: &mut [u32],
-    messages: &mut [u8],
+    rest: &mut [u8],
     counts: Counts,
     types: &[u32],
     script: &'a [u8],
@@ -432,7 +414,7 @@ fn written<'a>(
     if code == 18 {
         return err_calls::no_specialisation(
             diagnostics,
-            messages,
+            rest,
             counts,
             types,
             script,
@@ -444,7 +426,33 @@ fn written<'a>(
             words_in(lists, tok::wide(c.f), tok::wide(c.g)),
         );
     }
-    of_calls(diagnostics, messages, counts, types, script, library, c)
+    of_calls(diagnostics, rest, counts, types, script, library, c)
+}
+
+// A case, written into the rest of the messages.
+fn written<'a>(
+    diagnostics: &mut [u32],
+    messages: &mut [u8],
+    counts: Counts,
+    types: &[u32],
+    script: &'a [u8],
+    library: &'a [u8],
+    words: &[u32],
+    lists: &[u32],
+    c: Case,
+) -> Reported {
+    let free = err_text::first_free(messages, counts);
+    of_groups(
+        diagnostics,
+        &mut messages[free..],
+        counts,
+        types,
+        script,
+        library,
+        words,
+        lists,
+        c,
+    )
 }
 
 // Printing.
@@ -542,7 +550,8 @@ fn room(
         diagnostics: used,
         bytes,
     };
-    let r = err_values::empty_array(diagnostics, messages, counts, 0);
+    let free = err_text::first_free(messages, counts);
+    let r = err_values::empty_array(diagnostics, &mut messages[free..], counts, 0);
     print(what);
     print_word(n);
     let Reported::Told(_) = r else {

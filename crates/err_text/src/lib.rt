@@ -8,6 +8,7 @@ ghost use Rattle.ptype.specs.Add.{write};
 ghost use Rattle.display.specs.Writing.{Writes};
 ghost use Rattle.err.specs.Message.{ticked, callName, quoted, classOf, wanted, wantedBoth};
 ghost use Rattle.err.specs.Report.{mostDiagnostics, asWord, fits, placed, placedAnswer};
+ghost use Rattle.err_text.specs.Rest.{firstFree, inWhole};
 use display::Wrote;
 use err::CallName;
 use err::Counts;
@@ -36,20 +37,20 @@ fn most_diagnostics(diagnostics: &[u32]) -> usize
     }
 }
 
-// Whether a record is free, and texts that end at m and at p lie in order within the limit.
+// Whether a record is free, and texts that end at m and at p, counted from the first free byte, lie in order within the limit.
 fn has_room(diagnostics: &[u32], counts: Counts, m: usize, p: usize) -> bool
-    ensures { λ r. ⌜ r ≡ fits (now (diagnostics .entry)) counts m p ⌝ }
+    ensures { λ r. ⌜ r ≡ fits (now (diagnostics .entry)) counts (counts .bytes + m) (counts .bytes + p) ⌝ }
 {
     if counts.diagnostics >= most_diagnostics(diagnostics) {
-        return false;
-    }
-    if counts.bytes > m {
         return false;
     }
     if m > p {
         return false;
     }
-    p <= MOST_BYTES
+    if p > MOST_BYTES {
+        return false;
+    }
+    counts.bytes <= MOST_BYTES - p
 }
 
 // The low 32 bits of a number.
@@ -72,7 +73,18 @@ fn put_record(diagnostics: &mut [u32], at: usize, a: u32, b: u32, c: u32, d: u32
     diagnostics[at + 5] = f;
 }
 
-// Writes the record of a diagnostic whose message was written from the first free byte up to a place, and its primary message from there up to another.
+// The first free byte of the messages, at which the rest begins that a writer is lent.
+pub fn first_free(messages: &[u8], counts: Counts) -> usize
+    ensures { λ r. ⌜ r ≡ firstFree (now (messages .entry)) counts ⌝ }
+{
+    if counts.bytes <= messages.len() {
+        counts.bytes
+    } else {
+        messages.len()
+    }
+}
+
+// Writes the record of a diagnostic whose message was written from the start of the rest up to a place, and its primary message from there up to another.
 pub fn report(
     diagnostics: &mut [u32],
     counts: Counts,
@@ -81,8 +93,8 @@ pub fn report(
     message: Wrote,
     primary: Wrote,
 ) -> Reported
-    ensures record { λ r. ⌜ now (diagnostics .exit) ≡ placed (now (diagnostics .entry)) counts code span message primary ⌝ }
-    ensures answer { λ r. ⌜ r ≡ placedAnswer (now (diagnostics .entry)) counts message primary ⌝ }
+    ensures record { λ r. ⌜ now (diagnostics .exit) ≡ placed (now (diagnostics .entry)) counts code span (inWhole counts message) (inWhole counts primary) ⌝ }
+    ensures answer { λ r. ⌜ r ≡ placedAnswer (now (diagnostics .entry)) counts (inWhole counts message) (inWhole counts primary) ⌝ }
 {
     let Wrote::All(m) = message else {
         return Reported::NoRoom;
@@ -100,12 +112,12 @@ pub fn report(
         as_word(span.start),
         as_word(span.len),
         counts.bytes as u32,
-        (m - counts.bytes) as u32,
+        m as u32,
         (p - m) as u32,
     );
     Reported::Told(Counts {
         diagnostics: counts.diagnostics + 1,
-        bytes: p,
+        bytes: counts.bytes + p,
     })
 }
 

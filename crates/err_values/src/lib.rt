@@ -4,35 +4,30 @@ ghost use Rattle.tok.specs.Text.{Texts, textsOf, nameBytes};
 ghost use Rattle.ptype.specs.Ty.{Ty};
 ghost use Rattle.ptype.specs.Words.{tyOf};
 ghost use Rattle.err.specs.Message.{emptyArray, membersDiffer, unsupported, incompatible, badUnary, redundantCast, badCast, noRecord, noFieldOf};
-ghost use Rattle.err.specs.Report.{Reports};
+ghost use Rattle.err_text.specs.Rest.{ReportsIn};
 use display::Wrote;
 use err::Counts;
 use err::Reported;
 use tok::Span;
 
 // 1: An array literal of no members.
-pub fn empty_array(
-    diagnostics: &mut [u32],
-    messages: &mut [u8],
-    counts: Counts,
-    token: u32,
-) -> Reported
+pub fn empty_array(diagnostics: &mut [u32], rest: &mut [u8], counts: Counts, token: u32) -> Reported
     ensures { λ r.
-        ⌜ Reports (emptyArray token) (now (diagnostics .entry)) (now (messages .entry)) counts (now (diagnostics .exit)) (now (messages .exit)) r ⌝ }
+        ⌜ ReportsIn (emptyArray token) (now (diagnostics .entry)) (now (rest .entry)) counts (now (diagnostics .exit)) (now (rest .exit)) r ⌝ }
 {
     let a = display::put_at(
-        messages,
-        Wrote::All(counts.bytes),
+        rest,
+        Wrote::All(0),
         b"Can not infer the element type of an empty array",
     );
-    let b = display::put_at(messages, a, b"empty array");
+    let b = display::put_at(rest, a, b"empty array");
     err_text::report(diagnostics, counts, 1, tok::token_span(token), a, b)
 }
 
 // 2: An array member whose type is not the first member's.
 pub fn members_differ<'a>(
     diagnostics: &mut [u32],
-    messages: &mut [u8],
+    rest: &mut [u8],
     counts: Counts,
     types: &[u32],
     script: &'a [u8],
@@ -42,25 +37,25 @@ pub fn members_differ<'a>(
     ty: u32,
 ) -> Reported
     ensures { λ r. let T : Texts = textsOf (now (script .entry)) (now (library .entry)) in let U : ℕ → Ty = tyOf T (now (types .entry)) in
-        ⌜ Reports (membersDiffer span (U first) (U ty)) (now (diagnostics .entry)) (now (messages .entry)) counts (now (diagnostics .exit)) (now (messages .exit)) r ⌝ }
+        ⌜ ReportsIn (membersDiffer span (U first) (U ty)) (now (diagnostics .entry)) (now (rest .entry)) counts (now (diagnostics .exit)) (now (rest .exit)) r ⌝ }
 {
     let a = display::put_at(
-        messages,
-        Wrote::All(counts.bytes),
+        rest,
+        Wrote::All(0),
         b"Array members must all have the same type, expected ",
     );
-    let b = display::show_type(messages, a, types, script, library, first);
-    let c = display::put_at(messages, b, b" but got ");
-    let d = display::show_type(messages, c, types, script, library, ty);
-    let e = display::put_at(messages, d, b"this member is of type ");
-    let f = display::show_type(messages, e, types, script, library, ty);
+    let b = display::show_type(rest, a, types, script, library, first);
+    let c = display::put_at(rest, b, b" but got ");
+    let d = display::show_type(rest, c, types, script, library, ty);
+    let e = display::put_at(rest, d, b"this member is of type ");
+    let f = display::show_type(rest, e, types, script, library, ty);
     err_text::report(diagnostics, counts, 2, span, d, f)
 }
 
 // 4: Operands of one type that the operator does not take.
 pub fn unsupported<'a>(
     diagnostics: &mut [u32],
-    messages: &mut [u8],
+    rest: &mut [u8],
     counts: Counts,
     types: &[u32],
     script: &'a [u8],
@@ -70,20 +65,20 @@ pub fn unsupported<'a>(
     left: u32,
 ) -> Reported
     ensures { λ r. let T : Texts = textsOf (now (script .entry)) (now (library .entry)) in let U : ℕ → Ty = tyOf T (now (types .entry)) in
-        ⌜ Reports (unsupported token op (U left)) (now (diagnostics .entry)) (now (messages .entry)) counts (now (diagnostics .exit)) (now (messages .exit)) r ⌝ }
+        ⌜ ReportsIn (unsupported token op (U left)) (now (diagnostics .entry)) (now (rest .entry)) counts (now (diagnostics .exit)) (now (rest .exit)) r ⌝ }
 {
-    let a = display::put_at(messages, Wrote::All(counts.bytes), b"Unsupported type ");
-    let b = display::show_type(messages, a, types, script, library, left);
-    let c = display::put_at(messages, b, b" for ");
-    let d = err_text::put_operator(messages, c, op);
-    let e = err_text::put_wanted(messages, d, err_text::class_of(op));
+    let a = display::put_at(rest, Wrote::All(0), b"Unsupported type ");
+    let b = display::show_type(rest, a, types, script, library, left);
+    let c = display::put_at(rest, b, b" for ");
+    let d = err_text::put_operator(rest, c, op);
+    let e = err_text::put_wanted(rest, d, err_text::class_of(op));
     err_text::report(diagnostics, counts, 4, tok::token_span(token), e, e)
 }
 
 // 5: Operands of two types.
 pub fn incompatible<'a>(
     diagnostics: &mut [u32],
-    messages: &mut [u8],
+    rest: &mut [u8],
     counts: Counts,
     types: &[u32],
     script: &'a [u8],
@@ -94,22 +89,22 @@ pub fn incompatible<'a>(
     right: u32,
 ) -> Reported
     ensures { λ r. let T : Texts = textsOf (now (script .entry)) (now (library .entry)) in let U : ℕ → Ty = tyOf T (now (types .entry)) in
-        ⌜ Reports (incompatible token op (U left) (U right)) (now (diagnostics .entry)) (now (messages .entry)) counts (now (diagnostics .exit)) (now (messages .exit)) r ⌝ }
+        ⌜ ReportsIn (incompatible token op (U left) (U right)) (now (diagnostics .entry)) (now (rest .entry)) counts (now (diagnostics .exit)) (now (rest .exit)) r ⌝ }
 {
-    let a = display::put_at(messages, Wrote::All(counts.bytes), b"Incompatible types ");
-    let b = display::show_type(messages, a, types, script, library, left);
-    let c = display::put_at(messages, b, b" and ");
-    let d = display::show_type(messages, c, types, script, library, right);
-    let e = display::put_at(messages, d, b" for ");
-    let f = err_text::put_operator(messages, e, op);
-    let g = err_text::put_wanted_both(messages, f, err_text::class_of(op));
+    let a = display::put_at(rest, Wrote::All(0), b"Incompatible types ");
+    let b = display::show_type(rest, a, types, script, library, left);
+    let c = display::put_at(rest, b, b" and ");
+    let d = display::show_type(rest, c, types, script, library, right);
+    let e = display::put_at(rest, d, b" for ");
+    let f = err_text::put_operator(rest, e, op);
+    let g = err_text::put_wanted_both(rest, f, err_text::class_of(op));
     err_text::report(diagnostics, counts, 5, tok::token_span(token), g, g)
 }
 
 // 6: An operand that a unary operator does not take.
 pub fn bad_unary<'a>(
     diagnostics: &mut [u32],
-    messages: &mut [u8],
+    rest: &mut [u8],
     counts: Counts,
     types: &[u32],
     script: &'a [u8],
@@ -119,19 +114,19 @@ pub fn bad_unary<'a>(
     inner: u32,
 ) -> Reported
     ensures { λ r. let T : Texts = textsOf (now (script .entry)) (now (library .entry)) in let U : ℕ → Ty = tyOf T (now (types .entry)) in
-        ⌜ Reports (badUnary token op (U inner)) (now (diagnostics .entry)) (now (messages .entry)) counts (now (diagnostics .exit)) (now (messages .exit)) r ⌝ }
+        ⌜ ReportsIn (badUnary token op (U inner)) (now (diagnostics .entry)) (now (rest .entry)) counts (now (diagnostics .exit)) (now (rest .exit)) r ⌝ }
 {
-    let a = display::put_at(messages, Wrote::All(counts.bytes), b"Unary ");
-    let b = err_text::put_operator(messages, a, op);
-    let c = display::put_at(messages, b, b" requires Int or Double, got ");
-    let d = display::show_type(messages, c, types, script, library, inner);
+    let a = display::put_at(rest, Wrote::All(0), b"Unary ");
+    let b = err_text::put_operator(rest, a, op);
+    let c = display::put_at(rest, b, b" requires Int or Double, got ");
+    let d = display::show_type(rest, c, types, script, library, inner);
     err_text::report(diagnostics, counts, 6, tok::token_span(token), d, d)
 }
 
 // 10: A cast to the type that the operand has.
 pub fn redundant_cast<'a>(
     diagnostics: &mut [u32],
-    messages: &mut [u8],
+    rest: &mut [u8],
     counts: Counts,
     types: &[u32],
     script: &'a [u8],
@@ -140,20 +135,20 @@ pub fn redundant_cast<'a>(
     ty: u32,
 ) -> Reported
     ensures { λ r. let T : Texts = textsOf (now (script .entry)) (now (library .entry)) in let U : ℕ → Ty = tyOf T (now (types .entry)) in
-        ⌜ Reports (redundantCast token (U ty)) (now (diagnostics .entry)) (now (messages .entry)) counts (now (diagnostics .exit)) (now (messages .exit)) r ⌝ }
+        ⌜ ReportsIn (redundantCast token (U ty)) (now (diagnostics .entry)) (now (rest .entry)) counts (now (diagnostics .exit)) (now (rest .exit)) r ⌝ }
 {
-    let a = display::put_at(messages, Wrote::All(counts.bytes), b"Can not cast ");
-    let b = display::show_type(messages, a, types, script, library, ty);
-    let c = display::put_at(messages, b, b" to ");
-    let d = display::show_type(messages, c, types, script, library, ty);
-    let e = display::put_at(messages, d, b"unnecessary cast");
+    let a = display::put_at(rest, Wrote::All(0), b"Can not cast ");
+    let b = display::show_type(rest, a, types, script, library, ty);
+    let c = display::put_at(rest, b, b" to ");
+    let d = display::show_type(rest, c, types, script, library, ty);
+    let e = display::put_at(rest, d, b"unnecessary cast");
     err_text::report(diagnostics, counts, 10, tok::token_span(token), d, e)
 }
 
 // 11: A cast that does not exist.
 pub fn bad_cast<'a>(
     diagnostics: &mut [u32],
-    messages: &mut [u8],
+    rest: &mut [u8],
     counts: Counts,
     types: &[u32],
     script: &'a [u8],
@@ -163,19 +158,19 @@ pub fn bad_cast<'a>(
     to: u32,
 ) -> Reported
     ensures { λ r. let T : Texts = textsOf (now (script .entry)) (now (library .entry)) in let U : ℕ → Ty = tyOf T (now (types .entry)) in
-        ⌜ Reports (badCast token (U from) (U to)) (now (diagnostics .entry)) (now (messages .entry)) counts (now (diagnostics .exit)) (now (messages .exit)) r ⌝ }
+        ⌜ ReportsIn (badCast token (U from) (U to)) (now (diagnostics .entry)) (now (rest .entry)) counts (now (diagnostics .exit)) (now (rest .exit)) r ⌝ }
 {
-    let a = display::put_at(messages, Wrote::All(counts.bytes), b"Can not cast ");
-    let b = display::show_type(messages, a, types, script, library, from);
-    let c = display::put_at(messages, b, b" to ");
-    let d = display::show_type(messages, c, types, script, library, to);
+    let a = display::put_at(rest, Wrote::All(0), b"Can not cast ");
+    let b = display::show_type(rest, a, types, script, library, from);
+    let c = display::put_at(rest, b, b" to ");
+    let d = display::show_type(rest, c, types, script, library, to);
     err_text::report(diagnostics, counts, 11, tok::token_span(token), d, d)
 }
 
 // 12: A field of what is no record.
 pub fn no_record<'a>(
     diagnostics: &mut [u32],
-    messages: &mut [u8],
+    rest: &mut [u8],
     counts: Counts,
     types: &[u32],
     script: &'a [u8],
@@ -184,24 +179,17 @@ pub fn no_record<'a>(
     ty: u32,
 ) -> Reported
     ensures { λ r. let T : Texts = textsOf (now (script .entry)) (now (library .entry)) in let U : ℕ → Ty = tyOf T (now (types .entry)) in
-        ⌜ Reports (noRecord name (U ty)) (now (diagnostics .entry)) (now (messages .entry)) counts (now (diagnostics .exit)) (now (messages .exit)) r ⌝ }
+        ⌜ ReportsIn (noRecord name (U ty)) (now (diagnostics .entry)) (now (rest .entry)) counts (now (diagnostics .exit)) (now (rest .exit)) r ⌝ }
 {
-    let a = display::show_type(
-        messages,
-        Wrote::All(counts.bytes),
-        types,
-        script,
-        library,
-        ty,
-    );
-    let b = display::put_at(messages, a, b" can not be indexed in this way");
+    let a = display::show_type(rest, Wrote::All(0), types, script, library, ty);
+    let b = display::put_at(rest, a, b" can not be indexed in this way");
     err_text::report(diagnostics, counts, 12, tok::token_span(name), b, b)
 }
 
 // 13: A field that the record does not have.
 pub fn no_field<'a>(
     diagnostics: &mut [u32],
-    messages: &mut [u8],
+    rest: &mut [u8],
     counts: Counts,
     types: &[u32],
     script: &'a [u8],
@@ -210,17 +198,10 @@ pub fn no_field<'a>(
     ty: u32,
 ) -> Reported
     ensures { λ r. let T : Texts = textsOf (now (script .entry)) (now (library .entry)) in let U : ℕ → Ty = tyOf T (now (types .entry)) in
-        ⌜ Reports (noFieldOf name (U ty) (nameBytes T name)) (now (diagnostics .entry)) (now (messages .entry)) counts (now (diagnostics .exit)) (now (messages .exit)) r ⌝ }
+        ⌜ ReportsIn (noFieldOf name (U ty) (nameBytes T name)) (now (diagnostics .entry)) (now (rest .entry)) counts (now (diagnostics .exit)) (now (rest .exit)) r ⌝ }
 {
-    let a = display::show_type(
-        messages,
-        Wrote::All(counts.bytes),
-        types,
-        script,
-        library,
-        ty,
-    );
-    let b = display::put_at(messages, a, b" does not have a field called ");
-    let c = err_text::put_name(messages, b, script, library, name);
+    let a = display::show_type(rest, Wrote::All(0), types, script, library, ty);
+    let b = display::put_at(rest, a, b" does not have a field called ");
+    let c = err_text::put_name(rest, b, script, library, name);
     err_text::report(diagnostics, counts, 13, tok::token_span(name), c, c)
 }

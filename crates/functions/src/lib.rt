@@ -61,9 +61,10 @@ pub fn unless_defined<'a>(
         Own::At(_) => {
             let used = st.used;
             let counts = used.told;
+            let free = err_text::first_free(messages, counts);
             let met = err_names::defined_already(
                 diagnostics,
-                messages,
+                &mut messages[free..],
                 counts,
                 script,
                 library,

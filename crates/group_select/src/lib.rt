@@ -12,7 +12,7 @@ ghost use Rattle.ptype.specs.Words.{tyOf};
 ghost use Rattle.display.specs.Writing.{Writes};
 ghost use Rattle.display.specs.Joined.{joined, sig};
 ghost use Rattle.err.specs.Message.{callName, noSpecialisation};
-ghost use Rattle.err.specs.Report.{Reports};
+ghost use Rattle.err_text.specs.Rest.{ReportsIn};
 ghost use Rattle.state.specs.Signatures.{signatureAt};
 ghost use Rattle.signatures.specs.Entries.{flagWords};
 ghost use Rattle.selection.specs.Candidates.{group, paramTypes};
@@ -29,7 +29,7 @@ use state::Went;
 
 // Writes the types of the arguments of the signature whose argument count stands at a place of `words`, joined by `, `.
 fn put_candidate<'a>(
-    messages: &mut [u8],
+    rest: &mut [u8],
     to: Wrote,
     types: &[u32],
     script: &'a [u8],
@@ -38,17 +38,17 @@ fn put_candidate<'a>(
     at: usize,
 ) -> Wrote
     ensures { λ r. let T : Texts = textsOf (now (script .entry)) (now (library .entry)) in
-        ⌜ ((f : Bool) → Writes (now (messages .entry)) to (now (messages .exit)) r (sig (paramTypes (tyOf T (now (types .entry))) (signatureAt (now (words .entry)) at f .params)))) ⌝ }
+        ⌜ ((f : Bool) → Writes (now (rest .entry)) to (now (rest .exit)) r (sig (paramTypes (tyOf T (now (types .entry))) (signatureAt (now (words .entry)) at f .params)))) ⌝ }
 {
     if at <= words.len() {
-        return display::show_arg_types(messages, to, types, script, library, &words[at..]);
+        return display::show_arg_types(rest, to, types, script, library, &words[at..]);
     }
-    display::put_at(messages, to, b"")
+    display::put_at(rest, to, b"")
 }
 
 // Writes the candidates of a name among k entries from a place on, joined by ` | `.
 fn put_candidates<'a>(
-    messages: &mut [u8],
+    rest: &mut [u8],
     to: Wrote,
     types: &[u32],
     script: &'a [u8],
@@ -60,7 +60,7 @@ fn put_candidates<'a>(
     name: &[u8],
 ) -> Wrote
     ensures { λ r. let T : Texts = textsOf (now (script .entry)) (now (library .entry)) in
-        ⌜ Writes (now (messages .entry)) to (now (messages .exit)) r (joined (text " | ") (map sig (candidateTypes (tyOf T (now (types .entry))) (group T (now (name .entry)) (now (words .entry)) (flagWords flagged) from k)))) ⌝ }
+        ⌜ Writes (now (rest .entry)) to (now (rest .exit)) r (joined (text " | ") (map sig (candidateTypes (tyOf T (now (types .entry))) (group T (now (name .entry)) (now (words .entry)) (flagWords flagged) from k)))) ⌝ }
 {
     let mut to = to;
     let mut first = from;
@@ -74,21 +74,21 @@ fn put_candidates<'a>(
             left: after,
         } = signatures::find_entry(script, library, words, flagged, first, left, name)
         else {
-            return display::put_at(messages, to, b"");
+            return display::put_at(rest, to, b"");
         };
-        to = display::put_separator(messages, to, count, b" | ");
-        to = put_candidate(messages, to, types, script, library, words, at);
+        to = display::put_separator(rest, to, count, b" | ");
+        to = put_candidate(rest, to, types, script, library, words, at);
         count += 1;
         first = next;
         left = after;
     }
-    display::put_at(messages, to, b"")
+    display::put_at(rest, to, b"")
 }
 
 // 18: A call of a group of several, none of which takes these argument types.
 fn no_specialisation<'a>(
     diagnostics: &mut [u32],
-    messages: &mut [u8],
+    rest: &mut [u8],
     counts: Counts,
     types: &[u32],
     script: &'a [u8],
@@ -103,15 +103,15 @@ fn no_specialisation<'a>(
     name: &[u8],
 ) -> Reported
     ensures { λ r. let T : Texts = textsOf (now (script .entry)) (now (library .entry)) in let U : ℕ → Ty = tyOf T (now (types .entry)) in
-        ⌜ Reports (noSpecialisation token (callName T callee) (map U (now (provided .entry))) (candidateTypes U (group T (now (name .entry)) (now (words .entry)) (flagWords flagged) from k))) (now (diagnostics .entry)) (now (messages .entry)) counts (now (diagnostics .exit)) (now (messages .exit)) r ⌝ }
+        ⌜ ReportsIn (noSpecialisation token (callName T callee) (map U (now (provided .entry))) (candidateTypes U (group T (now (name .entry)) (now (words .entry)) (flagWords flagged) from k))) (now (diagnostics .entry)) (now (rest .entry)) counts (now (diagnostics .exit)) (now (rest .exit)) r ⌝ }
 {
-    let a = display::put_at(messages, Wrote::All(counts.bytes), b"no specialisation of ");
-    let b = err_text::put_call_name(messages, a, script, library, callee);
-    let c = display::put_at(messages, b, b" accepts (");
-    let d = display::show_types(messages, c, types, script, library, provided);
-    let e = display::put_at(messages, d, b"); available: ");
+    let a = display::put_at(rest, Wrote::All(0), b"no specialisation of ");
+    let b = err_text::put_call_name(rest, a, script, library, callee);
+    let c = display::put_at(rest, b, b" accepts (");
+    let d = display::show_types(rest, c, types, script, library, provided);
+    let e = display::put_at(rest, d, b"); available: ");
     let f = put_candidates(
-        messages,
+        rest,
         e,
         types,
         script,
@@ -148,9 +148,10 @@ fn none_fits<'a>(
     ensures { λ r. let T : Texts = textsOf (now (script .entry)) (now (library .entry)) in
         ⌜ NoneFits T n slot token (callName T callee) (map (tyOf T (now (types .entry))) (now (provided .entry))) (group T (now (name .entry)) (now (words .entry)) (flagWords flagged) from k) (now (slots .entry)) (now (types .entry)) (now (diagnostics .entry)) (now (messages .entry)) used (now (slots .exit)) (now (diagnostics .exit)) (now (messages .exit)) r ⌝ }
 {
+    let free = err_text::first_free(messages, used.told);
     let r = no_specialisation(
         diagnostics,
-        messages,
+        &mut messages[free..],
         used.told,
         types,
         script,

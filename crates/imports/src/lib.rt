@@ -75,7 +75,15 @@ pub fn import_one<'a>(
         Found::Nothing => {
             let used = st.used;
             let counts = used.told;
-            let none = err_names::no_import(diagnostics, messages, counts, script, library, path);
+            let free = err_text::first_free(messages, counts);
+            let none = err_names::no_import(
+                diagnostics,
+                &mut messages[free..],
+                counts,
+                script,
+                library,
+                path,
+            );
             return visit::went_on(st, state::told(n, used, none));
         }
     }
@@ -103,7 +111,8 @@ pub fn import_all<'a>(
     if count == 0 {
         let used = st.used;
         let counts = used.told;
-        let none = err_names::empty_import(diagnostics, messages, counts, token);
+        let free = err_text::first_free(messages, counts);
+        let none = err_names::empty_import(diagnostics, &mut messages[free..], counts, token);
         return visit::went_on(st, state::told(n, used, none));
     }
     let mut after = st;

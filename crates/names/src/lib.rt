@@ -80,7 +80,15 @@ pub fn ident<'a>(
         }
         scope::Binding::Nothing => {
             let counts = used.told;
-            let none = err_names::no_binding(diagnostics, messages, counts, script, library, name);
+            let free = err_text::first_free(messages, counts);
+            let none = err_names::no_binding(
+                diagnostics,
+                &mut messages[free..],
+                counts,
+                script,
+                library,
+                name,
+            );
             return visit::answered(st, state::poisoned(n, used, none));
         }
     }

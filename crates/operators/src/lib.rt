@@ -147,10 +147,11 @@ pub fn fuse<'a>(
         return set_known(slots, used, slot, plain_word(k));
     }
     let counts = used.told;
+    let free = err_text::first_free(messages, counts);
     if ptype::same_type(types, script, library, l, r) {
         let told = err_values::unsupported(
             diagnostics,
-            messages,
+            &mut messages[free..],
             counts,
             types,
             script,
@@ -163,7 +164,7 @@ pub fn fuse<'a>(
     }
     let told = err_values::incompatible(
         diagnostics,
-        messages,
+        &mut messages[free..],
         counts,
         types,
         script,
@@ -220,9 +221,10 @@ pub fn unary<'a>(
         return set_known(slots, used, slot, plain_word(k));
     }
     let counts = used.told;
+    let free = err_text::first_free(messages, counts);
     let told = err_values::bad_unary(
         diagnostics,
-        messages,
+        &mut messages[free..],
         counts,
         types,
         script,
@@ -278,10 +280,11 @@ pub fn cast<'a>(
         return set_known(slots, used, slot, to);
     }
     let counts = used.told;
+    let free = err_text::first_free(messages, counts);
     if !ptype::same_type(types, script, library, i, to) {
         let bad = err_values::bad_cast(
             diagnostics,
-            messages,
+            &mut messages[free..],
             counts,
             types,
             script,
@@ -294,7 +297,7 @@ pub fn cast<'a>(
     }
     let reported = err_values::redundant_cast(
         diagnostics,
-        messages,
+        &mut messages[free..],
         counts,
         types,
         script,

@@ -55,9 +55,10 @@ pub fn resolve_call<'a>(
             );
         }
         Own::Nothing => {
+            let free = err_text::first_free(messages, used.told);
             let r = err_calls::undefined_own(
                 diagnostics,
-                messages,
+                &mut messages[free..],
                 used.told,
                 script,
                 library,

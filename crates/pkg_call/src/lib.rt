@@ -272,9 +272,10 @@ fn in_held<'a>(
             );
         }
         Held::Nothing => {
+            let free = err_text::first_free(messages, used.told);
             let r = err_calls::missing_package(
                 diagnostics,
-                messages,
+                &mut messages[free..],
                 used.told,
                 script,
                 library,

@@ -92,9 +92,10 @@ pub fn in_group<'a>(
 {
     match found {
         Candidates::Nothing => {
+            let free = err_text::first_free(messages, used.told);
             let r = err_calls::undefined_in_package(
                 diagnostics,
-                messages,
+                &mut messages[free..],
                 used.told,
                 script,
                 library,

@@ -120,9 +120,10 @@ fn after_binding<'a>(
             existing,
             new,
         } => {
+            let free = err_text::first_free(messages, used.told);
             let r = err_arguments::slot_conflict(
                 diagnostics,
-                messages,
+                &mut messages[free..],
                 used.told,
                 &types[..],
                 script,
@@ -136,9 +137,10 @@ fn after_binding<'a>(
             return state::told(n, used, r);
         }
         Bind::Void { count: _, slot } => {
+            let free = err_text::first_free(messages, used.told);
             let r = err_arguments::slot_void(
                 diagnostics,
-                messages,
+                &mut messages[free..],
                 used.told,
                 script,
                 library,

@@ -137,9 +137,10 @@ pub fn check_slotted<'a>(
 {
     let required = signatures::argument_count(words, at);
     if count != required {
+        let free = err_text::first_free(messages, used.told);
         let r = err_calls::argument_count(
             diagnostics,
-            messages,
+            &mut messages[free..],
             used.told,
             script,
             library,

@@ -116,9 +116,10 @@ pub fn field<'a>(
     let w = word_at(slots, wide(target));
     let counts = used.told;
     if kind(w) != ptype::RECORD {
+        let free = err_text::first_free(messages, counts);
         let other = err_values::no_record(
             diagnostics,
-            messages,
+            &mut messages[free..],
             counts,
             types,
             script,
@@ -130,9 +131,10 @@ pub fn field<'a>(
     }
     let found = find_field(types, script, library, name, w);
     let Found::Type(t) = found else {
+        let free = err_text::first_free(messages, counts);
         let none = err_values::no_field(
             diagnostics,
-            messages,
+            &mut messages[free..],
             counts,
             types,
             script,
@@ -158,7 +160,8 @@ pub fn empty_array(
     ensures { λ r. ⌜ ((s t : List ℕ) → Steps (poison n (emptyArray token)) s t (now (diagnostics .entry)) (now (messages .entry)) used s t (now (diagnostics .exit)) (now (messages .exit)) r) ⌝ }
 {
     let counts = used.told;
-    let reported = err_values::empty_array(diagnostics, messages, counts, token);
+    let free = err_text::first_free(messages, counts);
+    let reported = err_values::empty_array(diagnostics, &mut messages[free..], counts, token);
     state::poisoned(n, used, reported)
 }
 
@@ -191,9 +194,10 @@ fn member_types<'a>(
         return Compared::Alike(used);
     }
     let counts = used.told;
+    let free = err_text::first_free(messages, counts);
     let reported = err_values::members_differ(
         diagnostics,
-        messages,
+        &mut messages[free..],
         counts,
         types,
         script,
@@ -317,9 +321,10 @@ pub fn condition<'a>(
         return Went::On(used);
     }
     let counts = used.told;
+    let free = err_text::first_free(messages, counts);
     let reported = err_names::bad_condition(
         diagnostics,
-        messages,
+        &mut messages[free..],
         counts,
         types,
         script,
@@ -356,9 +361,10 @@ pub fn compare_branch<'a>(
         return Went::On(used);
     }
     let counts = used.told;
+    let free = err_text::first_free(messages, counts);
     let reported = err_names::match_cases(
         diagnostics,
-        messages,
+        &mut messages[free..],
         counts,
         types,
         script,
@@ -400,7 +406,8 @@ pub fn let_binding(
         return Binding::Bound(w, used);
     }
     let counts = used.told;
-    let reported = err_names::let_void(diagnostics, messages, counts, name);
+    let free = err_text::first_free(messages, counts);
+    let reported = err_names::let_void(diagnostics, &mut messages[free..], counts, name);
     let Reported::Told(after) = reported else {
         return Binding::Refused(9, n);
     };
@@ -436,9 +443,10 @@ pub fn check_return<'a>(
         return Went::On(used);
     }
     let counts = used.told;
+    let free = err_text::first_free(messages, counts);
     let reported = err_names::bad_return(
         diagnostics,
-        messages,
+        &mut messages[free..],
         counts,
         types,
         script,

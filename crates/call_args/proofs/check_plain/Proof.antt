@@ -1,5 +1,6 @@
 -- `call_args::check_plain` meets its contract: another number of arguments, or each argument. Assumes nothing.
 use mathlib.Core.Path.{_∙_}
+use Rattle.err_text.specs.RestLaws.{told-in-whole}
 use borrow.Author.Needs.{needs}
 use Rattle.call_args.proofs.Plain.{miscounted, counted}
 use Rattle.call_args.proofs.check_plain.Statement.{statement}
@@ -10,6 +11,18 @@ argument-count-requires c κs = search needs
 
 return-type-requires : tie.Need-return-type-requires
 return-type-requires c κs = search needs
+
+first-free-requires : tie.Need-first-free-requires
+first-free-requires c κs = search needs
+
+sub-argument-count : tie.Need-sub-argument-count
+sub-argument-count c = search needs
+
+part-argument-count-start : tie.Need-part-argument-count-start
+part-argument-count-start c = search needs
+
+part-argument-count-end : tie.Need-part-argument-count-end
+part-argument-count-end c = search needs
 
 argument-count-requires-2 : tie.Need-argument-count-requires-2
 argument-count-requires-2 c κs = search needs
@@ -30,7 +43,7 @@ same-length-3 : tie.Need-same-length-3
 same-length-3 c = search needs
 
 returns : tie.Need-returns
-returns c = miscounted _ _ _ _ _ _ _ _ _ _ _ _ _ _ _ (c .before .before .before .before .before .before .before .before .before .before .before .before .before .before .argument-count .ensures) (c .before .before .before .before .before .before .before .before .before .before .before .before .before .return-type .ensures) (c .before .before .known-after .ensures) (c .before .before .before .before .before .before .before .before .before .before .before .before .if1 .taken) (c .before .before .before .before .before .before .before .before .before .argument-count2 .ensures) (c .before .before .before .told .ensures)
+returns c = miscounted _ _ _ _ _ _ _ _ _ _ _ _ _ _ _ (c .before .before .before .before .before .before .before .before .before .before .before .before .before .before .before .before .argument-count .ensures) (c .before .before .before .before .before .before .before .before .before .before .before .before .before .before .before .return-type .ensures) (c .before .before .known-after .ensures) (c .before .before .before .before .before .before .before .before .before .before .before .before .before .before .if1 .taken) (told-in-whole _ (c .before .before .before .before .before .before .before .before .before .before .before .before .first-free .ensures) (c .before .before .before .before .before .before .before .before .before .argument-count2 .ensures)) (c .before .before .before .told .ensures)
 
 plain-arguments-requires : tie.Need-plain-arguments-requires
 plain-arguments-requires c κs = record { nodes = c .before .before .before .before .before .before .before .before .before .before .before .before .before .before .before .pre; counts = λ f. c .before .before .before .if1 .left ∙ c .before .before .before .before .before .argument-count .ensures f }
@@ -56,6 +69,10 @@ check-plain-spec =
     (tie.spec
     argument-count-requires
     return-type-requires
+    first-free-requires
+    sub-argument-count
+    part-argument-count-start
+    part-argument-count-end
     argument-count-requires-2
     told-requires
     known-after-requires

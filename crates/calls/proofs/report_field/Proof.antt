@@ -1,6 +1,8 @@
 -- `calls::report_field` meets its contract: the diagnostic, and poison. Assumes nothing.
 use native.Mathlib.Omega.{arith}
 use Rattle.calls.proofs.Returns.{call-low, field-low, field-told}
+use denote.Ref.{now}
+use Rattle.err_text.specs.RestLaws.{told-in-whole}
 use borrow.Author.Needs.{needs}
 use Rattle.calls.proofs.report_field.Statement.{statement}
 use Rattle.calls.proofs.report_field.Tie as tie
@@ -32,6 +34,18 @@ add-word-at-2 c = omega (arith, field-low (c .before .before .before .before .be
 word-at-requires-2 : tie.Need-word-at-requires-2
 word-at-requires-2 c κs = search needs
 
+first-free-requires : tie.Need-first-free-requires
+first-free-requires c κs = search needs
+
+sub-call-through-field : tie.Need-sub-call-through-field
+sub-call-through-field c = search needs
+
+part-call-through-field-start : tie.Need-part-call-through-field-start
+part-call-through-field-start c = search needs
+
+part-call-through-field-end : tie.Need-part-call-through-field-end
+part-call-through-field-end c = search needs
+
 -- src/lib.rt:60:9
 call-through-field-requires : tie.Need-call-through-field-requires
 call-through-field-requires c κs = search needs
@@ -54,7 +68,7 @@ same-length-2 c = search needs
 
 -- src/lib.rt:44:1
 returns : tie.Need-returns
-returns c = field-told (c .before .before .before .before .before .before .before .before .before .before .before .before .before .before .before .before .before .args .n) (c .before .before .before .before .before .before .before .before .before .before .before .before .before .before .before .before .before .args .st) (c .before .before .before .before .before .before .before .before .before .before .before .before .before .before .before .before .before .pre) (c .before .before .before .before .before .before .before .before .before .before .before .word-at .ensures) (c .before .before .before .before .before .before .before .before .before .before .node-place .ensures) (c .before .before .before .before .before .before .before .before .before .word-at2 .ensures) (c .before .before .before .before .before .before .call-through-field .ensures) (c .before .poisoned .ensures) (c .answered .ensures)
+returns c = field-told (c .before .before .before .before .before .before .before .before .before .before .before .before .before .before .before .before .before .before .before .args .n) (c .before .before .before .before .before .before .before .before .before .before .before .before .before .before .before .before .before .before .before .args .st) (c .before .before .before .before .before .before .before .before .before .before .before .before .before .before .before .before .before .before .before .pre) (c .before .before .before .before .before .before .before .before .before .before .before .before .before .word-at .ensures) (c .before .before .before .before .before .before .before .before .before .before .before .before .node-place .ensures) (c .before .before .before .before .before .before .before .before .before .before .before .word-at2 .ensures) (told-in-whole (now (c .before .before .before .before .before .before .before .before .before .before .before .before .before .before .before .before .before .before .before .args .messages)) (c .before .before .before .before .before .before .before .before .before .first-free .ensures) (c .before .before .before .before .before .before .call-through-field .ensures)) (c .before .poisoned .ensures) (c .answered .ensures)
 
 pub report-field-spec : {M : Type 1} → statement M
 report-field-spec =
@@ -65,6 +79,10 @@ report-field-spec =
     node-place-requires
     add-word-at-2
     word-at-requires-2
+    first-free-requires
+    sub-call-through-field
+    part-call-through-field-start
+    part-call-through-field-end
     call-through-field-requires
     poisoned-requires
     answered-requires

@@ -3,7 +3,7 @@ use mathlib.Core.Path.{refl}
 use Rattle.tok.specs.Text.{text}
 use Rattle.display.specs.WritingLaws.{_and-then_}
 use Rattle.err.specs.Message.{slotVoid}
-use Rattle.err.specs.ReportLaws.{tells}
+use Rattle.err_text.specs.RestLaws.{tells-rest}
 use borrow.Author.Needs.{needs}
 use Rattle.err_arguments.proofs.slot_void.Statement.{statement}
 use Rattle.err_arguments.proofs.slot_void.Tie as tie
@@ -43,7 +43,7 @@ same-length-2 c = search needs
 
 returns : tie.Need-returns
 unfolding slotVoid text
-returns c = tells ((c .before .before .before .before .before .before .before .before .before .before .before .before .before .before .before .before .before .before .before .before .before .before .before .before .before .put-call-name .ensures) and-then (c .before .before .before .before .before .before .before .before .before .before .before .before .before .before .before .before .before .before .before .before .put-at .ensures) and-then (c .before .before .before .before .before .before .before .before .before .before .before .before .before .before .before .before .put-name .ensures) and-then (c .before .before .before .before .before .before .before .before .before .before .before .put-at2 .ensures)) ((c .before .before .before .before .before .before .put-at3 .ensures)) refl (c .before .before .report .ensures)
+returns c = tells-rest ((c .before .before .before .before .before .before .before .before .before .before .before .before .before .before .before .before .before .before .before .before .before .before .before .before .before .put-call-name .ensures) and-then (c .before .before .before .before .before .before .before .before .before .before .before .before .before .before .before .before .before .before .before .before .put-at .ensures) and-then (c .before .before .before .before .before .before .before .before .before .before .before .before .before .before .before .before .put-name .ensures) and-then (c .before .before .before .before .before .before .before .before .before .before .before .put-at2 .ensures)) ((c .before .before .before .before .before .before .put-at3 .ensures)) refl (c .before .before .report .ensures)
 
 pub slot-void-spec : {M : Type 1} → statement M
 slot-void-spec =

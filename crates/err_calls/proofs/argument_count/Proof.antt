@@ -2,7 +2,7 @@
 use Rattle.tok.specs.Text.{text}
 use Rattle.display.specs.WritingLaws.{_and-then_}
 use Rattle.err.specs.Message.{argumentCount}
-use Rattle.err.specs.ReportLaws.{tells-alone}
+use Rattle.err_text.specs.RestLaws.{tells-rest-alone}
 use borrow.Author.Needs.{needs}
 use Rattle.err_calls.proofs.argument_count.Statement.{statement}
 use Rattle.err_calls.proofs.argument_count.Tie as tie
@@ -42,7 +42,7 @@ same-length-2 c = search needs
 
 returns : tie.Need-returns
 unfolding argumentCount text
-returns c = tells-alone ((c .before .before .before .before .before .before .before .before .before .before .before .before .before .before .before .before .before .before .before .before .before .before .before .before .before .put-call-name .ensures) and-then (c .before .before .before .before .before .before .before .before .before .before .before .before .before .before .before .before .before .before .before .before .put-at .ensures) and-then (c .before .before .before .before .before .before .before .before .before .before .before .before .before .before .before .before .put-decimal .ensures) and-then (c .before .before .before .before .before .before .before .before .before .before .before .put-at2 .ensures) and-then (c .before .before .before .before .before .before .before .put-decimal2 .ensures)) (c .before .before .before .token-span .ensures) (c .before .before .report .ensures)
+returns c = tells-rest-alone ((c .before .before .before .before .before .before .before .before .before .before .before .before .before .before .before .before .before .before .before .before .before .before .before .before .before .put-call-name .ensures) and-then (c .before .before .before .before .before .before .before .before .before .before .before .before .before .before .before .before .before .before .before .before .put-at .ensures) and-then (c .before .before .before .before .before .before .before .before .before .before .before .before .before .before .before .before .put-decimal .ensures) and-then (c .before .before .before .before .before .before .before .before .before .before .before .put-at2 .ensures) and-then (c .before .before .before .before .before .before .before .put-decimal2 .ensures)) (c .before .before .before .token-span .ensures) (c .before .before .report .ensures)
 
 pub argument-count-spec : {M : Type 1} → statement M
 argument-count-spec =

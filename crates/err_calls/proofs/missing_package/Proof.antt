@@ -2,7 +2,7 @@
 use Rattle.tok.specs.Text.{text}
 use Rattle.display.specs.WritingLaws.{_and-then_}
 use Rattle.err.specs.Message.{missingPackage}
-use Rattle.err.specs.ReportLaws.{tells}
+use Rattle.err_text.specs.RestLaws.{tells-rest}
 use borrow.Author.Needs.{needs}
 use Rattle.err_calls.proofs.missing_package.Statement.{statement}
 use Rattle.err_calls.proofs.missing_package.Tie as tie
@@ -36,7 +36,7 @@ same-length-2 c = search needs
 
 returns : tie.Need-returns
 unfolding missingPackage text
-returns c = tells ((c .before .before .before .before .before .before .before .before .before .before .before .before .before .before .before .before .put-at .ensures) and-then (c .before .before .before .before .before .before .before .before .before .before .before .before .put-ticked .ensures)) ((c .before .before .before .before .before .before .before .put-at2 .ensures)) (c .before .before .before .token-span .ensures) (c .before .before .report .ensures)
+returns c = tells-rest ((c .before .before .before .before .before .before .before .before .before .before .before .before .before .before .before .before .put-at .ensures) and-then (c .before .before .before .before .before .before .before .before .before .before .before .before .put-ticked .ensures)) ((c .before .before .before .before .before .before .before .put-at2 .ensures)) (c .before .before .before .token-span .ensures) (c .before .before .report .ensures)
 
 pub missing-package-spec : {M : Type 1} → statement M
 missing-package-spec =

@@ -2,7 +2,7 @@
 use Rattle.tok.specs.Text.{text}
 use Rattle.display.specs.WritingLaws.{writes-length, _and-then_}
 use Rattle.err.specs.Message.{noSpecialisation}
-use Rattle.err.specs.ReportLaws.{tells-alone}
+use Rattle.err_text.specs.RestLaws.{tells-rest-alone}
 use borrow.Author.Needs.{needs}
 use Rattle.err_calls.proofs.no_specialisation.Statement.{statement}
 use Rattle.err_calls.proofs.no_specialisation.Tie as tie
@@ -48,7 +48,7 @@ same-length-2 c = writes-length ((c .before .before .before .before .before .bef
 
 returns : tie.Need-returns
 unfolding noSpecialisation text
-returns c = tells-alone ((c .before .before .before .before .before .before .before .before .before .before .before .before .before .before .before .before .before .before .before .before .before .before .before .before .before .before .before .before .before .put-at .ensures) and-then (c .before .before .before .before .before .before .before .before .before .before .before .before .before .before .before .before .before .before .before .before .before .before .before .before .before .put-call-name .ensures) and-then (c .before .before .before .before .before .before .before .before .before .before .before .before .before .before .before .before .before .before .before .before .put-at2 .ensures) and-then (c .before .before .before .before .before .before .before .before .before .before .before .before .before .before .before .before .show-types .ensures) and-then (c .before .before .before .before .before .before .before .before .before .before .before .put-at3 .ensures) and-then (c .before .before .before .before .before .before .before .put-candidates .ensures)) (c .before .before .before .token-span .ensures) (c .before .before .report .ensures)
+returns c = tells-rest-alone ((c .before .before .before .before .before .before .before .before .before .before .before .before .before .before .before .before .before .before .before .before .before .before .before .before .before .before .before .before .before .put-at .ensures) and-then (c .before .before .before .before .before .before .before .before .before .before .before .before .before .before .before .before .before .before .before .before .before .before .before .before .before .put-call-name .ensures) and-then (c .before .before .before .before .before .before .before .before .before .before .before .before .before .before .before .before .before .before .before .before .put-at2 .ensures) and-then (c .before .before .before .before .before .before .before .before .before .before .before .before .before .before .before .before .show-types .ensures) and-then (c .before .before .before .before .before .before .before .before .before .before .before .put-at3 .ensures) and-then (c .before .before .before .before .before .before .before .put-candidates .ensures)) (c .before .before .before .token-span .ensures) (c .before .before .report .ensures)
 
 pub no-specialisation-spec : {M : Type 1} → statement M
 no-specialisation-spec =

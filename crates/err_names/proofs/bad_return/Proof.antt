@@ -2,7 +2,7 @@
 use Rattle.tok.specs.Text.{text}
 use Rattle.display.specs.WritingLaws.{writes-length, _and-then_}
 use Rattle.err.specs.Message.{badReturn}
-use Rattle.err.specs.ReportLaws.{tells-alone}
+use Rattle.err_text.specs.RestLaws.{tells-rest-alone}
 use borrow.Author.Needs.{needs}
 use Rattle.err_names.proofs.bad_return.Statement.{statement}
 use Rattle.err_names.proofs.bad_return.Tie as tie
@@ -42,7 +42,7 @@ same-length-2 c = writes-length ((c .before .before .before .before .before .bef
 
 returns : tie.Need-returns
 unfolding badReturn text
-returns c = tells-alone ((c .before .before .before .before .before .before .before .before .before .before .before .before .before .before .before .before .before .before .before .before .before .before .before .before .before .put-ticked .ensures) and-then (c .before .before .before .before .before .before .before .before .before .before .before .before .before .before .before .before .before .before .before .before .put-at .ensures) and-then (c .before .before .before .before .before .before .before .before .before .before .before .before .before .before .before .before .show-type .ensures) and-then (c .before .before .before .before .before .before .before .before .before .before .before .put-at2 .ensures) and-then (c .before .before .before .before .before .before .before .show-type2 .ensures)) (c .before .before .before .token-span .ensures) (c .before .before .report .ensures)
+returns c = tells-rest-alone ((c .before .before .before .before .before .before .before .before .before .before .before .before .before .before .before .before .before .before .before .before .before .before .before .before .before .put-ticked .ensures) and-then (c .before .before .before .before .before .before .before .before .before .before .before .before .before .before .before .before .before .before .before .before .put-at .ensures) and-then (c .before .before .before .before .before .before .before .before .before .before .before .before .before .before .before .before .show-type .ensures) and-then (c .before .before .before .before .before .before .before .before .before .before .before .put-at2 .ensures) and-then (c .before .before .before .before .before .before .before .show-type2 .ensures)) (c .before .before .before .token-span .ensures) (c .before .before .report .ensures)
 
 pub bad-return-spec : {M : Type 1} → statement M
 bad-return-spec =

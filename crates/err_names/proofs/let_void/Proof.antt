@@ -1,7 +1,7 @@
 -- `err_names::let_void` meets its contract: its text, its span and its record, one after the other. Assumes nothing.
 use Rattle.tok.specs.Text.{text}
 use Rattle.err.specs.Message.{letVoid}
-use Rattle.err.specs.ReportLaws.{tells-alone}
+use Rattle.err_text.specs.RestLaws.{tells-rest-alone}
 use borrow.Author.Needs.{needs}
 use Rattle.err_names.proofs.let_void.Statement.{statement}
 use Rattle.err_names.proofs.let_void.Tie as tie
@@ -26,7 +26,7 @@ same-length-2 c = search needs
 
 returns : tie.Need-returns
 unfolding letVoid text
-returns c = tells-alone ((c .before .before .before .before .before .before .before .put-at .ensures)) (c .before .before .before .token-span .ensures) (c .before .before .report .ensures)
+returns c = tells-rest-alone ((c .before .before .before .before .before .before .before .put-at .ensures)) (c .before .before .before .token-span .ensures) (c .before .before .report .ensures)
 
 pub let-void-spec : {M : Type 1} → statement M
 let-void-spec =

@@ -1,7 +1,7 @@
 -- `err_values::empty_array` meets its contract: both its texts, its span and its record, one after the other. Assumes nothing.
 use Rattle.tok.specs.Text.{text}
 use Rattle.err.specs.Message.{emptyArray}
-use Rattle.err.specs.ReportLaws.{tells}
+use Rattle.err_text.specs.RestLaws.{tells-rest}
 use borrow.Author.Needs.{needs}
 use Rattle.err_values.proofs.empty_array.Statement.{statement}
 use Rattle.err_values.proofs.empty_array.Tie as tie
@@ -32,7 +32,7 @@ same-length-2 c = search needs
 
 returns : tie.Need-returns
 unfolding emptyArray text
-returns c = tells ((c .before .before .before .before .before .before .before .before .before .before .before .before .put-at .ensures)) ((c .before .before .before .before .before .before .before .put-at2 .ensures)) (c .before .before .before .token-span .ensures) (c .before .before .report .ensures)
+returns c = tells-rest ((c .before .before .before .before .before .before .before .before .before .before .before .before .put-at .ensures)) ((c .before .before .before .before .before .before .before .put-at2 .ensures)) (c .before .before .before .token-span .ensures) (c .before .before .report .ensures)
 
 pub empty-array-spec : {M : Type 1} → statement M
 empty-array-spec =

@@ -3,7 +3,7 @@ use mathlib.Core.Path.{sym, ap}
 use Rattle.tok.specs.Text.{text}
 use Rattle.display.specs.WritingLaws.{writes-length, writes-as, _and-then_}
 use Rattle.err.specs.Message.{incompatible, wantedBoth}
-use Rattle.err.specs.ReportLaws.{tells-alone}
+use Rattle.err_text.specs.RestLaws.{tells-rest-alone}
 use borrow.Author.Needs.{needs}
 use Rattle.err_values.proofs.incompatible.Statement.{statement}
 use Rattle.err_values.proofs.incompatible.Tie as tie
@@ -55,7 +55,7 @@ same-length-2 c = writes-length ((c .before .before .before .before .before .bef
 
 returns : tie.Need-returns
 unfolding incompatible text
-returns c = tells-alone ((c .before .before .before .before .before .before .before .before .before .before .before .before .before .before .before .before .before .before .before .before .before .before .before .before .before .before .before .before .before .before .before .before .before .before .put-at .ensures) and-then (c .before .before .before .before .before .before .before .before .before .before .before .before .before .before .before .before .before .before .before .before .before .before .before .before .before .before .before .before .before .before .show-type .ensures) and-then (c .before .before .before .before .before .before .before .before .before .before .before .before .before .before .before .before .before .before .before .before .before .before .before .before .before .put-at2 .ensures) and-then (c .before .before .before .before .before .before .before .before .before .before .before .before .before .before .before .before .before .before .before .before .before .show-type2 .ensures) and-then (c .before .before .before .before .before .before .before .before .before .before .before .before .before .before .before .before .put-at3 .ensures) and-then (c .before .before .before .before .before .before .before .before .before .before .before .before .put-operator .ensures) and-then (writes-as (ap wantedBoth (sym (c .before .before .before .before .before .before .before .before .class-of .ensures))) (c .before .before .before .before .before .before .before .put-wanted-both .ensures))) (c .before .before .before .token-span .ensures) (c .before .before .report .ensures)
+returns c = tells-rest-alone ((c .before .before .before .before .before .before .before .before .before .before .before .before .before .before .before .before .before .before .before .before .before .before .before .before .before .before .before .before .before .before .before .before .before .before .put-at .ensures) and-then (c .before .before .before .before .before .before .before .before .before .before .before .before .before .before .before .before .before .before .before .before .before .before .before .before .before .before .before .before .before .before .show-type .ensures) and-then (c .before .before .before .before .before .before .before .before .before .before .before .before .before .before .before .before .before .before .before .before .before .before .before .before .before .put-at2 .ensures) and-then (c .before .before .before .before .before .before .before .before .before .before .before .before .before .before .before .before .before .before .before .before .before .show-type2 .ensures) and-then (c .before .before .before .before .before .before .before .before .before .before .before .before .before .before .before .before .put-at3 .ensures) and-then (c .before .before .before .before .before .before .before .before .before .before .before .before .put-operator .ensures) and-then (writes-as (ap wantedBoth (sym (c .before .before .before .before .before .before .before .before .class-of .ensures))) (c .before .before .before .before .before .before .before .put-wanted-both .ensures))) (c .before .before .before .token-span .ensures) (c .before .before .report .ensures)
 
 pub incompatible-spec : {M : Type 1} → statement M
 incompatible-spec =

@@ -3,7 +3,7 @@ use mathlib.Core.Path.{refl}
 use Rattle.tok.specs.Text.{text}
 use Rattle.display.specs.WritingLaws.{writes-length, _and-then_}
 use Rattle.err.specs.Message.{membersDiffer}
-use Rattle.err.specs.ReportLaws.{tells}
+use Rattle.err_text.specs.RestLaws.{tells-rest}
 use borrow.Author.Needs.{needs}
 use Rattle.err_values.proofs.members_differ.Statement.{statement}
 use Rattle.err_values.proofs.members_differ.Tie as tie
@@ -46,7 +46,7 @@ same-length-2 c = writes-length ((c .before .before .before .before .before .bef
 
 returns : tie.Need-returns
 unfolding membersDiffer text
-returns c = tells ((c .before .before .before .before .before .before .before .before .before .before .before .before .before .before .before .before .before .before .before .before .before .before .before .before .before .before .before .before .put-at .ensures) and-then (c .before .before .before .before .before .before .before .before .before .before .before .before .before .before .before .before .before .before .before .before .before .before .before .before .show-type .ensures) and-then (c .before .before .before .before .before .before .before .before .before .before .before .before .before .before .before .before .before .before .before .put-at2 .ensures) and-then (c .before .before .before .before .before .before .before .before .before .before .before .before .before .before .before .show-type2 .ensures)) ((c .before .before .before .before .before .before .before .before .before .before .put-at3 .ensures) and-then (c .before .before .before .before .before .before .show-type3 .ensures)) refl (c .before .before .report .ensures)
+returns c = tells-rest ((c .before .before .before .before .before .before .before .before .before .before .before .before .before .before .before .before .before .before .before .before .before .before .before .before .before .before .before .before .put-at .ensures) and-then (c .before .before .before .before .before .before .before .before .before .before .before .before .before .before .before .before .before .before .before .before .before .before .before .before .show-type .ensures) and-then (c .before .before .before .before .before .before .before .before .before .before .before .before .before .before .before .before .before .before .before .put-at2 .ensures) and-then (c .before .before .before .before .before .before .before .before .before .before .before .before .before .before .before .show-type2 .ensures)) ((c .before .before .before .before .before .before .before .before .before .before .put-at3 .ensures) and-then (c .before .before .before .before .before .before .show-type3 .ensures)) refl (c .before .before .report .ensures)
 
 pub members-differ-spec : {M : Type 1} → statement M
 members-differ-spec =

@@ -1,8 +1,7 @@
 -- `err_values::no_record` meets its contract: its text, its span and its record, one after the other. Assumes nothing.
 use Rattle.tok.specs.Text.{text}
-use Rattle.display.specs.WritingLaws.{_and-then_}
 use Rattle.err.specs.Message.{noRecord}
-use Rattle.err.specs.ReportLaws.{tells-alone}
+use Rattle.err_text.specs.RestLaws.{tells-shown}
 use borrow.Author.Needs.{needs}
 use Rattle.err_values.proofs.no_record.Statement.{statement}
 use Rattle.err_values.proofs.no_record.Tie as tie
@@ -30,7 +29,7 @@ same-length-2 c = search needs
 
 returns : tie.Need-returns
 unfolding noRecord text
-returns c = tells-alone ((c .before .before .before .before .before .before .before .before .before .before .before .before .show-type .ensures) and-then (c .before .before .before .before .before .before .before .put-at .ensures)) (c .before .before .before .token-span .ensures) (c .before .before .report .ensures)
+returns c = tells-shown (c .before .before .before .before .before .before .before .before .before .before .before .before .show-type .ensures) (c .before .before .before .before .before .before .before .put-at .ensures) (c .before .before .before .token-span .ensures) (c .before .before .report .ensures)
 
 pub no-record-spec : {M : Type 1} → statement M
 no-record-spec =

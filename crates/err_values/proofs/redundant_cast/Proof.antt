@@ -2,7 +2,7 @@
 use Rattle.tok.specs.Text.{text}
 use Rattle.display.specs.WritingLaws.{writes-length, _and-then_}
 use Rattle.err.specs.Message.{redundantCast}
-use Rattle.err.specs.ReportLaws.{tells}
+use Rattle.err_text.specs.RestLaws.{tells-rest}
 use borrow.Author.Needs.{needs}
 use Rattle.err_values.proofs.redundant_cast.Statement.{statement}
 use Rattle.err_values.proofs.redundant_cast.Tie as tie
@@ -45,7 +45,7 @@ same-length-2 c = writes-length ((c .before .before .before .before .before .bef
 
 returns : tie.Need-returns
 unfolding redundantCast text
-returns c = tells ((c .before .before .before .before .before .before .before .before .before .before .before .before .before .before .before .before .before .before .before .before .before .before .before .before .before .put-at .ensures) and-then (c .before .before .before .before .before .before .before .before .before .before .before .before .before .before .before .before .before .before .before .before .before .show-type .ensures) and-then (c .before .before .before .before .before .before .before .before .before .before .before .before .before .before .before .before .put-at2 .ensures) and-then (c .before .before .before .before .before .before .before .before .before .before .before .before .show-type2 .ensures)) ((c .before .before .before .before .before .before .before .put-at3 .ensures)) (c .before .before .before .token-span .ensures) (c .before .before .report .ensures)
+returns c = tells-rest ((c .before .before .before .before .before .before .before .before .before .before .before .before .before .before .before .before .before .before .before .before .before .before .before .before .before .put-at .ensures) and-then (c .before .before .before .before .before .before .before .before .before .before .before .before .before .before .before .before .before .before .before .before .before .show-type .ensures) and-then (c .before .before .before .before .before .before .before .before .before .before .before .before .before .before .before .before .put-at2 .ensures) and-then (c .before .before .before .before .before .before .before .before .before .before .before .before .show-type2 .ensures)) ((c .before .before .before .before .before .before .before .put-at3 .ensures)) (c .before .before .before .token-span .ensures) (c .before .before .report .ensures)
 
 pub redundant-cast-spec : {M : Type 1} → statement M
 redundant-cast-spec =

@@ -3,7 +3,7 @@ use mathlib.Core.Path.{sym, ap}
 use Rattle.tok.specs.Text.{text}
 use Rattle.display.specs.WritingLaws.{writes-as, _and-then_}
 use Rattle.err.specs.Message.{unsupported, wanted}
-use Rattle.err.specs.ReportLaws.{tells-alone}
+use Rattle.err_text.specs.RestLaws.{tells-rest-alone}
 use borrow.Author.Needs.{needs}
 use Rattle.err_values.proofs.unsupported.Statement.{statement}
 use Rattle.err_values.proofs.unsupported.Tie as tie
@@ -46,7 +46,7 @@ same-length-2 c = search needs
 
 returns : tie.Need-returns
 unfolding unsupported text
-returns c = tells-alone ((c .before .before .before .before .before .before .before .before .before .before .before .before .before .before .before .before .before .before .before .before .before .before .before .before .before .put-at .ensures) and-then (c .before .before .before .before .before .before .before .before .before .before .before .before .before .before .before .before .before .before .before .before .before .show-type .ensures) and-then (c .before .before .before .before .before .before .before .before .before .before .before .before .before .before .before .before .put-at2 .ensures) and-then (c .before .before .before .before .before .before .before .before .before .before .before .before .put-operator .ensures) and-then (writes-as (ap wanted (sym (c .before .before .before .before .before .before .before .before .class-of .ensures))) (c .before .before .before .before .before .before .before .put-wanted .ensures))) (c .before .before .before .token-span .ensures) (c .before .before .report .ensures)
+returns c = tells-rest-alone ((c .before .before .before .before .before .before .before .before .before .before .before .before .before .before .before .before .before .before .before .before .before .before .before .before .before .put-at .ensures) and-then (c .before .before .before .before .before .before .before .before .before .before .before .before .before .before .before .before .before .before .before .before .before .show-type .ensures) and-then (c .before .before .before .before .before .before .before .before .before .before .before .before .before .before .before .before .put-at2 .ensures) and-then (c .before .before .before .before .before .before .before .before .before .before .before .before .put-operator .ensures) and-then (writes-as (ap wanted (sym (c .before .before .before .before .before .before .before .before .class-of .ensures))) (c .before .before .before .before .before .before .before .put-wanted .ensures))) (c .before .before .before .token-span .ensures) (c .before .before .report .ensures)
 
 pub unsupported-spec : {M : Type 1} → statement M
 unsupported-spec =

@@ -1,5 +1,7 @@
 -- `functions::unless_defined` meets its contract: one law for each return. Assumes nothing.
 use Rattle.functions.proofs.Returns.{name-new, name-met}
+use denote.Ref.{now}
+use Rattle.err_text.specs.RestLaws.{told-in-whole}
 use borrow.Author.Needs.{needs}
 use Rattle.functions.proofs.unless_defined.Statement.{statement}
 use Rattle.functions.proofs.unless_defined.Tie as tie
@@ -26,6 +28,18 @@ returns c = λ ls v words s t e. name-new _ (c .before .before .before .before .
 enum-told-2 : tie.Need-enum-told-2
 enum-told-2 c = search needs
 
+first-free-requires : tie.Need-first-free-requires
+first-free-requires c κs = search needs
+
+sub-defined-already : tie.Need-sub-defined-already
+sub-defined-already c = search needs
+
+part-defined-already-start : tie.Need-part-defined-already-start
+part-defined-already-start c = search needs
+
+part-defined-already-end : tie.Need-part-defined-already-end
+part-defined-already-end c = search needs
+
 -- src/lib.rt:64:17
 defined-already-requires : tie.Need-defined-already-requires
 defined-already-requires c κs = search needs
@@ -48,7 +62,7 @@ same-length-2 c = search needs
 
 -- src/lib.rt:72:13
 returns-2 : tie.Need-returns-2
-returns-2 c = name-met _ (c .before .before .before .before .before .before .before .before .before .before .before .before .before .before .before .before .before .before .before .args .n) (c .before .before .before .before .before .before .before .before .before .before .before .before .before .before .before .before .before .before .before .args .name) (c .before .before .before .before .before .before .before .before .before .before .before .before .before .before .before .before .before .before .before .args .st) _ (c .before .before .before .before .before .before .before .before .before .before .before .before .before .find-own .result) (c .before .before .before .before .before .before .before .before .before .before .before .before .before .find-own .ensures) (c .before .before .before .before .before .before .before .before .before .before .before .enum-told2 .given .1) (c .before .before .before .before .before .before .defined-already .ensures) (c .before .poisoned .ensures) (c .answered .ensures)
+returns-2 c = name-met _ (c .before .before .before .before .before .before .before .before .before .before .before .before .before .before .before .before .before .before .before .before .before .args .n) (c .before .before .before .before .before .before .before .before .before .before .before .before .before .before .before .before .before .before .before .before .before .args .name) (c .before .before .before .before .before .before .before .before .before .before .before .before .before .before .before .before .before .before .before .before .before .args .st) _ (c .before .before .before .before .before .before .before .before .before .before .before .before .before .before .before .find-own .result) (c .before .before .before .before .before .before .before .before .before .before .before .before .before .before .before .find-own .ensures) (c .before .before .before .before .before .before .before .before .before .before .before .before .before .enum-told2 .given .1) (told-in-whole (now (c .before .before .before .before .before .before .before .before .before .before .before .before .before .before .before .before .before .before .before .before .before .args .messages)) (c .before .before .before .before .before .before .before .before .before .first-free .ensures) (c .before .before .before .before .before .before .defined-already .ensures)) (c .before .poisoned .ensures) (c .answered .ensures)
 
 pub unless-defined-spec : {M : Type 1} → statement M
 unless-defined-spec =
@@ -58,6 +72,10 @@ unless-defined-spec =
     enum-told
     returns
     enum-told-2
+    first-free-requires
+    sub-defined-already
+    part-defined-already-start
+    part-defined-already-end
     defined-already-requires
     poisoned-requires
     answered-requires

@@ -11,11 +11,11 @@ use Rattle.group_select.proofs.put_candidates.Statement.{statement}
 use Rattle.group_select.proofs.put_candidates.Tie as tie
 
 abbrev Inv-loop : tie.InvT-loop
-Inv-loop messages₀ types script library words flagged from k name to₀ first₀ left₀ count₀ t18 t19 t20 messages to first left count =
-    Listing (textsOf script library) types name words (flagWords flagged) from k messages₀ to₀ messages to first left count
+Inv-loop rest₀ types script library words flagged from k name to₀ first₀ left₀ count₀ t18 t19 t20 rest to first left count =
+    Listing (textsOf script library) types name words (flagWords flagged) from k rest₀ to₀ rest to first left count
 
 abbrev μ-loop : tie.MeasureT-loop
-μ-loop messages₀ types script library words flagged from k name to₀ first₀ left₀ count₀ t18 t19 t20 messages to first left count = left
+μ-loop rest₀ types script library words flagged from k name to₀ first₀ left₀ count₀ t18 t19 t20 rest to first left count = left
 
 loop-holds : tie.Need-loop-holds Inv-loop μ-loop
 loop-holds c = listing-begin _ _ _ _ _ _ _

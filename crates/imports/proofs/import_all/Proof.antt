@@ -6,6 +6,8 @@ use native.Mathlib.Omega.{arith}
 use Rattle.tok.specs.Text.{textsOf}
 use Rattle.imports.specs.Holding.{CanHoldAll}
 use Rattle.imports.proofs.Returns.{Importing, import-begin, import-empty, import-room, import-over, import-stops, import-more}
+use denote.Ref.{now}
+use Rattle.err_text.specs.RestLaws.{told-in-whole}
 use borrow.Author.Needs.{needs}
 use Rattle.imports.proofs.import_all.Statement.{statement}
 use Rattle.imports.proofs.import_all.Tie as tie
@@ -24,6 +26,18 @@ Inv-loop diagnostics₀ messages₀ scratch₀ script library words image n toke
 abbrev μ-loop : tie.MeasureT-loop
 μ-loop diagnostics₀ messages₀ scratch₀ script library words image n token at count after₀ k₀ diagnostics messages scratch after k =
     count - k
+
+first-free-requires : tie.Need-first-free-requires Inv-loop μ-loop
+first-free-requires c κs = search needs
+
+sub-empty-import : tie.Need-sub-empty-import Inv-loop μ-loop
+sub-empty-import c = search needs
+
+part-empty-import-start : tie.Need-part-empty-import-start Inv-loop μ-loop
+part-empty-import-start c = search needs
+
+part-empty-import-end : tie.Need-part-empty-import-end Inv-loop μ-loop
+part-empty-import-end c = search needs
 
 -- src/lib.rt:93:13
 empty-import-requires : tie.Need-empty-import-requires Inv-loop μ-loop
@@ -47,7 +61,7 @@ same-length-2 c = search needs
 
 -- src/lib.rt:94:9
 returns : tie.Need-returns Inv-loop μ-loop
-returns c = import-empty _ (c .before .before .before .before .before .before .before .before .before .before .before .before .before .before .before .before .before .before .before .args .n) (c .before .before .before .before .before .before .before .before .before .before .before .before .before .before .before .before .before .before .before .args .token) (c .before .before .before .before .before .before .before .before .before .before .before .before .before .before .before .before .before .before .before .args .at) (c .before .before .before .before .before .before .before .before .before .before .before .before .before .before .before .before .before .before .before .args .count) (c .before .before .before .before .before .before .before .before .before .before .before .before .before .before .before .before .before .before .before .pre) (c .before .before .before .before .before .before .before .before .before .before .before .if1 .taken) (c .before .before .before .before .before .before .empty-import .ensures) (c .before .told .ensures) (c .went-on .ensures)
+returns c = import-empty _ (c .before .before .before .before .before .before .before .before .before .before .before .before .before .before .before .before .before .before .before .before .before .args .n) (c .before .before .before .before .before .before .before .before .before .before .before .before .before .before .before .before .before .before .before .before .before .args .token) (c .before .before .before .before .before .before .before .before .before .before .before .before .before .before .before .before .before .before .before .before .before .args .at) (c .before .before .before .before .before .before .before .before .before .before .before .before .before .before .before .before .before .before .before .before .before .args .count) (c .before .before .before .before .before .before .before .before .before .before .before .before .before .before .before .before .before .before .before .before .before .pre) (c .before .before .before .before .before .before .before .before .before .before .before .before .before .if1 .taken) (told-in-whole (now (c .before .before .before .before .before .before .before .before .before .before .before .before .before .before .before .before .before .before .before .before .before .args .messages)) (c .before .before .before .before .before .before .before .before .before .first-free .ensures) (c .before .before .before .before .before .before .empty-import .ensures)) (c .before .told .ensures) (c .went-on .ensures)
 
 -- src/lib.rt:98:5
 loop-holds : tie.Need-loop-holds Inv-loop μ-loop
@@ -123,6 +137,10 @@ import-all-spec =
     (tie.spec
     Inv-loop
     μ-loop
+    first-free-requires
+    sub-empty-import
+    part-empty-import-start
+    part-empty-import-end
     empty-import-requires
     told-requires
     went-on-requires

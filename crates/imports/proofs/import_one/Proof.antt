@@ -3,6 +3,8 @@ use mathlib.Core.Path.{refl}
 use native.Mathlib.Omega.{arith}
 use Rattle.imports.specs.Holding.{held-near, some-room, few-packages}
 use Rattle.imports.proofs.Returns.{place-low, import-held, import-found, import-none}
+use denote.Ref.{now}
+use Rattle.err_text.specs.RestLaws.{told-in-whole}
 use borrow.Author.Needs.{needs}
 use Rattle.imports.proofs.import_one.Statement.{statement}
 use Rattle.imports.proofs.import_one.Tie as tie
@@ -72,6 +74,18 @@ returns-2 c = λ v s f t. import-found _ _ (c .before .before .before .before .b
 enum-told-2 : tie.Need-enum-told-2
 enum-told-2 c = search needs
 
+first-free-requires : tie.Need-first-free-requires
+first-free-requires c κs = search needs
+
+sub-no-import : tie.Need-sub-no-import
+sub-no-import c = search needs
+
+part-no-import-start : tie.Need-part-no-import-start
+part-no-import-start c = search needs
+
+part-no-import-end : tie.Need-part-no-import-end
+part-no-import-end c = search needs
+
 -- src/lib.rt:65:17
 no-import-requires : tie.Need-no-import-requires
 no-import-requires c κs = search needs
@@ -98,7 +112,7 @@ same-length-5 c = search needs
 
 -- src/lib.rt:66:13
 returns-3 : tie.Need-returns-3
-returns-3 c = import-none _ _ (c .before .before .before .before .before .before .before .before .before .before .before .before .before .before .before .before .before .before .before .before .before .before .before .before .before .args .n) (c .before .before .before .before .before .before .before .before .before .before .before .before .before .before .before .before .before .before .before .before .before .before .before .before .before .args .path) (c .before .before .before .before .before .before .before .before .before .before .before .before .before .before .before .before .before .before .before .before .before .before .before .before .before .args .st) _ (c .before .before .before .before .before .before .before .before .before .before .before .before .before .before .before .before .before .before .before .before .before .before .before .before .before .pre) (c .before .before .before .before .before .before .before .before .before .before .before .before .before .before .before .before .before .find-held .result) (c .before .before .before .before .before .before .before .before .before .before .before .before .before .before .before .before .before .find-held .ensures) (c .before .before .before .before .before .before .before .before .before .before .before .before .before .before .before .enum-told .given .1) (c .before .before .before .before .before .before .before .before .before .before .before .before .before .before .name-bytes .ensures) (c .before .before .before .before .before .before .before .before .before .before .before .before .before .find-package .result) (c .before .before .before .before .before .before .before .before .before .before .before .before .before .find-package .ensures) (c .before .before .before .before .before .before .before .before .before .before .before .enum-told2 .given .1) (c .before .before .before .before .before .before .no-import .ensures) (c .before .told .ensures) (c .went-on .ensures)
+returns-3 c = import-none _ _ (c .before .before .before .before .before .before .before .before .before .before .before .before .before .before .before .before .before .before .before .before .before .before .before .before .before .before .before .args .n) (c .before .before .before .before .before .before .before .before .before .before .before .before .before .before .before .before .before .before .before .before .before .before .before .before .before .before .before .args .path) (c .before .before .before .before .before .before .before .before .before .before .before .before .before .before .before .before .before .before .before .before .before .before .before .before .before .before .before .args .st) _ (c .before .before .before .before .before .before .before .before .before .before .before .before .before .before .before .before .before .before .before .before .before .before .before .before .before .before .before .pre) (c .before .before .before .before .before .before .before .before .before .before .before .before .before .before .before .before .before .before .before .find-held .result) (c .before .before .before .before .before .before .before .before .before .before .before .before .before .before .before .before .before .before .before .find-held .ensures) (c .before .before .before .before .before .before .before .before .before .before .before .before .before .before .before .before .before .enum-told .given .1) (c .before .before .before .before .before .before .before .before .before .before .before .before .before .before .before .before .name-bytes .ensures) (c .before .before .before .before .before .before .before .before .before .before .before .before .before .before .before .find-package .result) (c .before .before .before .before .before .before .before .before .before .before .before .before .before .before .before .find-package .ensures) (c .before .before .before .before .before .before .before .before .before .before .before .before .before .enum-told2 .given .1) (told-in-whole (now (c .before .before .before .before .before .before .before .before .before .before .before .before .before .before .before .before .before .before .before .before .before .before .before .before .before .before .before .args .messages)) (c .before .before .before .before .before .before .before .before .before .first-free .ensures) (c .before .before .before .before .before .before .no-import .ensures)) (c .before .told .ensures) (c .went-on .ensures)
 
 pub import-one-spec : {M : Type 1} → statement M
 import-one-spec =
@@ -118,6 +132,10 @@ import-one-spec =
     same-length-2
     returns-2
     enum-told-2
+    first-free-requires
+    sub-no-import
+    part-no-import-start
+    part-no-import-end
     no-import-requires
     told-requires
     went-on-requires

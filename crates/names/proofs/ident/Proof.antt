@@ -1,5 +1,7 @@
 -- `names::ident` meets its contract: one law for each return. Assumes nothing.
 use Rattle.names.proofs.Returns.{ident-bound, ident-poisoned, ident-none}
+use denote.Ref.{now}
+use Rattle.err_text.specs.RestLaws.{told-in-whole}
 use borrow.Author.Needs.{needs}
 use Rattle.names.proofs.ident.Statement.{statement}
 use Rattle.names.proofs.ident.Tie as tie
@@ -47,6 +49,18 @@ returns-2 c = λ ls v words f t. ident-poisoned _ (c .before .before .before .be
 enum-told-2 : tie.Need-enum-told-2
 enum-told-2 c = search needs
 
+first-free-requires : tie.Need-first-free-requires
+first-free-requires c κs = search needs
+
+sub-no-binding : tie.Need-sub-no-binding
+sub-no-binding c = search needs
+
+part-no-binding-start : tie.Need-part-no-binding-start
+part-no-binding-start c = search needs
+
+part-no-binding-end : tie.Need-part-no-binding-end
+part-no-binding-end c = search needs
+
 -- src/lib.rt:88:17
 no-binding-requires : tie.Need-no-binding-requires
 no-binding-requires c κs = search needs
@@ -69,7 +83,7 @@ same-length-3 c = search needs
 
 -- src/lib.rt:89:13
 returns-3 : tie.Need-returns-3
-returns-3 c = λ ls v words f t. ident-none _ (c .before .before .before .before .before .before .before .before .before .before .before .before .before .before .before .before .before .before .before .before .args .n) (c .before .before .before .before .before .before .before .before .before .before .before .before .before .before .before .before .before .before .before .before .args .slot) (c .before .before .before .before .before .before .before .before .before .before .before .before .before .before .before .before .before .before .before .before .args .name) _ (c .before .before .before .before .before .before .before .before .before .before .before .before .before .before .before .before .before .before .before .before .args .st) _ (c .before .before .before .before .before .before .before .before .before .before .before .before .env-get .ensures) (c .before .before .before .before .before .before .before .before .before .before .enum-told2 .given .1) (c .before .before .before .before .before .before .no-binding .ensures) (c .before .poisoned .ensures) (c .answered2 .ensures) ls v words _ f t
+returns-3 c = λ ls v words f t. ident-none _ (c .before .before .before .before .before .before .before .before .before .before .before .before .before .before .before .before .before .before .before .before .before .before .args .n) (c .before .before .before .before .before .before .before .before .before .before .before .before .before .before .before .before .before .before .before .before .before .before .args .slot) (c .before .before .before .before .before .before .before .before .before .before .before .before .before .before .before .before .before .before .before .before .before .before .args .name) _ (c .before .before .before .before .before .before .before .before .before .before .before .before .before .before .before .before .before .before .before .before .before .before .args .st) _ (c .before .before .before .before .before .before .before .before .before .before .before .before .before .before .env-get .ensures) (c .before .before .before .before .before .before .before .before .before .before .before .before .enum-told2 .given .1) (told-in-whole (now (c .before .before .before .before .before .before .before .before .before .before .before .before .before .before .before .before .before .before .before .before .before .before .args .messages)) (c .before .before .before .before .before .before .before .before .before .first-free .ensures) (c .before .before .before .before .before .before .no-binding .ensures)) (c .before .poisoned .ensures) (c .answered2 .ensures) ls v words _ f t
 
 pub ident-spec : {M : Type 1} → statement M
 ident-spec =
@@ -84,6 +98,10 @@ ident-spec =
     enum-told
     returns-2
     enum-told-2
+    first-free-requires
+    sub-no-binding
+    part-no-binding-start
+    part-no-binding-end
     no-binding-requires
     poisoned-requires
     answered-requires-2

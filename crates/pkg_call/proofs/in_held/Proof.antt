@@ -1,6 +1,7 @@
 -- `pkg_call::in_held` meets its contract: a package of the library, of an Extern, or none (15). Assumes nothing.
 use Rattle.pkg_call.proofs.Ready.{held-near, library-ready}
 use Rattle.pkg_call.proofs.Returns.{no-package, library-held, extern-held}
+use Rattle.err_text.specs.RestLaws.{told-in-whole}
 use borrow.Author.Needs.{needs}
 use Rattle.pkg_call.proofs.in_held.Statement.{statement}
 use Rattle.pkg_call.proofs.in_held.Tie as tie
@@ -71,6 +72,18 @@ returns-2 c =
 enum-told : tie.Need-enum-told
 enum-told c = search needs
 
+first-free-requires : tie.Need-first-free-requires
+first-free-requires c κs = search needs
+
+sub-missing-package : tie.Need-sub-missing-package
+sub-missing-package c = search needs
+
+part-missing-package-start : tie.Need-part-missing-package-start
+part-missing-package-start c = search needs
+
+part-missing-package-end : tie.Need-part-missing-package-end
+part-missing-package-end c = search needs
+
 missing-package-requires : tie.Need-missing-package-requires
 missing-package-requires c κs = search needs
 
@@ -91,7 +104,8 @@ returns-3 c =
     let c1 = c .before .before .before .before .before in
     let c2 = c1 .before .before .before in
     let c3 = c2 .before .before in
-    no-package _ _ _ _ _ _ _ _ _ _ _ _ _ _ _ _ _ (c3 .find-held .ensures) (c2 .enum-told .given .1) (c1 .missing-package .ensures) (c .poisoned .ensures)
+    let c4 = c3 .before .before in
+    no-package _ _ _ _ _ _ _ _ _ _ _ _ _ _ _ _ _ (c4 .find-held .ensures) (c3 .enum-told .given .1) (told-in-whole _ (c2 .first-free .ensures) (c1 .missing-package .ensures)) (c .poisoned .ensures)
 
 pub in-held-spec : {M : Type 1} → statement M
 in-held-spec =
@@ -115,6 +129,10 @@ in-held-spec =
     same-length-10
     returns-2
     enum-told
+    first-free-requires
+    sub-missing-package
+    part-missing-package-start
+    part-missing-package-end
     missing-package-requires
     poisoned-requires
     same-length-11

@@ -1,12 +1,25 @@
 -- `pkg_group::in_group` meets its contract: no candidate (16), one, or several. Assumes nothing.
 use mathlib.Core.Path.{refl}
 use Rattle.pkg_group.proofs.Returns.{group-none, group-plain, group-slotted, group-several}
+use Rattle.err_text.specs.RestLaws.{told-in-whole}
 use borrow.Author.Needs.{needs}
 use Rattle.pkg_group.proofs.in_group.Statement.{statement}
 use Rattle.pkg_group.proofs.in_group.Tie as tie
 
 enum-told : tie.Need-enum-told
 enum-told c = search needs
+
+first-free-requires : tie.Need-first-free-requires
+first-free-requires c κs = search needs
+
+sub-undefined-in-package : tie.Need-sub-undefined-in-package
+sub-undefined-in-package c = search needs
+
+part-undefined-in-package-start : tie.Need-part-undefined-in-package-start
+part-undefined-in-package-start c = search needs
+
+part-undefined-in-package-end : tie.Need-part-undefined-in-package-end
+part-undefined-in-package-end c = search needs
 
 undefined-in-package-requires : tie.Need-undefined-in-package-requires
 undefined-in-package-requires c κs = search needs
@@ -24,8 +37,9 @@ returns : tie.Need-returns
 returns c =
     let c1 = c .before .before .before .before .before in
     let c2 = c1 .before .before .before in
-    let c3 = c2 .before .before .before .before .before .before .before .before .before .before .before .before in
-    group-none _ _ _ _ _ _ _ _ _ _ _ (c3 .pre) (c2 .enum-told .given .1) (c1 .undefined-in-package .ensures) (c .poisoned .ensures)
+    let c3 = c2 .before .before in
+    let c4 = c3 .before .before .before .before .before .before .before .before .before .before .before .before in
+    group-none _ _ _ _ _ _ _ _ _ _ _ (c4 .pre) (c3 .enum-told .given .1) (told-in-whole _ (c2 .first-free .ensures) (c1 .undefined-in-package .ensures)) (c .poisoned .ensures)
 
 enum-known-found : tie.Need-enum-known-found
 enum-known-found c = search needs
@@ -86,6 +100,10 @@ in-group-spec =
     tie.close
     (tie.spec
     enum-told
+    first-free-requires
+    sub-undefined-in-package
+    part-undefined-in-package-start
+    part-undefined-in-package-end
     undefined-in-package-requires
     poisoned-requires
     same-length

@@ -1,6 +1,7 @@
 -- `slotted_call::check_slotted` meets its contract: another number of arguments, an argument that is refused, or the return type. Assumes
 -- nothing.
 use mathlib.Core.Path.{_∙_}
+use Rattle.err_text.specs.RestLaws.{told-in-whole}
 use borrow.Author.Needs.{needs}
 use Rattle.slotted_call.proofs.Returns.{miscounted, call-refused, return-meant, call-returned}
 use Rattle.slotted_call.proofs.check_slotted.Statement.{statement}
@@ -8,6 +9,18 @@ use Rattle.slotted_call.proofs.check_slotted.Tie as tie
 
 argument-count-requires : tie.Need-argument-count-requires
 argument-count-requires c κs = search needs
+
+first-free-requires : tie.Need-first-free-requires
+first-free-requires c κs = search needs
+
+sub-argument-count : tie.Need-sub-argument-count
+sub-argument-count c = search needs
+
+part-argument-count-start : tie.Need-part-argument-count-start
+part-argument-count-start c = search needs
+
+part-argument-count-end : tie.Need-part-argument-count-end
+part-argument-count-end c = search needs
 
 argument-count-requires-2 : tie.Need-argument-count-requires-2
 argument-count-requires-2 c κs = search needs
@@ -22,7 +35,7 @@ same-length-2 : tie.Need-same-length-2
 same-length-2 c = search needs
 
 returns : tie.Need-returns
-returns c = miscounted _ _ _ _ _ _ _ _ _ _ _ _ _ _ _ (c .before .before .before .before .before .before .before .before .before .argument-count .ensures) (c .before .before .before .before .before .before .before .before .if1 .taken) (c .before .before .before .before .before .argument-count2 .ensures) (c .poisoned .ensures)
+returns c = miscounted _ _ _ _ _ _ _ _ _ _ _ _ _ _ _ (c .before .before .before .before .before .before .before .before .before .before .before .argument-count .ensures) (c .before .before .before .before .before .before .before .before .before .before .if1 .taken) (told-in-whole _ (c .before .before .before .before .before .before .before .before .first-free .ensures) (c .before .before .before .before .before .argument-count2 .ensures)) (c .poisoned .ensures)
 
 slotted-arguments-requires : tie.Need-slotted-arguments-requires
 slotted-arguments-requires c κs = record { ready = c .before .before .before .before .before .before .before .before .before .before .before .before .before .before .before .before .before .pre; counts = λ f. c .before .before .before .before .before .if1 .left ∙ c .before .before .before .before .before .before .argument-count .ensures f }
@@ -80,6 +93,10 @@ check-slotted-spec =
     tie.close
     (tie.spec
     argument-count-requires
+    first-free-requires
+    sub-argument-count
+    part-argument-count-start
+    part-argument-count-end
     argument-count-requires-2
     poisoned-requires
     same-length

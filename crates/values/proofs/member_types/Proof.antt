@@ -2,6 +2,7 @@
 use Rattle.values.proofs.ArrayReturns.{member-unknown, first-unknown, member-alike, member-full, member-differs}
 use Rattle.tok.specs.Text.{textsOf}
 use denote.Ref.{now}
+use Rattle.err_text.specs.RestLaws.{told-in-whole}
 use borrow.Author.Needs.{needs}
 use Rattle.values.proofs.member_types.Statement.{statement}
 use Rattle.values.proofs.member_types.Tie as tie
@@ -36,6 +37,18 @@ same-type-requires c κs = search needs
 returns-3 : tie.Need-returns-3
 returns-3 c = member-alike (textsOf (now (c .before .before .before .before .before .before .before .before .before .before .before .before .before .before .before .before .args .script)) (now (c .before .before .before .before .before .before .before .before .before .before .before .before .before .before .before .before .args .library))) (now (c .before .before .before .before .before .before .before .before .before .before .before .before .before .before .before .before .args .slots)) (now (c .before .before .before .before .before .before .before .before .before .before .before .before .before .before .before .before .args .types)) (now (c .before .before .before .before .before .before .before .before .before .before .before .before .before .before .before .before .args .diagnostics)) (now (c .before .before .before .before .before .before .before .before .before .before .before .before .before .before .before .before .args .messages)) (c .before .before .before .before .before .before .before .before .before .before .before .before .before .before .before .before .args .used) (c .before .before .before .before .before .before .before .before .before .before .before .before .before .before .before .before .args .n) (c .before .before .before .before .before .before .before .before .before .before .before .before .before .before .before .before .args .span) (c .before .before .before .before .before .before .before .before .before .before .before .before .before .before .before .before .args .first) (c .before .before .before .before .before .before .before .before .before .before .before .before .before .before .before .before .args .member) (c .before .before .before .before .before .before .before .before .before .wide .ensures) (c .before .before .before .before .before .before .before .before .word-at .ensures) (c .before .before .before .before .before .before .before .wide2 .ensures) (c .before .before .before .before .before .before .word-at2 .ensures) (c .before .before .before .before .before .contains-unknown .ensures) (c .before .before .before .before .if1 .left) (c .before .before .before .contains-unknown2 .ensures) (c .before .before .if2 .left) (c .before .same-type .ensures) (c .if3 .taken)
 
+first-free-requires : tie.Need-first-free-requires
+first-free-requires c κs = search needs
+
+sub-members-differ : tie.Need-sub-members-differ
+sub-members-differ c = search needs
+
+part-members-differ-start : tie.Need-part-members-differ-start
+part-members-differ-start c = search needs
+
+part-members-differ-end : tie.Need-part-members-differ-end
+part-members-differ-end c = search needs
+
 members-differ-requires : tie.Need-members-differ-requires
 members-differ-requires c κs = search needs
 
@@ -52,7 +65,7 @@ same-length-2 : tie.Need-same-length-2
 same-length-2 c = search needs
 
 returns-4 : tie.Need-returns-4
-returns-4 c = member-full (textsOf (now (c .before .before .before .before .before .before .before .before .before .before .before .before .before .before .before .before .before .before .before .before .before .before .before .before .before .before .args .script)) (now (c .before .before .before .before .before .before .before .before .before .before .before .before .before .before .before .before .before .before .before .before .before .before .before .before .before .before .args .library))) (now (c .before .before .before .before .before .before .before .before .before .before .before .before .before .before .before .before .before .before .before .before .before .before .before .before .before .before .args .slots)) (now (c .before .before .before .before .before .before .before .before .before .before .before .before .before .before .before .before .before .before .before .before .before .before .before .before .before .before .args .types)) (now (c .before .before .before .before .before .before .before .before .before .before .before .before .before .before .before .before .before .before .before .before .before .before .before .before .before .before .args .diagnostics)) (now (c .before .before .before .before .before .before .before .before .before .before .before .before .before .before .before .before .before .before .before .before .before .before .before .before .before .before .args .messages)) (c .before .before .before .before .before .before .before .before .before .before .before .before .before .before .before .before .before .before .before .before .before .before .before .before .before .before .args .used) (c .before .before .before .before .before .before .before .before .before .before .before .before .before .before .before .before .before .before .before .before .before .before .before .before .before .before .args .n) (c .before .before .before .before .before .before .before .before .before .before .before .before .before .before .before .before .before .before .before .before .before .before .before .before .before .before .args .span) (c .before .before .before .before .before .before .before .before .before .before .before .before .before .before .before .before .before .before .before .before .before .before .before .before .before .before .args .first) (c .before .before .before .before .before .before .before .before .before .before .before .before .before .before .before .before .before .before .before .before .before .before .before .before .before .before .args .member) (c .before .before .before .before .before .before .before .before .before .before .before .before .before .before .before .before .before .before .before .wide .ensures) (c .before .before .before .before .before .before .before .before .before .before .before .before .before .before .before .before .before .before .word-at .ensures) (c .before .before .before .before .before .before .before .before .before .before .before .before .before .before .before .before .before .wide2 .ensures) (c .before .before .before .before .before .before .before .before .before .before .before .before .before .before .before .before .word-at2 .ensures) (c .before .before .before .before .before .before .before .before .before .before .before .before .before .before .before .contains-unknown .ensures) (c .before .before .before .before .before .before .before .before .before .before .before .before .before .before .if1 .left) (c .before .before .before .before .before .before .before .before .before .before .before .before .before .contains-unknown2 .ensures) (c .before .before .before .before .before .before .before .before .before .before .before .before .if2 .left) (c .before .before .before .before .before .before .before .before .before .before .before .same-type .ensures) (c .before .before .before .before .before .before .before .before .before .before .if3 .left) (c .before .before .before .before .before .before .members-differ .ensures) (c .enum-told .given .1)
+returns-4 c = member-full (textsOf (now (c .before .before .before .before .before .before .before .before .before .before .before .before .before .before .before .before .before .before .before .before .before .before .before .before .before .before .before .before .args .script)) (now (c .before .before .before .before .before .before .before .before .before .before .before .before .before .before .before .before .before .before .before .before .before .before .before .before .before .before .before .before .args .library))) (now (c .before .before .before .before .before .before .before .before .before .before .before .before .before .before .before .before .before .before .before .before .before .before .before .before .before .before .before .before .args .slots)) (now (c .before .before .before .before .before .before .before .before .before .before .before .before .before .before .before .before .before .before .before .before .before .before .before .before .before .before .before .before .args .types)) (now (c .before .before .before .before .before .before .before .before .before .before .before .before .before .before .before .before .before .before .before .before .before .before .before .before .before .before .before .before .args .diagnostics)) (now (c .before .before .before .before .before .before .before .before .before .before .before .before .before .before .before .before .before .before .before .before .before .before .before .before .before .before .before .before .args .messages)) (c .before .before .before .before .before .before .before .before .before .before .before .before .before .before .before .before .before .before .before .before .before .before .before .before .before .before .before .before .args .used) (c .before .before .before .before .before .before .before .before .before .before .before .before .before .before .before .before .before .before .before .before .before .before .before .before .before .before .before .before .args .n) (c .before .before .before .before .before .before .before .before .before .before .before .before .before .before .before .before .before .before .before .before .before .before .before .before .before .before .before .before .args .span) (c .before .before .before .before .before .before .before .before .before .before .before .before .before .before .before .before .before .before .before .before .before .before .before .before .before .before .before .before .args .first) (c .before .before .before .before .before .before .before .before .before .before .before .before .before .before .before .before .before .before .before .before .before .before .before .before .before .before .before .before .args .member) (c .before .before .before .before .before .before .before .before .before .before .before .before .before .before .before .before .before .before .before .before .before .wide .ensures) (c .before .before .before .before .before .before .before .before .before .before .before .before .before .before .before .before .before .before .before .before .word-at .ensures) (c .before .before .before .before .before .before .before .before .before .before .before .before .before .before .before .before .before .before .before .wide2 .ensures) (c .before .before .before .before .before .before .before .before .before .before .before .before .before .before .before .before .before .before .word-at2 .ensures) (c .before .before .before .before .before .before .before .before .before .before .before .before .before .before .before .before .before .contains-unknown .ensures) (c .before .before .before .before .before .before .before .before .before .before .before .before .before .before .before .before .if1 .left) (c .before .before .before .before .before .before .before .before .before .before .before .before .before .before .before .contains-unknown2 .ensures) (c .before .before .before .before .before .before .before .before .before .before .before .before .before .before .if2 .left) (c .before .before .before .before .before .before .before .before .before .before .before .before .before .same-type .ensures) (c .before .before .before .before .before .before .before .before .before .before .before .before .if3 .left) (told-in-whole (now (c .before .before .before .before .before .before .before .before .before .before .before .before .before .before .before .before .before .before .before .before .before .before .before .before .before .before .before .before .args .messages)) (c .before .before .before .before .before .before .before .before .before .first-free .ensures) (c .before .before .before .before .before .before .members-differ .ensures)) (c .enum-told .given .1)
 
 same-length-3 : tie.Need-same-length-3
 same-length-3 c = search needs
@@ -61,7 +74,7 @@ same-length-4 : tie.Need-same-length-4
 same-length-4 c = search needs
 
 returns-5 : tie.Need-returns-5
-returns-5 c = member-differs (textsOf (now (c .before .before .before .before .before .before .before .before .before .before .before .before .before .before .before .before .before .before .before .before .before .before .before .before .before .before .before .args .script)) (now (c .before .before .before .before .before .before .before .before .before .before .before .before .before .before .before .before .before .before .before .before .before .before .before .before .before .before .before .args .library))) (now (c .before .before .before .before .before .before .before .before .before .before .before .before .before .before .before .before .before .before .before .before .before .before .before .before .before .before .before .args .slots)) (now (c .before .before .before .before .before .before .before .before .before .before .before .before .before .before .before .before .before .before .before .before .before .before .before .before .before .before .before .args .types)) (now (c .before .before .before .before .before .before .before .before .before .before .before .before .before .before .before .before .before .before .before .before .before .before .before .before .before .before .before .args .diagnostics)) (now (c .before .before .before .before .before .before .before .before .before .before .before .before .before .before .before .before .before .before .before .before .before .before .before .before .before .before .before .args .messages)) (c .before .before .before .before .before .before .before .before .before .before .before .before .before .before .before .before .before .before .before .before .before .before .before .before .before .before .before .args .used) (c .before .before .before .before .before .before .before .before .before .before .before .before .before .before .before .before .before .before .before .before .before .before .before .before .before .before .before .args .n) (c .before .before .before .before .before .before .before .before .before .before .before .before .before .before .before .before .before .before .before .before .before .before .before .before .before .before .before .args .span) (c .before .before .before .before .before .before .before .before .before .before .before .before .before .before .before .before .before .before .before .before .before .before .before .before .before .before .before .args .first) (c .before .before .before .before .before .before .before .before .before .before .before .before .before .before .before .before .before .before .before .before .before .before .before .before .before .before .before .args .member) (c .before .before .before .before .before .before .before .before .before .before .before .before .before .before .before .before .before .before .before .before .wide .ensures) (c .before .before .before .before .before .before .before .before .before .before .before .before .before .before .before .before .before .before .before .word-at .ensures) (c .before .before .before .before .before .before .before .before .before .before .before .before .before .before .before .before .before .before .wide2 .ensures) (c .before .before .before .before .before .before .before .before .before .before .before .before .before .before .before .before .before .word-at2 .ensures) (c .before .before .before .before .before .before .before .before .before .before .before .before .before .before .before .before .contains-unknown .ensures) (c .before .before .before .before .before .before .before .before .before .before .before .before .before .before .before .if1 .left) (c .before .before .before .before .before .before .before .before .before .before .before .before .before .before .contains-unknown2 .ensures) (c .before .before .before .before .before .before .before .before .before .before .before .before .before .if2 .left) (c .before .before .before .before .before .before .before .before .before .before .before .before .same-type .ensures) (c .before .before .before .before .before .before .before .before .before .before .before .if3 .left) (c .before .before .before .before .before .before .before .members-differ .ensures) (c .before .reported .given .1)
+returns-5 c = member-differs (textsOf (now (c .before .before .before .before .before .before .before .before .before .before .before .before .before .before .before .before .before .before .before .before .before .before .before .before .before .before .before .before .before .args .script)) (now (c .before .before .before .before .before .before .before .before .before .before .before .before .before .before .before .before .before .before .before .before .before .before .before .before .before .before .before .before .before .args .library))) (now (c .before .before .before .before .before .before .before .before .before .before .before .before .before .before .before .before .before .before .before .before .before .before .before .before .before .before .before .before .before .args .slots)) (now (c .before .before .before .before .before .before .before .before .before .before .before .before .before .before .before .before .before .before .before .before .before .before .before .before .before .before .before .before .before .args .types)) (now (c .before .before .before .before .before .before .before .before .before .before .before .before .before .before .before .before .before .before .before .before .before .before .before .before .before .before .before .before .before .args .diagnostics)) (now (c .before .before .before .before .before .before .before .before .before .before .before .before .before .before .before .before .before .before .before .before .before .before .before .before .before .before .before .before .before .args .messages)) (c .before .before .before .before .before .before .before .before .before .before .before .before .before .before .before .before .before .before .before .before .before .before .before .before .before .before .before .before .before .args .used) (c .before .before .before .before .before .before .before .before .before .before .before .before .before .before .before .before .before .before .before .before .before .before .before .before .before .before .before .before .before .args .n) (c .before .before .before .before .before .before .before .before .before .before .before .before .before .before .before .before .before .before .before .before .before .before .before .before .before .before .before .before .before .args .span) (c .before .before .before .before .before .before .before .before .before .before .before .before .before .before .before .before .before .before .before .before .before .before .before .before .before .before .before .before .before .args .first) (c .before .before .before .before .before .before .before .before .before .before .before .before .before .before .before .before .before .before .before .before .before .before .before .before .before .before .before .before .before .args .member) (c .before .before .before .before .before .before .before .before .before .before .before .before .before .before .before .before .before .before .before .before .before .before .wide .ensures) (c .before .before .before .before .before .before .before .before .before .before .before .before .before .before .before .before .before .before .before .before .before .word-at .ensures) (c .before .before .before .before .before .before .before .before .before .before .before .before .before .before .before .before .before .before .before .before .wide2 .ensures) (c .before .before .before .before .before .before .before .before .before .before .before .before .before .before .before .before .before .before .before .word-at2 .ensures) (c .before .before .before .before .before .before .before .before .before .before .before .before .before .before .before .before .before .before .contains-unknown .ensures) (c .before .before .before .before .before .before .before .before .before .before .before .before .before .before .before .before .before .if1 .left) (c .before .before .before .before .before .before .before .before .before .before .before .before .before .before .before .before .contains-unknown2 .ensures) (c .before .before .before .before .before .before .before .before .before .before .before .before .before .before .before .if2 .left) (c .before .before .before .before .before .before .before .before .before .before .before .before .before .before .same-type .ensures) (c .before .before .before .before .before .before .before .before .before .before .before .before .before .if3 .left) (told-in-whole (now (c .before .before .before .before .before .before .before .before .before .before .before .before .before .before .before .before .before .before .before .before .before .before .before .before .before .before .before .before .before .args .messages)) (c .before .before .before .before .before .before .before .before .before .before .first-free .ensures) (c .before .before .before .before .before .before .before .members-differ .ensures)) (c .before .reported .given .1)
 
 pub member-types-spec : {M : Type 1} → statement M
 member-types-spec =
@@ -77,6 +90,10 @@ member-types-spec =
     returns-2
     same-type-requires
     returns-3
+    first-free-requires
+    sub-members-differ
+    part-members-differ-start
+    part-members-differ-end
     members-differ-requires
     enum-known-reported
     enum-told
