@@ -1,0 +1,1 @@
+// The bench's rows are well formed UTF-8; no code.
