@@ -1,17 +1,18 @@
 -- The ways out of `is_done`, and a turn of the loop. Assumes nothing.
-use Prim.Native.Nat.{ℕ, _≤_, _<_}
-use mathlib.Core.Path.{_≡_, refl, sym, _∙_}
+use Prim.Native.Nat.{ℕ, _^_, _≤_, _<_}
+use mathlib.Core.Path.{_≡_, refl, sym, ap, _∙_}
 use mathlib.Core.Bool.{Bool, true, false, not}
 use mathlib.Core.List.{[], _∷_}
 use mathlib.Core.Logic.{⊎-elim}
 use types.Run.{OneOf}
 use denote.Enum.Declared.{tagOf}
+use native.Mathlib.Omega.{arith}
 use borrow.Author.Tests.{eqb-false, not-true}
 use Rattle.rows_part.specs.declared.Row.{Row}
 use Rattle.rows_part.specs.declared.Row.the-variants.{Slot, Fn, Diag, End, Refused, Input, Done}
 use Rattle.rows_part.specs.declared.Part.{Part}
-use Rattle.rows_part.specs.Printing.{Answer, partOf}
-use Rattle.rows_part.specs.PrintingLaws.{part-bytes}
+use Rattle.rows_part.specs.Printing.{Answer, partOf, roomAt}
+use Rattle.rows_part.specs.PrintingLaws.{part-bytes, room-whole}
 use Rattle.rows_part.proofs.Row.{the-type}
 use Rattle.printing.specs.Loop.{isDone, left, turn-nearer}
 
@@ -45,3 +46,7 @@ turn a row skip {done} e h q = turn-nearer a row skip q (sym e ∙ not-true done
 -- a part has no more bytes than the buffer
 pub part-room : (a : Answer) (row : Row) (skip : ℕ) {p : Part} → p ≡ partOf 4096 a row skip → p .bytes ≤ 4096
 part-room a row skip q = rw q (part-bytes 4096 a row skip)
+
+-- a part uses the whole buffer
+pub whole-part : (a : Answer) (row : Row) (skip : ℕ) {p : Part} → skip < 2 ^ 63 → p ≡ partOf (roomAt skip 4096) a row skip → p ≡ partOf 4096 a row skip
+whole-part a row skip h q = q ∙ ap (λ (n : ℕ). partOf n a row skip) (room-whole skip 4096 (omega arith))

@@ -50,7 +50,7 @@ module _ (a : Answer) (row : Row) (skip : ℕ) where
       let l : length room ≡ 4096 = length-replicate {A = ℕ} 4096 0 in
       let w : List ℕ = write room 0 (drop skip (rowOf a row)) in
       let lw : length w ≡ 4096 = length-write room 0 (drop skip (rowOf a row)) ∙ l in
-      let e : restFrom a row skip ≡ take (part .bytes) w ++ restFrom a (part .row) (part .skip) = rw l at (part-next room a row skip) in
+      let e : restFrom a row skip ≡ take (part .bytes) w ++ restFrom a (part .row) (part .skip) = rw l at (part-next room a row skip 4096 (omega arith)) in
       let lt : length (take (part .bytes) w) ≡ min (part .bytes) (length w) = length-take (part .bytes) w in
       ap length e ∙ length-append (take (part .bytes) w) (restFrom a (part .row) (part .skip)) ∙ omega (arith, part-bytes 4096 a row skip)
 

@@ -10,7 +10,7 @@ use tok::wide;
 use tok::word_at;
 ghost use mathlib.Core.Path.{_≡_};
 ghost use mathlib.Core.List.{List, _++_};
-ghost use Prim.Native.Nat.{ℕ, _+_, _*_, _^_, _<_};
+ghost use Prim.Native.Nat.{ℕ, _+_, _*_};
 ghost use lib.ListN.{getD};
 ghost use Rattle.tok.specs.Text.{Texts, textsOf, text};
 ghost use Rattle.ptype.specs.Show.{decimal};
@@ -61,7 +61,6 @@ fn put_fn<'a>(
     n: usize,
     ret: u32,
 ) -> Window
-    requires { ⌜ at + 2 * n < 2 ^ 40 ⌝ }
     ensures { λ r. let T : Texts = textsOf (now (script .entry)) (now (library .entry)) in
         ⌜ Shows (now (out .entry)) w (now (out .exit)) r (fnLine T (now (types .entry)) (now (functions .entry)) name at n ret) ⌝ }
 {

@@ -1,5 +1,5 @@
 -- The ways out of the functions of this crate: a law for each. Assumes nothing.
-use Prim.Native.Nat.{ℕ, _+_, _-_, _*_, _≤_, _<_, min}
+use Prim.Native.Nat.{ℕ, _+_, _-_, _*_, _^_, _≤_, _<_, min}
 use mathlib.Core.Path.{_≡_, ap, _∙_}
 use mathlib.Core.List.{List, []}
 use native.Mathlib.Omega.{arith}
@@ -14,7 +14,7 @@ use Rattle.rows.specs.Lines.{slotRow, diagRow, endRow, refusedRow, inputRow}
 use Rattle.rows_part.specs.declared.Row.{Row}
 use Rattle.rows_part.specs.declared.Row.the-variants.{Slot, Fn, Diag, End, Refused, Input, Done}
 use Rattle.rows_part.specs.declared.Part.{Part}
-use Rattle.rows_part.specs.Printing.{Answer, rowOf, diagFrom, fnFrom, nextOf, nextIn, partOf, Prints}
+use Rattle.rows_part.specs.Printing.{Answer, rowOf, diagFrom, fnFrom, nextOf, nextIn, partOf, roomAt, Prints}
 
 -- ---- `put_row`
 module _ (a : Answer) {r : Row} where
@@ -106,19 +106,20 @@ module _ (a : Answer) (r : Row) {skip : ℕ} {o o′ : List ℕ} {w : Window} (p
   as-long : length o′ ≡ length o
   as-long = ap length (p .bytes) ∙ length-write o 0 (drop skip (rowOf a r))
 
-  pub part-room : w .at ≤ length o
-  part-room = omega (arith, many-bytes)
+  module _ {room n : ℕ} (er : room ≡ min (length o′) (2 ^ 64 - 1 - skip)) (en : n ≡ min (w .at) room) where
+    room-is : room ≡ roomAt skip (length o)
+    unfolding roomAt
+    room-is = er ∙ rw as-long
 
-  -- the row ends in the buffer
-  pub part-ends : {x : Row} → w .at < length o′ → x ≡ nextIn a r → Prints a r skip o o′ (record { bytes = w .at; row = x; skip = 0 })
-  unfolding partOf
-  part-ends h e =
-      let l : w .at < length o = omega (arith, as-long) in
-      record { buffer = p .bytes; answer = rw (← many-bytes, lt-ltb (w .at) (length o) l, e) }
+    bytes-are : n ≡ min (length (rowOf a r) - skip) room
+    bytes-are = omega (arith, er, en, many-bytes, as-long)
 
-  -- the buffer is full
-  pub part-goes : length o′ ≤ w .at → Prints a r skip o o′ (record { bytes = w .at; row = r; skip = skip + w .at })
-  unfolding partOf
-  part-goes h =
-      let l : length o ≤ w .at = omega (arith, as-long) in
-      record { buffer = p .bytes; answer = rw (← many-bytes, le-ltb (w .at) (length o) l) }
+    -- the row ends in the buffer
+    pub part-ends : {x : Row} → n < room → x ≡ nextIn a r → Prints a r skip o o′ (record { bytes = n; row = x; skip = 0 })
+    unfolding partOf
+    part-ends h e = record { buffer = p .bytes; answer = rw (← room-is, ← bytes-are, lt-ltb n room h, e) }
+
+    -- it does not
+    pub part-goes : room ≤ n → Prints a r skip o o′ (record { bytes = n; row = r; skip = skip + n })
+    unfolding partOf
+    part-goes h = record { buffer = p .bytes; answer = rw (← room-is, ← bytes-are, le-ltb n room h) }

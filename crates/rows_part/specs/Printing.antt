@@ -1,5 +1,5 @@
 -- The rows of an answer in order, and the parts in which they are printed (document 01, "Bench rows"). Definitions.
-use Prim.Native.Nat.{ℕ, _+_, _-_, _*_, min}
+use Prim.Native.Nat.{ℕ, _+_, _-_, _*_, _^_, min}
 use mathlib.Core.Path.{_≡_}
 use mathlib.Core.Bool.{cond}
 use mathlib.Core.List.{List, [], _++_}
@@ -132,7 +132,11 @@ partOf room a row skip =
     let n : ℕ = min (length (rowOf a row) - skip) room in
     record { bytes = n; row = cond (ltb n room) (nextIn a row) row; skip = cond (ltb n room) 0 (skip + n) }
 
+-- how much of a buffer a part uses: the next one begins at a place that a 64-bit number can say
+unfoldable pub roomAt : (skip room : ℕ) → ℕ
+roomAt skip room = min room (2 ^ 64 - 1 - skip)
+
 -- the buffer o became o′
 pub record Prints (a : Answer) (row : Row) (skip : ℕ) (o o′ : List ℕ) (r : Part) : Type 0 where
   pub buffer : o′ ≡ write o 0 (drop skip (rowOf a row))
-  pub answer : r ≡ partOf (length o) a row skip
+  pub answer : r ≡ partOf (roomAt skip (length o)) a row skip

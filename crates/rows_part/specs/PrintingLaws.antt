@@ -1,6 +1,6 @@
 -- Laws of the rows in order: what is printed from a row on is the row and what is printed from the next row on, and from the first row on it is
 -- what `rowsOf` says; each part of a row is followed by the rest. Assumes nothing.
-use Prim.Native.Nat.{ℕ, zero, suc, _+_, _-_, _*_, _≤_, _<_, min}
+use Prim.Native.Nat.{ℕ, zero, suc, _+_, _-_, _*_, _^_, _≤_, _<_, min}
 use mathlib.Core.Path.{_≡_, refl, sym, ap, _∙_}
 use mathlib.Core.Bool.{Bool, true, false, cond}
 use mathlib.Core.List.{List, [], _∷_, _++_, append-nil, append-assoc}
@@ -23,7 +23,7 @@ use Rattle.rows_part.specs.declared.Row.{Row}
 use Rattle.rows_part.specs.declared.Row.the-variants.{Slot, Fn, Diag, End, Refused, Input, Done}
 use Rattle.rows_part.specs.declared.Part.{Part}
 use Rattle.rows_part.specs.RowsEnd.{by-order}
-use Rattle.rows_part.specs.Printing.{Answer, answerIn, rowOf, diagFrom, fnFrom, nextOf, nextIn, firstRow, firstOf, diagsFrom, fnsFrom, slotsFrom, restOf, restFrom, partOf}
+use Rattle.rows_part.specs.Printing.{Answer, answerIn, rowOf, diagFrom, fnFrom, nextOf, nextIn, firstRow, firstOf, diagsFrom, fnsFrom, slotsFrom, restOf, restFrom, partOf, roomAt, Prints}
 
 -- ---- slots
 module _ (t : Texts) (types slots : List ℕ) (v i : ℕ) where
@@ -146,12 +146,13 @@ unfolding restOf
 input-first a = rest-all a Input
 
 -- ---- parts
-module _ (o : List ℕ) (a : Answer) (r : Row) (skip : ℕ) where
+-- of a part that uses `room` bytes of the buffer
+module _ (o : List ℕ) (a : Answer) (r : Row) (skip room : ℕ) (fits : room ≤ length o) where
   abbrev shown : List ℕ
   shown = drop skip (rowOf a r)
 
   abbrev many : ℕ
-  many = min (length (rowOf a r) - skip) (length o)
+  many = min (length (rowOf a r) - skip) room
 
   front-is : take many (write o 0 shown) ≡ take many shown
   unfolding write
@@ -159,17 +160,30 @@ module _ (o : List ℕ) (a : Answer) (r : Row) (skip : ℕ) where
 
   -- The bytes of a part, and what is printed from the next part on, are what was to be printed.
   pub part-next :
-      let p : Part = partOf (length o) a r skip in
+      let p : Part = partOf room a r skip in
       restFrom a r skip ≡ take (p .bytes) (write o 0 (drop skip (rowOf a r))) ++ restFrom a (p .row) (p .skip)
   unfolding partOf restFrom
   part-next =
-      by-order many (length o)
+      by-order many room
       (λ h.
       let e : length shown ≤ many = rw (length-drop skip (rowOf a r)) (omega arith) in
-      rw (lt-ltb many (length o) h, front-is, take-all many shown e) (ap (λ l. shown ++ l) (rest-next a (nextIn a r))))
+      rw (lt-ltb many room h, front-is, take-all many shown e) (ap (λ l. shown ++ l) (rest-next a (nextIn a r))))
       (λ h.
-      rw (le-ltb many (length o) h, front-is, ← drop-drop many skip (rowOf a r))
+      rw (le-ltb many room h, front-is, ← drop-drop many skip (rowOf a r))
       (ap (λ l. l ++ restOf a (nextIn a r)) (sym (take-append-drop many shown)) ∙ append-assoc (take many shown) (drop many shown) (restOf a (nextIn a r))))
+
+-- the whole buffer is used wherever the next part begins at a place that a number can say
+pub room-whole : (skip room : ℕ) → skip + room < 2 ^ 64 → roomAt skip room ≡ room
+unfolding roomAt
+room-whole skip room h = omega arith
+
+room-fits : (skip room : ℕ) → roomAt skip room ≤ room
+unfolding roomAt
+room-fits skip room = omega arith
+
+-- so it is of whatever `write_part` wrote and answered
+pub prints-next : (a : Answer) (r : Row) (skip : ℕ) {o o′ : List ℕ} {p : Part} → Prints a r skip o o′ p → restFrom a r skip ≡ take (p .bytes) o′ ++ restFrom a (p .row) (p .skip)
+prints-next a r skip {o} h = rw (h .buffer, h .answer) (part-next o a r skip (roomAt skip (length o)) (room-fits skip (length o)))
 
 -- a part is no longer than the buffer, nor is what it adds to the bytes passed over
 pub part-bytes : (room : ℕ) (a : Answer) (r : Row) (skip : ℕ) → partOf room a r skip .bytes ≤ room

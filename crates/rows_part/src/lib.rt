@@ -3,8 +3,7 @@ use rows_window::Window;
 use tok::wide;
 use tok::word_at;
 ghost use mathlib.Core.Path.{_≡_};
-ghost use Prim.Native.Nat.{ℕ, _+_, _^_, _<_};
-ghost use lib.ListN.{length};
+ghost use Prim.Native.Nat.{ℕ, min};
 ghost use Rattle.tok.specs.Text.{textsOf};
 ghost use Rattle.rows_window.specs.Showing.{Shows};
 ghost use Rattle.rows_part.specs.Printing.{Answer, answerOf, rowOf, diagFrom, fnFrom, nextOf, Prints};
@@ -127,7 +126,15 @@ fn next(functions: &[u32], last: u32, words: u32, count: u32, row: Row) -> Row
     }
 }
 
-// Writes the part of a row behind its first bytes into a buffer, as much as has room.
+// The least of two.
+fn least(a: usize, b: usize) -> usize
+    ensures { λ r. ⌜ r ≡ min a b ⌝ }
+{
+    if a <= b { a } else { b }
+}
+
+// Writes the part of a row behind its first bytes into a buffer, as much as has room. A part goes no further than to the last place of a row that a
+// number can say: where the bytes passed over are as many as that, it is empty.
 pub fn write_part<'a>(
     out: &mut [u8],
     script: &'a [u8],
@@ -143,7 +150,6 @@ pub fn write_part<'a>(
     row: Row,
     skip: usize,
 ) -> Part
-    requires { ⌜ skip + length (now out) < 2 ^ 64 ⌝ }
     ensures { λ r. ⌜ Prints
         (answerOf (textsOf (now (script .entry)) (now (library .entry))) (now (slots .entry)) (now (types .entry)) (now (functions .entry))
         (now (diagnostics .entry)) (now (messages .entry)) last words count)
@@ -162,8 +168,9 @@ pub fn write_part<'a>(
         count,
         row,
     );
-    let n = w.at;
-    if n < out.len() {
+    let room = least(out.len(), usize::MAX - skip);
+    let n = least(w.at, room);
+    if n < room {
         return Part {
             bytes: n,
             row: next(functions, last, words, count, row),

@@ -1,1 +1,2 @@
 pub mod Wrapping
+pub mod Behind

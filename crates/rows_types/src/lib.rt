@@ -5,7 +5,6 @@ use rows_window::is_full;
 use rows_window::put;
 ghost use mathlib.Core.Path.{_≡_};
 ghost use mathlib.Core.List.{[], _++_};
-ghost use Prim.Native.Nat.{_+_, _*_, _^_, _<_};
 ghost use lib.ListN.{getD};
 ghost use Rattle.tok.specs.Word.{kindOf};
 ghost use Rattle.tok.specs.Text.{Texts, textsOf, text};
@@ -17,6 +16,7 @@ ghost use Rattle.display.specs.Leaf.{Leaf};
 ghost use Rattle.display.specs.Joined.{separated};
 ghost use Rattle.rows_window.specs.Showing.{Shows};
 ghost use Rattle.rows_types.specs.Wrapping.{Wrapping};
+ghost use Rattle.rows_types.specs.Behind.{behindOf};
 
 // "type depth 32": one level more tells a type that is deeper.
 const LEVELS: usize = 33;
@@ -115,6 +115,13 @@ fn show_within<'a>(
     put_leaf(out, w, types, script, library, word)
 }
 
+// The index behind the two words of a field, as far as there are words: past their end all are read as 0.
+fn behind(words: &[u32], i: usize) -> usize
+    ensures { λ r. ⌜ r ≡ behindOf (now (words .entry)) i ⌝ }
+{
+    if i < words.len() { i + 2 } else { i }
+}
+
 // n fields, or arguments, whose names and types stand in `words` from the index i on, and what comes after them.
 fn show_fields<'a>(
     out: &mut [u8],
@@ -128,7 +135,6 @@ fn show_fields<'a>(
     depth: usize,
     after: &[u8],
 ) -> Window
-    requires { ⌜ i + 2 * n < 2 ^ 40 ⌝ }
     ensures { λ r. let T : Texts = textsOf (now (script .entry)) (now (library .entry)) in
         let F : Fields = fieldsFrom (unfolded T (now (types .entry)) depth) T (now (words .entry)) i n in
         ⌜ Shows (now (out .entry)) w (now (out .exit)) r (showFields F ++ now (after .entry)) ⌝ }
@@ -150,7 +156,7 @@ fn show_fields<'a>(
         );
         left -= 1;
         w = put_gap(out, w, left);
-        i += 2;
+        i = behind(words, i);
     }
     put(out, w, after)
 }
@@ -182,7 +188,6 @@ pub fn show_arguments<'a>(
     n: usize,
     after: &[u8],
 ) -> Window
-    requires { ⌜ i + 2 * n < 2 ^ 40 ⌝ }
     ensures { λ r. let T : Texts = textsOf (now (script .entry)) (now (library .entry)) in
         let F : Fields = fieldsFrom (tyOf T (now (types .entry))) T (now (words .entry)) i n in
         ⌜ Shows (now (out .entry)) w (now (out .exit)) r (showFields F ++ now (after .entry)) ⌝ }

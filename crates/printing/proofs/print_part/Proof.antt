@@ -1,6 +1,6 @@
 -- `printing::print_part` meets its contract, by `write_part`'s. Assumes nothing.
 use native.Mathlib.Omega.{arith}
-use Rattle.printing.proofs.Ways.{part-room}
+use Rattle.printing.proofs.Ways.{part-room, whole-part}
 use borrow.Author.Needs.{needs}
 use Rattle.printing.proofs.print_part.Statement.{statement}
 use Rattle.printing.proofs.print_part.Tie as tie
@@ -27,7 +27,7 @@ part-print-start c = search needs
 
 -- src/lib.rt:77:11
 part-print-end : tie.Need-part-print-end
-part-print-end c = omega (arith, part-room _ _ _ (c .before .before .write-part .ensures .answer), c .before .before .write-part .kept)
+part-print-end c = omega (arith, part-room _ _ _ (whole-part _ _ _ (c .before .before .before .before .before .before .before .before .before .before .before .pre) (c .before .before .write-part .ensures .answer)), c .before .before .write-part .kept)
 
 -- src/lib.rt:77:5
 print-requires : tie.Need-print-requires
@@ -35,7 +35,7 @@ print-requires c κs = search needs
 
 -- src/lib.rt:43:1
 returns : tie.Need-returns
-returns c = c .before .before .before .before .write-part .ensures .answer
+returns c = whole-part _ _ _ (c .before .before .before .before .before .before .before .before .before .before .before .before .before .pre) (c .before .before .before .before .write-part .ensures .answer)
 
 pub print-part-spec : {M : Type 1} → statement M
 print-part-spec =

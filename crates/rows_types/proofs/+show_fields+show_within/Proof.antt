@@ -1,7 +1,7 @@
 -- `rows_types::show_within` and `rows_types::show_fields` meet their contracts. The depth falls from a type to the types inside it; a turn of the fields'
 -- loop writes one field of those that are owed. Assumes nothing.
-use Rattle.rows_types.proofs.Texts.{shows-length, record-shown, leaf-shown}
-use Rattle.display.proofs.ShownLaws.{is-leaf, shown-none, shown-wrap, fields-end, fields-turn}
+use Rattle.rows_types.proofs.Texts.{shows-length, record-shown, leaf-shown, turn-behind}
+use Rattle.display.proofs.ShownLaws.{is-leaf, shown-none, shown-wrap, fields-end}
 use Rattle.rows_window.specs.ShowingLaws.{Owes, owes-all, owes-less, shows-as, shows-full, _and-then_}
 use Rattle.ptype.specs.Show.{plainNames, showFields}
 use Rattle.ptype.specs.Words.{fieldsFrom, unfolded}
@@ -12,7 +12,7 @@ use mathlib.Core.Path.{_≡_, refl, sym, _∙_}
 use lib.ListN.{length}
 use native.Mathlib.Omega.{arith}
 use borrow.Author.Needs.{needs}
-use Prim.Native.Nat.{ℕ, _+_, _*_, _^_, _<_}
+use Prim.Native.Nat.{ℕ, _+_, _*_, _<_}
 use borrow.Fn.Kinds.{In}
 use borrow.Fn.PlainCycle.{Measures, is, falls, and}
 use Rattle.rows_types.proofs.show_fields.Reads as show-fields
@@ -25,6 +25,7 @@ use Rattle.ptype.proofs.field_count.Reads as field-count-reads
 use Rattle.ptype.proofs.field_name.Reads as field-name-reads
 use Rattle.ptype.proofs.field_type.Reads as field-type-reads
 use Rattle.ptype.proofs.inner.Reads as inner-reads
+use Rattle.rows_types.proofs.behind.Reads as behind-reads
 use Rattle.rows_types.proofs.put_gap.Reads as put-gap-reads
 use Rattle.rows_types.proofs.put_leaf.Reads as put-leaf-reads
 use Rattle.rows_types.proofs.put_opening.Reads as put-opening-reads
@@ -62,16 +63,16 @@ abbrev show-fields-Inv-loop : show-fields-lts.InvT-loop
 show-fields-Inv-loop out₀ types script library words i n depth after w₀ i₀ left₀ t14 out w i' left =
     let T : Texts = textsOf script library in
     let F : ℕ → ℕ → Fields = fieldsFrom (unfolded T types depth) T words in
-    Owes out₀ w₀ (showFields (F i n) ++ after) out w (showFields (F i' left) ++ after) × (i' + 2 * left < 2 ^ 40) × (length out ≡ length out₀)
+    Owes out₀ w₀ (showFields (F i n) ++ after) out w (showFields (F i' left) ++ after) × (length out ≡ length out₀)
 
 abbrev show-fields-μ-loop : show-fields-lts.MeasureT-loop
 show-fields-μ-loop out₀ types script library words i n depth after w₀ i₀ left₀ t14 out w i' left = left
 
 abbrev show-fields-claims : ℕ → show-fields-lts.Claims
-show-fields-claims t = (field-name-reads.Asked, field-name-reads.Learnt, put-reads.Asked, put-reads.Learnt, field-type-reads.Asked, field-type-reads.Learnt, show-within-below t, show-within.Post, put-gap-reads.Asked, put-gap-reads.Learnt)
+show-fields-claims t = (field-name-reads.Asked, field-name-reads.Learnt, put-reads.Asked, put-reads.Learnt, field-type-reads.Asked, field-type-reads.Learnt, show-within-below t, show-within.Post, put-gap-reads.Asked, put-gap-reads.Learnt, behind-reads.Asked, behind-reads.Learnt)
 
 show-fields-loop-holds : (t : ℕ) → show-fields-lts.Need-loop-holds (show-fields-claims t) (show-fields-at t) show-fields.Post show-fields-Inv-loop show-fields-μ-loop
-show-fields-loop-holds t c = (owes-all refl, search needs, search needs)
+show-fields-loop-holds t c = (owes-all refl, search needs)
 
 show-fields-field-name-requires : (t : ℕ) → show-fields-lts.Need-field-name-requires (show-fields-claims t) (show-fields-at t) show-fields.Post show-fields-Inv-loop show-fields-μ-loop
 show-fields-field-name-requires t c κs = search needs
@@ -97,17 +98,18 @@ show-fields-sub-left t c = search needs
 show-fields-put-gap-requires : (t : ℕ) → show-fields-lts.Need-put-gap-requires (show-fields-claims t) (show-fields-at t) show-fields.Post show-fields-Inv-loop show-fields-μ-loop
 show-fields-put-gap-requires t c κs = search needs
 
-show-fields-add-i : (t : ℕ) → show-fields-lts.Need-add-i (show-fields-claims t) (show-fields-at t) show-fields.Post show-fields-Inv-loop show-fields-μ-loop
-show-fields-add-i t c = omega (arith, c .before .before .before .before .before .before .before .before .before .before .before .before .before .before .before .before .before .before .before .before .loop .inv .1)
+-- src/lib.rt:159:9
+show-fields-behind-requires : (t : ℕ) → show-fields-lts.Need-behind-requires (show-fields-claims t) (show-fields-at t) show-fields.Post show-fields-Inv-loop show-fields-μ-loop
+show-fields-behind-requires t c κs = search needs
 
 show-fields-loop-less : (t : ℕ) → show-fields-lts.Need-loop-less (show-fields-claims t) (show-fields-at t) show-fields.Post show-fields-Inv-loop show-fields-μ-loop
-show-fields-loop-less t c = search needs
+show-fields-loop-less t c = omega (arith, c .before .before .before .before .before .before .before .before .before .before .before .before .before .before .before .before .before .before .before .before .loop-test .taken)
 
 show-fields-loop-again : (t : ℕ) → show-fields-lts.Need-loop-again (show-fields-claims t) (show-fields-at t) show-fields.Post show-fields-Inv-loop show-fields-μ-loop
 unfolding text
 show-fields-loop-again t c =
-    let turn = (c .before .before .before .before .before .before .before .before .before .before .before .before .before .before .before .before .put .ensures) and-then (c .before .before .before .before .before .before .before .before .before .before .before .put2 .ensures) and-then (c .before .before .before .before .before .before .show-within .ensures) and-then (c .before .before .put-gap .ensures) in
-    (owes-less (c .before .before .before .before .before .before .before .before .before .before .before .before .before .before .before .before .before .before .before .before .loop .inv .0) (fields-turn _ _ _ _ _ (omega (arith, c .before .before .before .before .before .before .before .before .before .before .before .before .before .before .before .before .before .before .before .loop-test .taken)) (c .before .before .before .before .before .before .before .before .before .before .before .before .before .before .before .before .before .field-name .ensures) (c .before .before .before .before .before .before .before .field-type .ensures)) turn, omega (arith, c .before .before .before .before .before .before .before .before .before .before .before .before .before .before .before .before .before .before .before .before .loop .inv .1, c .before .before .before .before .before .before .before .before .before .before .before .before .before .before .before .before .before .before .before .loop-test .taken), shows-length turn ∙ c .before .before .before .before .before .before .before .before .before .before .before .before .before .before .before .before .before .before .before .before .loop .inv .2)
+    let turn = (c .before .before .before .before .before .before .before .before .before .before .before .before .before .before .before .before .before .put .ensures) and-then (c .before .before .before .before .before .before .before .before .before .before .before .before .put2 .ensures) and-then (c .before .before .before .before .before .before .before .show-within .ensures) and-then (c .before .before .before .put-gap .ensures) in
+    (owes-less (c .before .before .before .before .before .before .before .before .before .before .before .before .before .before .before .before .before .before .before .before .before .loop .inv .0) (turn-behind _ _ _ _ _ (omega (arith, c .before .before .before .before .before .before .before .before .before .before .before .before .before .before .before .before .before .before .before .before .loop-test .taken)) (c .before .before .before .before .before .before .before .before .before .before .before .before .before .before .before .before .before .before .field-name .ensures) (c .before .before .before .before .before .before .before .before .field-type .ensures) (c .behind .ensures)) turn, shows-length turn ∙ c .before .before .before .before .before .before .before .before .before .before .before .before .before .before .before .before .before .before .before .before .before .loop .inv .1)
 
 show-fields-put-requires-3 : (t : ℕ) → show-fields-lts.Need-put-requires-3 (show-fields-claims t) (show-fields-at t) show-fields.Post show-fields-Inv-loop show-fields-μ-loop
 show-fields-put-requires-3 t c κs = search needs
@@ -196,7 +198,7 @@ show-within-slice-aggregate-show-fields : (t : ℕ) → show-within-lts.Need-sli
 show-within-slice-aggregate-show-fields t c = search needs
 
 show-within-show-fields-requires : (t : ℕ) → show-within-lts.Need-show-fields-requires (show-within-claims t) (show-within-at t) show-within.Post
-show-within-show-fields-requires t c κs = (omega (arith, c .before .before .before .before .before .before .before .before .before .before .before .before .before .before .before .before .before .before .before .before .before .pre .0, c .before .before .before .before .before .before .before .before .before .before .before .before .before .if2 .left), omega (arith, c .before .before .before .payload .ensures, c .before .before .field-count .ensures))
+show-within-show-fields-requires t c κs = (omega (arith, c .before .before .before .before .before .before .before .before .before .before .before .before .before .before .before .before .before .before .before .before .before .pre .0, c .before .before .before .before .before .before .before .before .before .before .before .before .before .if2 .left), tt)
 
 show-within-same-length-4 : (t : ℕ) → show-within-lts.Need-same-length-4 (show-within-claims t) (show-within-at t) show-within.Post
 show-within-same-length-4 t c = search needs
@@ -229,7 +231,7 @@ pub +show-fields+show-within-spec : {M : Type 1} → statement M
     (show-fields-show-within-requires t)
     (show-fields-sub-left t)
     (show-fields-put-gap-requires t)
-    (show-fields-add-i t)
+    (show-fields-behind-requires t)
     (show-fields-loop-less t)
     (show-fields-loop-again t)
     (show-fields-put-requires-3 t)
