@@ -2,7 +2,7 @@
 use Prim.Native.Nat.{ℕ, _+_, _*_, _<_}
 use mathlib.Core.Path.{_≡_}
 use mathlib.Core.List.{List}
-use lib.ListN.{getD}
+use lib.ListN.{getD, length}
 
 -- the 32-bit word at byte `at`, with zeros past the end
 unfoldable pub wordIn : List ℕ → (at : ℕ) → ℕ
@@ -19,3 +19,9 @@ pub record CommandIn (bytes : List ℕ) (op a b c : ℕ) : Type 0 where
   pub second : a ≡ wordIn bytes 4
   pub third : b ≡ wordIn bytes 8
   pub fourth : c ≡ wordIn bytes 12
+
+-- a command of some sixteen bytes: which they are a read leaves open
+pub record SomeCommand (op a b c : ℕ) : Type 0 where
+  pub bytes : List ℕ
+  pub sixteen : length bytes ≡ 16
+  pub words : CommandIn bytes op a b c

@@ -2,9 +2,12 @@
 // one before it. oracle/replay/README.md says what each command does. What is told past the end of a list is left out.
 use libc::STDOUT_FILENO;
 ghost use mathlib.Core.Path.{_≡_};
-ghost use Prim.Native.Nat.{_+_, _%_, _^_, _≤_, min};
-ghost use lib.ListN.{getD, set, take};
-ghost use Rattle.commands.specs.Words.{wordIn, ByteAt, CommandIn};
+ghost use mathlib.Core.List.{List};
+ghost use Prim.Native.Nat.{ℕ, _+_, _%_, _^_, _≤_, _<_, min};
+ghost use lib.ListN.{getD, length, set, take};
+ghost use Rattle.commands.specs.Words.{wordIn, ByteAt, CommandIn, SomeCommand};
+ghost use Rattle.commands.specs.Changes.{whole, lowByte, filled, fourBytes, lists, patterned, fillOf, dataOf, changed};
+ghost use Rattle.commands.specs.Printed.{NumberBytes, RefusedBytes};
 
 // Registers: the lengths of the four lists, then of the six lent buffers, ..
 pub const SCRIPT: usize = 0;
@@ -81,8 +84,11 @@ pub fn command_in(bytes: &[u8]) -> Command
     }
 }
 
-// The next command of the input; all zero past its end.
-pub fn next_command() -> Command {
+// The next command of the input; all zero past its end. Which bytes a read hands out, the C library's contract leaves open: what is said here is only
+// that the four words are those of sixteen bytes.
+pub fn next_command() -> Command
+    ensures { λ r. ⌜ SomeCommand (r .op) (r .a) (r .b) (r .c) ⌝ }
+{
     let mut bytes = [0u8; 16];
     io::read_full(0, &mut bytes);
     command_in(&bytes)
@@ -108,8 +114,10 @@ fn put_byte(text: &mut [u8], i: usize, w: u32)
 }
 
 // Four bytes of a word, from a place on.
-fn put_bytes(out: &mut [u8], at: usize, w: u32) {
-    let at = at % 0x10_0000;
+fn put_bytes(out: &mut [u8], at: usize, w: u32)
+    requires { ⌜ at < 2 ^ 33 ⌝ }
+    ensures { λ _. ⌜ now (out .exit) ≡ fourBytes (now (out .entry)) at w ⌝ }
+{
     put_byte(out, at, w);
     put_byte(out, at + 1, w / 0x100);
     put_byte(out, at + 2, w / 0x1_0000);
@@ -117,14 +125,9 @@ fn put_bytes(out: &mut [u8], at: usize, w: u32) {
 }
 
 // Every `stride`-th element from `start` on, `count` of them: `value`, `value + step`, ..
-pub fn fill_words(
-    out: &mut [u32],
-    stride: usize,
-    start: usize,
-    count: usize,
-    value: u32,
-    step: u32,
-) {
+pub fn fill_words(out: &mut [u32], stride: usize, start: usize, count: usize, value: u32, step: u32)
+    ensures { λ _. ⌜ now (out .exit) ≡ filled whole (now (out .entry)) stride start count value step ⌝ }
+{
     let mut at = start;
     let mut w = value;
     for _ in 0..count {
@@ -134,14 +137,9 @@ pub fn fill_words(
     }
 }
 
-pub fn fill_bytes(
-    out: &mut [u8],
-    stride: usize,
-    start: usize,
-    count: usize,
-    value: u32,
-    step: u32,
-) {
+pub fn fill_bytes(out: &mut [u8], stride: usize, start: usize, count: usize, value: u32, step: u32)
+    ensures { λ _. ⌜ now (out .exit) ≡ filled lowByte (now (out .entry)) stride start count value step ⌝ }
+{
     let mut at = start;
     let mut w = value;
     for _ in 0..count {
@@ -197,7 +195,9 @@ pub fn words_of<'a>(words: &'a [u32], registers: &[u32], which: usize) -> &'a [u
 
 // What commands do.
 
-fn pattern(registers: &mut [u32], c: Command) {
+fn pattern(registers: &mut [u32], c: Command)
+    ensures { λ _. ⌜ now (registers .exit) ≡ patterned (c .a) (c .b) (c .c) (now (registers .entry)) ⌝ }
+{
     put(registers, LIST, c.a);
     put(registers, START, c.b);
     put(registers, COUNT, c.c);
@@ -210,7 +210,10 @@ fn fill(
     library: &mut [u32],
     registers: &[u32],
     c: Command,
-) {
+)
+    ensures { λ _. ⌜ fillOf (c .a) (c .b) (lists (now (script .entry)) (now (image .entry)) (now (text .entry)) (now (library .entry)) (now (registers .entry)))
+        ≡ lists (now (script .exit)) (now (image .exit)) (now (text .exit)) (now (library .exit)) (now (registers .entry)) ⌝ }
+{
     let list = register(registers, LIST);
     let stride = list / 4;
     let start = register(registers, START);
@@ -230,40 +233,47 @@ fn fill(
     fill_words(library, stride, start, count, c.a, c.b);
 }
 
-fn two_words(out: &mut [u32], at: usize, a: u32, b: u32) {
-    let at = at % 0x10_0000;
-    put(out, at, a);
-    put(out, at + 1, b);
+fn two_words(out: &mut [u32], at: u32, a: u32, b: u32)
+    ensures { λ _. ⌜ now (out .exit) ≡ set (set (now (out .entry)) at a) (at + 1) b ⌝ }
+{
+    let i = tok::wide(at);
+    put(out, i, a);
+    put(out, i + 1, b);
 }
 
-fn eight_bytes(out: &mut [u8], at: usize, a: u32, b: u32) {
-    let at = at % 0x10_0000;
-    put_bytes(out, at, a);
-    put_bytes(out, at + 4, b);
+fn eight_bytes(out: &mut [u8], at: u32, a: u32, b: u32)
+    ensures { λ _. ⌜ now (out .exit) ≡ fourBytes (fourBytes (now (out .entry)) at a) (at + 4) b ⌝ }
+{
+    let i = tok::wide(at);
+    put_bytes(out, i, a);
+    put_bytes(out, i + 4, b);
 }
 
-fn data(
+fn put_data(
     script: &mut [u8],
     image: &mut [u32],
     text: &mut [u8],
     library: &mut [u32],
     list: usize,
     c: Command,
-) {
-    let at = tok::wide(c.a);
+)
+    ensures { λ _. ⌜ ((R : List ℕ) →
+        dataOf list (c .a) (c .b) (c .c) (lists (now (script .entry)) (now (image .entry)) (now (text .entry)) (now (library .entry)) R)
+        ≡ lists (now (script .exit)) (now (image .exit)) (now (text .exit)) (now (library .exit)) R) ⌝ }
+{
     if list == SCRIPT {
-        eight_bytes(script, at, c.b, c.c);
+        eight_bytes(script, c.a, c.b, c.c);
         return;
     }
     if list == IMAGE {
-        two_words(image, at, c.b, c.c);
+        two_words(image, c.a, c.b, c.c);
         return;
     }
     if list == TEXT {
-        eight_bytes(text, at, c.b, c.c);
+        eight_bytes(text, c.a, c.b, c.c);
         return;
     }
-    two_words(library, at, c.b, c.c);
+    two_words(library, c.a, c.b, c.c);
 }
 
 // Does what a command says of lists and lengths; other commands are the program's.
@@ -274,7 +284,11 @@ pub fn change(
     library: &mut [u32],
     registers: &mut [u32],
     c: Command,
-) {
+)
+    ensures { λ _. ⌜ changed (c .op) (c .a) (c .b) (c .c)
+        (lists (now (script .entry)) (now (image .entry)) (now (text .entry)) (now (library .entry)) (now (registers .entry)))
+        ≡ lists (now (script .exit)) (now (image .exit)) (now (text .exit)) (now (library .exit)) (now (registers .exit)) ⌝ }
+{
     let op = c.op;
     if op == 1 {
         pattern(registers, c);
@@ -289,29 +303,45 @@ pub fn change(
         return;
     }
     if op >= 8 {
-        data(script, image, text, library, tok::wide(op) - 8, c);
+        put_data(script, image, text, library, tok::wide(op) - 8, c);
     }
 }
 
-// Printing.
+// Printing. Each function hands bytes to the C library and answers how many: whether and where it writes them, its contract leaves open.
 
-pub fn print(s: &[u8]) {
+pub fn print(s: &[u8]) -> usize
+    ensures { λ r. ⌜ r ≡ length (now (s .entry)) ⌝ }
+{
     io::write_all(STDOUT_FILENO, s);
+    s.len()
 }
 
-pub fn print_number(n: usize) {
-    io::print_decimal(STDOUT_FILENO, n as u64);
+// A number in decimal.
+pub fn print_number(n: usize) -> usize
+    ensures { λ r. ⌜ NumberBytes n r ⌝ }
+{
+    let mut digits = [0u8; 20];
+    let k = io::decimal(n as u64, &mut digits);
+    print(&digits[0..k])
 }
 
-pub fn print_refused(number: usize, place: usize) {
-    print(b" refused ");
-    print_number(number);
-    print(b" ");
-    print_number(place);
+// " refused ", number and place.
+pub fn print_refused(number: usize, place: usize) -> usize
+    ensures { λ r. ⌜ RefusedBytes number place r ⌝ }
+{
+    let a = print(b" refused ");
+    let b = print_number(number);
+    let c = print(b" ");
+    let d = print_number(place);
+    a + b + c + d
 }
 
-// A case's line begins with its number, from 0.
-pub fn begin_line(registers: &mut [u32]) {
-    print_number(register(registers, CASES));
+// A case's line begins with its number, from 0; the register that counts cases is one higher.
+pub fn begin_line(registers: &mut [u32]) -> usize
+    ensures { λ r. ⌜ NumberBytes (getD (now (registers .entry)) 13 0) r ⌝ }
+    ensures { λ _. ⌜ now (registers .exit) ≡ set (now (registers .entry)) 13 ((getD (now (registers .entry)) 13 0 + 1) % 2 ^ 32) ⌝ }
+{
+    let n = print_number(register(registers, CASES));
     counted(registers, CASES);
+    n
 }

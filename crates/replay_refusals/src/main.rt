@@ -80,7 +80,9 @@ fn print_answer(checked: Checked) {
             print_count(diagnostics);
             print_count(message_bytes);
         }
-        Checked::Refused { number, place } => commands::print_refused(tok::wide(number), place),
+        Checked::Refused { number, place } => {
+            commands::print_refused(tok::wide(number), place);
+        }
     }
 }
 
