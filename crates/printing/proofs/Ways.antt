@@ -1,20 +1,30 @@
--- The ways out of `is_done`, and a turn of the loop. Assumes nothing.
-use Prim.Native.Nat.{ℕ, _^_, _≤_, _<_}
+-- The ways out of `is_done`, a turn of the loop, and the ways out of it. Assumes nothing.
+use Prim.Native.Nat.{ℕ, _+_, _%_, _^_, _≤_, _<_}
 use mathlib.Core.Path.{_≡_, refl, sym, ap, _∙_}
-use mathlib.Core.Bool.{Bool, true, false, not}
-use mathlib.Core.List.{[], _∷_}
+use mathlib.Core.Bool.{Bool, true, false, not, true≢false}
+use mathlib.Core.List.{List, [], _∷_}
 use mathlib.Core.Logic.{⊎-elim}
 use types.Run.{OneOf}
 use denote.Enum.Declared.{tagOf}
+use native.Mathlib.Nat.{zero-add}
 use native.Mathlib.Omega.{arith}
-use borrow.Author.Tests.{eqb-false, not-true}
+use lib.ListN.{length}
+use borrow.Author.Tests.{eqb-false, not-true, not-false}
+use Rattle.tok.specs.Text.{textsOf}
+use Rattle.refusals.specs.Inputs.{Buffers}
+use Rattle.bench_rows.specs.Bench.{inputsIn, lent}
 use Rattle.rows_part.specs.declared.Row.{Row}
 use Rattle.rows_part.specs.declared.Row.the-variants.{Slot, Fn, Diag, End, Refused, Input, Done}
 use Rattle.rows_part.specs.declared.Part.{Part}
-use Rattle.rows_part.specs.Printing.{Answer, partOf, roomAt}
+use Rattle.rows_part.specs.Printing.{Answer, answerOf, rowOf, restFrom, partOf, roomAt}
 use Rattle.rows_part.specs.PrintingLaws.{part-bytes, room-whole}
 use Rattle.rows_part.proofs.Row.{the-type}
-use Rattle.printing.specs.Loop.{isDone, left, turn-nearer}
+use Rattle.rows_begin.specs.declared.Begun.{Begun}
+use Rattle.rows_begin.specs.Beginning.{Begins}
+use Rattle.rows_begin.specs.BeginningLaws.{begins-bench}
+use Rattle.printing.specs.declared.Printed.{Printed}
+use Rattle.printing.specs.Loop.{isDone, left, turn-nearer, done-left}
+use Rattle.printing.specs.Handed.{Handed, Benched}
 
 pub done-is : {row : Row} → row ≡ Done → true ≡ isDone row
 unfolding isDone
@@ -50,3 +60,32 @@ part-room a row skip q = rw q (part-bytes 4096 a row skip)
 -- a part uses the whole buffer
 pub whole-part : (a : Answer) (row : Row) (skip : ℕ) {p : Part} → skip < 2 ^ 63 → p ≡ partOf (roomAt skip 4096) a row skip → p ≡ partOf 4096 a row skip
 whole-part a row skip h q = q ∙ ap (λ (n : ℕ). partOf n a row skip) (room-whole skip 4096 (omega arith))
+
+-- ---- what was handed over
+-- at first nothing
+pub total-first : (n : ℕ) → (0 + n) % 2 ^ 64 ≡ n % 2 ^ 64
+total-first n = rw (zero-add n)
+
+-- a count of 64 bits
+pub total-small : (n : ℕ) {total : ℕ} → total ≡ n % 2 ^ 64 → total % 2 ^ 64 ≡ total
+total-small n e = omega (arith, e)
+
+-- where no row is left
+pub handed-all : (a : Answer) (row first : Row) (skip : ℕ) {done : Bool} {total : ℕ} → done ≡ isDone row → not done ≡ false → total % 2 ^ 64 ≡ total
+    → (total + length (restFrom a row skip)) % 2 ^ 64 ≡ length (restFrom a first 0) % 2 ^ 64 → Handed a first (record { bytes = total; whole = true })
+handed-all a row first skip {done} e h l t =
+    let z = done-left a row skip (sym e ∙ not-false done h) in
+    record { all = λ _. omega (arith, t, z, l); cut = λ q. absurd (true≢false q) }
+
+-- in a row that is too long
+pub handed-cut : (a : Answer) (row first : Row) (skip : ℕ) {total : ℕ} → 2 ^ 62 ≤ skip → skip ≤ length (rowOf a row) → Handed a first (record { bytes = total; whole = false })
+handed-cut a row first skip h l = record { all = λ q. absurd (true≢false (sym q)); cut = λ _. record { row = row; long = omega arith } }
+
+-- from the input on
+pub benched : (input : List ℕ) {after : Buffers} {begun : Begun} {r : Printed} {script library : List ℕ} → Begins input lent after begun
+    → script ≡ inputsIn input .script → library ≡ inputsIn input .libraryText
+    → Handed (answerOf (textsOf script library) (after .slots) (after .types) (after .functions) (after .diagnostics) (after .messages) (begun .last) (begun .words) (begun .count)) (begun .first) r
+    → Benched input r
+benched input {after} {begun} b es el h =
+    let k = rw (es, el) at h in
+    record { after = after; begun = begun; begins = b; all = λ q. k .all q ∙ ap (λ (l : List ℕ). length l % 2 ^ 64) (begins-bench input b); cut = k .cut }

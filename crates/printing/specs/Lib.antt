@@ -1,2 +1,3 @@
--- The loop over the rows.
+-- The loop over the rows, and what it hands out.
 pub mod Loop
+pub mod Handed

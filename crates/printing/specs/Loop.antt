@@ -1,10 +1,11 @@
 -- The loop over the rows ends: each part leaves less to print, or fewer rows. Assumes nothing.
-use Prim.Native.Nat.{ℕ, _+_, _-_, _≤_, _<_, min}
-use mathlib.Core.Path.{_≡_, ap, _∙_}
-use mathlib.Core.Bool.{Bool, true, false}
+use Prim.Native.Nat.{ℕ, _+_, _-_, _%_, _^_, _≤_, _<_, min}
+use mathlib.Core.Path.{_≡_, sym, ap, _∙_}
+use mathlib.Core.Bool.{Bool, true, false, true≢false}
 use mathlib.Core.List.{List, _++_}
 use native.Mathlib.Omega.{arith}
 use lib.ListN.{length, length-append, replicate, length-replicate, take, drop, length-take}
+use lib.Seq.{drop-nil}
 use lib.Dec.{ltb}
 use borrow.Author.Tests.{lt-ltb, le-ltb}
 use Rattle.ptype.specs.Add.{write}
@@ -12,7 +13,7 @@ use Rattle.display.specs.WriteLaws.{length-write}
 use Rattle.rows_part.specs.declared.Row.{Row}
 use Rattle.rows_part.specs.declared.Row.the-variants.{Slot, Fn, Diag, End, Refused, Input, Done}
 use Rattle.rows_part.specs.declared.Part.{Part}
-use Rattle.rows_part.specs.Printing.{Answer, rowOf, nextIn, restFrom, partOf}
+use Rattle.rows_part.specs.Printing.{Answer, rowOf, nextOf, nextIn, restOf, restFrom, partOf}
 use Rattle.rows_part.specs.PrintingLaws.{part-next, part-bytes}
 use Rattle.rows_part.specs.RowsEnd.{leftAt, next-nearer, by-order}
 
@@ -71,3 +72,33 @@ module _ (a : Answer) (row : Row) (skip : ℕ) where
   -- the same of a part in a variable
   pub turn-nearer : {p : Part} → p ≡ part → isDone row ≡ false → left a (p .row) (p .skip) < left a row skip
   turn-nearer e h = rw e (part-nearer h)
+
+  -- the bytes counted and those left are as many as before
+  pub turn-total : (total : ℕ) {p : Part} {total′ z : ℕ} → p ≡ part → total′ ≡ (total + p .bytes) % 2 ^ 64 → (total + length (restFrom a row skip)) % 2 ^ 64 ≡ z
+      → (total′ + length (restFrom a (p .row) (p .skip))) % 2 ^ 64 ≡ z
+  turn-total total e t h =
+      let k : total + length (restFrom a row skip) ≡ total + (part .bytes + length (restFrom a (part .row) (part .skip))) = ap (λ (n : ℕ). total + n) bytes-less in
+      rw (e, rw e at t) (omega (arith, h, k))
+
+  -- no more is passed over than there is
+  pub turn-within : {p : Part} → p ≡ part → skip ≤ length (rowOf a row) → p .skip ≤ length (rowOf a (p .row))
+  unfolding partOf
+  turn-within e h =
+      by-order (min (length (rowOf a row) - skip) 4096) 4096
+      (λ k.
+      let t = lt-ltb (min (length (rowOf a row) - skip) 4096) 4096 k in
+      rw (e, t) (omega arith))
+      (λ k.
+      let t = le-ltb (min (length (rowOf a row) - skip) 4096) 4096 k in
+      rw (e, t) (omega arith))
+
+-- nothing is left behind the last row
+pub done-left : (a : Answer) (row : Row) (skip : ℕ) → isDone row ≡ true → length (restFrom a row skip) ≡ 0
+unfolding isDone restFrom rowOf restOf nextOf
+done-left a (Slot i) skip h = absurd (true≢false (sym h))
+done-left a (Fn at) skip h = absurd (true≢false (sym h))
+done-left a (Diag k) skip h = absurd (true≢false (sym h))
+done-left a End skip h = absurd (true≢false (sym h))
+done-left a (Refused number place) skip h = absurd (true≢false (sym h))
+done-left a Input skip h = absurd (true≢false (sym h))
+done-left a Done skip h = rw (drop-nil {A = ℕ} skip)

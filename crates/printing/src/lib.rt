@@ -11,6 +11,7 @@ ghost use Prim.Native.Nat.{_^_, _<_};
 ghost use Rattle.tok.specs.Text.{textsOf};
 ghost use Rattle.rows_part.specs.Printing.{answerOf, partOf};
 ghost use Rattle.printing.specs.Loop.{isDone};
+ghost use Rattle.printing.specs.Handed.{Handed, Benched};
 
 // How much of a row is printed at the most: more than any machine prints, and so little that no place in a row is too large for a number.
 const MOST: usize = 0x4000_0000_0000_0000;
@@ -111,7 +112,14 @@ fn print_between(diagnostics: &[u32], messages: &[u8], begun: Begun, row: Row, n
     }
 }
 
-// Prints all rows; if `full`, with primary messages and counts between them.
+// What was handed to the C library: how many bytes of rows, as far as 64 bits count them, and whether these are all rows. Only a row of 2^62 bytes or
+// more is left off.
+pub struct Printed {
+    pub bytes: usize,
+    pub whole: bool,
+}
+
+// Prints all rows; if `full`, with primary messages and counts between them, which are not counted.
 fn print_rows<'a>(
     script: &'a [u8],
     library: &'a [u8],
@@ -122,15 +130,24 @@ fn print_rows<'a>(
     messages: &[u8; 65_536],
     begun: Begun,
     full: bool,
-) {
+) -> Printed
+    ensures { λ r. ⌜ Handed
+        (answerOf (textsOf (now (script .entry)) (now (library .entry))) (now (slots .entry)) (now (types .entry)) (now (functions .entry))
+        (now (diagnostics .entry)) (now (messages .entry)) (begun .last) (begun .words) (begun .count))
+        (begun .first) r ⌝ }
+{
     let last = begun.last;
     let words = begun.words;
     let count = begun.count;
     let mut row = begun.first;
     let mut skip = 0;
+    let mut total = 0;
     while !is_done(row) {
         if skip >= MOST {
-            return;
+            return Printed {
+                bytes: total,
+                whole: false,
+            };
         }
         let part = print_part(
             script,
@@ -148,15 +165,23 @@ fn print_rows<'a>(
         );
         let next = part.row;
         skip = part.skip;
+        total = std::num::wrapping_add_usize(total, part.bytes);
         if full && skip == 0 {
             print_between(diagnostics, messages, begun, row, next);
         }
         row = next;
     }
+    Printed {
+        bytes: total,
+        whole: true,
+    }
 }
 
-// The printing program: the check of the input's parts, and its rows.
-pub fn bench(bytes: &[u8], full: bool) {
+// The printing program: the check of the input's parts, and its rows. It answers what it handed to the C library, whose contract leaves open
+// whether it writes it.
+pub fn bench(bytes: &[u8], full: bool) -> Printed
+    ensures { λ r. ⌜ Benched (now (bytes .entry)) r ⌝ }
+{
     let mut slots = [0u32; 4_097];
     let mut functions = [0u32; 8_192];
     let mut types = [0u32; 8_192];
@@ -182,5 +207,5 @@ pub fn bench(bytes: &[u8], full: bool) {
         &messages,
         begun,
         full,
-    );
+    )
 }

@@ -1,9 +1,13 @@
--- `printing::print_rows` is safe and ends: each part leaves less to print, or fewer rows. Assumes nothing.
+-- `printing::print_rows` meets its contract: each part leaves less to print, or fewer rows; the bytes counted and those left are as many as at first.
+-- Assumes nothing.
+use Prim.Native.Nat.{_+_, _%_, _^_, _≤_}
+use mathlib.Core.Path.{_≡_}
 use native.Mathlib.Omega.{arith}
+use lib.ListN.{length}
 use Rattle.tok.specs.Text.{textsOf}
-use Rattle.rows_part.specs.Printing.{answerOf}
-use Rattle.printing.specs.Loop.{left}
-use Rattle.printing.proofs.Ways.{turn}
+use Rattle.rows_part.specs.Printing.{Answer, answerOf, rowOf, restFrom}
+use Rattle.printing.specs.Loop.{left, turn-total, turn-within}
+use Rattle.printing.proofs.Ways.{turn, total-first, total-small, handed-all, handed-cut}
 use borrow.Author.Needs.{needs}
 use Rattle.printing.proofs.print_rows.Statement.{statement}
 use Rattle.printing.proofs.print_rows.Tie as tie
@@ -14,52 +18,47 @@ use Rattle.printing.proofs.print_between.Reads as print-between-reads
 use Rattle.printing.proofs.print_part.Reads as print-part-reads
 
 abbrev Inv-loop : tie.InvT-loop
-Inv-loop script library slots types functions diagnostics messages begun full last words count row₀ skip₀ row skip =
-    Unit {0}
+Inv-loop script library slots types functions diagnostics messages begun full last words count row₀ skip₀ total₀ row skip total =
+    let a : Answer = answerOf (textsOf script library) slots types functions diagnostics messages last words count in
+    (skip ≤ length (rowOf a row)) × ((total + length (restFrom a row skip)) % 2 ^ 64 ≡ length (restFrom a row₀ 0) % 2 ^ 64)
+    × (total % 2 ^ 64 ≡ total)
 
 abbrev μ-loop : tie.MeasureT-loop
-μ-loop script library slots types functions diagnostics messages begun full last words count row₀ skip₀ row skip =
+μ-loop script library slots types functions diagnostics messages begun full last words count row₀ skip₀ total₀ row skip total =
     left (answerOf (textsOf script library) slots types functions diagnostics messages last words count) row skip
 
--- src/lib.rt:131:5
 loop-holds : tie.Need-loop-holds Inv-loop μ-loop
-loop-holds c = tt
+loop-holds c = (omega arith, total-first _, omega arith)
 
--- src/lib.rt:131:12
 is-done-requires : tie.Need-is-done-requires Inv-loop μ-loop
 is-done-requires c κs = search needs
 
--- src/lib.rt:132:13
 print-part-requires : tie.Need-print-part-requires Inv-loop μ-loop
 print-part-requires c κs = omega (arith, c .before .before .before .before .before .if2 .left)
 
--- src/lib.rt:149:13
+wrapping-add-usize-requires : tie.Need-wrapping-add-usize-requires Inv-loop μ-loop
+wrapping-add-usize-requires c κs = search needs
+
 print-between-requires : tie.Need-print-between-requires Inv-loop μ-loop
 print-between-requires c κs = search needs
 
--- src/lib.rt:131:5
 loop-less : tie.Need-loop-less Inv-loop μ-loop
-loop-less c = turn _ _ _ (c .before .before .before .before .before .before .before .before .before .before .before .before .before .is-done .ensures) (c .before .before .before .before .before .before .before .before .before .before .before .before .if1 .taken) (c .before .before .before .before .before .print-part .ensures)
+loop-less c = turn _ _ _ (c .before .before .before .before .before .before .before .before .before .before .before .before .before .before .is-done .ensures) (c .before .before .before .before .before .before .before .before .before .before .before .before .before .if1 .taken) (c .before .before .before .before .before .before .print-part .ensures)
 
--- src/lib.rt:131:5
 loop-again : tie.Need-loop-again Inv-loop μ-loop
-loop-again c = tt
+loop-again c = (turn-within _ _ _ (c .before .before .before .before .before .before .print-part .ensures) (c .before .before .before .before .before .before .before .before .before .before .before .before .before .before .before .loop .inv .0), turn-total _ _ _ _ (c .before .before .before .before .before .before .print-part .ensures) (c .before .before .before .before .before .wrapping-add-usize .ensures) (c .before .before .before .before .before .before .before .before .before .before .before .before .before .before .before .loop .inv .1), total-small _ (c .before .before .before .before .before .wrapping-add-usize .ensures))
 
--- src/lib.rt:131:5
 loop-less-2 : tie.Need-loop-less-2 Inv-loop μ-loop
-loop-less-2 c = turn _ _ _ (c .before .before .before .before .before .before .before .before .before .is-done .ensures) (c .before .before .before .before .before .before .before .before .if1 .taken) (c .before .print-part .ensures)
+loop-less-2 c = turn _ _ _ (c .before .before .before .before .before .before .before .before .before .before .is-done .ensures) (c .before .before .before .before .before .before .before .before .before .if1 .taken) (c .before .before .print-part .ensures)
 
--- src/lib.rt:131:5
 loop-again-2 : tie.Need-loop-again-2 Inv-loop μ-loop
-loop-again-2 c = tt
+loop-again-2 c = (turn-within _ _ _ (c .before .before .print-part .ensures) (c .before .before .before .before .before .before .before .before .before .before .before .loop .inv .0), turn-total _ _ _ _ (c .before .before .print-part .ensures) (c .before .wrapping-add-usize .ensures) (c .before .before .before .before .before .before .before .before .before .before .before .loop .inv .1), total-small _ (c .before .wrapping-add-usize .ensures))
 
--- src/lib.rt:115:1
 returns-2 : tie.Need-returns-2 Inv-loop μ-loop
-returns-2 c = tt
+returns-2 c = handed-all _ _ _ _ (c .before .is-done .ensures) (c .if1 .left) (c .before .before .loop .inv .2) (c .before .before .loop .inv .1)
 
--- src/lib.rt:115:1
 returns : tie.Need-returns Inv-loop μ-loop
-returns c = tt
+returns c = handed-cut _ _ _ _ (c .if2 .taken) (c .before .before .before .loop .inv .0)
 
 pub print-rows-spec : {M : Type 1} → statement M
 print-rows-spec =
@@ -71,6 +70,7 @@ print-rows-spec =
     is-done-requires
     returns
     print-part-requires
+    wrapping-add-usize-requires
     print-between-requires
     loop-less
     loop-again
