@@ -69,7 +69,8 @@ unfoldable pub ended : (n : ℕ) → (diagnostics messages : List ℕ) → Repor
 ended n ds ms (Told c) = ok tt (output ds ms c)
 ended n ds ms NoRoom = refused (refusal 9 n)
 
--- The contract of every writer of a diagnostic: the buffers ds and ms with their counts c came in, ds′ and ms′ are the buffers now, r the answer.
+-- One diagnostic in the whole buffers: ds and ms with their counts c came in, ds′ and ms′ are the buffers now, r the answer. (Its writer is lent
+-- the rest of ms: err_text, `ReportsIn`.)
 -- After 9 it says nothing of the buffers: "all outputs and scratch zero to their ends", which the check does at its end, whatever they held.
 pub record Reports (d : Diagnostic) (ds ms : List ℕ) (c : Counts) (ds′ ms′ : List ℕ) (r : Reported) : Type 0 where
   pub step : (n : ℕ) → tell n d (output ds ms c) ≡ ended n ds′ ms′ r

@@ -129,21 +129,13 @@ module _ {ds ms ms₁ ms₂ : List ℕ} {c : Counts} {code : ℕ} {span : Span} 
   texts-written {r₁ = All m} {r₂ = Full} a b = no-room (omega (arith, all-wrote a, full-wrote b, writes-length a, length-append message primary))
   texts-written {r₁ = All m} {r₂ = All p} a b = all-written a b
 
--- The law of all writers of diagnostics: both texts were written, the span was asked for, and the record was written.
+-- both texts were written, the span was asked for, and the record was written
 pub tells :
     {ds ds′ ms ms₁ ms₂ : List ℕ} {c : Counts} {code : ℕ} {span span′ : Span} {message primary : List ℕ} {r₁ r₂ : Wrote} {r : Reported} →
     Writes ms (All (c .bytes)) ms₁ r₁ message → Writes ms₁ r₁ ms₂ r₂ primary → span′ ≡ span →
     (ds′ ≡ placed ds c code span′ r₁ r₂) × (r ≡ placedAnswer ds c r₁ r₂) →
     Reports (whole code span message primary) ds ms c ds′ ms₂ r
 tells a b e k = rw (k .0, k .1, e) (texts-written a b)
-
--- and those of no primary message
-pub tells-alone :
-    {ds ds′ ms ms₁ : List ℕ} {c : Counts} {code : ℕ} {span span′ : Span} {message : List ℕ} {r₁ : Wrote} {r : Reported} →
-    Writes ms (All (c .bytes)) ms₁ r₁ message → span′ ≡ span →
-    (ds′ ≡ placed ds c code span′ r₁ r₁) × (r ≡ placedAnswer ds c r₁ r₁) →
-    Reports (whole code span message []) ds ms c ds′ ms₁ r
-tells-alone a e k = tells a (writes-end a) e k
 
 -- ---- the record's six words, one after the other
 next-word : (ds : List ℕ) (n : ℕ) (s : List ℕ) (b : ℕ) → set (write ds n s) (n + length s) b ≡ write ds n (s ++ (b ∷ []))
