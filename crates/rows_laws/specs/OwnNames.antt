@@ -16,7 +16,7 @@ use Rattle.rules.specs.Steps.{known, setKnown, enter}
 use Rattle.rules.specs.Rules.{fn, unlessDefined, node, block, last, visitAll, cases, values, array, members}
 use Rattle.rules.specs.Walk.{ctxOf, startOf, copyPool, walkFirst, walk, walkOf}
 use Rattle.laws.specs.SlotsOf.{all-args}
-use Rattle.laws.specs.Keeps.{Keeps, kept, stopped, Kept}
+use Rattle.laws.specs.Keeps.{Keeps, kept, stopped, StepsKeep}
 use Rattle.laws.specs.Keeps as K
 use Rattle.laws.specs.Grow.{kept-ok}
 use Rattle.onerun.specs.Claim.{All, end, and}
@@ -33,7 +33,7 @@ module _ (P N : ℕ → Type 0) where
   abbrev Stays : World → World → Type 0
   Stays s u = Named s → Named u
 
-  stays : Kept Stays Any Any
+  stays : StepsKeep Stays Any Any
   stays = record {
     same = λ s h. h;
     trans = λ {s} {t} {u} x y h. y (x h);
