@@ -2,7 +2,7 @@
  *
  * Inputs and answers are the words of docs/01-scope.md. The function is pure: it reads its inputs, writes the six lent buffers and the answer,
  * keeps nothing, allocates nothing and may be called from several threads at once. It needs at most 192 KB of stack (196,608 bytes below the
- * caller's frame), whatever it is given; for scripts whose nodes are at most d deep the greater of 58,856 and 34,960 + 2,304 * d bytes.
+ * caller's frame), whatever it is given; for scripts whose nodes are at most d deep the greater of 58,856 and 34,944 + 2,384 * d bytes.
  * bindings/stack/ measures it.
  */
 #ifndef SHELFSTORK_H

@@ -27,7 +27,7 @@ from shapes import less_deep, shapes  # noqa: E402
 # Bytes of stack that the check may take, whatever it is given.
 BOUND = 196608
 # And where nodes are at most d deep: the greater of the first, which refusals 1 to 6 take, and the second + d times the third (shelfstork.h).
-REFUSALS, WALK, LEVEL = 58856, 34960, 2304
+REFUSALS, WALK, LEVEL = 58856, 34944, 2384
 # The measured most is at least this part of the sum.
 NEAR = 0.85
 PAGE = 4096
