@@ -77,9 +77,14 @@ def public_functions():
 
 
 def table():
+    """The table, and the functions with fewer than two. An edit of laws is the function's above them whose name it has."""
+    public = set(public_functions())
     by_function = {}
     for crate, in_gate, path in edits():
         function, _, what = os.path.basename(path)[:-5].partition("__")
+        above = [c for c, f in public if f == function]
+        if (crate, function) not in public and len(above) == 1:
+            crate = above[0]
         by_function.setdefault((crate, function), []).append(what.replace("_", " ") + (" (gate)" if in_gate else ""))
     rows = ["# Wrong edits of each public function", "", "Written by `more-edits/table.py`. An edit is `FUNCTION__what.edit`, in `crates/NAME/must-fail/` (the gate tries it) or in `more-edits/NAME/`.", "", "| crate | function | edits | which |", "|---|---|---|---|"]
     few = []
