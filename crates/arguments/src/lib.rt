@@ -41,7 +41,8 @@ pub fn compared<'a>(
     provided: u32,
 ) -> Went
     ensures { λ r. let T : Texts = textsOf (now (script .entry)) (now (library .entry)) in let U : ℕ → Ty = tyOf T (now (types .entry)) in
-        ⌜ Compares T n (callName T callee) name span (U expected) (U provided) (now (types .entry)) (now (diagnostics .entry)) (now (messages .entry)) used (now (diagnostics .exit)) (now (messages .exit)) r ⌝ }
+        ⌜ Compares T n (callName T callee) name span (U expected) (U provided) (now (types .entry)) (now (diagnostics .entry)) (now (messages .entry)) used (now (diagnostics .exit))
+        (now (messages .exit)) r ⌝ }
 {
     if ptype::same_type(types, script, library, expected, provided) {
         return Went::On(used);
@@ -80,7 +81,8 @@ pub fn plain_argument<'a>(
     span: Span,
 ) -> Went
     ensures { λ r. let T : Texts = textsOf (now (script .entry)) (now (library .entry)) in
-        ⌜ Leaves T (λ c. argument c n (callName T callee) false (param name expected) (given slot span)) (now (slots .entry)) (now (types .entry)) (now (diagnostics .entry)) (now (messages .entry)) used (now (diagnostics .exit)) (now (messages .exit)) r ⌝ }
+        ⌜ Leaves T (λ c. argument c n (callName T callee) false (param name expected) (given slot span)) (now (slots .entry)) (now (types .entry)) (now (diagnostics .entry))
+        (now (messages .entry)) used (now (diagnostics .exit)) (now (messages .exit)) r ⌝ }
 {
     let w = tok::word_at(slots, tok::wide(slot));
     if is_unchecked(types, w) {

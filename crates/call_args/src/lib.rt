@@ -49,7 +49,8 @@ fn plain_arguments<'a>(
 ) -> Went
     requires { ⌜ CallReady (now image) (now places) n args count (now words) at ⌝ }
     ensures { λ r. let T : Texts = textsOf (now (script .entry)) (now (library .entry)) in
-        ⌜ Leaves T (λ c. arguments c n (callName T callee) false (signatureAt (now (words .entry)) at false .params) (givenFrom (now (image .entry)) args count)) (now (slots .entry)) (now (types .entry)) (now (diagnostics .entry)) (now (messages .entry)) used (now (diagnostics .exit)) (now (messages .exit)) r ⌝ }
+        ⌜ Leaves T (λ c. arguments c n (callName T callee) false (signatureAt (now (words .entry)) at false .params) (givenFrom (now (image .entry)) args count)) (now (slots .entry))
+        (now (types .entry)) (now (diagnostics .entry)) (now (messages .entry)) used (now (diagnostics .exit)) (now (messages .exit)) r ⌝ }
 {
     let mut now = used;
     let mut i = 0;
@@ -116,7 +117,9 @@ pub fn check_plain<'a>(
 ) -> Step
     requires { ⌜ NodesReady (now image) (now places) n args count ⌝ }
     ensures { λ r. let T : Texts = textsOf (now (script .entry)) (now (library .entry)) in
-        ⌜ ((ls : List Package) (v : ℕ) → Steps (checkCallArgs (ctx T ls v) n slot token (callName T callee) (signatureAt (now (words .entry)) at false) (givenFrom (now (image .entry)) args count)) (now (slots .entry)) (now (types .entry)) (now (diagnostics .entry)) (now (messages .entry)) used (now (slots .exit)) (now (types .entry)) (now (diagnostics .exit)) (now (messages .exit)) r) ⌝ }
+        ⌜ ((ls : List Package) (v : ℕ) → Steps
+        (checkCallArgs (ctx T ls v) n slot token (callName T callee) (signatureAt (now (words .entry)) at false) (givenFrom (now (image .entry)) args count)) (now (slots .entry))
+        (now (types .entry)) (now (diagnostics .entry)) (now (messages .entry)) used (now (slots .exit)) (now (types .entry)) (now (diagnostics .exit)) (now (messages .exit)) r) ⌝ }
 {
     let required = signatures::argument_count(words, at);
     let ret = signatures::return_type(words, at);

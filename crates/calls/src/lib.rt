@@ -14,7 +14,7 @@ ghost use Rattle.rules.specs.Calls.{Provided, resolveCall, call};
 ghost use Rattle.state.specs.Context.{ctx};
 ghost use Rattle.own_call.specs.OwnCalls.{OwnReady};
 ghost use Rattle.call_args.specs.Given.{givenFrom};
-ghost use Rattle.visit.specs.Whole.{lent};
+ghost use Rattle.visit.specs.Whole.{Lent, lent};
 ghost use Rattle.visit.specs.Within.{Visits};
 ghost use Rattle.calls.specs.Callees.{calleeAt, isThroughField, callEnd, CallAt, FieldCall};
 ghost use Rattle.calls.specs.CallVisits.{Resolvable};
@@ -53,7 +53,10 @@ pub fn report_field(
 ) -> Visit
     requires { ⌜ FieldCall (now image) (now places) at ⌝ }
     ensures { λ r.
-        ⌜ ((c : Ctx) (slot : ℕ) (given : List Provided) (visits : Walk Bool) (words s f t e : List ℕ) → Visits (call c n slot (calleeAt (now (image .entry)) at) given visits) 0 0 words st (lent s f t (now (diagnostics .entry)) (now (messages .entry)) e) (lent s f t (now (diagnostics .exit)) (now (messages .exit)) e) r) ⌝ }
+        ⌜ ((c : Ctx) (slot : ℕ) (given : List Provided) (visits : Walk Bool) (words s f t e : List ℕ) →
+        let b : Lent = lent s f t (now (diagnostics .entry)) (now (messages .entry)) e in
+        let b′ : Lent = lent s f t (now (diagnostics .exit)) (now (messages .exit)) e in
+        Visits (call c n slot (calleeAt (now (image .entry)) at) given visits) 0 0 words st b b′ r) ⌝ }
 {
     let used = st.used;
     let target = node_place(places, word_at(image, at + 2));
@@ -97,7 +100,10 @@ fn resolve_own<'a>(
 ) -> Visit
     requires { ⌜ OwnReady (now functions) (st .functions) (now image) (now places) n args count ⌝ }
     ensures { λ r. let T : Texts = textsOf (now (script .entry)) (now (library .entry)) in
-        ⌜ ((ls : List Package) (v : ℕ) (words e : List ℕ) → Visits (resolveCall (ctx T ls v) n slot name (givenFrom (now (image .entry)) args count)) 0 0 words st (lent (now (slots .entry)) (now (functions .entry)) (now (types .entry)) (now (diagnostics .entry)) (now (messages .entry)) e) (lent (now (slots .exit)) (now (functions .entry)) (now (types .entry)) (now (diagnostics .exit)) (now (messages .exit)) e) r) ⌝ }
+        ⌜ ((ls : List Package) (v : ℕ) (words e : List ℕ) →
+        let b : Lent = lent (now (slots .entry)) (now (functions .entry)) (now (types .entry)) (now (diagnostics .entry)) (now (messages .entry)) e in
+        let b′ : Lent = lent (now (slots .exit)) (now (functions .entry)) (now (types .entry)) (now (diagnostics .exit)) (now (messages .exit)) e in
+        Visits (resolveCall (ctx T ls v) n slot name (givenFrom (now (image .entry)) args count)) 0 0 words st b b′ r) ⌝ }
 {
     let used = st.used;
     let step = own_call::resolve_call(
@@ -143,7 +149,11 @@ pub fn resolve<'a>(
     requires { let T : Texts = textsOf (now script) (now library) in
         ⌜ Resolvable T (now image) (now places) (now words) n at count st (lent (now slots) (now functions) (now types) (now diagnostics) (now messages) (now scratch)) ⌝ }
     ensures { λ r. let T : Texts = textsOf (now (script .entry)) (now (library .entry)) in
-        ⌜ ((ls : List Package) (v : ℕ) → Visits (callEnd (ctx T ls v) n (getD (now (image .entry)) (at + 1) 0) (calleeAt (now (image .entry)) at) (givenFrom (now (image .entry)) (at + 3) count) poisoned) count 0 (now (words .entry)) st (lent (now (slots .entry)) (now (functions .entry)) (now (types .entry)) (now (diagnostics .entry)) (now (messages .entry)) (now (scratch .entry))) (lent (now (slots .exit)) (now (functions .entry)) (now (types .exit)) (now (diagnostics .exit)) (now (messages .exit)) (now (scratch .exit))) r) ⌝ }
+        let b : Lent = lent (now (slots .entry)) (now (functions .entry)) (now (types .entry)) (now (diagnostics .entry)) (now (messages .entry)) (now (scratch .entry)) in
+        ⌜ ((ls : List Package) (v : ℕ) →
+        let b′ : Lent = lent (now (slots .exit)) (now (functions .entry)) (now (types .exit)) (now (diagnostics .exit)) (now (messages .exit)) (now (scratch .exit)) in
+        Visits (callEnd (ctx T ls v) n (getD (now (image .entry)) (at + 1) 0) (calleeAt (now (image .entry)) at) (givenFrom (now (image .entry)) (at + 3) count) poisoned) count 0
+        (now (words .entry)) st b b′ r) ⌝ }
 {
     let slot = word_at(image, at + 1);
     let target = node_place(places, word_at(image, at + 2));

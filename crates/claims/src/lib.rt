@@ -132,7 +132,9 @@ fn mark_node(words: &[u32], at: usize, nodes: &mut [u8], slots: &mut [u8]) -> bo
 
 // All nodes, then the roots, with marks for what is claimed before.
 fn claims_by(words: &[u32], nodes: &mut [u8], slots: &mut [u8]) -> Verdict
-    ensures { λ r. ⌜ offending r ≡ claimsBy (now (nodes .entry)) (now (slots .entry)) 0 (partsFrom (now (words .entry)) 1 4 (rootCount (now (words .entry)))) (outlinesFrom (now (words .entry)) 0 (nodeCount (now (words .entry)))) ⌝ }
+    ensures { λ r.
+        ⌜ offending r ≡ claimsBy (now (nodes .entry)) (now (slots .entry)) 0 (partsFrom (now (words .entry)) 1 4 (rootCount (now (words .entry))))
+        (outlinesFrom (now (words .entry)) 0 (nodeCount (now (words .entry)))) ⌝ }
 {
     let n = wide(word_at(words, 0));
     let roots = wide(word_at(words, 2));

@@ -26,7 +26,8 @@ pub fn arg_mismatch<'a>(
     provided: u32,
 ) -> Reported
     ensures { λ r. let T : Texts = textsOf (now (script .entry)) (now (library .entry)) in let U : ℕ → Ty = tyOf T (now (types .entry)) in
-        ⌜ ReportsIn (argMismatch span (callName T callee) (nameBytes T name) (U expected) (U provided)) (now (diagnostics .entry)) (now (rest .entry)) counts (now (diagnostics .exit)) (now (rest .exit)) r ⌝ }
+        ⌜ ReportsIn (argMismatch span (callName T callee) (nameBytes T name) (U expected) (U provided)) (now (diagnostics .entry)) (now (rest .entry)) counts (now (diagnostics .exit))
+        (now (rest .exit)) r ⌝ }
 {
     let a = err_text::put_call_name(rest, Wrote::All(0), script, library, callee);
     let b = display::put_at(rest, a, b" expected ");
@@ -58,7 +59,8 @@ pub fn slot_conflict<'a>(
     new: u32,
 ) -> Reported
     ensures { λ r. let T : Texts = textsOf (now (script .entry)) (now (library .entry)) in let U : ℕ → Ty = tyOf T (now (types .entry)) in
-        ⌜ ReportsIn (slotConflict span (callName T callee) (nameBytes T slot) (U existing) (U new)) (now (diagnostics .entry)) (now (rest .entry)) counts (now (diagnostics .exit)) (now (rest .exit)) r ⌝ }
+        ⌜ ReportsIn (slotConflict span (callName T callee) (nameBytes T slot) (U existing) (U new)) (now (diagnostics .entry)) (now (rest .entry)) counts (now (diagnostics .exit))
+        (now (rest .exit)) r ⌝ }
 {
     let a = err_text::put_call_name(rest, Wrote::All(0), script, library, callee);
     let b = display::put_at(rest, a, b" can not bind ");

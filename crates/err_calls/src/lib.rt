@@ -61,7 +61,8 @@ pub fn undefined_in_package<'a>(
     name: u32,
 ) -> Reported
     ensures { λ r. let T : Texts = textsOf (now (script .entry)) (now (library .entry)) in
-        ⌜ ReportsIn (undefinedInPackage name (pkgName (nameBytes T pkg) (nameBytes T name))) (now (diagnostics .entry)) (now (rest .entry)) counts (now (diagnostics .exit)) (now (rest .exit)) r ⌝ }
+        ⌜ ReportsIn (undefinedInPackage name (pkgName (nameBytes T pkg) (nameBytes T name))) (now (diagnostics .entry)) (now (rest .entry)) counts (now (diagnostics .exit))
+        (now (rest .exit)) r ⌝ }
 {
     let a = display::put_at(rest, Wrote::All(0), b"Call to undefined function ");
     let b = err_text::put_call_name(rest, a, script, library, CallName::OfPackage(pkg, name));
@@ -144,7 +145,8 @@ pub fn no_specialisation<'a>(
     starts: &[u32],
 ) -> Reported
     ensures { λ r. let T : Texts = textsOf (now (script .entry)) (now (library .entry)) in let U : ℕ → Ty = tyOf T (now (types .entry)) in
-        ⌜ ReportsIn (noSpecialisation token (callName T callee) (map U (now (provided .entry))) (candidatesAt T (now (types .entry)) (now (words .entry)) (now (starts .entry)))) (now (diagnostics .entry)) (now (rest .entry)) counts (now (diagnostics .exit)) (now (rest .exit)) r ⌝ }
+        ⌜ ReportsIn (noSpecialisation token (callName T callee) (map U (now (provided .entry))) (candidatesAt T (now (types .entry)) (now (words .entry)) (now (starts .entry))))
+        (now (diagnostics .entry)) (now (rest .entry)) counts (now (diagnostics .exit)) (now (rest .exit)) r ⌝ }
 {
     let a = display::put_at(rest, Wrote::All(0), b"no specialisation of ");
     let b = err_text::put_call_name(rest, a, script, library, callee);

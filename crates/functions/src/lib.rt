@@ -13,7 +13,7 @@ ghost use Rattle.rules.specs.Steps.{pairsOf, entryOf};
 ghost use Rattle.state.specs.Context.{ctx};
 ghost use Rattle.state.specs.Signatures.{entriesEnd};
 ghost use Rattle.state.specs.World.{Steps};
-ghost use Rattle.visit.specs.Whole.{lent};
+ghost use Rattle.visit.specs.Whole.{Lent, lent};
 ghost use Rattle.visit.specs.Walks.{Gives};
 ghost use Rattle.functions.specs.Defined.{fnBegin, fnEnd, Meets};
 ghost use Rattle.functions.specs.Entering.{CopyRoom, EntryRoom, FnReady, enteredWith};
@@ -51,7 +51,10 @@ pub fn unless_defined<'a>(
 ) -> Met
     requires { ⌜ entriesEnd (now functions) 0 0 (st .functions) ≤ length (now functions) ⌝ }
     ensures { λ r. let T : Texts = textsOf (now (script .entry)) (now (library .entry)) in
-        ⌜ ((ls : List Package) (v : ℕ) (words s t e : List ℕ) → Meets (ctx T ls v) n name words st (lent s (now (functions .entry)) t (now (diagnostics .entry)) (now (messages .entry)) e) (lent s (now (functions .entry)) t (now (diagnostics .exit)) (now (messages .exit)) e) r) ⌝ }
+        ⌜ ((ls : List Package) (v : ℕ) (words s t e : List ℕ) →
+        let b : Lent = lent s (now (functions .entry)) t (now (diagnostics .entry)) (now (messages .entry)) e in
+        let b′ : Lent = lent s (now (functions .entry)) t (now (diagnostics .exit)) (now (messages .exit)) e in
+        Meets (ctx T ls v) n name words st b b′ r) ⌝ }
 {
     let own = scope::find_own(script, library, functions, st.functions, name);
     match own {
@@ -147,7 +150,10 @@ pub fn fn_begin(
 ) -> Gave
     requires { ⌜ FnReady (now image) (now places) st (now functions) (now scratch) slot ret at count ⌝ }
     ensures { λ r.
-        ⌜ ((T : Texts) (ls : List Package) (v : ℕ) (words d m : List ℕ) → Gives (fnBegin (ctx T ls v) n slot name (typeOf (now (image .entry)) ret) (argsFrom (now (image .entry)) at count)) (2 * count) (3 + 2 * count) words st (lent (now (slots .entry)) (now (functions .entry)) (now (types .entry)) d m (now (scratch .entry))) (lent (now (slots .exit)) (now (functions .exit)) (now (types .exit)) d m (now (scratch .exit))) r) ⌝ }
+        ⌜ ((T : Texts) (ls : List Package) (v : ℕ) (words d m : List ℕ) →
+        let b : Lent = lent (now (slots .entry)) (now (functions .entry)) (now (types .entry)) d m (now (scratch .entry)) in
+        let b′ : Lent = lent (now (slots .exit)) (now (functions .exit)) (now (types .exit)) d m (now (scratch .exit)) in
+        Gives (fnBegin (ctx T ls v) n slot name (typeOf (now (image .entry)) ret) (argsFrom (now (image .entry)) at count)) (2 * count) (3 + 2 * count) words st b b′ r) ⌝ }
 {
     let bound = fn_arguments(slots, types, scratch, image, places, st, n, slot, at, count);
     match bound {
@@ -195,7 +201,8 @@ pub fn fn_end<'a>(
 ) -> Step
     requires { ⌜ TypeReady (now image) (now places) expr ⌝ }
     ensures { λ r. let T : Texts = textsOf (now (script .entry)) (now (library .entry)) in
-        ⌜ ((ls : List Package) (v : ℕ) → Steps (fnEnd (ctx T ls v) n slot name (typeOf (now (image .entry)) expr) ret computed) (now (slots .entry)) (now (types .entry)) (now (diagnostics .entry)) (now (messages .entry)) used (now (slots .exit)) (now (types .entry)) (now (diagnostics .exit)) (now (messages .exit)) r) ⌝ }
+        ⌜ ((ls : List Package) (v : ℕ) → Steps (fnEnd (ctx T ls v) n slot name (typeOf (now (image .entry)) expr) ret computed) (now (slots .entry)) (now (types .entry))
+        (now (diagnostics .entry)) (now (messages .entry)) used (now (slots .exit)) (now (types .entry)) (now (diagnostics .exit)) (now (messages .exit)) r) ⌝ }
 {
     let token = type_expr::type_token(image, places, expr);
     let went = values::check_return(

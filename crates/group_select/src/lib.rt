@@ -60,7 +60,8 @@ fn put_candidates<'a>(
     name: &[u8],
 ) -> Wrote
     ensures { λ r. let T : Texts = textsOf (now (script .entry)) (now (library .entry)) in
-        ⌜ Writes (now (rest .entry)) to (now (rest .exit)) r (joined (text " | ") (map sig (candidateTypes (tyOf T (now (types .entry))) (group T (now (name .entry)) (now (words .entry)) (flagWords flagged) from k)))) ⌝ }
+        ⌜ Writes (now (rest .entry)) to (now (rest .exit)) r
+        (joined (text " | ") (map sig (candidateTypes (tyOf T (now (types .entry))) (group T (now (name .entry)) (now (words .entry)) (flagWords flagged) from k)))) ⌝ }
 {
     let mut to = to;
     let mut first = from;
@@ -103,7 +104,9 @@ fn no_specialisation<'a>(
     name: &[u8],
 ) -> Reported
     ensures { λ r. let T : Texts = textsOf (now (script .entry)) (now (library .entry)) in let U : ℕ → Ty = tyOf T (now (types .entry)) in
-        ⌜ ReportsIn (noSpecialisation token (callName T callee) (map U (now (provided .entry))) (candidateTypes U (group T (now (name .entry)) (now (words .entry)) (flagWords flagged) from k))) (now (diagnostics .entry)) (now (rest .entry)) counts (now (diagnostics .exit)) (now (rest .exit)) r ⌝ }
+        ⌜ ReportsIn
+        (noSpecialisation token (callName T callee) (map U (now (provided .entry))) (candidateTypes U (group T (now (name .entry)) (now (words .entry)) (flagWords flagged) from k)))
+        (now (diagnostics .entry)) (now (rest .entry)) counts (now (diagnostics .exit)) (now (rest .exit)) r ⌝ }
 {
     let a = display::put_at(rest, Wrote::All(0), b"no specialisation of ");
     let b = err_text::put_call_name(rest, a, script, library, callee);
@@ -146,7 +149,9 @@ fn none_fits<'a>(
     name: &[u8],
 ) -> Step
     ensures { λ r. let T : Texts = textsOf (now (script .entry)) (now (library .entry)) in
-        ⌜ NoneFits T n slot token (callName T callee) (map (tyOf T (now (types .entry))) (now (provided .entry))) (group T (now (name .entry)) (now (words .entry)) (flagWords flagged) from k) (now (slots .entry)) (now (types .entry)) (now (diagnostics .entry)) (now (messages .entry)) used (now (slots .exit)) (now (diagnostics .exit)) (now (messages .exit)) r ⌝ }
+        ⌜ NoneFits T n slot token (callName T callee) (map (tyOf T (now (types .entry))) (now (provided .entry)))
+        (group T (now (name .entry)) (now (words .entry)) (flagWords flagged) from k) (now (slots .entry)) (now (types .entry)) (now (diagnostics .entry)) (now (messages .entry)) used
+        (now (slots .exit)) (now (diagnostics .exit)) (now (messages .exit)) r ⌝ }
 {
     let free = err_text::first_free(messages, used.told);
     let r = no_specialisation(
@@ -210,7 +215,8 @@ pub fn select<'a>(
     poisoned: bool,
 ) -> Step
     ensures { λ r. let T : Texts = textsOf (now (script .entry)) (now (library .entry)) in
-        ⌜ Selects T n slot token (callName T callee) (now (provided .entry)) poisoned (group T (now (name .entry)) (now (words .entry)) (flagWords flagged) from k) (now (slots .entry)) (now (types .entry)) (now (diagnostics .entry)) (now (messages .entry)) used (now (slots .exit)) (now (diagnostics .exit)) (now (messages .exit)) r ⌝ }
+        ⌜ Selects T n slot token (callName T callee) (now (provided .entry)) poisoned (group T (now (name .entry)) (now (words .entry)) (flagWords flagged) from k) (now (slots .entry))
+        (now (types .entry)) (now (diagnostics .entry)) (now (messages .entry)) used (now (slots .exit)) (now (diagnostics .exit)) (now (messages .exit)) r ⌝ }
 {
     if poisoned {
         return selection::common_return(

@@ -336,7 +336,9 @@ fn good_head(head: u32) -> bool
 
 // The words after the slot, by kind.
 fn rest(script: &[u8], words: &[u32], kinds: &[u8], from: Reading, site: Site) -> Reading
-    ensures { λ r. ⌜ ((head : ℕ) (before : List Outline) → kindOf head ≡ site .kind → Kept (now (kinds .entry)) before (site .number) → Leads (now (words .entry)) from ((nodeKind head) .rest (hereOf (now (script .entry)) before site)) r) ⌝ }
+    ensures { λ r.
+        ⌜ ((head : ℕ) (before : List Outline) → kindOf head ≡ site .kind → Kept (now (kinds .entry)) before (site .number) → Leads (now (words .entry)) from
+        ((nodeKind head) .rest (hereOf (now (script .entry)) before site)) r) ⌝ }
 {
     let kind = site.kind;
     match kind {
@@ -367,7 +369,9 @@ pub fn node(
     sizes: Sizes,
     number: usize,
 ) -> Reading
-    ensures { λ r. ⌜ ((before : List Outline) → Kept (now (kinds .entry)) before number → onward (now (words .entry)) from (node (countsOf (now (script .entry)) sizes) before number) ≡ gave (now (words .entry)) (outlineFrom (now (words .entry)) (placeOf from)) r) ⌝ }
+    ensures { λ r.
+        ⌜ ((before : List Outline) → Kept (now (kinds .entry)) before number → onward (now (words .entry)) from (node (countsOf (now (script .entry)) sizes) before number) ≡ gave
+        (now (words .entry)) (outlineFrom (now (words .entry)) (placeOf from)) r) ⌝ }
 {
     let head = reader::next_word(words, from);
     let long = tok::payload(head);

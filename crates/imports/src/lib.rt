@@ -8,7 +8,7 @@ ghost use Rattle.library.specs.Package.{packagesOf};
 ghost use Rattle.ast.specs.Node.{wordsFrom};
 ghost use Rattle.rules.specs.Rules.{importOne, importAll};
 ghost use Rattle.state.specs.Context.{ctx};
-ghost use Rattle.visit.specs.Whole.{lent};
+ghost use Rattle.visit.specs.Whole.{Lent, lent};
 ghost use Rattle.visit.specs.Within.{Visits};
 ghost use Rattle.visit.specs.Walks.{Walks};
 ghost use Rattle.imports.specs.Holding.{oneHeld, CanHold, CanHoldAll, importRule};
@@ -51,7 +51,10 @@ pub fn import_one<'a>(
 ) -> Walked
     requires { ⌜ CanHold (textsOf (now script) (now library)) (now words) st (now scratch) ⌝ }
     ensures { λ r. let T : Texts = textsOf (now (script .entry)) (now (library .entry)) in let W : List ℕ = now (words .entry) in
-        ⌜ ((v : ℕ) (s f t : List ℕ) → Walks (importOne (ctx T (packagesOf W) v) n path) 1 0 W st (lent s f t (now (diagnostics .entry)) (now (messages .entry)) (now (scratch .entry))) (lent s f t (now (diagnostics .exit)) (now (messages .exit)) (now (scratch .exit))) r) ⌝ }
+        ⌜ ((v : ℕ) (s f t : List ℕ) →
+        let b : Lent = lent s f t (now (diagnostics .entry)) (now (messages .entry)) (now (scratch .entry)) in
+        let b′ : Lent = lent s f t (now (diagnostics .exit)) (now (messages .exit)) (now (scratch .exit)) in
+        Walks (importOne (ctx T (packagesOf W) v) n path) 1 0 W st b b′ r) ⌝ }
 {
     let held = scope::find_held(
         script,
@@ -106,7 +109,10 @@ pub fn import_all<'a>(
 ) -> Walked
     requires { ⌜ CanHoldAll (textsOf (now script) (now library)) (now words) st (now scratch) at count ⌝ }
     ensures { λ r. let T : Texts = textsOf (now (script .entry)) (now (library .entry)) in let W : List ℕ = now (words .entry) in
-        ⌜ ((v : ℕ) (s f t : List ℕ) → Walks (importAll (ctx T (packagesOf W) v) n token (wordsFrom (now (image .entry)) at count)) count 0 W st (lent s f t (now (diagnostics .entry)) (now (messages .entry)) (now (scratch .entry))) (lent s f t (now (diagnostics .exit)) (now (messages .exit)) (now (scratch .exit))) r) ⌝ }
+        ⌜ ((v : ℕ) (s f t : List ℕ) →
+        let b : Lent = lent s f t (now (diagnostics .entry)) (now (messages .entry)) (now (scratch .entry)) in
+        let b′ : Lent = lent s f t (now (diagnostics .exit)) (now (messages .exit)) (now (scratch .exit)) in
+        Walks (importAll (ctx T (packagesOf W) v) n token (wordsFrom (now (image .entry)) at count)) count 0 W st b b′ r) ⌝ }
 {
     if count == 0 {
         let used = st.used;
@@ -158,7 +164,10 @@ pub fn import_node<'a>(
 ) -> Visit
     requires { ⌜ CanHoldAll (textsOf (now script) (now library)) (now words) st (now scratch) at count ⌝ }
     ensures { λ r. let T : Texts = textsOf (now (script .entry)) (now (library .entry)) in let W : List ℕ = now (words .entry) in
-        ⌜ ((v : ℕ) (f t : List ℕ) → Visits (importRule (ctx T (packagesOf W) v) n slot token (wordsFrom (now (image .entry)) at count)) count 0 W st (lent (now (slots .entry)) f t (now (diagnostics .entry)) (now (messages .entry)) (now (scratch .entry))) (lent (now (slots .exit)) f t (now (diagnostics .exit)) (now (messages .exit)) (now (scratch .exit))) r) ⌝ }
+        ⌜ ((v : ℕ) (f t : List ℕ) →
+        let b : Lent = lent (now (slots .entry)) f t (now (diagnostics .entry)) (now (messages .entry)) (now (scratch .entry)) in
+        let b′ : Lent = lent (now (slots .exit)) f t (now (diagnostics .exit)) (now (messages .exit)) (now (scratch .exit)) in
+        Visits (importRule (ctx T (packagesOf W) v) n slot token (wordsFrom (now (image .entry)) at count)) count 0 W st b b′ r) ⌝ }
 {
     let all = import_all(
         diagnostics,

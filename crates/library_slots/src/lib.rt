@@ -186,7 +186,8 @@ fn among_marks<'a>(
     marks: &[u8],
     named: u32,
 ) -> bool
-    ensures { λ r. let T : Texts = textsOf (now (script .entry)) (now (library .entry)) in ⌜ r ≡ anyMarked (now (marks .entry)) (λ i. isSlot T (nameBytes T named) (getD (now (pool .entry)) i 0)) (length (now (pool .entry))) ⌝ }
+    ensures { λ r. let T : Texts = textsOf (now (script .entry)) (now (library .entry)) in
+        ⌜ r ≡ anyMarked (now (marks .entry)) (λ i. isSlot T (nameBytes T named) (getD (now (pool .entry)) i 0)) (length (now (pool .entry))) ⌝ }
 {
     let mut i = pool.len();
     while i > 0 {
@@ -209,7 +210,8 @@ fn among<'a>(
     marks: &[u8],
     named: u32,
 ) -> bool
-    ensures { λ r. let T : Texts = textsOf (now (script .entry)) (now (library .entry)) in ⌜ r ≡ amongMarked T (now (pool .entry)) (typesIn (now (pairs .entry))) (now (marks .entry)) (nameBytes T named) ⌝ }
+    ensures { λ r. let T : Texts = textsOf (now (script .entry)) (now (library .entry)) in
+        ⌜ r ≡ amongMarked T (now (pool .entry)) (typesIn (now (pairs .entry))) (now (marks .entry)) (nameBytes T named) ⌝ }
 {
     if among_types(script, library, pairs, named) {
         return true;
@@ -240,7 +242,9 @@ fn any_missing<'a>(
     args: &[u8],
     marks: &[u8],
 ) -> bool
-    ensures { λ r. let T : Texts = textsOf (now (script .entry)) (now (library .entry)) in ⌜ r ≡ anyMarked (now (marks .entry)) (λ i. missing T (now (pool .entry)) (typesIn (now (pairs .entry))) (now (args .entry)) (getD (now (pool .entry)) i 0)) (length (now (pool .entry))) ⌝ }
+    ensures { λ r. let T : Texts = textsOf (now (script .entry)) (now (library .entry)) in
+        ⌜ r ≡ anyMarked (now (marks .entry)) (λ i. missing T (now (pool .entry)) (typesIn (now (pairs .entry))) (now (args .entry)) (getD (now (pool .entry)) i 0))
+        (length (now (pool .entry))) ⌝ }
 {
     let mut i = pool.len();
     while i > 0 {

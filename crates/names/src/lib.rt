@@ -9,7 +9,7 @@ ghost use Rattle.ptype.specs.Add.{write};
 ghost use Rattle.library.specs.Package.{Package};
 ghost use Rattle.rules.specs.Rules.{ident};
 ghost use Rattle.state.specs.Context.{ctx};
-ghost use Rattle.visit.specs.Whole.{lent};
+ghost use Rattle.visit.specs.Whole.{Lent, lent};
 ghost use Rattle.visit.specs.Within.{Visits};
 ghost use Rattle.visit.specs.Free.{Free};
 ghost use Rattle.names.specs.Bound.{oneMore, Bindable, letEnd};
@@ -67,7 +67,10 @@ pub fn ident<'a>(
 ) -> Visit
     requires { ⌜ st .base + st .depth ≤ 4096 ⌝ }
     ensures { λ r. let T : Texts = textsOf (now (script .entry)) (now (library .entry)) in
-        ⌜ ((ls : List Package) (v : ℕ) (words f t : List ℕ) → Visits (ident (ctx T ls v) n slot name) 0 0 words st (lent (now (slots .entry)) f t (now (diagnostics .entry)) (now (messages .entry)) (now (scratch .entry))) (lent (now (slots .exit)) f t (now (diagnostics .exit)) (now (messages .exit)) (now (scratch .entry))) r) ⌝ }
+        ⌜ ((ls : List Package) (v : ℕ) (words f t : List ℕ) →
+        let b : Lent = lent (now (slots .entry)) f t (now (diagnostics .entry)) (now (messages .entry)) (now (scratch .entry)) in
+        let b′ : Lent = lent (now (slots .exit)) f t (now (diagnostics .exit)) (now (messages .exit)) (now (scratch .entry)) in
+        Visits (ident (ctx T ls v) n slot name) 0 0 words st b b′ r) ⌝ }
 {
     let used = st.used;
     let found = scope::env_get(script, library, scratch, st.base, st.depth, name);
@@ -108,7 +111,10 @@ pub fn let_end(
 ) -> Visit
     requires { ⌜ Bindable st (now scratch) name ⌝ }
     ensures { λ r.
-        ⌜ ((words f t : List ℕ) → Visits (letEnd n slot name answer) 2 0 words st (lent (now (slots .entry)) f t (now (diagnostics .entry)) (now (messages .entry)) (now (scratch .entry))) (lent (now (slots .exit)) f t (now (diagnostics .exit)) (now (messages .exit)) (now (scratch .exit))) r) ⌝ }
+        ⌜ ((words f t : List ℕ) →
+        let b : Lent = lent (now (slots .entry)) f t (now (diagnostics .entry)) (now (messages .entry)) (now (scratch .entry)) in
+        let b′ : Lent = lent (now (slots .exit)) f t (now (diagnostics .exit)) (now (messages .exit)) (now (scratch .exit)) in
+        Visits (letEnd n slot name answer) 2 0 words st b b′ r) ⌝ }
 {
     let used = st.used;
     let bound = values::let_binding(&slots[..], diagnostics, messages, used, n, name, answer);

@@ -138,7 +138,8 @@ pub fn fuse<'a>(
     right: u32,
 ) -> Step
     ensures { λ r. let T : Texts = textsOf (now (script .entry)) (now (library .entry)) in
-        ⌜ ((ls : List Package) (v : ℕ) → Steps (fuse (ctx T ls v) n slot token op left right) (now (slots .entry)) (now (types .entry)) (now (diagnostics .entry)) (now (messages .entry)) used (now (slots .exit)) (now (types .entry)) (now (diagnostics .exit)) (now (messages .exit)) r) ⌝ }
+        ⌜ ((ls : List Package) (v : ℕ) → Steps (fuse (ctx T ls v) n slot token op left right) (now (slots .entry)) (now (types .entry)) (now (diagnostics .entry))
+        (now (messages .entry)) used (now (slots .exit)) (now (types .entry)) (now (diagnostics .exit)) (now (messages .exit)) r) ⌝ }
 {
     let l = word_at(slots, wide(left));
     let r = word_at(slots, wide(right));
@@ -213,7 +214,8 @@ pub fn unary<'a>(
     right: u32,
 ) -> Step
     ensures { λ r. let T : Texts = textsOf (now (script .entry)) (now (library .entry)) in
-        ⌜ ((ls : List Package) (v : ℕ) → Steps (unary (ctx T ls v) n slot token op right) (now (slots .entry)) (now (types .entry)) (now (diagnostics .entry)) (now (messages .entry)) used (now (slots .exit)) (now (types .entry)) (now (diagnostics .exit)) (now (messages .exit)) r) ⌝ }
+        ⌜ ((ls : List Package) (v : ℕ) → Steps (unary (ctx T ls v) n slot token op right) (now (slots .entry)) (now (types .entry)) (now (diagnostics .entry)) (now (messages .entry))
+        used (now (slots .exit)) (now (types .entry)) (now (diagnostics .exit)) (now (messages .exit)) r) ⌝ }
 {
     let r = word_at(slots, wide(right));
     let k = kind(r);
@@ -273,7 +275,8 @@ pub fn cast<'a>(
     to: u32,
 ) -> Step
     ensures { λ r. let T : Texts = textsOf (now (script .entry)) (now (library .entry)) in
-        ⌜ ((ls : List Package) (v : ℕ) → Steps (cast (ctx T ls v) n slot token left to) (now (slots .entry)) (now (types .entry)) (now (diagnostics .entry)) (now (messages .entry)) used (now (slots .exit)) (now (types .entry)) (now (diagnostics .exit)) (now (messages .exit)) r) ⌝ }
+        ⌜ ((ls : List Package) (v : ℕ) → Steps (cast (ctx T ls v) n slot token left to) (now (slots .entry)) (now (types .entry)) (now (diagnostics .entry)) (now (messages .entry)) used
+        (now (slots .exit)) (now (types .entry)) (now (diagnostics .exit)) (now (messages .exit)) r) ⌝ }
 {
     let i = word_at(slots, wide(left));
     if castable(kind(i), kind(to)) {

@@ -29,7 +29,8 @@ pub fn resolve_call<'a>(
 ) -> Step
     requires { ⌜ OwnReady (now functions) k (now image) (now places) n args count ⌝ }
     ensures { λ r. let T : Texts = textsOf (now (script .entry)) (now (library .entry)) in
-        ⌜ OwnCalls T n slot name (givenFrom (now (image .entry)) args count) (now (functions .entry)) k (now (slots .entry)) (now (types .entry)) (now (diagnostics .entry)) (now (messages .entry)) used (now (slots .exit)) (now (diagnostics .exit)) (now (messages .exit)) r ⌝ }
+        ⌜ OwnCalls T n slot name (givenFrom (now (image .entry)) args count) (now (functions .entry)) k (now (slots .entry)) (now (types .entry)) (now (diagnostics .entry))
+        (now (messages .entry)) used (now (slots .exit)) (now (diagnostics .exit)) (now (messages .exit)) r ⌝ }
 {
     let found = scope::find_own(script, library, functions, k, name);
     match found {

@@ -56,7 +56,10 @@ fn print_part<'a>(
     skip: usize,
 ) -> Part
     requires { ⌜ skip < 2 ^ 63 ⌝ }
-    ensures { λ r. ⌜ r ≡ partOf 4096 (answerOf (textsOf (now (script .entry)) (now (library .entry))) (now (slots .entry)) (now (types .entry)) (now (functions .entry)) (now (diagnostics .entry)) (now (messages .entry)) last words count) row skip ⌝ }
+    ensures { λ r.
+        ⌜ r ≡ partOf 4096
+        (answerOf (textsOf (now (script .entry)) (now (library .entry))) (now (slots .entry)) (now (types .entry)) (now (functions .entry)) (now (diagnostics .entry)) (now (messages .entry)) last words count)
+        row skip ⌝ }
 {
     let mut out = [0u8; 4_096];
     let part = rows_part::write_part(

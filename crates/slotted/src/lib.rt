@@ -43,7 +43,8 @@ fn applied<'a>(
     requires { let T : Texts = textsOf (now script) (now library) in
         ⌜ Meant T (now types) (used .types) expected × Meant T (now types) (used .types) provided ⌝ }
     ensures { λ r. let T : Texts = textsOf (now (script .entry)) (now (library .entry)) in
-        ⌜ AfterBinding T n (callName T callee) name expected span provided (now (types .entry)) (now (diagnostics .entry)) (now (messages .entry)) used (now (pairs .entry)) (Done count) (now (types .exit)) (now (diagnostics .exit)) (now (messages .exit)) r ⌝ }
+        ⌜ AfterBinding T n (callName T callee) name expected span provided (now (types .entry)) (now (diagnostics .entry)) (now (messages .entry)) used (now (pairs .entry)) (Done count)
+        (now (types .exit)) (now (diagnostics .exit)) (now (messages .exit)) r ⌝ }
 {
     let told = used.told;
     let r = apply::apply_slot_binding(types, used.types, script, library, pairs, count, expected);
@@ -93,7 +94,8 @@ fn after_binding<'a>(
     requires { let T : Texts = textsOf (now script) (now library) in
         ⌜ Meant T (now types) (used .types) expected × Meant T (now types) (used .types) provided ⌝ }
     ensures { λ r. let T : Texts = textsOf (now (script .entry)) (now (library .entry)) in
-        ⌜ AfterBinding T n (callName T callee) name expected span provided (now (types .entry)) (now (diagnostics .entry)) (now (messages .entry)) used (now (pairs .entry)) bound (now (types .exit)) (now (diagnostics .exit)) (now (messages .exit)) r ⌝ }
+        ⌜ AfterBinding T n (callName T callee) name expected span provided (now (types .entry)) (now (diagnostics .entry)) (now (messages .entry)) used (now (pairs .entry)) bound
+        (now (types .exit)) (now (diagnostics .exit)) (now (messages .exit)) r ⌝ }
 {
     match bound {
         Bind::Done(count) => {
@@ -216,7 +218,8 @@ pub fn slotted_argument<'a>(
     requires { let T : Texts = textsOf (now script) (now library) in
         ⌜ ArgumentMeant T (now slots) (now types) (used .types) expected slot (now pairs) count ⌝ }
     ensures { λ r. let T : Texts = textsOf (now (script .entry)) (now (library .entry)) in
-        ⌜ Argues T (λ c. argument c n (callName T callee) true (param name expected) (given slot span)) (now (slots .entry)) (now (types .entry)) (now (diagnostics .entry)) (now (messages .entry)) used (now (pairs .entry)) count (now (types .exit)) (now (diagnostics .exit)) (now (messages .exit)) (now (pairs .exit)) r ⌝ }
+        ⌜ Argues T (λ c. argument c n (callName T callee) true (param name expected) (given slot span)) (now (slots .entry)) (now (types .entry)) (now (diagnostics .entry))
+        (now (messages .entry)) used (now (pairs .entry)) count (now (types .exit)) (now (diagnostics .exit)) (now (messages .exit)) (now (pairs .exit)) r ⌝ }
 {
     let w = tok::word_at(slots, tok::wide(slot));
     if arguments::is_unchecked(&types[..], w) {

@@ -42,7 +42,8 @@ fn slotted_arguments<'a>(
     requires { let T : Texts = textsOf (now script) (now library) in
         ⌜ Counted T (now image) (now places) n args count (now slots) (now types) (used .types) (now words) at (now pairs) ⌝ }
     ensures { λ r. let T : Texts = textsOf (now (script .entry)) (now (library .entry)) in
-        ⌜ Arguments T n (callName T callee) (signatureAt (now (words .entry)) at true .params) (now (image .entry)) args count (now (slots .entry)) (now (types .entry)) (now (diagnostics .entry)) (now (messages .entry)) used (now (types .exit)) (now (diagnostics .exit)) (now (messages .exit)) (now (pairs .exit)) r ⌝ }
+        ⌜ Arguments T n (callName T callee) (signatureAt (now (words .entry)) at true .params) (now (image .entry)) args count (now (slots .entry)) (now (types .entry))
+        (now (diagnostics .entry)) (now (messages .entry)) used (now (types .exit)) (now (diagnostics .exit)) (now (messages .exit)) (now (pairs .exit)) r ⌝ }
 {
     let mut used = used;
     let mut bound = 0;
@@ -133,7 +134,9 @@ pub fn check_slotted<'a>(
     requires { let T : Texts = textsOf (now script) (now library) in
         ⌜ SlottedReady T (now image) (now places) n args count (now slots) (now types) (used .types) (now words) at (now pairs) ⌝ }
     ensures { λ r. let T : Texts = textsOf (now (script .entry)) (now (library .entry)) in
-        ⌜ ((ls : List Package) (v : ℕ) → Steps (checkCallArgs (ctx T ls v) n slot token (callName T callee) (signatureAt (now (words .entry)) at true) (givenFrom (now (image .entry)) args count)) (now (slots .entry)) (now (types .entry)) (now (diagnostics .entry)) (now (messages .entry)) used (now (slots .exit)) (now (types .exit)) (now (diagnostics .exit)) (now (messages .exit)) r) ⌝ }
+        ⌜ ((ls : List Package) (v : ℕ) → Steps
+        (checkCallArgs (ctx T ls v) n slot token (callName T callee) (signatureAt (now (words .entry)) at true) (givenFrom (now (image .entry)) args count)) (now (slots .entry))
+        (now (types .entry)) (now (diagnostics .entry)) (now (messages .entry)) used (now (slots .exit)) (now (types .exit)) (now (diagnostics .exit)) (now (messages .exit)) r) ⌝ }
 {
     let required = signatures::argument_count(words, at);
     if count != required {

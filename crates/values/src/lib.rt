@@ -111,7 +111,8 @@ pub fn field<'a>(
     target: u32,
 ) -> Step
     ensures { λ r. let T : Texts = textsOf (now (script .entry)) (now (library .entry)) in
-        ⌜ ((ls : List Package) (v : ℕ) → Steps (field (ctx T ls v) n slot name target) (now (slots .entry)) (now (types .entry)) (now (diagnostics .entry)) (now (messages .entry)) used (now (slots .exit)) (now (types .entry)) (now (diagnostics .exit)) (now (messages .exit)) r) ⌝ }
+        ⌜ ((ls : List Package) (v : ℕ) → Steps (field (ctx T ls v) n slot name target) (now (slots .entry)) (now (types .entry)) (now (diagnostics .entry)) (now (messages .entry)) used
+        (now (slots .exit)) (now (types .entry)) (now (diagnostics .exit)) (now (messages .exit)) r) ⌝ }
 {
     let w = word_at(slots, wide(target));
     let counts = used.told;
@@ -180,7 +181,8 @@ fn member_types<'a>(
     member: u32,
 ) -> Compared
     ensures { λ r. let T : Texts = textsOf (now (script .entry)) (now (library .entry)) in
-        ⌜ ((ls : List Package) (v : ℕ) → Compares (memberTypes (ctx T ls v) n span first member) (now (slots .entry)) (now (types .entry)) (now (diagnostics .entry)) (now (messages .entry)) used (now (diagnostics .exit)) (now (messages .exit)) r) ⌝ }
+        ⌜ ((ls : List Package) (v : ℕ) → Compares (memberTypes (ctx T ls v) n span first member) (now (slots .entry)) (now (types .entry)) (now (diagnostics .entry))
+        (now (messages .entry)) used (now (diagnostics .exit)) (now (messages .exit)) r) ⌝ }
 {
     let f = word_at(slots, wide(first));
     let t = word_at(slots, wide(member));
@@ -230,7 +232,8 @@ pub fn member<'a>(
     second: Answer,
 ) -> Compared
     ensures { λ r. let T : Texts = textsOf (now (script .entry)) (now (library .entry)) in
-        ⌜ ((ls : List Package) (v : ℕ) → Compares (member (ctx T ls v) n span first second) (now (slots .entry)) (now (types .entry)) (now (diagnostics .entry)) (now (messages .entry)) used (now (diagnostics .exit)) (now (messages .exit)) r) ⌝ }
+        ⌜ ((ls : List Package) (v : ℕ) → Compares (member (ctx T ls v) n span first second) (now (slots .entry)) (now (types .entry)) (now (diagnostics .entry)) (now (messages .entry))
+        used (now (diagnostics .exit)) (now (messages .exit)) r) ⌝ }
 {
     let Answer::Known(f) = first else {
         return Compared::Silent(used);
@@ -263,7 +266,9 @@ pub fn array_of(
     first: Answer,
     poisoned: bool,
 ) -> Step
-    ensures { λ r. ⌜ ((T : Texts) (ls : List Package) (v : ℕ) (d m : List ℕ) → Steps (arrayOf (ctx T ls v) n slot first poisoned) (now (slots .entry)) (now (types .entry)) d m used (now (slots .exit)) (now (types .exit)) d m r) ⌝ }
+    ensures { λ r.
+        ⌜ ((T : Texts) (ls : List Package) (v : ℕ) (d m : List ℕ) → Steps (arrayOf (ctx T ls v) n slot first poisoned) (now (slots .entry)) (now (types .entry)) d m used
+        (now (slots .exit)) (now (types .exit)) d m r) ⌝ }
 {
     let Answer::Known(f) = first else {
         return Step::Poison(used);
@@ -311,7 +316,8 @@ pub fn condition<'a>(
     answer: Answer,
 ) -> Went
     ensures { λ r. let T : Texts = textsOf (now (script .entry)) (now (library .entry)) in
-        ⌜ ((ls : List Package) (v : ℕ) → Goes (condition (ctx T ls v) n token answer) (now (slots .entry)) (now (types .entry)) (now (diagnostics .entry)) (now (messages .entry)) used (now (slots .entry)) (now (types .entry)) (now (diagnostics .exit)) (now (messages .exit)) r) ⌝ }
+        ⌜ ((ls : List Package) (v : ℕ) → Goes (condition (ctx T ls v) n token answer) (now (slots .entry)) (now (types .entry)) (now (diagnostics .entry)) (now (messages .entry)) used
+        (now (slots .entry)) (now (types .entry)) (now (diagnostics .exit)) (now (messages .exit)) r) ⌝ }
 {
     let Answer::Known(slot) = answer else {
         return Went::On(used);
@@ -350,7 +356,8 @@ pub fn compare_branch<'a>(
     answer: Answer,
 ) -> Went
     ensures { λ r. let T : Texts = textsOf (now (script .entry)) (now (library .entry)) in
-        ⌜ ((ls : List Package) (v : ℕ) → Goes (compareBranch (ctx T ls v) n default token answer) (now (slots .entry)) (now (types .entry)) (now (diagnostics .entry)) (now (messages .entry)) used (now (slots .entry)) (now (types .entry)) (now (diagnostics .exit)) (now (messages .exit)) r) ⌝ }
+        ⌜ ((ls : List Package) (v : ℕ) → Goes (compareBranch (ctx T ls v) n default token answer) (now (slots .entry)) (now (types .entry)) (now (diagnostics .entry))
+        (now (messages .entry)) used (now (slots .entry)) (now (types .entry)) (now (diagnostics .exit)) (now (messages .exit)) r) ⌝ }
 {
     let Answer::Known(slot) = answer else {
         return Went::On(used);
@@ -396,7 +403,9 @@ pub fn let_binding(
     name: u32,
     answer: Answer,
 ) -> Binding
-    ensures { λ r. ⌜ ((t : List ℕ) → Binds (letBinding n name answer) (now (slots .entry)) t (now (diagnostics .entry)) (now (messages .entry)) used (now (diagnostics .exit)) (now (messages .exit)) r) ⌝ }
+    ensures { λ r.
+        ⌜ ((t : List ℕ) → Binds (letBinding n name answer) (now (slots .entry)) t (now (diagnostics .entry)) (now (messages .entry)) used (now (diagnostics .exit))
+        (now (messages .exit)) r) ⌝ }
 {
     let Answer::Known(right) = answer else {
         return Binding::Nothing(used);
@@ -433,7 +442,8 @@ pub fn check_return<'a>(
     computed: Answer,
 ) -> Went
     ensures { λ r. let T : Texts = textsOf (now (script .entry)) (now (library .entry)) in
-        ⌜ ((ls : List Package) (v : ℕ) (e : TypeExpr) → typeToken e ≡ token → Goes (checkReturn (ctx T ls v) n name e ret computed) (now (slots .entry)) (now (types .entry)) (now (diagnostics .entry)) (now (messages .entry)) used (now (slots .entry)) (now (types .entry)) (now (diagnostics .exit)) (now (messages .exit)) r) ⌝ }
+        ⌜ ((ls : List Package) (v : ℕ) (e : TypeExpr) → typeToken e ≡ token → Goes (checkReturn (ctx T ls v) n name e ret computed) (now (slots .entry)) (now (types .entry))
+        (now (diagnostics .entry)) (now (messages .entry)) used (now (slots .entry)) (now (types .entry)) (now (diagnostics .exit)) (now (messages .exit)) r) ⌝ }
 {
     let Answer::Known(slot) = computed else {
         return Went::On(used);

@@ -3,6 +3,7 @@ ghost use mathlib.Core.Path.{_≡_};
 ghost use Prim.Native.Nat.{min};
 ghost use lib.ListN.{set};
 ghost use Rattle.rules.specs.Check.{zeros, zeroed};
+ghost use Rattle.refusals.specs.Inputs.{Buffers};
 ghost use Rattle.refuse.specs.Answer.{buffersOf};
 ghost use Rattle.zero.specs.Zero.{zeroFirst};
 
@@ -63,7 +64,8 @@ pub fn zero_all(
     messages: &mut [u8],
     scratch: &mut [u32],
 )
-    ensures { λ _. ⌜ buffersOf (now (slots .exit)) (now (functions .exit)) (now (types .exit)) (now (diagnostics .exit)) (now (messages .exit)) (now (scratch .exit)) ≡ zeroed (buffersOf (now (slots .entry)) (now (functions .entry)) (now (types .entry)) (now (diagnostics .entry)) (now (messages .entry)) (now (scratch .entry))) ⌝ }
+    ensures { λ _. let before : Buffers = buffersOf (now (slots .entry)) (now (functions .entry)) (now (types .entry)) (now (diagnostics .entry)) (now (messages .entry)) (now (scratch .entry)) in
+        ⌜ buffersOf (now (slots .exit)) (now (functions .exit)) (now (types .exit)) (now (diagnostics .exit)) (now (messages .exit)) (now (scratch .exit)) ≡ zeroed before ⌝ }
 {
     zero_words(slots);
     zero_words(functions);
