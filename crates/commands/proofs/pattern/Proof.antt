@@ -20,7 +20,12 @@ same-length : tie.Need-same-length
 same-length c = search needs
 
 returns : tie.Need-returns
-returns c = three (c .before .before .before .before .before .before .before .before .before .before .before .before .before .args .registers .now) (c .before .before .before .before .before .before .before .before .before .before .before .before .before .args .c .a) (c .before .before .before .before .before .before .before .before .before .before .before .before .before .args .c .b) (c .before .before .before .before .before .before .before .before .before .before .before .before .before .args .c .c) (c .before .before .before .before .before .before .before .before .before .before .put .ensures) (c .before .before .before .before .before .before .put2 .ensures) (c .before .before .put3 .ensures)
+returns c =
+    let c1 = c .before .before in
+    let c2 = c1 .before .before .before .before in
+    let c3 = c2 .before .before .before .before in
+    let c4 = c3 .before .before .before in
+    three (c4 .args .registers .now) (c4 .args .c .a) (c4 .args .c .b) (c4 .args .c .c) (c3 .put .ensures) (c2 .put2 .ensures) (c1 .put3 .ensures)
 
 pub pattern-spec : {M : Type 1} → statement M
 pattern-spec = tie.close (tie.spec put-requires put-requires-2 put-requires-3 same-length returns)

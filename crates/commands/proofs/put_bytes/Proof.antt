@@ -32,7 +32,12 @@ same-length : tie.Need-same-length
 same-length c = search needs
 
 returns : tie.Need-returns
-returns c = four _ _ _ (c .before .before .before .before .before .before .before .before .before .before .before .before .before .before .put-byte .ensures) (c .before .before .before .before .before .before .before .before .before .before .put-byte2 .ensures) (c .before .before .before .before .before .before .put-byte3 .ensures) (c .before .before .put-byte4 .ensures)
+returns c =
+    let c1 = c .before .before in
+    let c2 = c1 .before .before .before .before in
+    let c3 = c2 .before .before .before .before in
+    let c4 = c3 .before .before .before .before in
+    four _ _ _ (c4 .put-byte .ensures) (c3 .put-byte2 .ensures) (c2 .put-byte3 .ensures) (c1 .put-byte4 .ensures)
 
 pub put-bytes-spec : {M : Type 1} → statement M
 put-bytes-spec =

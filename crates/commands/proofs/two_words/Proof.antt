@@ -24,7 +24,12 @@ same-length : tie.Need-same-length
 same-length c = search needs
 
 returns : tie.Need-returns
-returns c = two (c .before .before .before .before .before .before .before .before .before .before .args .out .now) (c .before .before .before .before .before .before .before .before .before .before .args .at) (c .before .before .before .before .before .before .before .before .before .before .args .a) (c .before .before .before .before .before .before .before .before .before .before .args .b) (c .before .before .before .before .before .before .before .before .wide .ensures) (c .before .before .before .before .before .before .put .ensures) (c .before .before .put2 .ensures)
+returns c =
+    let c1 = c .before .before in
+    let c2 = c1 .before .before .before .before in
+    let c3 = c2 .before .before in
+    let c4 = c3 .before .before in
+    two (c4 .args .out .now) (c4 .args .at) (c4 .args .a) (c4 .args .b) (c3 .wide .ensures) (c2 .put .ensures) (c1 .put2 .ensures)
 
 pub two-words-spec : {M : Type 1} → statement M
 two-words-spec =

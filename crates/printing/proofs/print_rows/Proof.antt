@@ -43,19 +43,38 @@ print-between-requires : tie.Need-print-between-requires Inv-loop μ-loop
 print-between-requires c κs = search needs
 
 loop-less : tie.Need-loop-less Inv-loop μ-loop
-loop-less c = turn _ _ _ (c .before .before .before .before .before .before .before .before .before .before .before .before .before .before .is-done .ensures) (c .before .before .before .before .before .before .before .before .before .before .before .before .before .if1 .taken) (c .before .before .before .before .before .before .print-part .ensures)
+loop-less c =
+    let c1 = c .before .before .before .before .before .before in
+    let c2 = c1 .before .before .before .before .before .before .before in
+    let c3 = c2 .before in
+    turn _ _ _ (c3 .is-done .ensures) (c2 .if1 .taken) (c1 .print-part .ensures)
 
 loop-again : tie.Need-loop-again Inv-loop μ-loop
-loop-again c = (turn-within _ _ _ (c .before .before .before .before .before .before .print-part .ensures) (c .before .before .before .before .before .before .before .before .before .before .before .before .before .before .before .loop .inv .0), turn-total _ _ _ _ (c .before .before .before .before .before .before .print-part .ensures) (c .before .before .before .before .before .wrapping-add-usize .ensures) (c .before .before .before .before .before .before .before .before .before .before .before .before .before .before .before .loop .inv .1), total-small _ (c .before .before .before .before .before .wrapping-add-usize .ensures))
+loop-again c =
+    let c1 = c .before .before .before .before .before in
+    let c2 = c1 .before in
+    let c3 = c2 .before .before .before .before .before .before .before .before .before in
+    (turn-within _ _ _ (c2 .print-part .ensures) (c3 .loop .inv .0), turn-total _ _ _ _ (c2 .print-part .ensures) (c1 .wrapping-add-usize .ensures) (c3 .loop .inv .1), total-small _ (c1 .wrapping-add-usize .ensures))
 
 loop-less-2 : tie.Need-loop-less-2 Inv-loop μ-loop
-loop-less-2 c = turn _ _ _ (c .before .before .before .before .before .before .before .before .before .before .is-done .ensures) (c .before .before .before .before .before .before .before .before .before .if1 .taken) (c .before .before .print-part .ensures)
+loop-less-2 c =
+    let c1 = c .before .before in
+    let c2 = c1 .before .before .before .before .before .before .before in
+    let c3 = c2 .before in
+    turn _ _ _ (c3 .is-done .ensures) (c2 .if1 .taken) (c1 .print-part .ensures)
 
 loop-again-2 : tie.Need-loop-again-2 Inv-loop μ-loop
-loop-again-2 c = (turn-within _ _ _ (c .before .before .print-part .ensures) (c .before .before .before .before .before .before .before .before .before .before .before .loop .inv .0), turn-total _ _ _ _ (c .before .before .print-part .ensures) (c .before .wrapping-add-usize .ensures) (c .before .before .before .before .before .before .before .before .before .before .before .loop .inv .1), total-small _ (c .before .wrapping-add-usize .ensures))
+loop-again-2 c =
+    let c1 = c .before in
+    let c2 = c1 .before in
+    let c3 = c2 .before .before .before .before .before .before .before .before .before in
+    (turn-within _ _ _ (c2 .print-part .ensures) (c3 .loop .inv .0), turn-total _ _ _ _ (c2 .print-part .ensures) (c1 .wrapping-add-usize .ensures) (c3 .loop .inv .1), total-small _ (c1 .wrapping-add-usize .ensures))
 
 returns-2 : tie.Need-returns-2 Inv-loop μ-loop
-returns-2 c = handed-all _ _ _ _ (c .before .is-done .ensures) (c .if1 .left) (c .before .before .loop .inv .2) (c .before .before .loop .inv .1)
+returns-2 c =
+    let c1 = c .before in
+    let c2 = c1 .before in
+    handed-all _ _ _ _ (c1 .is-done .ensures) (c .if1 .left) (c2 .loop .inv .2) (c2 .loop .inv .1)
 
 returns : tie.Need-returns Inv-loop μ-loop
 returns c = handed-cut _ _ _ _ (c .if2 .taken) (c .before .before .before .loop .inv .0)

@@ -24,7 +24,13 @@ same-length : tie.Need-same-length
 same-length c = search needs
 
 returns : tie.Need-returns
-returns c = part-ends _ _ (c .before .before .before .before .before .before .put-row .ensures (c .before .before .before .before .before .before .before .before .before .before .before .before .before .before .before .before .args .last) (c .before .before .before .before .before .before .before .before .before .before .before .before .before .before .before .before .args .words)) (c .before .before .before .least .ensures) (c .before .before .least2 .ensures) (c .before .if1 .taken) (c .next .ensures)
+returns c =
+    let c1 = c .before in
+    let c2 = c1 .before in
+    let c3 = c2 .before in
+    let c4 = c3 .before .before .before in
+    let c5 = c4 .before .before .before .before .before .before .before .before .before .before in
+    part-ends _ _ (c4 .put-row .ensures (c5 .args .last) (c5 .args .words)) (c3 .least .ensures) (c2 .least2 .ensures) (c1 .if1 .taken) (c .next .ensures)
 
 add-t20 : tie.Need-add-t20
 add-t20 c = omega (arith, c .before .before .least .ensures, c .before .least2 .ensures)
@@ -33,7 +39,12 @@ same-length-2 : tie.Need-same-length-2
 same-length-2 c = search needs
 
 returns-2 : tie.Need-returns-2
-returns-2 c = part-goes _ _ (c .before .before .before .before .before .put-row .ensures (c .before .before .before .before .before .before .before .before .before .before .before .before .before .before .before .args .last) (c .before .before .before .before .before .before .before .before .before .before .before .before .before .before .before .args .words)) (c .before .before .least .ensures) (c .before .least2 .ensures) (c .if1 .left)
+returns-2 c =
+    let c1 = c .before in
+    let c2 = c1 .before in
+    let c3 = c2 .before .before .before in
+    let c4 = c3 .before .before .before .before .before .before .before .before .before .before in
+    part-goes _ _ (c3 .put-row .ensures (c4 .args .last) (c4 .args .words)) (c2 .least .ensures) (c1 .least2 .ensures) (c .if1 .left)
 
 pub write-part-spec : {M : Type 1} → statement M
 write-part-spec =

@@ -174,7 +174,16 @@ show-within-same-length-3 t c = search needs
 
 show-within-returns-3 : (t : ℕ) → show-within-lts.Need-returns-3 (show-within-claims t) (show-within-at t) show-within.Post
 unfolding text
-show-within-returns-3 t c = shows-as (shown-wrap _ _ _ (c .before .before .before .before .before .before .before .before .before .before .before .before .before .before .before .before .before .if2 .left) (c .before .before .before .before .before .before .before .before .before .before .before .before .before .before .before .before .kind .ensures) (sym (c .before .before .before .before .before .before .before .before .before .before .before .before .before .before .before .wraps .ensures) ∙ c .before .before .before .before .before .before .before .before .before .before .before .before .before .before .if3 .taken) (c .before .before .before .before .before .before .before .before .inner .ensures)) ((c .before .before .before .before .before .before .before .before .before .before .before .before .put-opening .ensures) and-then (c .before .before .before .before .before .before .before .show-within .ensures) and-then (c .before .before .put2 .ensures))
+show-within-returns-3 t c =
+    let c1 = c .before .before in
+    let c2 = c1 .before .before .before .before .before in
+    let c3 = c2 .before in
+    let c4 = c3 .before .before .before .before in
+    let c5 = c4 .before .before in
+    let c6 = c5 .before in
+    let c7 = c6 .before in
+    let c8 = c7 .before in
+    shows-as (shown-wrap _ _ _ (c8 .if2 .left) (c7 .kind .ensures) (sym (c6 .wraps .ensures) ∙ c5 .if3 .taken) (c3 .inner .ensures)) ((c4 .put-opening .ensures) and-then (c2 .show-within .ensures) and-then (c1 .put2 .ensures))
 
 show-within-slice-aggregate-put-3 : (t : ℕ) → show-within-lts.Need-slice-aggregate-put-3 (show-within-claims t) (show-within-at t) show-within.Post
 show-within-slice-aggregate-put-3 t c = search needs
@@ -205,16 +214,38 @@ show-within-same-length-4 t c = search needs
 
 show-within-returns-4 : (t : ℕ) → show-within-lts.Need-returns-4 (show-within-claims t) (show-within-at t) show-within.Post
 unfolding text
-show-within-returns-4 t c = shows-as (record-shown _ _ _ (c .before .before .before .before .before .before .before .before .before .before .before .before .before .before .before .before .if2 .left) (c .before .before .before .before .before .before .before .before .before .before .before .before .before .before .before .kind .ensures) (c .before .before .before .before .before .before .before .before .before .before .before .before .if4 .taken) (c .before .before .before .before .before .before .payload .ensures) (c .before .before .before .before .before .field-count .ensures)) ((c .before .before .before .before .before .before .before .before .before .put3 .ensures) and-then (c .before .before .show-fields .ensures))
+show-within-returns-4 t c =
+    let c1 = c .before .before in
+    let c2 = c1 .before .before .before in
+    let c3 = c2 .before in
+    let c4 = c3 .before .before .before in
+    let c5 = c4 .before .before .before in
+    let c6 = c5 .before .before .before in
+    let c7 = c6 .before in
+    shows-as (record-shown _ _ _ (c7 .if2 .left) (c6 .kind .ensures) (c5 .if4 .taken) (c3 .payload .ensures) (c2 .field-count .ensures)) ((c4 .put3 .ensures) and-then (c1 .show-fields .ensures))
 
 show-within-put-leaf-requires : (t : ℕ) → show-within-lts.Need-put-leaf-requires (show-within-claims t) (show-within-at t) show-within.Post
-show-within-put-leaf-requires t c κs = is-leaf (c .before .before .before .before .before .before .before .before .before .before .before .before .before .args .word) (c .before .before .before .before .kind .ensures) (sym (c .before .before .before .wraps .ensures) ∙ c .before .before .if3 .left) (c .before .if4 .left)
+show-within-put-leaf-requires t c κs =
+    let c1 = c .before in
+    let c2 = c1 .before in
+    let c3 = c2 .before in
+    let c4 = c3 .before in
+    let c5 = c4 .before .before .before .before .before .before .before .before .before in
+    is-leaf (c5 .args .word) (c4 .kind .ensures) (sym (c3 .wraps .ensures) ∙ c2 .if3 .left) (c1 .if4 .left)
 
 show-within-same-length-5 : (t : ℕ) → show-within-lts.Need-same-length-5 (show-within-claims t) (show-within-at t) show-within.Post
 show-within-same-length-5 t c = search needs
 
 show-within-returns-5 : (t : ℕ) → show-within-lts.Need-returns-5 (show-within-claims t) (show-within-at t) show-within.Post
-show-within-returns-5 t c = shows-as (leaf-shown _ _ _ (c .before .before .before .before .before .before .before .before .if2 .left) (c .before .before .before .before .before .before .before .kind .ensures) (is-leaf (c .before .before .before .before .before .before .before .before .before .before .before .before .before .before .before .before .args .word) (c .before .before .before .before .before .before .before .kind .ensures) (sym (c .before .before .before .before .before .before .wraps .ensures) ∙ c .before .before .before .before .before .if3 .left) (c .before .before .before .before .if4 .left))) (c .before .before .put-leaf .ensures)
+show-within-returns-5 t c =
+    let c1 = c .before .before in
+    let c2 = c1 .before .before in
+    let c3 = c2 .before in
+    let c4 = c3 .before in
+    let c5 = c4 .before in
+    let c6 = c5 .before in
+    let c7 = c6 .before .before .before .before .before .before .before .before in
+    shows-as (leaf-shown _ _ _ (c6 .if2 .left) (c5 .kind .ensures) (is-leaf (c7 .args .word) (c5 .kind .ensures) (sym (c4 .wraps .ensures) ∙ c3 .if3 .left) (c2 .if4 .left))) (c1 .put-leaf .ensures)
 
 pub +show-fields+show-within-spec : {M : Type 1} → statement M
 +show-fields+show-within-spec = close μ-show-fields μ-show-within (λ t. show-fields-lts.spec (show-fields-claims t)
