@@ -17,7 +17,7 @@ use Rattle.rules.specs.Calls.{calleeOf, fieldCallee, overloadMatches}
 use Rattle.runs.specs.Value.{Value, Members, void, bool, int, double, str, nothing, just, array, object, foreign, kindOfValue, count, fieldOf}
 use Rattle.rules.specs.Functions.{typeMeant}
 use Rattle.runs.specs.Declared.{Held, Sig, Target, own, external, Chosen, declareAll, nothingMet, targetAt, findHeld, findOwn, groupIn, fromGroup, firstEqual, ofOwn, ofHeld, choosing, givenTypes, targetOf, importFound, unlessHeld, imported, externMember}
-use Rattle.runs.specs.Machine.{Open, Given, State, Stopped, Why, halted, spent, stuck, entering, enter, gives, question, bind, orStuck, valueOf, scoped, within, argumentsFrom, counted, ofKind, opened, numberOf, ofNumbers, operate, unary, castTo, cast, truthOf, bytesOf, sameBool, equalValues, literalOf, truth, fieldIn, orHalted}
+use Rattle.runs.specs.Machine.{Open, NodeValue, State, Stopped, Why, halted, spent, stuck, entering, enter, gives, question, bind, orStuck, valueOf, scoped, within, argumentsFrom, counted, ofKind, opened, numberOf, ofNumbers, operate, unary, castTo, cast, truthOf, bytesOf, sameBool, equalValues, literalOf, truth, fieldIn, orHalted}
 use Rattle.runs.specs.Running.{castKind, callOwn, apply, eval, bodyWithin, root, roots, runOf}
 
 -- names of one letter, by their place in the script text
@@ -38,8 +38,8 @@ code spent = 2
 code (stuck f) = 3
 
 numbers : Result State Stopped ℕ → List ℕ
-numbers (ok k s) = 0 ∷ s .left ∷ s .calls ∷ length (s .gave) ∷ []
-numbers (refused x) = code (x .why) ∷ x .state .left ∷ x .state .calls ∷ length (x .state .gave) ∷ []
+numbers (ok k s) = 0 ∷ s .left ∷ s .calls ∷ length (s .values) ∷ []
+numbers (refused x) = code (x .why) ∷ x .state .left ∷ x .state .calls ∷ length (x .state .values) ∷ []
 
 intType : TypeExpr
 intType = AtomType 0 3
@@ -132,14 +132,14 @@ amount (array vs) = 100
 amount (object fs) = 100
 amount (foreign x n) = 100
 
-amounts : List Given → List ℕ
+amounts : List NodeValue → List ℕ
 amounts [] = []
 amounts (g ∷ gs) = amount (g .value) ∷ amounts gs
 
 -- questions asked, then the values
 answers : Result State Stopped ℕ → List ℕ
-answers (ok k s) = s .asked ∷ amounts (s .gave)
-answers (refused x) = 1000 ∷ x .state .asked ∷ amounts (x .state .gave)
+answers (ok k s) = s .asked ∷ amounts (s .values)
+answers (refused x) = 1000 ∷ x .state .asked ∷ amounts (x .state .values)
 
 x′ : (n : ℕ) → Node
 x′ n = Ident n n (name 3)

@@ -12,7 +12,7 @@ use Rattle.rules.specs.Calls.{Callee, ownFunction, packageFunction, throughFiel
 use Rattle.onerun.specs.Claim.{All, end, and}
 use Rattle.rules.specs.Functions.{typeMeant}
 use Rattle.runs.specs.Declared.{Sig, Held, Own, Target, own, external, Chosen, Scope, findOwn, findHeld, groupIn, firstEqual, fromGroup, ofOwn, ofHeld, targetOf, choosing, importFound, unlessHeld, imported, givenTypes, declare, declareAll, declareCases, declareValues, nothingMet, targetAt}
-use Rattle.runs.specs.Placed.{Place, root, statement, operand}
+use Rattle.runs.specs.Stands.{Place, root, statement, operand}
 use Rattle.runs_laws.specs.Judged.{Known, argsKnown, after, Judged, JudgedBody, JudgedAll, JudgedCases, JudgedValues, JudgedRoots, Bodies}
 
 module _ (t : Texts) (library : List Held) (type : ℕ → Ty) (table : List Chosen) where

@@ -31,7 +31,7 @@ use Rattle.onerun.specs.Nodes.{g-cases, g-values}
 use Rattle.stops.specs.Ready.{Leaves, Free, Any, leaves-kept, Fits, Ready, ready-left, ready-then, ready-assoc, ready-own, ready-fits}
 use Rattle.rules.specs.Functions.{typeMeant}
 use Rattle.runs.specs.Declared.{Held, Target, Chosen, Scope, choosing, declare, declareAll, declareCases, declareValues}
-use Rattle.runs.specs.Placed.{Place, root, statement, operand, Placed, PlacedAll, PlacedCases, PlacedValues}
+use Rattle.runs.specs.Stands.{Place, root, statement, operand, Stands, AllStand, CasesStand, ValuesStand}
 use Rattle.runs_laws.specs.Judged.{knows, after, recordTy, Judged, JudgedAll, JudgedBody, JudgedCases, JudgedValues, JudgedRoots}
 use Rattle.runs_laws.specs.Judged as J
 use Rattle.runs_laws.specs.Sound.{operand-same}
@@ -148,9 +148,9 @@ module _ (c : Ctx) (type : ℕ → Ty) (library : List Held) (table : List Chose
   case-judged token x body cs ks whole j b k go (and e es) = (j, b, subst (JudgedBody (c .texts) type table body ks voidTy) e k, go es)
 
   mutual
-    unfolding node Proper Placed Judged after visitedBelow slotOf Fits declare Resolves endSlot recordTy endsOf J.Members containsSlot
+    unfolding node Proper Stands Judged after visitedBelow slotOf Fits declare Resolves endSlot recordTy endsOf J.Members containsSlot
 
-    pub h-node : (x : Node) (p : Place) (ks : List J.Known) (sc : Scope) → ProperNode x → Placed x p → Resolves (c .texts) library type table x sc → {s : World} → Ready s (x ∷ visitedBelow x) → HoldsAt s → KnowsAt s ks sc → Tells c type (NodeTold x p ks sc) s (node c x s)
+    pub h-node : (x : Node) (p : Place) (ks : List J.Known) (sc : Scope) → ProperNode x → Stands x p → Resolves (c .texts) library type table x sc → {s : World} → Ready s (x ∷ visitedBelow x) → HoldsAt s → KnowsAt s ks sc → Tells c type (NodeTold x p ks sc) s (node c x s)
     h-node (Atom n slot token k) p ks sc q pl rs {s} d h know =
         let f = ready-fits (Atom n slot token k) [] d in
         h-to c type (λ u a x. record { judged = record { low = f .0; high = f .1; is = x .ok }; force = x .force })
@@ -245,7 +245,7 @@ module _ (c : Ctx) (type : ℕ → Ty) (library : List Held) (table : List Chose
     h-node (Array n slot token ms) p ks sc q pl rs {s} d h know = h-array n slot token ms p ks sc (q .0) (q .1) pl rs d h know
     h-node (Absent n) p ks sc q pl rs d h know = absurd q
 
-    h-array : (n slot token : ℕ) (ms : Nodes) (p : Place) (ks : List J.Known) (sc : Scope) → slot < c .void → ProperNodes ms → PlacedAll ms operand → ResolvesAll (c .texts) library type table ms sc → {s : World} → Ready s (Array n slot token ms ∷ visitedAmong ms) → HoldsAt s → KnowsAt s ks sc
+    h-array : (n slot token : ℕ) (ms : Nodes) (p : Place) (ks : List J.Known) (sc : Scope) → slot < c .void → ProperNodes ms → AllStand ms operand → ResolvesAll (c .texts) library type table ms sc → {s : World} → Ready s (Array n slot token ms ∷ visitedAmong ms) → HoldsAt s → KnowsAt s ks sc
         → Tells c type (NodeTold (Array n slot token ms) p ks sc) s (array c n slot token ms s)
     h-array n slot token done p ks sc low q pl rs {s} d h know = h-poison c type h n _
     h-array n slot token (then x xs) p ks sc low q pl rs {s} d h know =
@@ -255,7 +255,7 @@ module _ (c : Ctx) (type : ℕ → Ty) (library : List Held) (table : List Chose
         h-with c type (λ z. f z .holds) (λ z fu. f z .value .fact fu .judged)
         (h-members n slot xs (slotOf x) false ks (Declares x sc) low (q .1) (pl .1) (rs .1) o (λ z. i z .answer) (λ z. i z .own tt) (λ z e. false≢true e) d₂ (λ z. f z .holds) (after-operand x f))))
 
-    h-members : (n slot : ℕ) (xs : Nodes) (i : ℕ) (b : Bool) (ks : List J.Known) (sc : Scope) → slot < c .void → ProperNodes xs → PlacedAll xs operand → ResolvesAll (c .texts) library type table xs sc → {a : Answer} {s : World} → OwnAnswer i a → (Silent (silent c) s → AnswerOk (silent c) s a) → (Silent (silent c) s → Recorded (silent c) s i)
+    h-members : (n slot : ℕ) (xs : Nodes) (i : ℕ) (b : Bool) (ks : List J.Known) (sc : Scope) → slot < c .void → ProperNodes xs → AllStand xs operand → ResolvesAll (c .texts) library type table xs sc → {a : Answer} {s : World} → OwnAnswer i a → (Silent (silent c) s → AnswerOk (silent c) s a) → (Silent (silent c) s → Recorded (silent c) s i)
         → (Silent (silent c) s → b ≡ true → ⊥) → Ready s (visitedAmong xs ++ last-slot slot) → HoldsAt s → KnowsAt s ks sc → Tells c type (MembersTold slot i xs ks sc) s (members c n slot a b xs s)
     h-members n slot done i b ks sc low q pl rs o k e l d h know =
         h-to c type (λ u a x. record { judged = tt; members = tt; is = x .ok; force = x .force }) (h-rule c type library slot h know (h-arrayOf c type n slot low (λ z. last-unset slot d) h o k e b l))
@@ -272,7 +272,7 @@ module _ (c : Ctx) (type : ℕ → Ty) (library : List Held) (table : List Chose
         (λ z. let z₁ = before (silent c) t₁ z in g z .recorded i (f z₁ .recorded i (e (before (silent c) t z₁)))) lb d₃ (λ z. g z .holds)
         (λ z fv. subst (λ (w : World). Force c type library w ks (Declares x sc)) (sym (g z .value .same)) (after-operand x f (before (silent c) t₁ z) (subst (Fixed c type) (g z .value .same) fv)))))))))
 
-    h-all : (xs : Nodes) (ks : List J.Known) (sc : Scope) → ProperNodes xs → PlacedAll xs operand → ResolvesAll (c .texts) library type table xs sc → {s : World} → Ready s (visitedAmong xs) → HoldsAt s → KnowsAt s ks sc → Tells c type (ArgumentsTold c type library table xs ks sc) s (visitAll c xs s)
+    h-all : (xs : Nodes) (ks : List J.Known) (sc : Scope) → ProperNodes xs → AllStand xs operand → ResolvesAll (c .texts) library type table xs sc → {s : World} → Ready s (visitedAmong xs) → HoldsAt s → KnowsAt s ks sc → Tells c type (ArgumentsTold c type library table xs ks sc) s (visitAll c xs s)
     h-all done ks sc q pl rs {s} d h know = g-return (silent c) h (λ z. record { keep = keep-same s; fact = λ f. record { judged = tt; force = know z f } })
     h-all (then x xs) ks sc q pl rs {s} d h know =
         h-visit c type x (visitedAmong xs) _ (q .0) h d (h-node x operand ks sc (q .0) (pl .0) (rs .0) (ready-left (x ∷ visitedBelow x) (visitedAmong xs) d) h know) (λ a u o i d₁ t f.
@@ -282,7 +282,7 @@ module _ (c : Ctx) (type : ℕ → Ty) (library : List Held) (table : List Chose
           fact = λ fv. let z₁ = before (silent c) t₁ z in record { judged = (f z₁ .value .fact (earlier c type (f z₁ .holds) (g z) fv) .judged, g z .value .fact fv .judged); force = g z .value .fact fv .force };
         })))
 
-    h-cases : (n : ℕ) (cs : Cases) (ks : List J.Known) (sc : Scope) → ProperCases (Below (silent c)) (NameAt (silent c)) cs → PlacedCases cs → ResolvesCases (c .texts) library type table cs sc → {s : World} → Ready s (visitedInCases cs) → HoldsAt s → KnowsAt s ks sc → Tells c type (CasesTold cs ks sc) s (cases c n cs s)
+    h-cases : (n : ℕ) (cs : Cases) (ks : List J.Known) (sc : Scope) → ProperCases (Below (silent c)) (NameAt (silent c)) cs → CasesStand cs → ResolvesCases (c .texts) library type table cs sc → {s : World} → Ready s (visitedInCases cs) → HoldsAt s → KnowsAt s ks sc → Tells c type (CasesTold cs ks sc) s (cases c n cs s)
     h-cases n noCase ks sc q pl rs {s} d h know = g-return (silent c) h (λ z. record { keep = keep-same s; fact = λ f. record { judged = λ whole es. tt; ends = C.end; force = know z f } })
     h-cases n (case token x body cs) ks sc q pl rs {s} d h know =
         let ys : List Node = visitedAmong body ++ visitedInCases cs in
@@ -309,7 +309,7 @@ module _ (c : Ctx) (type : ℕ → Ty) (library : List Held) (table : List Chose
               };
         })))))
 
-    h-values : (vs : Values) (ks : List J.Known) (sc : Scope) → ProperValues (Below (silent c)) (NameAt (silent c)) vs → PlacedValues vs → ResolvesValues (c .texts) library type table vs sc → {s : World} → Ready s (visitedInValues vs) → HoldsAt s → KnowsAt s ks sc → Tells c type (ValuesTold vs ks sc) s (values c vs s)
+    h-values : (vs : Values) (ks : List J.Known) (sc : Scope) → ProperValues (Below (silent c)) (NameAt (silent c)) vs → ValuesStand vs → ResolvesValues (c .texts) library type table vs sc → {s : World} → Ready s (visitedInValues vs) → HoldsAt s → KnowsAt s ks sc → Tells c type (ValuesTold vs ks sc) s (values c vs s)
     h-values noValue ks sc q pl rs {s} d h know = g-return (silent c) h (λ z. record { keep = keep-same s; fact = λ f. record { judged = tt; pairs = no-pairs (silent c) (s .types); force = know z f } })
     h-values (value name x vs) ks sc q pl rs {s} d h know =
         let ys : List Node = visitedInValues vs in
@@ -333,7 +333,7 @@ module _ (c : Ctx) (type : ℕ → Ty) (library : List Held) (table : List Chose
               };
         }))))
 
-    h-body : (v : ℕ) (xs : Nodes) (ks : List J.Known) (sc : Scope) (a : Answer) → ProperNodes xs → PlacedAll xs statement → ResolvesAll (c .texts) library type table xs sc → {s : World} → Ready s (visitedAmong xs) → HoldsAt s → KnowsAt s ks sc → Tells c type (BodyTells v xs ks sc) s (last c a xs s)
+    h-body : (v : ℕ) (xs : Nodes) (ks : List J.Known) (sc : Scope) (a : Answer) → ProperNodes xs → AllStand xs statement → ResolvesAll (c .texts) library type table xs sc → {s : World} → Ready s (visitedAmong xs) → HoldsAt s → KnowsAt s ks sc → Tells c type (BodyTells v xs ks sc) s (last c a xs s)
     h-body v done ks sc a q pl rs {s} d h know = g-return (silent c) h (λ z. record { keep = keep-same s; fact = λ f. record { judged = refl; decl = know z f .decl } })
     h-body v (then x xs) ks sc a q pl rs {s} d h know =
         h-visit c type x (visitedAmong xs) _ (q .0) h d (h-node x statement ks sc (q .0) (pl .0) (rs .0) (ready-left (x ∷ visitedBelow x) (visitedAmong xs) d) h know) (λ b u o i d₁ t f.
@@ -341,7 +341,7 @@ module _ (c : Ctx) (type : ℕ → Ty) (library : List Held) (table : List Chose
         (h-with c type (λ z. f z .holds) (λ z fu. f z .value .fact fu .judged)
         (h-body (slotOf x) xs (after (c .texts) type table x ks) (Declares x sc) b (q .1) (pl .1) (rs .1) d₁ (λ z. f z .holds) (λ z fu. f z .value .fact fu .force))))
 
-    h-block : (xs : Nodes) (ks : List J.Known) (sc : Scope) → ProperNodes xs → PlacedAll xs statement → ResolvesAll (c .texts) library type table xs sc → {s : World} → Ready s (visitedAmong xs) → HoldsAt s → KnowsAt s ks sc → Tells c type (BlockTold c type library table xs ks sc) s (block c xs s)
+    h-block : (xs : Nodes) (ks : List J.Known) (sc : Scope) → ProperNodes xs → AllStand xs statement → ResolvesAll (c .texts) library type table xs sc → {s : World} → Ready s (visitedAmong xs) → HoldsAt s → KnowsAt s ks sc → Tells c type (BlockTold c type library table xs ks sc) s (block c xs s)
     h-block done ks sc q pl rs {s} d h know = g-return (silent c) h (λ z. record { keep = keep-same s; fact = λ f. record { judged = sym (f .void); force = know z f } })
     h-block (then x xs) ks sc q pl rs {s} d h know =
         h-map c type (λ u a t y z fx.
@@ -354,9 +354,9 @@ module _ (c : Ctx) (type : ℕ → Ty) (library : List Held) (table : List Chose
         (h-body (slotOf x) xs (after (c .texts) type table x ks) (Declares x sc) b (q .1) (pl .1) (rs .1) d₁ (λ z. f z .holds) (λ z fu. f z .value .fact fu .force)))))
 
   -- the roots
-  pub h-roots : (xs : Nodes) (ks : List J.Known) (sc : Scope) (a : Answer) → ProperNodes xs → PlacedAll xs root → ResolvesAll (c .texts) library type table xs sc → {s : World} → Ready s (visitedAmong xs) → HoldsAt s → KnowsAt s ks sc
+  pub h-roots : (xs : Nodes) (ks : List J.Known) (sc : Scope) (a : Answer) → ProperNodes xs → AllStand xs root → ResolvesAll (c .texts) library type table xs sc → {s : World} → Ready s (visitedAmong xs) → HoldsAt s → KnowsAt s ks sc
       → Tells c type (λ u (b : Answer). JudgedRoots (c .texts) type table xs ks) s (last c a xs s)
-  unfolding last ProperAll PlacedAll ResolvesAll JudgedRoots visitedAmong
+  unfolding last ProperAll AllStand ResolvesAll JudgedRoots visitedAmong
   h-roots done ks sc a q pl rs {s} d h know = g-return (silent c) h (λ z. record { keep = keep-same s; fact = λ _. tt })
   h-roots (then x xs) ks sc a q pl rs {s} d h know =
       h-visit c type x (visitedAmong xs) _ (q .0) h d (h-node x root ks sc (q .0) (pl .0) (rs .0) (ready-left (x ∷ visitedBelow x) (visitedAmong xs) d) h know) (λ b u o i d₁ t f.

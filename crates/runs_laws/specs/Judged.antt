@@ -14,7 +14,7 @@ use Rattle.rules.specs.Operators.{resultKind, castable}
 use Rattle.rules.specs.Functions.{typeMeant}
 use Rattle.runs.specs.Declared.{Own, Sig, Target, own, external, Chosen, targetAt, givenTypes}
 use Rattle.runs.specs.Running.{castKind}
-use Rattle.runs.specs.Placed.{Place, root, statement, operand, LetMay, FnMay}
+use Rattle.runs.specs.Stands.{Place, root, statement, operand, LetMay, FnMay}
 
 -- a name in scope and its type
 pub record Known : Type 0 where

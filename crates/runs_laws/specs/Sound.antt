@@ -15,14 +15,13 @@ use Rattle.slots.specs.Substitute.{Filling, substitute}
 use Rattle.ast.specs.Node.{Node, Nodes, Cases, Values, Atom, Ident, Bin, Unary, Let, Fn, Match, Call, Field, Cast, Import, Extern, Record, Array, Absent, done, then, noCase, case, noValue, value, slotOf}
 use Rattle.runs.specs.Value.{Value, Members, Named, void, bool, array, object, Fits, isVoid, isBool, isInt, isDouble, isStr, isNothing, isJust, isArray, isObject, isForeign, MembersFit, noMember, oneMember, FieldsFit, noField′, oneField, Fit, noneLeft, oneMore, count}
 use Rattle.rules.specs.Functions.{typeMeant}
-use Rattle.runs.specs.Declared.{Own, own, external, Chosen, targetAt, givenTypes}
+use Rattle.runs.specs.Declared.{Own, Sig, own, external, Chosen, targetAt, givenTypes}
 use Rattle.runs.specs.Machine.{Open, State, Stopped, Run, Done, withEnv, unboundName, missingField, question, counted, truth, fieldIn, orHalted, bind}
 use Rattle.runs.specs.Running.{castKind, callOwn, apply, eval, block, rest, branch, evalAll, evalValues, bodyWithin, root, roots, runOf}
-use Rattle.runs.specs.Placed.{Place, statement, operand, LetMay, FnMay}
-use Rattle.runs.specs.Placed as P
+use Rattle.runs.specs.Stands.{Place, statement, operand, LetMay, FnMay}
+use Rattle.runs.specs.Stands as P
 use Rattle.rules.specs.Promises.{Every}
-use Rattle.runs.specs.Promise as C
-use Rattle.runs.specs.Promise.{Clean, ValuesFit, NotStuck, Answers, halts, answers, Honest}
+use Rattle.runs.specs.Promise.{ValuesFit, NotStuck, Answers, halts, answers, HonestAt}
 use Rattle.runs_laws.specs.Judged.{Known, knows, CallOk, ofOwn, ofPackage, argTypes, argsKnown, recordTy, ArrayOk, after, Judged, JudgedBody, JudgedAll, JudgedCases, JudgedValues, JudgedRoots, Bodies}
 use Rattle.runs_laws.specs.Judged as J
 use Rattle.runs_laws.specs.Values.{literal-fits, Found, EnvFits, noneYet, value-found, field-found, arguments-fit, fit-count}
@@ -41,6 +40,11 @@ members-fit : (t : Texts) (type : ℕ → Ty) (table : List Chosen) {e : Ty} (ms
 unfolding givenTypes J.Members
 members-fit t type table done noneLeft h = noMember
 members-fit t type table (then x xs) (oneMore f fs) h = oneMember (fits-as (h .0) f) (members-fit t type table xs fs (h .1))
+
+-- package functions are honest at every call of a table
+abbrev pub Answering : List Chosen → Open → Type 0
+Answering table o =
+    (k slot origin position : ℕ) (sig : Sig) (given : List Ty) → targetAt slot table ≡ some (external origin position sig given) → HonestAt sig given (o .answer k slot)
 
 module _ (t : Texts) (type : ℕ → Ty) (table : List Chosen) where
   -- an operand leaves the names in scope
@@ -85,7 +89,7 @@ module _ (t : Texts) (type : ℕ → Ty) (table : List Chosen) where
       by : {v : Value} → Fits v (rec (h .fields)) → Runs type (Val type x ks) (fieldIn name v s)
       by (isObject fs) = r-map type (λ u w p. record { fits = p .0; env = p .1 }) (r-found type l e missingField (field-found name fs (h .has)))
 
-  module _ (o : Open) (honest : Honest table o) (bodies : Bodies t type table) (body : Nodes → Run Value)
+  module _ (o : Open) (honest : Answering table o) (bodies : Bodies t type table) (body : Nodes → Run Value)
       (runs : (b : Nodes) (ks : List Known) (x : Ty) → JudgedBody t type table b ks voidTy x → (s : State) → ValuesFit type s → EnvFits (s .env) ks → Runs type (λ u v. Fits v x) (body b s)) where
     r-halted : {ks : List Known} {s : State} {x : Ty} {a : Option Value} → ValuesFit type s → EnvFits (s .env) ks → Answers x a → Runs type (Val type x ks) (orHalted a s)
     unfolding orHalted NotStuck
@@ -94,10 +98,10 @@ module _ (t : Texts) (type : ℕ → Ty) (table : List Chosen) where
 
     r-apply : {ks : List Known} {s : State} (n slot : ℕ) {vs : Members} {ts : List Ty} → ValuesFit type s → EnvFits (s .env) ks → Fit vs ts → CallOk t type table n slot ts
         → Runs type (Val type (type slot) ks) (apply o body slot vs (targetAt slot table) s)
-    unfolding apply callOwn counted question Honest
+    unfolding apply callOwn counted question HonestAt
     r-apply {ks} {s} n slot {vs} {ts} l e h (ofOwn {f = f} q g r) =
         let a = arguments-fit t type table (f .args) noneYet (rw g at h) in
-        rw (q, a .is, r) (r-within type {s = record { left = s .left; asked = s .asked; calls = s .calls + 1; env = s .env; entered = s .entered; gave = s .gave }}
+        rw (q, a .is, r) (r-within type {s = record { left = s .left; asked = s .asked; calls = s .calls + 1; env = s .env; entered = s .entered; values = s .values }}
         (record { fit = l .fit }) e (a .item) (body (f .body)) (runs (f .body) (argsKnown t type table [] (f .args)) (typeMeant t (f .ret)) (bodies .each slot f q) _ (record { fit = l .fit }) (a .has)))
     r-apply {ks} {s} n slot {vs} {ts} l e h (ofPackage {origin = og} {position = k} {sig = sig} q f g r) =
         rw (q, r) (r-when type _ _ (λ _. r-halted (record { fit = l .fit }) e (honest (s .asked) slot og k sig ts q f g vs h))
@@ -175,7 +179,7 @@ module _ (t : Texts) (type : ℕ → Ty) (table : List Chosen) where
           r-next type _ (as-operand x (h .0) (r-eval x operand ks (λ z. z) (h .0) l e)) (λ v u l₁ q. r-next type _ (r-values vs ks (h .1) l₁ (q .env)) (λ fs u₂ l₂ q₁.
           went l₂ (record { fit = oneField (q .fits) (q₁ .fit); env = q₁ .env })))
 
-  module _ (o : Open) (honest : Honest table o) (bodies : Bodies t type table) where
+  module _ (o : Open) (honest : Answering table o) (bodies : Bodies t type table) where
     -- bodies, however deep calls are nested
     pub r-body : (deep : ℕ) (b : Nodes) (ks : List Known) (x : Ty) → JudgedBody t type table b ks voidTy x → (s : State) → ValuesFit type s → EnvFits (s .env) ks
         → Runs type (λ u v. Fits v x) (bodyWithin t o table deep b s)
@@ -215,11 +219,7 @@ module _ (t : Texts) (type : ℕ → Ty) (table : List Chosen) where
       r-roots (then x xs) ks h l e =
           r-next type _ (r-root x ks (h .0) l e) (λ _ u l₁ e₁. r-next type _ (r-roots xs (after t type table x ks) (h .1) l₁ e₁) (λ k u₂ l₂ q. went l₂ (ap (λ (n : ℕ). n + 1) q)))
 
-    -- THE THEOREM, of judged trees: no run is stuck, every value fits
-    pub runs-clean : (xs : Nodes) → JudgedRoots t type table xs [] → (budget : ℕ) → Clean type (lengthOf xs) (runOf t o table xs budget)
+    -- THE THEOREM, of judged trees: no run is stuck, every value fits; a run that ends has run all of them
+    pub runs-clean : (xs : Nodes) → JudgedRoots t type table xs [] → (budget : ℕ) → Runs type (λ u k. k ≡ lengthOf xs) (runOf t o table xs budget)
     unfolding runOf Every
-    runs-clean xs h budget = by (r-roots budget xs [] h (record { fit = tt }) noneYet)
-      where
-        by : {r : Result State Stopped ℕ} → Runs type (λ u k. k ≡ lengthOf xs) r → Clean type (lengthOf xs) r
-        by (went {a = k} {u = u} l q) = rw q (C.ended l)
-        by (out n l) = C.stops n l
+    runs-clean xs h budget = r-roots budget xs [] h (record { fit = tt }) noneYet
