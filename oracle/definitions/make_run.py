@@ -1,5 +1,5 @@
 #!/usr/bin/env python3
-"""Writes `specs/Run.antt` of the crates `refusals` and `rules` anew: the definitions as computations, each with the names of all that it
+"""Writes `specs/Run.antt` of the crates `refusals`, `rules` and `runs` anew: the definitions as computations, each with the names of all that it
 rests on. Run it, then `rt fmt`, after an `unfoldable` definition was added, renamed or removed.
 
   make_run.py [--repo DIR]
@@ -44,6 +44,10 @@ unfoldable pub visitedRun : (image : List ℕ) → List Node
 %(unfolding)s
 visitedRun = visitedIn
 
+unfoldable pub slotsRun : (image : List ℕ) → List ℕ
+%(unfolding)s
+slotsRun = visitedSlots
+
 unfoldable pub entriesRun : Inputs → Ended → List Entry
 %(unfolding)s
 entriesRun = entriesOf
@@ -51,10 +55,29 @@ entriesRun = entriesOf
 unfoldable pub walkRun : Inputs → (k : ℕ) → World → Result World Refusal Done
 %(unfolding)s
 walkRun = walkFirst
+
+unfoldable pub laterRun : Inputs → (k : ℕ) → World → Result World Refusal Done
+%(unfolding)s
+laterRun = walkLater
 """
 
-# the crate, the files that its computations are made of, and the text
-RUNS = [("refusals", ["Refusals"], REFUSALS), ("rules", ["Rows", "Promises"], RULES)]
+SCRIPTS = """-- A script's run as a computation, for examples: to unfold `scriptRun` is to unfold all that it rests on, the check too. A definition.
+use Prim.Native.Nat.{ℕ}
+use Rattle.tok.specs.Step.{Result}
+use Rattle.refusals.specs.Inputs.{Inputs}
+use Rattle.rules.specs.Check.{Ended}
+use Rattle.runs.specs.Machine.{Open, State, Stopped}
+use Rattle.rules.specs.Run.{checkRun}
+use Rattle.runs.specs.Promise.{runIn}
+%(uses)s
+unfoldable pub scriptRun : Inputs → Ended → Open → (budget : ℕ) → Result State Stopped ℕ
+%(unfolding)s checkRun
+scriptRun = runIn
+"""
+
+# the crate, the files that its computations are made of, the text, and what is unfolded already by a computation that the text names
+CHECK = ("rules", ["Rows", "Promises"])
+RUNS = [("refusals", ["Refusals"], REFUSALS, None), CHECK + (RULES, None), ("runs", ["Promise"], SCRIPTS, CHECK)]
 
 
 def source(repo, module):
@@ -84,24 +107,27 @@ def modules(repo, crate, files):
 
 
 def unfoldable(text):
-    names, inside = [], False
+    """The names of the `unfoldable` definitions, those in a `module` or a `mutual` block too."""
+    names, inside = [], None
     for line in text.split("\n"):
-        alone = re.match(r"unfoldable pub (\S+) ", line)
+        depth = len(line) - len(line.lstrip())
+        alone = re.match(r" *unfoldable pub (\S+) ", line)
         if alone:
             names.append(alone.group(1))
-        if line.startswith("unfoldable mutual"):
-            inside = True
-        elif line and not line.startswith(" "):
-            inside = False
-        member = re.match(r"  pub (\S+) :", line)
-        if inside and member:
+        if inside is not None and line and depth <= inside:
+            inside = None
+        if line.strip() == "unfoldable mutual":
+            inside = depth
+        member = re.match(r" *pub (\S+) :", line)
+        if inside is not None and depth == inside + 2 and member:
             names.append(member.group(1))
     return names
 
 
-def lists(repo, crate, files):
+def lists(repo, crate, files, named):
     """The `use` lines and the `unfolding` line. A name that two files have is written whole."""
-    found = [(m, n) for m in modules(repo, crate, files) for n in unfoldable(source(repo, m))]
+    already = modules(repo, *named) if named else []
+    found = [(m, n) for m in modules(repo, crate, files) if m not in already for n in unfoldable(source(repo, m))]
     often = {}
     for _, name in found:
         often[name] = often.get(name, 0) + 1
@@ -119,9 +145,9 @@ def main():
     p = argparse.ArgumentParser(description=__doc__, formatter_class=argparse.RawDescriptionHelpFormatter)
     p.add_argument("--repo", default=os.path.join(HERE, "..", ".."))
     a = p.parse_args()
-    for crate, files, text in RUNS:
+    for crate, files, text, named in RUNS:
         with open(os.path.join(a.repo, "crates", crate, "specs", "Run.antt"), "w", encoding="utf-8") as f:
-            f.write(text % lists(a.repo, crate, files))
+            f.write(text % lists(a.repo, crate, files, named))
 
 
 main()

@@ -1,116 +1,89 @@
--- Small scripts as trees, their targets and their runs, computed. Assumes nothing.
-use Prim.Native.Nat.{ℕ, zero, suc, _+_, _*_}
+-- Small scripts as trees, their targets and their runs, computed; and operators, of all numbers. Assumes nothing.
+use Prim.Native.Nat.{ℕ, _+_}
 use mathlib.Core.Path.{_≡_, refl}
-use mathlib.Core.Bool.{Bool, true, false}
-use mathlib.Core.Option.{Option, none, some}
-use mathlib.Core.List.{List, [], _∷_, map}
+use mathlib.Core.Bool.{true, false}
+use mathlib.Core.Option.{none, some}
+use mathlib.Core.List.{List, [], _∷_}
 use lib.Dec.{eqb}
-use lib.ListN.{length}
-use Rattle.tok.specs.Text.{Texts, textsOf, text, nameBytes, sameBytes}
-use Rattle.tok.specs.Step.{Result, ok, refused, when}
-use Rattle.ptype.specs.Ty.{Ty, plain, sameTy}
-use Rattle.ast.specs.TypeExpr.{TypeExpr, Arg, AtomType}
-use Rattle.ast.specs.Node.{Node, Nodes, Atom, Ident, Bin, Let, Fn, Match, Call, Field, Cast, Import, Extern, done, then, noCase, case, slotOf}
-use Rattle.err.specs.Message.{classOf}
-use Rattle.rules.specs.Operators.{resultKind, operatorTables, arithmetic, remainder, equality, order, castable}
-use Rattle.rules.specs.Calls.{calleeOf, fieldCallee, overloadMatches}
-use Rattle.runs.specs.Value.{Value, Members, void, bool, int, double, str, nothing, just, array, object, foreign, kindOfValue, count, fieldOf}
-use Rattle.rules.specs.Functions.{typeMeant}
-use Rattle.runs.specs.Declared.{Held, Sig, Target, own, external, Chosen, declareAll, nothingMet, targetAt, findHeld, findOwn, groupIn, fromGroup, firstEqual, ofOwn, ofHeld, choosing, givenTypes, targetOf, importFound, unlessHeld, imported, externMember}
-use Rattle.runs.specs.Machine.{Open, NodeValue, State, Stopped, Why, halted, spent, stuck, entering, enter, gives, question, bind, orStuck, valueOf, scoped, within, argumentsFrom, counted, ofKind, opened, numberOf, ofNumbers, operate, unary, castTo, cast, truthOf, bytesOf, sameBool, equalValues, literalOf, truth, fieldIn, orHalted}
-use Rattle.runs.specs.Running.{castKind, callOwn, apply, eval, bodyWithin, root, roots, runOf}
+use Rattle.tok.specs.Text.{Texts, textsOf, text}
+use Rattle.tok.specs.Step.{Result, ok, refused}
+use Rattle.ptype.specs.Ty.{plain}
+use Rattle.ast.specs.TypeExpr.{TypeExpr, AtomType}
+use Rattle.ast.specs.Node.{Node, Nodes, Atom, Ident, Bin, Let, Fn, Match, Call, Cast, done, then, noCase, case}
+use Rattle.refusals.specs.Inputs.{Inputs}
+use Rattle.rules.specs.Check.{Ended}
+use Rattle.runs.specs.Value.{Value, void, bool, int, double, str, nothing, just, array, object, foreign}
+use Rattle.runs.specs.Declared.{declareAll, nothingMet}
+use Rattle.runs.specs.Machine.{Open, NodeValue, State, Stopped, stuck, badOperands, operate, unary, cast}
+use Rattle.runs.specs.Running.{runOf}
+use Rattle.runs.specs.Stands.{root, AllStand}
+use Rattle.runs.specs.Promise.{tableOf, Honest}
+use Rattle.runs.specs.Run.{scriptRun}
+use Rattle.runs.proofs.Scripts.{answering, faultNumber, stopNumber, numbers}
 
 -- names of one letter, by their place in the script text
 texts : Texts
-texts = textsOf (text "fgpxytrue") []
+texts = textsOf (text "fx") []
 
-name : ℕ → ℕ
-name at = 0xC0000000 + at * 256 + 1
+f′ : ℕ
+f′ = 0xC0000001
 
--- every number is 7, every comparison false; a package function answers 1 more than the question's number
-open′ : Open
-open′ = record { literal = λ k b. length b; number = λ k. 7; compare = λ op k a b. false; toBool = λ k a. false; answer = λ k call vs. some (int (k + 1)) }
-
--- number of a result: 0 ended, 1 halted, 2 spent, 3 stuck; steps left; own calls; values given
-code : Why → ℕ
-code halted = 1
-code spent = 2
-code (stuck f) = 3
-
-numbers : Result State Stopped ℕ → List ℕ
-numbers (ok k s) = 0 ∷ s .left ∷ s .calls ∷ length (s .values) ∷ []
-numbers (refused x) = code (x .why) ∷ x .state .left ∷ x .state .calls ∷ length (x .state .values) ∷ []
+x′ : ℕ
+x′ = 0xC0000101
 
 intType : TypeExpr
 intType = AtomType 0 3
 
--- let x = 1, x + x
-first : Nodes
-first = then (Let 1 1 (name 3) (Atom 0 0 (name 3) 3)) (then (Bin 4 4 0 0 (Ident 2 2 (name 3)) (Ident 3 3 (name 3))) done)
+one : (n : ℕ) → Node
+one n = Atom n n x′ 3
 
--- fn f(x: Int) Int { f(x) }, f(1)
-again : Nodes
-again =
-    then (Fn 3 3 (name 0) intType (record { name = name 3; type = intType } ∷ []) (then (Call 2 2 (Ident 1 1 (name 0)) (then (Ident 0 0 (name 3)) done)) done))
-    (then (Call 6 7 (Ident 5 6 (name 0)) (then (Atom 4 5 (name 3) 3) done)) done)
+x : (n : ℕ) → Node
+x n = Ident n n x′
 
--- import p, fn f() Int { p.g() }, extern p { g() Int }, f(), p.g()
-pkgCall : (n slot : ℕ) → Node
-pkgCall n slot = Call n slot (Field 0 0 (Ident 0 0 (name 2)) (name 1)) done
-
-redeclared : Nodes
-redeclared =
-    then (Import 0 0 0 (name 2 ∷ []))
-    (then (Fn 4 4 (name 0) intType [] (then (pkgCall 3 3) done))
-    (then (Extern 5 5 0 (name 2) (record { name = name 1; ret = intType; args = [] } ∷ []))
-    (then (Call 7 7 (Ident 6 6 (name 0)) done)
-    (then (pkgCall 10 10) done))))
-
-library : List Held
-library = record { name = text "p"; origin = 100; functions = record { name = text "g"; sig = record { params = []; ret = plain 3 } } ∷ [] } ∷ []
-
--- every slot Int: only a group of several asks
-tableFor : Nodes → List Chosen
-tableFor xs = declareAll texts library (λ _. plain 3) xs nothingMet .chosen
-
-originOf : Target → ℕ
-originOf (own f) = f .node
-originOf (external origin position sig given) = origin
-
-origins : List Chosen → List ℕ
-origins [] = []
-origins (c ∷ cs) = c .call ∷ originOf (c .target) ∷ origins cs
-
+-- without a library; a group of several, which alone asks for types, is in none of them
 ran : Nodes → (budget : ℕ) → List ℕ
-ran xs budget = numbers (runOf texts open′ (tableFor xs) xs budget)
+ran xs budget = numbers (runOf texts (answering (λ _. none)) (declareAll texts [] (λ _. plain 3) xs nothingMet .chosen) xs budget)
 
--- five steps, of five nodes; one less is not enough
+-- ── Steps and values ──
+
+-- let x = 1, x + x: five steps, of five nodes; one less is not enough
+first : Nodes
+first = then (Let 1 1 x′ (one 0)) (then (Bin 4 4 0 0 (x 2) (x 3)) done)
+
 first-ends : ran first 5 ≡ 0 ∷ 0 ∷ 0 ∷ 5 ∷ []
-unfolding texts name open′ code numbers intType first again pkgCall redeclared library tableFor originOf origins ran text nameBytes sameBytes when slotOf classOf resultKind operatorTables arithmetic remainder equality order castable calleeOf fieldCallee overloadMatches sameTy kindOfValue count fieldOf typeMeant declareAll targetAt findHeld findOwn groupIn fromGroup firstEqual ofOwn ofHeld choosing givenTypes targetOf importFound unlessHeld imported externMember entering enter gives question bind orStuck valueOf scoped within argumentsFrom counted ofKind opened numberOf ofNumbers operate unary castTo cast truthOf bytesOf sameBool equalValues literalOf truth fieldIn orHalted castKind callOwn apply eval bodyWithin root roots runOf
+unfolding texts f′ x′ intType one x ran first answering numbers stopNumber faultNumber scriptRun
 first-ends = refl
 
 first-spent : ran first 4 ≡ 2 ∷ 0 ∷ 0 ∷ 3 ∷ []
-unfolding texts name open′ code numbers intType first again pkgCall redeclared library tableFor originOf origins ran text nameBytes sameBytes when slotOf classOf resultKind operatorTables arithmetic remainder equality order castable calleeOf fieldCallee overloadMatches sameTy kindOfValue count fieldOf typeMeant declareAll targetAt findHeld findOwn groupIn fromGroup firstEqual ofOwn ofHeld choosing givenTypes targetOf importFound unlessHeld imported externMember entering enter gives question bind orStuck valueOf scoped within argumentsFrom counted ofKind opened numberOf ofNumbers operate unary castTo cast truthOf bytesOf sameBool equalValues literalOf truth fieldIn orHalted castKind callOwn apply eval bodyWithin root roots runOf
+unfolding texts f′ x′ intType one x ran first answering numbers stopNumber faultNumber scriptRun
 first-spent = refl
 
--- a function that calls itself spends any budget, and is not stuck
+-- fn f(x: Int) Int { f(x) }, f(1): a function that calls itself spends any budget, and is not stuck. "an Fn having no value": ten nodes are
+-- entered, of which the Fn, and the calls, give none
+again : Nodes
+again =
+    then (Fn 3 3 f′ intType (record { name = x′; type = intType } ∷ []) (then (Call 2 2 (Ident 1 1 f′) (then (x 0) done)) done))
+    (then (Call 6 7 (Ident 5 6 f′) (then (one 4) done)) done)
+
 again-spent : ran again 20 ≡ 2 ∷ 0 ∷ 9 ∷ 9 ∷ []
-unfolding texts name open′ code numbers intType first again pkgCall redeclared library tableFor originOf origins ran text nameBytes sameBytes when slotOf classOf resultKind operatorTables arithmetic remainder equality order castable calleeOf fieldCallee overloadMatches sameTy kindOfValue count fieldOf typeMeant declareAll targetAt findHeld findOwn groupIn fromGroup firstEqual ofOwn ofHeld choosing givenTypes targetOf importFound unlessHeld imported externMember entering enter gives question bind orStuck valueOf scoped within argumentsFrom counted ofKind opened numberOf ofNumbers operate unary castTo cast truthOf bytesOf sameBool equalValues literalOf truth fieldIn orHalted castKind callOwn apply eval bodyWithin root roots runOf
+unfolding texts f′ x′ intType one x ran again answering numbers stopNumber faultNumber scriptRun
 again-spent = refl
 
--- the call in f is fixed where f was visited: the library's; the later one is the Extern's
-redeclared-targets : origins (tableFor redeclared) ≡ 10 ∷ 5 ∷ 7 ∷ 4 ∷ 3 ∷ 100 ∷ []
-unfolding texts name open′ code numbers intType first again pkgCall redeclared library tableFor originOf origins ran text nameBytes sameBytes when slotOf classOf resultKind operatorTables arithmetic remainder equality order castable calleeOf fieldCallee overloadMatches sameTy kindOfValue count fieldOf typeMeant declareAll targetAt findHeld findOwn groupIn fromGroup firstEqual ofOwn ofHeld choosing givenTypes targetOf importFound unlessHeld imported externMember entering enter gives question bind orStuck valueOf scoped within argumentsFrom counted ofKind opened numberOf ofNumbers operate unary castTo cast truthOf bytesOf sameBool equalValues literalOf truth fieldIn orHalted castKind callOwn apply eval bodyWithin root roots runOf
-redeclared-targets = refl
+-- fn f() Int { 1 }: one step, no value, no call
+declared : Nodes
+declared = then (Fn 1 1 f′ intType [] (then (one 0) done)) done
 
-redeclared-ends : ran redeclared 10 ≡ 0 ∷ 4 ∷ 1 ∷ 5 ∷ []
-unfolding texts name open′ code numbers intType first again pkgCall redeclared library tableFor originOf origins ran text nameBytes sameBytes when slotOf classOf resultKind operatorTables arithmetic remainder equality order castable calleeOf fieldCallee overloadMatches sameTy kindOfValue count fieldOf typeMeant declareAll targetAt findHeld findOwn groupIn fromGroup firstEqual ofOwn ofHeld choosing givenTypes targetOf importFound unlessHeld imported externMember entering enter gives question bind orStuck valueOf scoped within argumentsFrom counted ofKind opened numberOf ofNumbers operate unary castTo cast truthOf bytesOf sameBool equalValues literalOf truth fieldIn orHalted castKind callOwn apply eval bodyWithin root roots runOf
-redeclared-ends = refl
+declared-ends : ran declared 3 ≡ 0 ∷ 2 ∷ 0 ∷ 0 ∷ []
+unfolding texts f′ x′ intType one x ran declared answering numbers stopNumber faultNumber scriptRun
+declared-ends = refl
 
--- without a target a call is stuck
-unresolved : numbers (runOf texts open′ [] redeclared 10) ≡ 3 ∷ 6 ∷ 0 ∷ 2 ∷ []
-unfolding texts name open′ code numbers intType first again pkgCall redeclared library tableFor originOf origins ran text nameBytes sameBytes when slotOf classOf resultKind operatorTables arithmetic remainder equality order castable calleeOf fieldCallee overloadMatches sameTy kindOfValue count fieldOf typeMeant declareAll targetAt findHeld findOwn groupIn fromGroup firstEqual ofOwn ofHeld choosing givenTypes targetOf importFound unlessHeld imported externMember entering enter gives question bind orStuck valueOf scoped within argumentsFrom counted ofKind opened numberOf ofNumbers operate unary castTo cast truthOf bytesOf sameBool equalValues literalOf truth fieldIn orHalted castKind callOwn apply eval bodyWithin root roots runOf
-unresolved = refl
+-- "a function body sees only its arguments". let x = 1, fn f() Int { x }, f(): x is unbound there
+callers : Nodes
+callers = then (Let 1 1 x′ (one 0)) (then (Fn 3 3 f′ intType [] (then (x 2) done)) (then (Call 5 5 (Ident 4 4 f′) done) done))
+
+callers-unbound : ran callers 9 ≡ 3 ∷ 4 ∷ 1 ∷ 2 ∷ []
+unfolding texts f′ x′ intType one x ran callers answering numbers stopNumber faultNumber scriptRun
+callers-unbound = refl
 
 -- ── Comparisons ──
 
@@ -134,78 +107,114 @@ amount (foreign x n) = 100
 
 amounts : List NodeValue → List ℕ
 amounts [] = []
-amounts (g ∷ gs) = amount (g .value) ∷ amounts gs
+amounts (v ∷ vs) = amount (v .value) ∷ amounts vs
 
 -- questions asked, then the values
-answers : Result State Stopped ℕ → List ℕ
-answers (ok k s) = s .asked ∷ amounts (s .values)
-answers (refused x) = 1000 ∷ x .state .asked ∷ amounts (x .state .values)
-
-x′ : (n : ℕ) → Node
-x′ n = Ident n n (name 3)
+asked : Result State Stopped ℕ → List ℕ
+asked (ok k s) = s .asked ∷ amounts (s .values)
+asked (refused x) = 1000 ∷ x .state .asked ∷ amounts (x .state .values)
 
 -- let x = 1 + 1, x < x, x + x, x < x, x as Bool, x > x
 twice : Nodes
 twice =
-    then (Let 3 3 (name 3) (Bin 2 2 0 0 (Atom 0 0 (name 3) 3) (Atom 1 1 (name 3) 3)))
-    (then (Bin 6 6 0 7 (x′ 4) (x′ 5))
-    (then (Bin 9 9 0 0 (x′ 7) (x′ 8))
-    (then (Bin 12 12 0 7 (x′ 10) (x′ 11))
-    (then (Cast 14 14 0 (x′ 13) (AtomType 0 2))
-    (then (Bin 17 17 0 8 (x′ 15) (x′ 16)) done)))))
-
--- match { 1 < 1: 1, default: 1 + 1 }
-chooses : Nodes
-chooses =
-    then (Match 7 7 (case 0 (Bin 2 2 0 7 (Atom 0 0 (name 3) 3) (Atom 1 1 (name 3) 3)) (then (Atom 3 3 (name 3) 3) done) noCase) 0
-    (then (Bin 6 6 0 0 (Atom 4 4 (name 3) 3) (Atom 5 5 (name 3) 3)) done)) done
+    then (Let 3 3 x′ (Bin 2 2 0 0 (one 0) (one 1)))
+    (then (Bin 6 6 0 7 (x 4) (x 5))
+    (then (Bin 9 9 0 0 (x 7) (x 8))
+    (then (Bin 12 12 0 7 (x 10) (x 11))
+    (then (Cast 14 14 0 (x 13) (AtomType 0 2))
+    (then (Bin 17 17 0 8 (x 15) (x 16)) done)))))
 
 -- "number results left open": of the two sums, questions 0 and 1, and of nothing else is a question counted; x < x is answered alike both times
-twice-alike : answers (runOf texts counting [] twice 20) ≡ 2 ∷ 0 ∷ 2 ∷ 2 ∷ 1 ∷ 2 ∷ 1 ∷ 2 ∷ 2 ∷ 3 ∷ 2 ∷ 2 ∷ 1 ∷ 2 ∷ 2 ∷ 100 ∷ 2 ∷ 7 ∷ 7 ∷ []
-unfolding texts name open′ code numbers intType first again pkgCall redeclared library tableFor originOf origins ran text nameBytes sameBytes when slotOf classOf resultKind operatorTables arithmetic remainder equality order castable calleeOf fieldCallee overloadMatches sameTy kindOfValue count fieldOf typeMeant declareAll targetAt findHeld findOwn groupIn fromGroup firstEqual ofOwn ofHeld choosing givenTypes targetOf importFound unlessHeld imported externMember entering enter gives question bind orStuck valueOf scoped within argumentsFrom counted ofKind opened numberOf ofNumbers operate unary castTo cast truthOf bytesOf sameBool equalValues literalOf truth fieldIn orHalted castKind callOwn apply eval bodyWithin root roots runOf counting amount amounts answers x′ twice chooses
+twice-alike : asked (runOf texts counting [] twice 20) ≡ 2 ∷ 0 ∷ 2 ∷ 2 ∷ 1 ∷ 2 ∷ 1 ∷ 2 ∷ 2 ∷ 3 ∷ 2 ∷ 2 ∷ 1 ∷ 2 ∷ 2 ∷ 100 ∷ 2 ∷ 7 ∷ 7 ∷ []
+unfolding texts f′ x′ one x counting amount amounts asked twice scriptRun
 twice-alike = refl
 
--- a comparison is a condition: the case is run, and of the default no node
-chooses-first : answers (runOf texts counting [] chooses 20) ≡ 0 ∷ 7 ∷ 7 ∷ 1 ∷ 7 ∷ 7 ∷ []
-unfolding texts name open′ code numbers intType first again pkgCall redeclared library tableFor originOf origins ran text nameBytes sameBytes when slotOf classOf resultKind operatorTables arithmetic remainder equality order castable calleeOf fieldCallee overloadMatches sameTy kindOfValue count fieldOf typeMeant declareAll targetAt findHeld findOwn groupIn fromGroup firstEqual ofOwn ofHeld choosing givenTypes targetOf importFound unlessHeld imported externMember entering enter gives question bind orStuck valueOf scoped within argumentsFrom counted ofKind opened numberOf ofNumbers operate unary castTo cast truthOf bytesOf sameBool equalValues literalOf truth fieldIn orHalted castKind callOwn apply eval bodyWithin root roots runOf counting amount amounts answers x′ twice chooses
+-- match { 1 < 1: 1, default: 1 + 1 }: a comparison is a condition: the case is run, and of the default no node
+chooses : Nodes
+chooses =
+    then (Match 7 7 (case 0 (Bin 2 2 0 7 (one 0) (one 1)) (then (one 3) done) noCase) 0 (then (Bin 6 6 0 0 (one 4) (one 5)) done)) done
+
+chooses-first : asked (runOf texts counting [] chooses 20) ≡ 0 ∷ 7 ∷ 7 ∷ 1 ∷ 7 ∷ 7 ∷ []
+unfolding texts f′ x′ one x counting amount amounts asked chooses scriptRun
 chooses-first = refl
+
+-- ── Operators ──
 
 -- Of every `Open`, state and numbers: each comparison that the table has, and the one cast to Bool. The state is left: no question is counted.
 module _ (o : Open) (s : State) (a b : ℕ) where
   equal-ints : operate o 5 (int a) (int b) s ≡ ok (bool (o .compare 5 3 a b)) s
-  unfolding operate ofNumbers numberOf castTo cast castable kindOfValue resultKind operatorTables arithmetic remainder equality order classOf when truthOf bytesOf sameBool equalValues sameBytes text
+  unfolding scriptRun
   equal-ints = refl
 
   unequal-ints : operate o 6 (int a) (int b) s ≡ ok (bool (o .compare 6 3 a b)) s
-  unfolding operate ofNumbers numberOf castTo cast castable kindOfValue resultKind operatorTables arithmetic remainder equality order classOf when truthOf bytesOf sameBool equalValues sameBytes text
+  unfolding scriptRun
   unequal-ints = refl
 
   less-ints : operate o 7 (int a) (int b) s ≡ ok (bool (o .compare 7 3 a b)) s
-  unfolding operate ofNumbers numberOf castTo cast castable kindOfValue resultKind operatorTables arithmetic remainder equality order classOf when truthOf bytesOf sameBool equalValues sameBytes text
+  unfolding scriptRun
   less-ints = refl
 
   more-ints : operate o 8 (int a) (int b) s ≡ ok (bool (o .compare 8 3 a b)) s
-  unfolding operate ofNumbers numberOf castTo cast castable kindOfValue resultKind operatorTables arithmetic remainder equality order classOf when truthOf bytesOf sameBool equalValues sameBytes text
+  unfolding scriptRun
   more-ints = refl
 
   less-doubles : operate o 7 (double a) (double b) s ≡ ok (bool (o .compare 7 4 a b)) s
-  unfolding operate ofNumbers numberOf castTo cast castable kindOfValue resultKind operatorTables arithmetic remainder equality order classOf when truthOf bytesOf sameBool equalValues sameBytes text
+  unfolding scriptRun
   less-doubles = refl
 
   more-doubles : operate o 8 (double a) (double b) s ≡ ok (bool (o .compare 8 4 a b)) s
-  unfolding operate ofNumbers numberOf castTo cast castable kindOfValue resultKind operatorTables arithmetic remainder equality order classOf when truthOf bytesOf sameBool equalValues sameBytes text
+  unfolding scriptRun
   more-doubles = refl
 
   int-to-bool : cast o 2 (int a) s ≡ ok (bool (o .toBool 3 a)) s
-  unfolding operate ofNumbers numberOf castTo cast castable kindOfValue resultKind operatorTables arithmetic remainder equality order classOf when truthOf bytesOf sameBool equalValues sameBytes text
+  unfolding scriptRun
   int-to-bool = refl
 
--- == of Bool and Str stays computed
+  -- "an operator on kinds its rule lacks": "% Int, Int", "== and != two Int, two Bool or two Str"; + and - alone are unary; no Double to Bool
+  remainder-doubles : operate o 4 (double a) (double b) s ≡ refused (record { why = stuck badOperands; state = s })
+  unfolding scriptRun
+  remainder-doubles = refl
+
+  equal-doubles : operate o 5 (double a) (double b) s ≡ refused (record { why = stuck badOperands; state = s })
+  unfolding scriptRun
+  equal-doubles = refl
+
+  mixed-sum : operate o 0 (int a) (double b) s ≡ refused (record { why = stuck badOperands; state = s })
+  unfolding scriptRun
+  mixed-sum = refl
+
+  unary-product : unary o 2 (int a) s ≡ refused (record { why = stuck badOperands; state = s })
+  unfolding scriptRun
+  unary-product = refl
+
+  double-to-bool : cast o 2 (double a) s ≡ refused (record { why = stuck badOperands; state = s })
+  unfolding scriptRun
+  double-to-bool = refl
+
+-- == of Bool and Str is computed
 module _ (o : Open) (s : State) where
   equal-bools : operate o 5 (bool true) (bool true) s ≡ ok (bool true) s
-  unfolding operate ofNumbers numberOf castTo cast castable kindOfValue resultKind operatorTables arithmetic remainder equality order classOf when truthOf bytesOf sameBool equalValues sameBytes text
+  unfolding scriptRun
   equal-bools = refl
 
   unequal-strs : operate o 6 (str (text "f")) (str (text "g")) s ≡ ok (bool true) s
-  unfolding operate ofNumbers numberOf castTo cast castable kindOfValue resultKind operatorTables arithmetic remainder equality order classOf when truthOf bytesOf sameBool equalValues sameBytes text
+  unfolding scriptRun
   unequal-strs = refl
+
+-- ── Honesty ──
+
+-- What packages are held to goes by what is declared: two answers that choose the same declarations hold them to the same, whatever types they
+-- give the calls.
+honest-by-declared : (i : Inputs) (e e′ : Ended) (o : Open) → tableOf i e ≡ tableOf i e′ → Honest i e o → Honest i e′ o
+unfolding Honest
+honest-by-declared i e e′ o same h k slot origin position sig given q = h k slot origin position sig given (rw same q)
+
+-- ── Where a let may stand ──
+
+-- match { let x = 1: 1, default: 1 }: a condition is no statement of a body
+letAsCondition : Nodes
+letAsCondition = then (Match 5 5 (case 0 (Let 1 1 x′ (one 0)) (then (one 2) done) noCase) 0 (then (one 3) done)) done
+
+let-as-condition : AllStand letAsCondition root → ⊥
+unfolding letAsCondition scriptRun
+let-as-condition h = h .0 .0 .0 .0
