@@ -1,5 +1,5 @@
 -- The mission's demands for what `check` answers: its contract says `checkOf i b ≡ endedOf r a` of the buffers b before it and a after it, and
--- the theorems about `checkOf` (accepts: `Demands`; clean: `Clean`, `Messages`) then hold of its answer. Assumes nothing.
+-- the theorems about `checkOf` (accepts: `Demands`; clean: `Clean`, `Messages`; runs_judged: `Passed`) then hold of its answer. Assumes nothing.
 use Prim.Native.Nat.{ℕ, _≤_, _<_}
 use mathlib.Core.Path.{_≡_, subst, sym}
 use mathlib.Core.Bool.{true}
@@ -7,6 +7,7 @@ use mathlib.Core.Option.{none}
 use mathlib.Core.List.{List, []}
 use Rattle.utf8.specs.Rfc3629.{wellFormed}
 use Rattle.ast.specs.Image.{slotCount}
+use Rattle.ast.specs.Node.{rootsOf}
 use Rattle.refusals.specs.Inputs.{Inputs, Buffers}
 use Rattle.refusals.specs.Refusals.{refusalOf}
 use Rattle.rules.specs.Check.{Ended, checkOf}
@@ -16,6 +17,10 @@ use Rattle.tworuns.specs.Larger.{ends}
 use Rattle.accepts.specs.Demands.{demand-1, names-well-formed, each-visited-once, answered-longer, functions-visited, larger, larger-without-statements, image-place-certain, library-place-certain, packages-alone, statements-alone, nothing-added}
 use Rattle.clean.specs.Clean.{clean}
 use Rattle.clean.specs.Messages.{messages-well-formed}
+use Rattle.runs.specs.Machine.{Open}
+use Rattle.runs.specs.Stands.{root, AllStand}
+use Rattle.runs.specs.Promise.{Honest, RunsClean, PassedRunClean}
+use Rattle.runs_judged.specs.Passed.{passed-run-clean}
 use Rattle.checker.specs.declared.Checked.{Checked}
 use Rattle.checker.specs.Ended.{endedOf}
 
@@ -67,6 +72,12 @@ module _ (i : Inputs) (b a : Buffers) (r : Checked) (e : checkOf i b ≡ endedOf
   pub check-nothing : Answered (endedOf r a) → AddsNothing i b
   unfolding NothingAdded
   check-nothing z = nothing-added i b (answered-passes z)
+
+  -- request S-11: "Suppose a script has no diagnostic, a let stands only as a root or a body's own statement, an Fn only as a root, and each
+  -- package function .. gives one of its return type or halts the run. Then no run meets an unbound name, .."
+  pub check-runs-clean : AnsweredClean (endedOf r a) → AllStand (rootsOf (i .image)) root → (o : Open) → Honest i (endedOf r a) o → RunsClean i (endedOf r a) o
+  unfolding PassedRunClean
+  check-runs-clean = subst (λ x. AnsweredClean x → AllStand (rootsOf (i .image)) root → (o : Open) → Honest i x o → RunsClean i x o) e (passed-run-clean i b)
 
 -- two answers, for lists that agree up to and including the offending word: "The offending word is the first at which, reading forward, the
 -- fault is certain"

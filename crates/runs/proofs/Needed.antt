@@ -1,5 +1,5 @@
--- Each hypothesis of S-11 is needed: for each a script that meets the others, and whose run is stuck. And a script that meets all of them.
--- antt computes check and run. Assumes nothing.
+-- Each hypothesis of S-11 is needed: for each a script that meets the others, with packages that are honest, and whose run is stuck. And a
+-- script that meets all of them. antt computes check and run. Assumes nothing.
 use Prim.Native.Nat.{ℕ}
 use native.Mathlib.Omega.{arith}
 use mathlib.Core.Path.{_≡_, refl}
@@ -18,7 +18,7 @@ use Rattle.runs.specs.Value.{Value, Fits, isInt, end, noneLeft, int, str
 use Rattle.runs.specs.Declared.{Sig, Target, external}
 use Rattle.runs.specs.Machine.{Open}
 use Rattle.runs.specs.Stands.{root, AllStand}
-use Rattle.runs.specs.Promise.{tableOf, Answers, answers, HonestAt, Honest}
+use Rattle.runs.specs.Promise.{tableOf, Answers, halts, answers, HonestAt, Honest}
 use Rattle.runs.specs.Run.{scriptRun}
 use Rattle.runs.proofs.Scripts.{lent, redeclared, group, diagnostic, letInCondition, fnOperand, answered, answering, numbers, faultNumber, stopNumber, declaration, targets}
 
@@ -28,22 +28,19 @@ answerOf i = checkRun i lent
 ran : Inputs → Open → (budget : ℕ) → List ℕ
 ran i o budget = numbers (scriptRun i (answerOf i) o budget)
 
--- of a script that calls no package, packages that halt are honest
-none-some : {x : Target} → _≡_ {A = Option Target} none (some x) → ⊥
-none-some e = let z : _≡_ {A = ℕ} 0 1 = cc e in omega arith
-
+-- Packages that only halt. To halt is honest, whatever is declared: so there is no script whose packages cannot be honest.
 halting : Open
 halting = answering (λ _. none)
+
+halting-honest : (i : Inputs) (e : Ended) → Honest i e halting
+unfolding Honest HonestAt halting answering
+halting-honest i e k slot origin position sig given q f g vs v = halts
 
 -- ── "a script has no diagnostic" ──
 -- x: the others hold, and the run meets an unbound name.
 diagnostic-stands : AllStand (rootsOf (diagnostic .image)) root
 unfolding diagnostic scriptRun
 diagnostic-stands = (tt, tt)
-
-diagnostic-honest : Honest diagnostic (answerOf diagnostic) halting
-unfolding answerOf lent diagnostic halting answering scriptRun
-diagnostic-honest k slot origin position sig given e = absurd (none-some e)
 
 diagnostic-stuck : ran diagnostic halting 9 ≡ 3 ∷ 8 ∷ 0 ∷ 0 ∷ []
 unfolding ran answerOf lent diagnostic halting answering numbers stopNumber faultNumber scriptRun
@@ -53,10 +50,6 @@ diagnostic-stuck = refl
 let-passes : AnsweredClean (answerOf letInCondition)
 unfolding answerOf lent letInCondition scriptRun
 let-passes = record { answered = refl; clean = refl }
-
-let-honest : Honest letInCondition (answerOf letInCondition) halting
-unfolding answerOf lent letInCondition halting answering scriptRun
-let-honest k slot origin position sig given e = absurd (none-some e)
 
 let-misplaced : AllStand (rootsOf (letInCondition .image)) root → ⊥
 unfolding letInCondition scriptRun
@@ -70,10 +63,6 @@ let-stuck = refl
 fn-passes : AnsweredClean (answerOf fnOperand)
 unfolding answerOf lent fnOperand scriptRun
 fn-passes = record { answered = refl; clean = refl }
-
-fn-honest : Honest fnOperand (answerOf fnOperand) halting
-unfolding answerOf lent fnOperand halting answering scriptRun
-fn-honest k slot origin position sig given e = absurd (none-some e)
 
 fn-misplaced : AllStand (rootsOf (fnOperand .image)) root → ⊥
 unfolding fnOperand scriptRun
@@ -123,6 +112,9 @@ truthful-honest : Honest answered (answerOf answered) truthful
 unfolding answerOf lent answered truthful answering scriptRun declared
 truthful-honest k slot origin position sig given e = by (eqb slot 3) e
   where
+    none-some : {x : Target} → _≡_ {A = Option Target} none (some x) → ⊥
+    none-some e = let z : _≡_ {A = ℕ} 0 1 = cc e in omega arith
+
     by : (t : Bool) → elim t [ true ↦ some (external 0 0 declared []) | false ↦ none ] ≡ some (external origin position sig given) → HonestAt sig given (λ vs. some (int 1))
     by true e = λ f q vs v. let z : declared ≡ sig = cc e in rw (← z) (answers isInt)
     by false e = absurd (none-some e)

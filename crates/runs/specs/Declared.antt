@@ -1,5 +1,6 @@
 -- Which declaration each call has: "functions and packages fixed by the declarations in force when the call was visited". Definitions.
--- One pass over the nodes in the order of visits. It needs of the check's answer only the types in slots, to choose among a group of several.
+-- One pass over the nodes in the order of visits. A body is passed once, where its Fn stands, so that its calls are fixed there, however often
+-- and whenever it is run. Of the check's answer only the types in slots are asked, to choose among a group of several.
 use Prim.Native.Nat.{ℕ, zero, suc, _+_}
 use mathlib.Core.Bool.{Bool, true, false}
 use mathlib.Core.Option.{Option, none, some}
@@ -48,7 +49,8 @@ pub record Chosen : Type 0 where
   pub slot : ℕ
   pub target : Target
 
--- The declarations in force, newest first, and what was chosen so far.
+-- The declarations in force, newest first, and what was chosen so far. "an Extern replaces a package of its name", and of two Fns of a name
+-- "calls visited from there on find the new one" (a script without diagnostic has no two): the newest is found.
 pub record Scope : Type 0 where
   pub held : List Held
   pub own : List Own

@@ -104,7 +104,8 @@ module _ (c : Ctx) (type : ℕ → Ty) where
         → (Silent (silent c) s → ParamsOk (silent c) (s .types) ps) → (Silent (silent c) s → Given s given) → (Silent (silent c) s → All (BindingOk (silent c) (s .types)) bs)
         → Gives (silent c) (Fitted c type slotted s ps given bs) s (arguments c n name slotted ps given bs s)
     unfolding arguments allSlotsAre
-    h-arguments slotted [] [] e h k i b = g-return (silent c) h (λ z. record { slots = refl; same = same-world refl; bindings = b z; extends = same; bound = λ p j. refl; fits = λ _ f _. refl })
+    h-arguments slotted [] [] e h k i b = g-return (silent c) h (λ z.
+        record { slots = refl; same = same-world refl; bindings = b z; extends = same; bound = λ p j. refl; fits = λ _ f _. refl })
     h-arguments slotted [] (a ∷ rest) e h k i b = absurd (omega arith)
     h-arguments slotted (p ∷ ps) [] e h k i b = absurd (omega arith)
     h-arguments slotted (p ∷ ps) (a ∷ rest) {bs} e {s} h k i b =
@@ -119,7 +120,8 @@ module _ (c : Ctx) (type : ℕ → Ty) where
         rest-all : {s : World} → Given s (a ∷ rest) → Given s rest
         rest-all (and x xs) = xs
 
-        together : {s u v : World} (more cs : List Binding) → ParamsOk (silent c) (s .types) (p ∷ ps) → After (silent c) (Fitted c type slotted s (p ∷ []) (a ∷ []) bs) s u more → After (silent c) (Fitted c type slotted u ps rest more) u v cs
+        together : {s u v : World} (more cs : List Binding) → ParamsOk (silent c) (s .types) (p ∷ ps)
+            → After (silent c) (Fitted c type slotted s (p ∷ []) (a ∷ []) bs) s u more → After (silent c) (Fitted c type slotted u ps rest more) u v cs
             → Fitted c type slotted s (p ∷ ps) (a ∷ rest) bs v cs
         together {s} {u} {v} more cs k x y =
             let stay : trees u ps ≡ trees s ps = trees-stay s u (x .grown) (rest-params (silent c) (k .each)) in
@@ -128,7 +130,8 @@ module _ (c : Ctx) (type : ℕ → Ty) where
               same = same-trans (x .value .same) (y .value .same);
               bindings = y .value .bindings;
               extends = extends-trans (x .value .extends) (y .value .extends);
-              bound = λ r j. two-slots r (treeIn c s (p .type)) (trees s ps) (x .value .bound r (λ q l w. j q l (bound-still l (y .value .extends) w))) (subst (λ (l : List Ty). allSlotsAre r l ≡ true) stay (y .value .bound r j));
+              bound = λ r j. two-slots r (treeIn c s (p .type)) (trees s ps) (x .value .bound r (λ q l w. j q l (bound-still l (y .value .extends) w)))
+                  (subst (λ (l : List Ty). allSlotsAre r l ≡ true) stay (y .value .bound r j));
               fits = λ fx g ag.
                   let fu : Fixed c type u = fixed-back c type (x .holds) (y .grown) (same-slots (y .value .slots)) fx in
                   ap (λ (z : Ty). z ∷ map (substitute g) (trees s ps)) (head-same (x .value .fits fu g (agrees-back c (y .grown) (x .value .bindings) (y .value .extends) ag)))
@@ -136,21 +139,29 @@ module _ (c : Ctx) (type : ℕ → Ty) where
             }
 
     -- the return type, filled
-    h-returned : (f : Signature) {bs : List Binding} {s : World} → (Silent (silent c) s → Holds (silent c) s) → (Silent (silent c) s → SignatureOk (silent c) (s .types) f) → (Silent (silent c) s → All (BindingOk (silent c) (s .types)) bs)
+    h-returned : (f : Signature) {bs : List Binding} {s : World} → (Silent (silent c) s → Holds (silent c) s)
+        → (Silent (silent c) s → SignatureOk (silent c) (s .types) f) → (Silent (silent c) s → All (BindingOk (silent c) (s .types)) bs)
         → (Silent (silent c) s → (p : List ℕ → Bool) → Covers (silent c) (f .withSlots) bs p → allSlotsAre p (trees s (f .params)) ≡ true)
-        → Gives (silent c) (Built c type (λ d w. Good (silent c) d w × Is (silent c) d w (substitute (fillingOf (c .texts) (s .types .words) bs) (treeIn c s (f .ret)))) s) s (returned c n f bs s)
+        → Gives (silent c) (Built c type (λ d w. Good (silent c) d w × Is (silent c) d w
+        (substitute (fillingOf (c .texts) (s .types .words) bs) (treeIn c s (f .ret)))) s) s (returned c n f bs s)
     unfolding returned tree
     h-returned f {bs} {s} h k b j =
         g-when (silent c) _ _
         (λ e. h-onTypes c type _ h (λ z.
         let g = k z in
-        rw (is-tree (silent c) (g .returns)) (t-both c (t-map (silent c) (λ w d y. record { tree = y .tree; is = y .is; noSlot = λ q. y .filled q (stands z (isBound bs) (λ _ l w. w)) }) (t-apply (silent c) bs n (g .ret) (b z) (g .returns)))
+        rw (is-tree (silent c) (g .returns)) (t-both c
+        (t-map (silent c) (λ w d y. record { tree = y .tree; is = y .is; noSlot = λ q. y .filled q (stands z (isBound bs) (λ _ l w. w)) })
+        (t-apply (silent c) bs n (g .ret) (b z) (g .returns)))
         (t-filled (silent c) bs (fillingOf (c .texts) (s .types .words) bs) n (g .ret) (fills-self c bs (b z)) (g .returns)))))
         (λ e. g-return (silent c) h (λ z.
         let g = k z in
         let free : containsSlot (g .ret) ≡ false = never-free (g .ret) (stands z never (λ i. absurd (true≢false (sym i ∙ e)))) in
         record {
-          is = (record { tree = g .ret; is = g .returns; noSlot = λ q. free }, rw (is-tree (silent c) (g .returns)) (subst (λ (x : Ty). Is (silent c) (s .types) (f .ret) x) (sym (free-same (fillingOf (c .texts) (s .types .words) bs) (g .ret) free)) (g .returns)));
+          is = (
+            record { tree = g .ret; is = g .returns; noSlot = λ q. free },
+            rw (is-tree (silent c) (g .returns))
+                (subst (λ (x : Ty). Is (silent c) (s .types) (f .ret) x) (sym (free-same (fillingOf (c .texts) (s .types .words) bs) (g .ret) free)) (g .returns)),
+          );
           slots = refl;
           same = same-world refl;
         }))
@@ -159,12 +170,15 @@ module _ (c : Ctx) (type : ℕ → Ty) where
         stands z p v = k z .stands tt p (subst (λ (l : List Ty). allSlotsAre p l ≡ true) (sym (params-trees c (k z .params))) (j z p v))
 
     -- a call of one signature
-    pub h-checkCall : (slot token : ℕ) → slot < c .void → (given : List Provided) (f : Signature) {s : World} → (Silent (silent c) s → getD (s .slots) slot 0 ≡ 0) → (Silent (silent c) s → Holds (silent c) s) → (Silent (silent c) s → Given s given)
-        → (Silent (silent c) s → SignatureOk (silent c) (s .types) f) → Tells c type (Rule c type slot s (CallFits slot (types given) (trees s (f .params)) (treeIn c s (f .ret)))) s (checkCallArgs c n slot token name f given s)
+    pub h-checkCall : (slot token : ℕ) → slot < c .void → (given : List Provided) (f : Signature) {s : World} → (Silent (silent c) s → getD (s .slots) slot 0 ≡ 0)
+        → (Silent (silent c) s → Holds (silent c) s) → (Silent (silent c) s → Given s given)
+        → (Silent (silent c) s → SignatureOk (silent c) (s .types) f)
+        → Tells c type (Rule c type slot s (CallFits slot (types given) (trees s (f .params)) (treeIn c s (f .ret)))) s (checkCallArgs c n slot token name f given s)
     unfolding checkCallArgs
     h-checkCall slot token low given f {s} unset h i k =
         g-when (silent c) _ _
-        (λ e. h-step c type _ (h-arguments (f .withSlots) (f .params) given (eqb-true (length given) (length (f .params)) e) h (λ z. record { trees = k z .trees; each = k z .params }) i (λ z. end)) (λ bs u x. same-slots (x .slots)) (λ bs u t x.
+        (λ e. h-step c type _ (h-arguments (f .withSlots) (f .params) given (eqb-true (length given) (length (f .params)) e) h
+        (λ z. record { trees = k z .trees; each = k z .params }) i (λ z. end)) (λ bs u x. same-slots (x .slots)) (λ bs u t x.
         h-step c type _ (h-returned f (λ z. x z .holds) (λ z. signature-grow (silent c) (x z .grown) f (k (before (silent c) t z))) (λ z. x z .value .bindings)
         (λ z p v. subst (λ (l : List Ty). allSlotsAre p l ≡ true) (sym (stay z t x)) (x z .value .bound p v))) (λ w v y. same-slots (y .slots)) (λ w v t₁ y.
         h-map c type (λ u₁ a t₂ q z fx.
@@ -183,8 +197,11 @@ module _ (c : Ctx) (type : ℕ → Ty) where
           };
           same = same-trans (x z₁ .value .same) (same-trans (y z₂ .value .same) (r .same));
         })
-        (h-set c type slot low (λ z. ap (λ (l : List ℕ). getD l slot 0) (y z .value .slots ∙ x (before (silent c) t₁ z) .value .slots) ∙ unset (before (silent c) t (before (silent c) t₁ z))) (λ z. y z .holds) (λ z. y z .value .is .0)))))
-        (λ _. g-next (silent c) _ (h-report c type {Q = λ _ _. ⊥} h n _) (λ _ u t x. g-when (silent c) _ _ (λ _. g-return (silent c) (λ z. x z .holds) (λ z. absurd (x z .value))) (λ _. told-set c type slot _ (λ z. x z .value))))
+        (h-set c type slot low (λ z. ap (λ (l : List ℕ). getD l slot 0) (y z .value .slots ∙ x (before (silent c) t₁ z) .value .slots) ∙ unset
+        (before (silent c) t (before (silent c) t₁ z))) (λ z. y z .holds) (λ z. y z .value .is .0)))))
+        (λ _. g-next (silent c) _ (h-report c type {Q = λ _ _. ⊥} h n _)
+        (λ _ u t x. g-when (silent c) _ _ (λ _. g-return (silent c) (λ z. x z .holds) (λ z. absurd (x z .value))) (λ _. told-set c type slot _ (λ z. x z .value))))
       where
-        stay : {u : World} {bs : List Binding} → Silent (silent c) u → (t : Later s u) → (Silent (silent c) u → After (silent c) (Fitted c type (f .withSlots) s (f .params) given []) s u bs) → trees u (f .params) ≡ trees s (f .params)
+        stay : {u : World} {bs : List Binding} → Silent (silent c) u → (t : Later s u)
+            → (Silent (silent c) u → After (silent c) (Fitted c type (f .withSlots) s (f .params) given []) s u bs) → trees u (f .params) ≡ trees s (f .params)
         stay {u} z t x = let g = k (before (silent c) t z) in trees-stay s u (x z .grown) (record { trees = g .trees; each = g .params })

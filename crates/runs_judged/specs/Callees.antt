@@ -102,7 +102,8 @@ module _ (t : Texts) (library : List Held) (type : ℕ → Ty) (table : List Cho
     safe-node (Bin n slot token op l r) p ks sc j s = safe-node r operand ks (declare t library type l sc) (j .1) (safe-node l operand ks sc (j .0) s)
     safe-node (Unary n slot token op r) p ks sc j s = safe-node r operand ks sc (j .0) s
     safe-node (Let n slot name r) p ks sc j s = safe-node r operand ks sc (j .1) s
-    safe-node (Fn n slot name ret args body) p ks sc j s = safe-body body (argsKnown t type table [] args) voidTy (typeMeant t ret) _ (j .1) (record { ownJudged = and (j .1) (s .ownJudged); chosen = s .chosen })
+    safe-node (Fn n slot name ret args body) p ks sc j s = safe-body body (argsKnown t type table [] args) voidTy (typeMeant t ret) _ (j .1)
+        (record { ownJudged = and (j .1) (s .ownJudged); chosen = s .chosen })
     safe-node (Match n slot cs token d) p ks sc j s = safe-body d ks voidTy (type slot) (declareCases t library type cs sc) (j .1) (safe-cases cs ks (type slot) sc (j .0) s)
     safe-node (Call n slot target args) p ks sc j s =
         let u = safe-all args ks sc (j .0) s in
@@ -125,7 +126,8 @@ module _ (t : Texts) (library : List Held) (type : ℕ → Ty) (table : List Cho
 
     safe-cases : (cs : Cases) (ks : List Known) (whole : Ty) (sc : Scope) → JudgedCases t type table cs ks whole → Judges sc → Judges (declareCases t library type cs sc)
     safe-cases noCase ks whole sc j s = s
-    safe-cases (case token x body cs) ks whole sc j s = safe-cases cs ks whole _ (j .3) (safe-body body ks voidTy whole (declare t library type x sc) (j .2) (safe-node x operand ks sc (j .0) s))
+    safe-cases (case token x body cs) ks whole sc j s = safe-cases cs ks whole _ (j .3)
+        (safe-body body ks voidTy whole (declare t library type x sc) (j .2) (safe-node x operand ks sc (j .0) s))
 
     safe-values : (vs : Values) (ks : List Known) (sc : Scope) → JudgedValues t type table vs ks → Judges sc → Judges (declareValues t library type vs sc)
     safe-values noValue ks sc j s = s

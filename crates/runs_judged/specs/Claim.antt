@@ -121,8 +121,10 @@ module _ (c : Ctx) (type : ℕ → Ty) where
   }) (k a u t p))
 
   -- a part with an answer, before others that are still to be visited
-  pub h-answer : {B : Type 0} {O P : World → Answer → Type 0} {Q : World → B → Type 0} {slot : ℕ} (xs ys : List Node) {s : World} {y : Result World Refusal Answer} (f : Answer → Walk B) → Ready s (xs ++ ys) → Owns slot y → Keeps (Leaves ys) Any s y → Gives (silent c) O s y → Tells P s y
-      → ((a : Answer) (u : World) → OwnAnswer slot a → (Silent (silent c) u → O u a) → Ready u ys → Later s u → (Silent (silent c) u → After (silent c) (Says P s) s u a) → Tells Q u (f a u)) → Tells Q s (next y f)
+  pub h-answer : {B : Type 0} {O P : World → Answer → Type 0} {Q : World → B → Type 0} {slot : ℕ} (xs ys : List Node) {s : World} {y : Result World Refusal Answer}
+      (f : Answer → Walk B) → Ready s (xs ++ ys) → Owns slot y → Keeps (Leaves ys) Any s y → Gives (silent c) O s y → Tells P s y
+      → ((a : Answer) (u : World) → OwnAnswer slot a → (Silent (silent c) u → O u a) → Ready u ys → Later s u → (Silent (silent c) u → After (silent c) (Says P s) s u a)
+      → Tells Q u (f a u)) → Tells Q s (next y f)
   h-answer {B} {O} {P} {Q} {slot} xs ys {s} f d w l o g k = go w l o g
     where
       more : {u : World} {a : Answer} {y : Result World Refusal B} → Later s u → (Silent (silent c) u → After (silent c) (Says P s) s u a) → Tells Q u y → Tells Q s y
@@ -132,7 +134,13 @@ module _ (c : Ctx) (type : ℕ → Ty) where
           g-map′ (gives {u = v} t₁ q) = gives {u = v} (later t t₁) (λ z.
               let i = p (before (silent c) t₁ z) in
               let j = q z in
-              record { grown = grown-trans (i .grown) (j .grown); recorded = λ a h. j .recorded a (i .recorded a h); holds = j .holds; value = record { keep = keep-trans (i .value .keep) (j .value .keep); fact = j .value .fact } })
+              record {
+                grown = grown-trans (i .grown) (j .grown);
+                recorded = λ a h. j .recorded a
+                    (i .recorded a h);
+                holds = j .holds;
+                value = record { keep = keep-trans (i .value .keep) (j .value .keep); fact = j .value .fact };
+              })
           g-map′ stopped = stopped
 
       go : {y : Result World Refusal Answer} → Owns slot y → Keeps (Leaves ys) Any s y → Gives (silent c) O s y → Tells P s y → Tells Q s (next y f)
@@ -141,24 +149,31 @@ module _ (c : Ctx) (type : ℕ → Ty) where
       go (refuses e) m i g = stopped
 
   -- a node visited
-  pub h-visit : {B : Type 0} {P : World → Answer → Type 0} {Q : World → B → Type 0} (x : Node) (ys : List Node) {s : World} (f : Answer → Walk B) → Proper (Below (silent c)) (NameAt (silent c)) x → (Silent (silent c) s → Holds (silent c) s) → Ready s ((x ∷ visitedBelow x) ++ ys) → Tells P s (node c x s)
-      → ((a : Answer) (u : World) → OwnAnswer (slotOf x) a → (Silent (silent c) u → Own (silent c) (slotOf x) u a) → Ready u ys → Later s u → (Silent (silent c) u → After (silent c) (Says P s) s u a) → Tells Q u (f a u)) → Tells Q s (next (node c x s) f)
+  pub h-visit : {B : Type 0} {P : World → Answer → Type 0} {Q : World → B → Type 0} (x : Node) (ys : List Node) {s : World} (f : Answer → Walk B)
+      → Proper (Below (silent c)) (NameAt (silent c)) x → (Silent (silent c) s → Holds (silent c) s) → Ready s ((x ∷ visitedBelow x) ++ ys) → Tells P s (node c x s)
+      → ((a : Answer) (u : World) → OwnAnswer (slotOf x) a → (Silent (silent c) u → Own (silent c) (slotOf x) u a) → Ready u ys → Later s u
+      → (Silent (silent c) u → After (silent c) (Says P s) s u a) → Tells Q u (f a u)) → Tells Q s (next (node c x s) f)
   h-visit x ys {s} f pr h d g k = h-answer (x ∷ visitedBelow x) ys f d (own-node c x s) (node-leaves c ys x s d) (g-node (silent c) x pr h) g (λ a u o i. k a u o (λ z. i z .own))
 
   -- a block
-  pub h-visit-block : {B : Type 0} {P : World → Answer → Type 0} {Q : World → B → Type 0} (xs : Nodes) (ys : List Node) {s : World} (f : Answer → Walk B) → ProperAll (Below (silent c)) (NameAt (silent c)) xs → (Silent (silent c) s → Holds (silent c) s) → Ready s (visitedAmong xs ++ ys) → Tells P s (block c xs s)
-      → ((a : Answer) (u : World) → OwnAnswer (endSlot (c .void) xs) a → (Silent (silent c) u → AnswerOk (silent c) u a) → Ready u ys → Later s u → (Silent (silent c) u → After (silent c) (Says P s) s u a) → Tells Q u (f a u)) → Tells Q s (next (block c xs s) f)
-  h-visit-block xs ys {s} f pr h d g k = h-answer (visitedAmong xs) ys f d (own-block c xs s) (block-leaves c ys xs s d) (g-block (silent c) xs pr h) g (λ a u o i. k a u o (λ z. i z .answer))
+  pub h-visit-block : {B : Type 0} {P : World → Answer → Type 0} {Q : World → B → Type 0} (xs : Nodes) (ys : List Node) {s : World} (f : Answer → Walk B)
+      → ProperAll (Below (silent c)) (NameAt (silent c)) xs → (Silent (silent c) s → Holds (silent c) s) → Ready s (visitedAmong xs ++ ys) → Tells P s (block c xs s)
+      → ((a : Answer) (u : World) → OwnAnswer (endSlot (c .void) xs) a → (Silent (silent c) u → AnswerOk (silent c) u a) → Ready u ys → Later s u
+      → (Silent (silent c) u → After (silent c) (Says P s) s u a) → Tells Q u (f a u)) → Tells Q s (next (block c xs s) f)
+  h-visit-block xs ys {s} f pr h d g k = h-answer (visitedAmong xs) ys f d (own-block c xs s) (block-leaves c ys xs s d) (g-block (silent c) xs pr h) g
+      (λ a u o i. k a u o (λ z. i z .answer))
 
   -- "a Known answer yields its slot, otherwise Poison ends the rule": where all is silent it is known
-  pub h-known : {Q : World → Answer → Type 0} {i : ℕ} {a : Answer} (f : ℕ → Walk Answer) {s : World} → (Silent (silent c) s → Holds (silent c) s) → OwnAnswer i a → (Silent (silent c) s → AnswerOk (silent c) s a)
+  pub h-known : {Q : World → Answer → Type 0} {i : ℕ} {a : Answer} (f : ℕ → Walk Answer) {s : World} → (Silent (silent c) s → Holds (silent c) s) → OwnAnswer i a
+      → (Silent (silent c) s → AnswerOk (silent c) s a)
       → Tells Q s (f i s) → Tells Q s (known a f s)
   unfolding known
   h-known f h isKnown k g = g
   h-known {Q} f {s} h isPoison k g = gives {u = s} (record { more = omega arith }) (λ z. absurd (no-poison (k z)))
 
   -- a step that leaves the slots that have a type
-  pub h-step : {A B : Type 0} {P : World → A → Type 0} {Q : World → B → Type 0} {s : World} {x : Result World Refusal A} (f : A → Walk B) → Gives (silent c) P s x → ((a : A) (u : World) → P u a → Keep s u)
+  pub h-step : {A B : Type 0} {P : World → A → Type 0} {Q : World → B → Type 0} {s : World} {x : Result World Refusal A} (f : A → Walk B) → Gives (silent c) P s x
+      → ((a : A) (u : World) → P u a → Keep s u)
       → ((a : A) (u : World) → Later s u → (Silent (silent c) u → After (silent c) P s u a) → Tells Q u (f a u)) → Tells Q s (next x f)
   h-step f g keeps k = g-next (silent c) f g (λ a u t p. g-map (silent c) (λ v b t₁ p₁ z. record {
     keep = keep-trans (keeps a u (p (before (silent c) t₁ z) .value)) (p₁ z .value .keep);
@@ -166,8 +181,10 @@ module _ (c : Ctx) (type : ℕ → Ty) where
   }) (k a u t p))
 
   -- and is known to write no slot of the nodes that are still to be visited
-  pub h-after : {A B : Type 0} {P : World → A → Type 0} {Q : World → B → Type 0} (ys : List Node) {s : World} {x : Result World Refusal A} (f : A → Walk B) → Ready s ys → Keeps (Leaves ys) Any s x → Gives (silent c) P s x
-      → ((a : A) (u : World) → P u a → Keep s u) → ((a : A) (u : World) → Ready u ys → Later s u → (Silent (silent c) u → After (silent c) P s u a) → Tells Q u (f a u)) → Tells Q s (next x f)
+  pub h-after : {A B : Type 0} {P : World → A → Type 0} {Q : World → B → Type 0} (ys : List Node) {s : World} {x : Result World Refusal A} (f : A → Walk B) → Ready s ys
+      → Keeps (Leaves ys) Any s x → Gives (silent c) P s x
+      → ((a : A) (u : World) → P u a → Keep s u) → ((a : A) (u : World) → Ready u ys → Later s u → (Silent (silent c) u → After (silent c) P s u a) → Tells Q u (f a u))
+      → Tells Q s (next x f)
   h-after {A} {B} {P} {Q} ys {s} f d l g keeps k = go l g
     where
       go : {y : Result World Refusal A} → Keeps (Leaves ys) Any s y → Gives (silent c) P s y → Tells Q s (next y f)
@@ -177,7 +194,13 @@ module _ (c : Ctx) (type : ℕ → Ty) where
           more (gives {u = v} t₁ q) = gives {u = v} (later t t₁) (λ z.
               let i = p (before (silent c) t₁ z) in
               let j = q z in
-              record { grown = grown-trans (i .grown) (j .grown); recorded = λ a h. j .recorded a (i .recorded a h); holds = j .holds; value = record { keep = keep-trans (keeps a u (i .value)) (j .value .keep); fact = j .value .fact } })
+              record {
+                grown = grown-trans (i .grown) (j .grown);
+                recorded = λ a h. j .recorded a
+                    (i .recorded a h);
+                holds = j .holds;
+                value = record { keep = keep-trans (keeps a u (i .value)) (j .value .keep); fact = j .value .fact };
+              })
           more stopped = stopped
       go (stopped e) g = stopped
 
@@ -199,13 +222,15 @@ module _ (c : Ctx) (type : ℕ → Ty) where
     pub slots : u .slots ≡ s .slots
     pub same : Same s u
 
-  pub h-onTypes : {A : Type 0} {Q : Buffer → A → Type 0} (m : Step Buffer Refusal A) {s : World} → (Silent (silent c) s → Holds (silent c) s) → (Silent (silent c) s → GivesT (silent c) Q (s .types) (m (s .types)))
+  pub h-onTypes : {A : Type 0} {Q : Buffer → A → Type 0} (m : Step Buffer Refusal A) {s : World} → (Silent (silent c) s → Holds (silent c) s)
+      → (Silent (silent c) s → GivesT (silent c) Q (s .types) (m (s .types)))
       → Gives (silent c) (Built Q s) s (onTypes m s)
   unfolding onTypes raised
   h-onTypes {A} {Q} m {s} h k = up (m (s .types)) (g-onTypes (silent c) {Q = Q} m h k)
     where
       up : (x : Result Buffer Refusal A) → Gives (silent c) (λ u a. Q (u .types) a) s (raised s x) → Gives (silent c) (Built Q s) s (raised s x)
-      up (ok a d) (gives t p) = gives t (λ z. let x = p z in record { grown = x .grown; recorded = x .recorded; holds = x .holds; value = record { is = x .value; slots = refl; same = record { env = refl; packages = refl; own = refl } } })
+      up (ok a d) (gives t p) = gives t (λ z. let x = p z in
+          record { grown = x .grown; recorded = x .recorded; holds = x .holds; value = record { is = x .value; slots = refl; same = record { env = refl; packages = refl; own = refl } } })
       up (refused r) g = stopped
 
   -- what was known before a step, and is no matter of the world, with what the step tells
@@ -213,19 +238,23 @@ module _ (c : Ctx) (type : ℕ → Ty) where
     pub static : X
     pub told : Q u a
 
-  pub h-with : {A : Type 0} {X : Type 0} {Q : World → A → Type 0} {s : World} {x : Result World Refusal A} → (Silent (silent c) s → Holds (silent c) s) → (Silent (silent c) s → Fixed s → X) → Tells Q s x → Tells (With X Q) s x
-  h-with h k g = g-map (silent c) (λ u a t p z. let z₀ = before (silent c) t z in record { keep = p z .value .keep; fact = λ q. record { static = k z₀ (earlier (h z₀) (p z) q); told = p z .value .fact q } }) g
+  pub h-with : {A : Type 0} {X : Type 0} {Q : World → A → Type 0} {s : World} {x : Result World Refusal A} → (Silent (silent c) s → Holds (silent c) s)
+      → (Silent (silent c) s → Fixed s → X) → Tells Q s x → Tells (With X Q) s x
+  h-with h k g = g-map (silent c) (λ u a t p z. let z₀ = before (silent c) t z in
+      record { keep = p z .value .keep; fact = λ q. record { static = k z₀ (earlier (h z₀) (p z) q); told = p z .value .fact q } }) g
 
   pub h-to : {A : Type 0} {P Q : World → A → Type 0} {s : World} {x : Result World Refusal A} → ((u : World) (a : A) → P u a → Q u a) → Tells P s x → Tells Q s x
   h-to f g = g-map (silent c) (λ u a t p z. record { keep = p z .value .keep; fact = λ q. f u a (p z .value .fact q) }) g
 
   -- two claims of one step
-  pub g-both : {A : Type 0} {P Q : World → A → Type 0} {s : World} {x : Result World Refusal A} → Gives (silent c) P s x → Gives (silent c) Q s x → Gives (silent c) (λ u a. P u a × Q u a) s x
+  pub g-both : {A : Type 0} {P Q : World → A → Type 0} {s : World} {x : Result World Refusal A} → Gives (silent c) P s x → Gives (silent c) Q s x
+      → Gives (silent c) (λ u a. P u a × Q u a) s x
   g-both (gives t p) (gives t₁ q) = gives t (λ z. let i = p z in record { grown = i .grown; recorded = i .recorded; holds = i .holds; value = (i .value, q z .value) })
   g-both stopped g = stopped
 
   -- a weaker claim
-  pub h-map : {A : Type 0} {P Q : World → A → Type 0} {s : World} {x : Result World Refusal A} → ((u : World) (a : A) → Later s u → (Silent (silent c) u → After (silent c) (Says P s) s u a) → Silent (silent c) u → Fixed u → Q u a) → Tells P s x → Tells Q s x
+  pub h-map : {A : Type 0} {P Q : World → A → Type 0} {s : World} {x : Result World Refusal A}
+      → ((u : World) (a : A) → Later s u → (Silent (silent c) u → After (silent c) (Says P s) s u a) → Silent (silent c) u → Fixed u → Q u a) → Tells P s x → Tells Q s x
   h-map f g = g-map (silent c) (λ u a t p z. record { keep = p z .value .keep; fact = λ q. f u a t p z q }) g
 
   -- a node's own slot is written
@@ -233,7 +262,8 @@ module _ (c : Ctx) (type : ℕ → Ty) where
     pub is : type slot ≡ x
     pub same : Same s u
 
-  pub h-set : {s : World} (slot : ℕ) {w : ℕ} → slot < c .void → (Silent (silent c) s → getD (s .slots) slot 0 ≡ 0) → (Silent (silent c) s → Holds (silent c) s) → (Silent (silent c) s → Good (silent c) (s .types) w)
+  pub h-set : {s : World} (slot : ℕ) {w : ℕ} → slot < c .void → (Silent (silent c) s → getD (s .slots) slot 0 ≡ 0) → (Silent (silent c) s → Holds (silent c) s)
+      → (Silent (silent c) s → Good (silent c) (s .types) w)
       → Tells (Wrote slot (tyOf (c .texts) (s .types .words) w) s) s (setKnown slot w s)
   unfolding setKnown
   h-set {s} slot {w} l n h k = up (g-set (silent c) slot l h k)
@@ -255,14 +285,16 @@ module _ (c : Ctx) (type : ℕ → Ty) where
             };
           }
 
-      up : Gives (silent c) (Own (silent c) slot) s (ok (Known slot) (withSlots s (set (s .slots) slot w))) → Tells (Wrote slot (tyOf (c .texts) (s .types .words) w) s) s (ok (Known slot) (withSlots s (set (s .slots) slot w)))
+      up : Gives (silent c) (Own (silent c) slot) s (ok (Known slot) (withSlots s (set (s .slots) slot w)))
+          → Tells (Wrote slot (tyOf (c .texts) (s .types .words) w) s) s (ok (Known slot) (withSlots s (set (s .slots) slot w)))
       up (gives t p) = gives t (λ z. after (record { none = z .none }) (p z))
 
   -- ── Names in scope ──
 
   pub data EnvRel (b : Buffer) : List Local → List J.Known → Type 0 where
     noLocal : EnvRel b [] []
-    oneLocal : {l : Local} {k : J.Known} {ls : List Local} {ks : List J.Known} {w : ℕ} → l .name ≡ k .name → l .type ≡ some w → Is (silent c) b w (k .type) → EnvRel b ls ks → EnvRel b (l ∷ ls) (k ∷ ks)
+    oneLocal : {l : Local} {k : J.Known} {ls : List Local} {ks : List J.Known} {w : ℕ} → l .name ≡ k .name → l .type ≡ some w → Is (silent c) b w (k .type)
+        → EnvRel b ls ks → EnvRel b (l ∷ ls) (k ∷ ks)
 
   pub env-grow : {b d : Buffer} {ls : List Local} {ks : List J.Known} → Grown b d → EnvRel b ls ks → EnvRel d ls ks
   env-grow g noLocal = noLocal

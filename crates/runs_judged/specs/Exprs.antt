@@ -44,7 +44,12 @@ module _ (r : Run) where
 
   foreign-is : (b : Buffer) (token : ℕ) → NameAt r token → Is r b (wordOf 9 (payloadOf token)) (named 9 (nameBytes (r .ctx .texts) token))
   unfolding depthOf
-  foreign-is b token n = record { means = M.called (kindOf-wordOf 9 (payloadOf token) (payloadOf-lt token)) refl (nameBytes-payload (r .ctx .texts) 9 token); low = omega arith; fine = C.called n }
+  foreign-is b token n = record {
+    means = M.called (kindOf-wordOf 9 (payloadOf token) (payloadOf-lt token)) refl
+        (nameBytes-payload (r .ctx .texts) 9 token);
+    low = omega arith;
+    fine = C.called n;
+  }
 
   module _ (n : ℕ) where
     mutual
@@ -57,7 +62,8 @@ module _ (r : Run) where
       t-expr (ArrayType t) h b = t-next r _ (t-expr t h b) (λ w d g x. t-wrap r n 7 w refl x)
       t-expr (RecordType token fs) h b = t-next r _ (t-exprs fs h b) (λ ps d g x. t-record r n ps x)
 
-      t-exprs : (fs : TypeFields) → ProperTypes (Below r) (NameAt r) fs → (b : Buffer) → GivesT r (λ d ps. PairsAre r d ps (fieldsMeant (r .ctx .texts) fs)) b (fieldsFromExprs (r .ctx .texts) n fs b)
+      t-exprs : (fs : TypeFields) → ProperTypes (Below r) (NameAt r) fs → (b : Buffer)
+          → GivesT r (λ d ps. PairsAre r d ps (fieldsMeant (r .ctx .texts) fs)) b (fieldsFromExprs (r .ctx .texts) n fs b)
       t-exprs noType h b = typed (M.grown-same b) (no-pairs r b)
       t-exprs (typeField name t fs) h b =
           t-next r _ (t-expr t (h .1) b) (λ w d g x. t-next r _ (t-exprs fs (h .2) d) (λ ps e k q. typed (M.grown-same e) (more-pairs r (h .0) (is-grow r k x) q)))

@@ -30,7 +30,8 @@ pub data Finds {A B : Type 0} (R : A → B → Type 0) : Option A → Option B �
   neither : Finds R none none
   each : {a : A} {b : B} → R a b → Finds R (some a) (some b)
 
-either : {A B : Type 0} (R : A → B → Type 0) (x : A) (y : B) (p : Option A) (q : Option B) (d : Bool) → R x y → Finds R p q → Finds R (elim d [ true ↦ some x | false ↦ p ]) (elim d [ true ↦ some y | false ↦ q ])
+either : {A B : Type 0} (R : A → B → Type 0) (x : A) (y : B) (p : Option A) (q : Option B) (d : Bool) → R x y → Finds R p q
+    → Finds R (elim d [ true ↦ some x | false ↦ p ]) (elim d [ true ↦ some y | false ↦ q ])
 either R x y p q true h k = each h
 either R x y p q false h k = k
 
@@ -88,17 +89,21 @@ module _ (c : Ctx) where
     unfolding findPackage findHeld
     held-found C.end = neither
     held-found (C.and {a = p} {b = h} {xs = ps} {ys = hs} x rest) =
-        subst (λ (l : List ℕ). Finds (HeldRel b) (elim (sameBytes name (nameBytes (c .texts) (p .name))) [ true ↦ some p | false ↦ findPackage (c .texts) name ps ]) (elim (sameBytes name l) [ true ↦ some h | false ↦ findHeld name hs ])) (x .name)
+        subst (λ (l : List ℕ). Finds (HeldRel b) (elim (sameBytes name (nameBytes (c .texts) (p .name))) [ true ↦ some p | false ↦ findPackage (c .texts) name ps ])
+        (elim (sameBytes name l) [ true ↦ some h | false ↦ findHeld name hs ])) (x .name)
         (either (HeldRel b) p h _ _ (sameBytes name (nameBytes (c .texts) (p .name))) x (held-found rest))
 
     pub own-found : {fs : List Function} {os : List Own} → Both (OwnRel b) fs os → Finds (OwnSig b) (findFunction (c .texts) name fs) (findOwn name os)
     unfolding findFunction findOwn
     own-found C.end = neither
     own-found (C.and {a = f} {b = o} {xs = fs} {ys = os} x rest) =
-        subst (λ (l : List ℕ). Finds (OwnSig b) (elim (sameBytes name (nameBytes (c .texts) (f .name))) [ true ↦ some (f .sig) | false ↦ findFunction (c .texts) name fs ]) (elim (sameBytes name l) [ true ↦ some o | false ↦ findOwn name os ])) (x .name)
+        subst (λ (l : List ℕ). Finds (OwnSig b) (elim
+        (sameBytes name (nameBytes (c .texts) (f .name))) [ true ↦ some (f .sig) | false ↦ findFunction (c .texts) name fs ])
+        (elim (sameBytes name l) [ true ↦ some o | false ↦ findOwn name os ])) (x .name)
         (either (OwnSig b) (f .sig) o _ _ (sameBytes name (nameBytes (c .texts) (f .name))) (record { sig = x .sig }) (own-found rest))
 
-    more-or : (f : Signature) (s : Sig) (fs : List Signature) (ss : List Sig) (d : Bool) → SigRel b f s → Both (SigRel b) fs ss → Both (SigRel b) (elim d [ true ↦ f ∷ fs | false ↦ fs ]) (elim d [ true ↦ s ∷ ss | false ↦ ss ])
+    more-or : (f : Signature) (s : Sig) (fs : List Signature) (ss : List Sig) (d : Bool) → SigRel b f s → Both (SigRel b) fs ss
+        → Both (SigRel b) (elim d [ true ↦ f ∷ fs | false ↦ fs ]) (elim d [ true ↦ s ∷ ss | false ↦ ss ])
     more-or f s fs ss true h k = C.and h k
     more-or f s fs ss false h k = k
 
@@ -106,7 +111,9 @@ module _ (c : Ctx) where
     unfolding groupOf groupIn
     group-found C.end = C.end
     group-found (C.and {a = f} {b = g} {xs = fs} {ys = gs} x rest) =
-        subst (λ (l : List ℕ). Both (SigRel b) (elim (sameBytes name (nameBytes (c .texts) (f .name))) [ true ↦ f .sig ∷ groupOf (c .texts) name fs | false ↦ groupOf (c .texts) name fs ]) (elim (sameBytes name l) [ true ↦ g .sig ∷ groupIn name gs | false ↦ groupIn name gs ])) (x .name)
+        subst (λ (l : List ℕ). Both (SigRel b) (elim
+        (sameBytes name (nameBytes (c .texts) (f .name))) [ true ↦ f .sig ∷ groupOf (c .texts) name fs | false ↦ groupOf (c .texts) name fs ])
+        (elim (sameBytes name l) [ true ↦ g .sig ∷ groupIn name gs | false ↦ groupIn name gs ])) (x .name)
         (more-or (f .sig) (g .sig) _ _ (sameBytes name (nameBytes (c .texts) (f .name))) (x .sig) (group-found rest))
 
   -- ── The library ──
@@ -117,10 +124,12 @@ module _ (c : Ctx) where
     params-trees (C.and {a = p} {b = x} {xs = ps} {ys = xs} h rest) =
         ap (λ (l : List Ty). x ∷ l) (params-trees rest) ∙ ap (λ (y : Ty). y ∷ map (λ (p : Param). tyOf (c .texts) (b .words) (p .type)) ps) (sym (is-tree (silent c) (h .type)))
 
-    library-members : {fs : List Function} → All (FunctionOk (silent c) b) fs → Both (MemberRel b) fs (map (λ (f : Function). record { name = nameBytes (c .texts) (f .name); sig = librarySig (c .texts) (b .words) (f .sig) }) fs)
+    library-members : {fs : List Function} → All (FunctionOk (silent c) b) fs
+        → Both (MemberRel b) fs (map (λ (f : Function). record { name = nameBytes (c .texts) (f .name); sig = librarySig (c .texts) (b .words) (f .sig) }) fs)
     unfolding librarySig
     library-members end = C.end
-    library-members (and {a = f} h rest) = C.and (record { name = refl; sig = sig-rel _ (h .sig) (params-trees (h .sig .params)) (sym (is-tree (silent c) (h .sig .returns))) }) (library-members rest)
+    library-members (and {a = f} h rest) = C.and
+        (record { name = refl; sig = sig-rel _ (h .sig) (params-trees (h .sig .params)) (sym (is-tree (silent c) (h .sig .returns))) }) (library-members rest)
 
     pub library-held : (origin : ℕ) {ps : List Package} → All (PackageOk (silent c) b) ps → Both (HeldRel b) ps (libraryFrom (c .texts) (b .words) origin ps)
     unfolding libraryFrom libraryHeld

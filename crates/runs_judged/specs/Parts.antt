@@ -62,8 +62,12 @@ module _ (Q : ℕ → Type 0) where
   unfolding visitedInCases SlotsOfCases
   cases-hold noCase h = tt
   cases-hold (case token x body cs) h =
-      let i = front ((x ∷ visitedBelow x) ++ visitedAmong body) (visitedInCases cs) h in
-      (one-hold x (front (x ∷ visitedBelow x) (visitedAmong body) i), among-hold Q body (back (x ∷ visitedBelow x) (visitedAmong body) i), cases-hold cs (back ((x ∷ visitedBelow x) ++ visitedAmong body) (visitedInCases cs) h))
+      let i = front ((x ∷ visitedBelow x) ++ visitedAmong body) (visitedInCases cs) h in (
+        one-hold x (front (x ∷ visitedBelow x) (visitedAmong body) i),
+        among-hold Q body (back (x ∷ visitedBelow x) (visitedAmong body) i),
+        cases-hold cs
+            (back ((x ∷ visitedBelow x) ++ visitedAmong body) (visitedInCases cs) h),
+      )
 
 module _ (c : Ctx) (ys : List Node) where
   pub free : (xs : List Node) {s : World} → Ready s (xs ++ ys) → O.Holds (Free ys) xs
@@ -95,22 +99,28 @@ module _ (c : Ctx) (type : ℕ → Ty) where
   says-env n u e a x = record { keep = record { word = x .keep .word }; fact = λ f. n u e a (x .fact (fixed-env f)) }
 
   -- after a frame the names are as before
-  env-back : {A : Type 0} {P : World → A → Type 0} {s : World} {e : List Local} (x : Result World Refusal A) → Tells c type P s (next x (λ a after. ok a (withEnv after e))) → Tells c type (λ u a. P u a × (u .env ≡ e)) s (next x (λ a after. ok a (withEnv after e)))
-  env-back (ok a v) (gives t p) = gives t (λ z. let i = p z in record { grown = i .grown; recorded = i .recorded; holds = i .holds; value = record { keep = i .value .keep; fact = λ q. (i .value .fact q, refl) } })
+  env-back : {A : Type 0} {P : World → A → Type 0} {s : World} {e : List Local} (x : Result World Refusal A)
+      → Tells c type P s (next x (λ a after. ok a (withEnv after e))) → Tells c type (λ u a. P u a × (u .env ≡ e)) s (next x (λ a after. ok a (withEnv after e)))
+  env-back (ok a v) (gives t p) = gives t (λ z. let i = p z in
+      record { grown = i .grown; recorded = i .recorded; holds = i .holds; value = record { keep = i .value .keep; fact = λ q. (i .value .fact q, refl) } })
   env-back (refused r) g = stopped
 
-  pub h-framed : {A : Type 0} {P : World → A → Type 0} → NoEnv P → (m : Walk A) {s : World} → (Silent R s → Holds R s) → Tells c type P s (m s) → Tells c type (λ u a. P u a × (u .env ≡ s .env)) s (framed m s)
+  pub h-framed : {A : Type 0} {P : World → A → Type 0} → NoEnv P → (m : Walk A) {s : World} → (Silent R s → Holds R s) → Tells c type P s (m s)
+      → Tells c type (λ u a. P u a × (u .env ≡ s .env)) s (framed m s)
   unfolding framed
   h-framed {A} {P} n m {s} h g = env-back (m s) (g-framed R {Q = Says c type P s} (says-env n) m h g)
 
-  pub h-apart : {A : Type 0} {P : World → A → Type 0} → NoEnv P → (m : Walk A) {s : World} → (Silent R s → Holds R s) → Tells c type P (withEnv s []) (m (withEnv s [])) → Tells c type (λ u a. P u a × (u .env ≡ s .env)) s (apart m s)
+  pub h-apart : {A : Type 0} {P : World → A → Type 0} → NoEnv P → (m : Walk A) {s : World} → (Silent R s → Holds R s) → Tells c type P (withEnv s []) (m (withEnv s []))
+      → Tells c type (λ u a. P u a × (u .env ≡ s .env)) s (apart m s)
   unfolding apart framed
   h-apart {A} {P} n m {s} h g =
-      env-back (m (withEnv s [])) (g-apart R {Q = Says c type P s} (says-env n) m h (g-map R (λ u a t p z. record { keep = record { word = p z .value .keep .word }; fact = p z .value .fact }) g))
+      env-back (m (withEnv s [])) (g-apart R {Q = Says c type P s} (says-env n) m h
+      (g-map R (λ u a t p z. record { keep = record { word = p z .value .keep .word }; fact = p z .value .fact }) g))
 
   -- ── Match ──
 
-  pub h-condition : (n token : ℕ) {i : ℕ} {a : Answer} {s : World} → (Silent R s → Holds R s) → OwnAnswer i a → (Silent R s → AnswerOk R s a) → Gives R (λ u (_ : Done). (u ≡ s) × (Fixed c type s → type i ≡ boolTy)) s (condition c n token a s)
+  pub h-condition : (n token : ℕ) {i : ℕ} {a : Answer} {s : World} → (Silent R s → Holds R s) → OwnAnswer i a → (Silent R s → AnswerOk R s a)
+      → Gives R (λ u (_ : Done). (u ≡ s) × (Fixed c type s → type i ≡ boolTy)) s (condition c n token a s)
   unfolding condition tyTree ty tree
   h-condition n token h o k = h-ifKnown c _ h o k (λ i. g-when R _ _ (λ q. g-return R h (λ z. (refl, λ f. f .at _ (i z) ∙ sameTy-true _ _ q))) (λ _. h-report c type h n _))
 
@@ -124,7 +134,8 @@ module _ (c : Ctx) (type : ℕ → Ty) where
   h-branches n d [] h e k = g-return R h (λ z. (refl, λ f. end))
   h-branches n d (b ∷ bs) {s} h e k =
       g-next R _ (one (b .answer) (λ z. first (k z)))
-      (λ _ u t y. g-map R (λ v _ t₁ p z. let i = y (before R t₁ z) .value in let j = p z .value in (j .0 ∙ i .0, λ f. and (i .1 f) (subst (λ (w : World). Fixed c type w → All (EndsIn (type d)) bs) (i .0) (j .1) f)))
+      (λ _ u t y. g-map R (λ v _ t₁ p z. let i = y (before R t₁ z) .value in let j = p z .value in
+      (j .0 ∙ i .0, λ f. and (i .1 f) (subst (λ (w : World). Fixed c type w → All (EndsIn (type d)) bs) (i .0) (j .1) f)))
       (h-branches n d bs (λ z. y z .holds) (λ z. y z .recorded d (e (before R t z))) (λ z. all-map (branch-later R (y z)) (rest (k (before R t z))))))
     where
       first : All (BranchOk R s) (b ∷ bs) → AnswerOk R s (b .answer)
@@ -141,7 +152,8 @@ module _ (c : Ctx) (type : ℕ → Ty) where
       one (Known q) i = g-when R _ _ (λ w. g-return R h (λ z. (refl, λ f. only (f .at q (has-known (i z)) ∙ (sameTy-true _ _ w ∙ sym (f .at d (e z))))))) (λ _. h-report c type h n _)
       one Poison i = g-return R h (λ z. absurd (no-poison (i z)))
 
-  pub h-matched : (n slot : ℕ) → slot < c .void → {d : ℕ} {a : Answer} (bs : List Branch) {s : World} → (Silent R s → getD (s .slots) slot 0 ≡ 0) → (Silent R s → Holds R s) → OwnAnswer d a → (Silent R s → AnswerOk R s a)
+  pub h-matched : (n slot : ℕ) → slot < c .void → {d : ℕ} {a : Answer} (bs : List Branch) {s : World} → (Silent R s → getD (s .slots) slot 0 ≡ 0)
+      → (Silent R s → Holds R s) → OwnAnswer d a → (Silent R s → AnswerOk R s a)
       → (Silent R s → Recorded R s d) → (Silent R s → All (BranchOk R s) bs) → Tells c type (Rule c type slot s ((type slot ≡ type d) × All (EndsIn (type d)) bs)) s (matched c n slot bs a s)
   unfolding matched ty
   h-matched n slot low {d} bs {s} unset h o k e ks =
@@ -153,7 +165,8 @@ module _ (c : Ctx) (type : ℕ → Ty) where
       let i = x z₁ .value in
       let fs = subst (Fixed c type) (i .0) fu in
       record { ok = (w .is ∙ sym (fu .at d (x z₁ .recorded d (e (before R t z₁)))), i .1 fs); same = same-trans (same-world (i .0)) (w .same) })
-      (h-set c type slot low (λ z. ap (λ (w : World). getD (w .slots) slot 0) (x z .value .0) ∙ unset (before R t z)) (λ z. x z .holds) (λ z. x z .holds .slots d (x z .recorded d (e (before R t z)))))))
+      (h-set c type slot low (λ z. ap (λ (w : World). getD (w .slots) slot 0) (x z .value .0) ∙ unset (before R t z)) (λ z. x z .holds)
+      (λ z. x z .holds .slots d (x z .recorded d (e (before R t z)))))))
     where
       as-was : {s u : World} → u ≡ s → Keep s u
       as-was e = record { word = λ q _. ap (λ (w : World). getD (w .slots) q 0) e }
@@ -165,14 +178,16 @@ module _ (c : Ctx) (type : ℕ → Ty) where
     pub is : m ≡ alike
     pub type′ : Fixed c type s → type j ≡ type i
 
-  h-memberTypes : (n : ℕ) (span : Span) (i j : ℕ) {s : World} → (Silent R s → Holds R s) → (Silent R s → Recorded R s i) → (Silent R s → Recorded R s j) → Gives R (MemberOk s i j) s (memberTypes c n span i j s)
+  h-memberTypes : (n : ℕ) (span : Span) (i j : ℕ) {s : World} → (Silent R s → Holds R s) → (Silent R s → Recorded R s i) → (Silent R s → Recorded R s j)
+      → Gives R (MemberOk s i j) s (memberTypes c n span i j s)
   unfolding memberTypes tyTree ty tree
   h-memberTypes n span i j {s} h x y =
       g-when R _ _ (λ e. g-return R h (λ z. absurd (false≢true (rw (typed-known R (h z .slots j (y z)) tt, typed-known R (h z .slots i (x z)) tt) at e))))
       (λ _. g-when R _ _ (λ e. g-return R h (λ z. record { same = refl; is = refl; type′ = λ f. f .at j (y z) ∙ (sameTy-true _ _ e ∙ sym (f .at i (x z))) }))
       (λ _. g-next R _ (h-report c type {Q = λ _ _. ⊥} h n _) (λ _ u t f. g-return R (λ z. f z .holds) (λ z. absurd (f z .value)))))
 
-  pub h-member : (n : ℕ) (span : Span) {i j : ℕ} {a b : Answer} {s : World} → (Silent R s → Holds R s) → OwnAnswer i a → OwnAnswer j b → (Silent R s → AnswerOk R s a) → (Silent R s → AnswerOk R s b) → Gives R (MemberOk s i j) s (member c n span a b s)
+  pub h-member : (n : ℕ) (span : Span) {i j : ℕ} {a b : Answer} {s : World} → (Silent R s → Holds R s) → OwnAnswer i a → OwnAnswer j b → (Silent R s → AnswerOk R s a)
+      → (Silent R s → AnswerOk R s b) → Gives R (MemberOk s i j) s (member c n span a b s)
   unfolding member
   h-member n span {i} {j} {s = s} h isKnown isKnown k l = h-memberTypes n span i j h (λ z. has-known (k z)) (λ z. has-known (l z))
   h-member n span {s = s} h isKnown isPoison k l = g-return R h (λ z. absurd (no-poison (l z)))
@@ -194,12 +209,14 @@ module _ (c : Ctx) (type : ℕ → Ty) where
   is-at : {b : Buffer} {w : ℕ} (x : Ty) → Good R b w → x ≡ tyOf (c .texts) (b .words) w → Is R b w x
   is-at {b} {w} x g e = subst (λ (y : Ty). Is R b w y) (sym (e ∙ is-tree R (g .is))) (g .is)
 
-  pub h-arrayOf : (n slot : ℕ) → slot < c .void → {i : ℕ} {a : Answer} {s : World} → (Silent R s → getD (s .slots) slot 0 ≡ 0) → (Silent R s → Holds R s) → OwnAnswer i a → (Silent R s → AnswerOk R s a) → (Silent R s → Recorded R s i) → (b : Bool) → (Silent R s → b ≡ true → ⊥)
+  pub h-arrayOf : (n slot : ℕ) → slot < c .void → {i : ℕ} {a : Answer} {s : World} → (Silent R s → getD (s .slots) slot 0 ≡ 0) → (Silent R s → Holds R s) → OwnAnswer i a
+      → (Silent R s → AnswerOk R s a) → (Silent R s → Recorded R s i) → (b : Bool) → (Silent R s → b ≡ true → ⊥)
       → Tells c type (Rule c type slot s (type slot ≡ arrayTy (type i))) s (arrayOf c n slot a b s)
   unfolding arrayOf ty containsSlot
   h-arrayOf n slot low {i} {s = s} unset h o k e b l =
       h-known c type _ h o k (g-when R _ _ (λ q. g-return R h (λ z. absurd (l z q)))
-      (λ _. h-step c type _ (h-onTypes c type {Q = λ d w. Is R d w (wrap 7 (treeIn c s (getD (s .slots) i 0)))} _ h (λ z. t-wrap R n 7 _ refl (is-at (treeIn c s (getD (s .slots) i 0)) (h z .slots i (e z)) refl))) (λ w u x. same-slots (x .slots)) (λ w u t x.
+      (λ _. h-step c type _ (h-onTypes c type {Q = λ d w. Is R d w (wrap 7 (treeIn c s (getD (s .slots) i 0)))} _ h
+      (λ z. t-wrap R n 7 _ refl (is-at (treeIn c s (getD (s .slots) i 0)) (h z .slots i (e z)) refl))) (λ w u x. same-slots (x .slots)) (λ w u t x.
       h-map c type (λ v a t₁ p z fx.
       let z₁ = before R t₁ z in
       let z₀ = before R t z₁ in
@@ -212,13 +229,15 @@ module _ (c : Ctx) (type : ℕ → Ty) where
 
   -- ── Record ──
 
-  pub h-value : {i : ℕ} {a : Answer} {s : World} → (Silent R s → Holds R s) → OwnAnswer i a → (Silent R s → AnswerOk R s a) → Gives R (λ u (w : ℕ). (u ≡ s) × (w ≡ getD (s .slots) i 0)) s (valueType a s)
+  pub h-value : {i : ℕ} {a : Answer} {s : World} → (Silent R s → Holds R s) → OwnAnswer i a → (Silent R s → AnswerOk R s a)
+      → Gives R (λ u (w : ℕ). (u ≡ s) × (w ≡ getD (s .slots) i 0)) s (valueType a s)
   unfolding valueType ty
   h-value h isKnown k = g-return R h (λ z. (refl, refl))
   h-value {s = s} h isPoison k = g-return R h (λ z. absurd (no-poison (k z)))
 
   -- of whatever the pairs are
-  t-any : {A D : Type 0} (P : D → Type 0) (Q : D → Buffer → A → Type 0) {b : Buffer} {x : Result Buffer Refusal A} → ((y : D) → P y → GivesT R (Q y) b x) → (y : D) → P y → GivesT R (λ d a. (y : D) → P y → Q y d a) b x
+  t-any : {A D : Type 0} (P : D → Type 0) (Q : D → Buffer → A → Type 0) {b : Buffer} {x : Result Buffer Refusal A} → ((y : D) → P y → GivesT R (Q y) b x) → (y : D) → P y
+      → GivesT R (λ d a. (y : D) → P y → Q y d a) b x
   t-any {A} {D} P Q {b} {x} k y p = go x k (k y p)
     where
       out : {q : Buffer → A → Type 0} {a : A} {d : Buffer} → GivesT R q b (ok a d) → q d a
@@ -228,5 +247,7 @@ module _ (c : Ctx) (type : ℕ → Ty) where
       go (ok a d) k (typed g v) = typed g (λ y p. out (k y p))
       go (refused r) k g = stoppedT
 
-  pub h-record : (n : ℕ) (ps : List ℕ) {s : World} → (Silent R s → Holds R s) → (Silent R s → PairsTyped R (s .types) ps) → Gives R (Built c type (λ d w. (fs : Fields) → PairsAre R (s .types) ps fs → Is R d w (rec fs)) s) s (onTypes (addRecord (c .texts) n ps) s)
-  h-record n ps {s} h k = h-onTypes c type {Q = λ d w. (fs : Fields) → PairsAre R (s .types) ps fs → Is R d w (rec fs)} _ h (λ z. t-any (PairsAre R (s .types) ps) (λ fs d w. Is R d w (rec fs)) (λ fs p. t-record R n ps p) (k z .fields) (k z .are))
+  pub h-record : (n : ℕ) (ps : List ℕ) {s : World} → (Silent R s → Holds R s) → (Silent R s → PairsTyped R (s .types) ps)
+      → Gives R (Built c type (λ d w. (fs : Fields) → PairsAre R (s .types) ps fs → Is R d w (rec fs)) s) s (onTypes (addRecord (c .texts) n ps) s)
+  h-record n ps {s} h k = h-onTypes c type {Q = λ d w. (fs : Fields) → PairsAre R (s .types) ps fs → Is R d w (rec fs)} _ h
+      (λ z. t-any (PairsAre R (s .types) ps) (λ fs d w. Is R d w (rec fs)) (λ fs p. t-record R n ps p) (k z .fields) (k z .are))

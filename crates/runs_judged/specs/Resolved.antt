@@ -83,7 +83,8 @@ module _ (t : Texts) (library : List Held) (type : ℕ → Ty) where
         let b = both q (visitedInCases cs) (visitedAmong d) in
         other-all d q (declareCases t library type cs s) (omega arith) ∙ other-cases cs q s (omega arith)
     other-node (Call n slot target args) q s h =
-        choose-other n slot q _ (declareAll t library type args s) (not-own q (Call n slot target args) (visitedAmong args) h) ∙ other-all args q s (omega (arith, head q (Call n slot target args) (visitedAmong args)))
+        choose-other n slot q _ (declareAll t library type args s) (not-own q (Call n slot target args) (visitedAmong args) h) ∙ other-all args q s
+        (omega (arith, head q (Call n slot target args) (visitedAmong args)))
     other-node (Field n slot target name) q s h = other-node target q s (omega (arith, head q (Field n slot target name) (target ∷ visitedBelow target)))
     other-node (Cast n slot token l e) q s h = other-node l q s (omega (arith, head q (Cast n slot token l e) (l ∷ visitedBelow l)))
     other-node (Import n slot token paths) q s h = ap (targetAt q) (import-same paths s)
@@ -105,7 +106,8 @@ module _ (t : Texts) (library : List Held) (type : ℕ → Ty) where
 
     other-values : (vs : Values) (q : ℕ) (s : Scope) → owned q (visitedInValues vs) ≡ 0 → targetAt q (declareValues t library type vs s .chosen) ≡ targetAt q (s .chosen)
     other-values noValue q s h = refl
-    other-values (value name x vs) q s h = let b = both q (x ∷ visitedBelow x) (visitedInValues vs) in other-values vs q (declare t library type x s) (omega arith) ∙ other-node x q s (omega arith)
+    other-values (value name x vs) q s h = let b = both q (x ∷ visitedBelow x) (visitedInValues vs) in other-values vs q (declare t library type x s) (omega arith)
+        ∙ other-node x q s (omega arith)
 
   -- ── The table, call by call ──
 
@@ -232,7 +234,8 @@ module _ (t : Texts) (library : List Held) (type : ℕ → Ty) where
           let g : Passes ys s u = first ys (visitedInCases cs) h (λ q e. other-cases cs q u e) in (
             resolves x s (first (x ∷ visitedBelow x) (visitedAmong body) g (λ q e. other-all body q (declare t library type x s) e)),
             resolves-all body (declare t library type x s) (second (x ∷ visitedBelow x) (visitedAmong body) g (λ q e. other-node x q s e)),
-            resolves-cases cs u (second ys (visitedInCases cs) h (λ q e. let b = both q (x ∷ visitedBelow x) (visitedAmong body) in other-all body q (declare t library type x s) (omega arith) ∙ other-node x q s (omega arith))),
+            resolves-cases cs u (second ys (visitedInCases cs) h (λ q e. let b = both q (x ∷ visitedBelow x) (visitedAmong body) in other-all body q
+                (declare t library type x s) (omega arith) ∙ other-node x q s (omega arith))),
           )
 
       resolves-values : (vs : Values) (s : Scope) → Passes (visitedInValues vs) s (declareValues t library type vs s) → ResolvesValues vs s

@@ -98,14 +98,24 @@ module _ (c : Ctx) (type : ℕ → Ty) where
           (h-set c type slot own unset h (λ z. good e)))
           (λ _. h-poison c type h n _)
         where
-          low : (leb op 1 && (eqb (kindOf (getD (s .slots) a 0)) 3 || eqb (kindOf (getD (s .slots) a 0)) 4)) ≡ true → tyOf (c .texts) (s .types .words) (wordOf (kindOf (getD (s .slots) a 0)) 0) ≡ plain (kindOf (getD (s .slots) a 0))
-          low e = elim (one-of 3 4 (kindOf (getD (s .slots) a 0)) (and-eq-true-iff (leb op 1) _ .0 e .1)) [ inl i ↦ low-tree c (s .types) _ (omega arith) (omega arith) | inr i ↦ low-tree c (s .types) _ (omega arith) (omega arith) ]
+          low : (leb op 1 && (eqb (kindOf (getD (s .slots) a 0)) 3 || eqb (kindOf (getD (s .slots) a 0)) 4)) ≡ true
+              → tyOf (c .texts) (s .types .words) (wordOf (kindOf (getD (s .slots) a 0)) 0) ≡ plain (kindOf (getD (s .slots) a 0))
+          low e = elim (one-of 3 4 (kindOf (getD (s .slots) a 0)) (and-eq-true-iff (leb op 1) _ .0 e .1)) [
+            | inl i ↦ low-tree c (s .types) _ (omega arith)
+                (omega arith)
+            | inr i ↦ low-tree c (s .types) _ (omega arith) (omega arith)
+          ]
 
           good : (leb op 1 && (eqb (kindOf (getD (s .slots) a 0)) 3 || eqb (kindOf (getD (s .slots) a 0)) 4)) ≡ true → Good (silent c) (s .types) (wordOf (kindOf (getD (s .slots) a 0)) 0)
-          good e = elim (one-of 3 4 (kindOf (getD (s .slots) a 0)) (and-eq-true-iff (leb op 1) _ .0 e .1)) [ inl i ↦ low-good (silent c) (s .types) _ (omega arith) (omega arith) | inr i ↦ low-good (silent c) (s .types) _ (omega arith) (omega arith) ]
+          good e = elim (one-of 3 4 (kindOf (getD (s .slots) a 0)) (and-eq-true-iff (leb op 1) _ .0 e .1)) [
+            | inl i ↦ low-good (silent c) (s .types) _ (omega arith)
+                (omega arith)
+            | inr i ↦ low-good (silent c) (s .types) _ (omega arith) (omega arith)
+          ]
 
   -- a name found has the type that the known one has
-  env-found : (name : List ℕ) {b : Buffer} {ls : List Local} {ks : List J.Known} {w : ℕ} → EnvRel c type b ls ks → envGet (c .texts) name ls ≡ some (some w) → typeFound (c .texts) name ks ≡ some (tyOf (c .texts) (b .words) w)
+  env-found : (name : List ℕ) {b : Buffer} {ls : List Local} {ks : List J.Known} {w : ℕ} → EnvRel c type b ls ks → envGet (c .texts) name ls ≡ some (some w)
+      → typeFound (c .texts) name ks ≡ some (tyOf (c .texts) (b .words) w)
   unfolding envGet typeFound
   env-found name noLocal e = absurd (none-some e)
     where
@@ -151,7 +161,8 @@ module _ (c : Ctx) (type : ℕ → Ty) where
     pub same : u ≡ s
     pub is : o ≡ some (getD (s .slots) i 0)
 
-  pub h-let : (n name : ℕ) {i : ℕ} {a : Answer} {s : World} → (Silent (silent c) s → Holds (silent c) s) → OwnAnswer i a → (Silent (silent c) s → AnswerOk (silent c) s a) → Gives (silent c) (Binds s i) s (letBinding n name a s)
+  pub h-let : (n name : ℕ) {i : ℕ} {a : Answer} {s : World} → (Silent (silent c) s → Holds (silent c) s) → OwnAnswer i a → (Silent (silent c) s → AnswerOk (silent c) s a)
+      → Gives (silent c) (Binds s i) s (letBinding n name a s)
   unfolding letBinding ty
   h-let n name {i} {s = s} h isKnown k =
       g-when (silent c) _ _ (λ _. g-next (silent c) _ (h-report c type {Q = λ _ _. ⊥} h n _) (λ _ u t p. gives {u = u} (record { more = omega arith }) (λ z. absurd (p z .value))))
@@ -163,13 +174,15 @@ module _ (c : Ctx) (type : ℕ → Ty) where
   unfolding envInsert
   h-insert name {o} {s} h k = up (g-insert (silent c) name h k)
     where
-      up : Gives (silent c) (λ u a. Unit {0}) s (ok (tt {0}) (withEnv s (record { name = name; type = o } ∷ s .env))) → Gives (silent c) (λ u (_ : Done). u ≡ withEnv s (record { name = name; type = o } ∷ s .env)) s (ok tt (withEnv s (record { name = name; type = o } ∷ s .env)))
+      up : Gives (silent c) (λ u a. Unit {0}) s (ok (tt {0}) (withEnv s (record { name = name; type = o } ∷ s .env)))
+          → Gives (silent c) (λ u (_ : Done). u ≡ withEnv s (record { name = name; type = o } ∷ s .env)) s (ok tt (withEnv s (record { name = name; type = o } ∷ s .env)))
       up (gives t p) = gives t (λ z. let x = p z in record { grown = x .grown; recorded = x .recorded; holds = x .holds; value = refl })
 
   -- ── Cast ──
 
   -- a type made of an expression
-  pub h-typeFrom : (n : ℕ) (e : TypeExpr) → ProperType (Below (silent c)) (NameAt (silent c)) e → {s : World} → (Silent (silent c) s → Holds (silent c) s) → Gives (silent c) (Built c type (λ d w. Is (silent c) d w (typeMeant (c .texts) e)) s) s (typeFromExpr c n e s)
+  pub h-typeFrom : (n : ℕ) (e : TypeExpr) → ProperType (Below (silent c)) (NameAt (silent c)) e → {s : World} → (Silent (silent c) s → Holds (silent c) s)
+      → Gives (silent c) (Built c type (λ d w. Is (silent c) d w (typeMeant (c .texts) e)) s) s (typeFromExpr c n e s)
   unfolding typeFromExpr
   h-typeFrom n e p {s} h = h-onTypes c type (typeFrom (c .texts) n e) h (λ z. t-expr (silent c) n e p (s .types))
 
@@ -181,8 +194,10 @@ module _ (c : Ctx) (type : ℕ → Ty) where
   cast-ok (ArrayType t) p q h e = absurd (let i = castable-to _ _ h in omega (arith, i .1, q))
   cast-ok (RecordType token fs) p q h e = absurd (let i = castable-to _ _ h in omega (arith, i .1, q))
 
-  pub h-cast : {s : World} (h : Silent (silent c) s → Holds (silent c) s) (n slot token : ℕ) → slot < c .void → (Silent (silent c) s → getD (s .slots) slot 0 ≡ 0) → (e : TypeExpr) {a to : ℕ} → (Silent (silent c) s → Recorded (silent c) s a)
-      → (Silent (silent c) s → Is (silent c) (s .types) to (typeMeant (c .texts) e)) → (Silent (silent c) s → Good (silent c) (s .types) to) → Tells c type (Rule slot s (CastOk (castKind e) (type a) (type slot))) s (cast c n slot token a to s)
+  pub h-cast : {s : World} (h : Silent (silent c) s → Holds (silent c) s) (n slot token : ℕ) → slot < c .void → (Silent (silent c) s → getD (s .slots) slot 0 ≡ 0)
+      → (e : TypeExpr) {a to : ℕ} → (Silent (silent c) s → Recorded (silent c) s a)
+      → (Silent (silent c) s → Is (silent c) (s .types) to (typeMeant (c .texts) e)) → (Silent (silent c) s → Good (silent c) (s .types) to)
+      → Tells c type (Rule slot s (CastOk (castKind e) (type a) (type slot))) s (cast c n slot token a to s)
   unfolding cast ty tree
   h-cast {s} h n slot token own unset e {a} {to} ea i g =
       g-when (silent c) _ _ (λ q.
@@ -199,7 +214,8 @@ module _ (c : Ctx) (type : ℕ → Ty) where
   -- ── Field ──
 
   -- a field found in the words has the type of the first field of that name
-  field-tree : (name : List ℕ) (b : Buffer) {at k : ℕ} {fs : Fields} {w : ℕ} → M.FieldsMean (c .texts) (b .words) (b .used) at k fs → deepest fs ≤ 32 → findField (c .texts) (b .words) name at k ≡ some w
+  field-tree : (name : List ℕ) (b : Buffer) {at k : ℕ} {fs : Fields} {w : ℕ} → M.FieldsMean (c .texts) (b .words) (b .used) at k fs → deepest fs ≤ 32
+      → findField (c .texts) (b .words) name at k ≡ some w
       → fieldTy name fs ≡ some (tyOf (c .texts) (b .words) w)
   unfolding findField fieldTy deepest
   field-tree name b M.noMore l e = absurd (let z : _≡_ {A = ℕ} 0 1 = cc e in omega arith)
@@ -209,7 +225,8 @@ module _ (c : Ctx) (type : ℕ → Ty) where
       some-is : {v : ℕ} → _≡_ {A = Option ℕ} (some v) (some w) → v ≡ w
       some-is i = cc i
 
-      by : (findField (c .texts) (b .words) name (at + 2) k ≡ some w → fieldTy name fs ≡ some (tyOf (c .texts) (b .words) w)) → (d : Bool) → sameBytes name (nameBytes (c .texts) (getD (b .words) at 0)) ≡ d
+      by : (findField (c .texts) (b .words) name (at + 2) k ≡ some w → fieldTy name fs ≡ some (tyOf (c .texts) (b .words) w)) → (d : Bool)
+          → sameBytes name (nameBytes (c .texts) (getD (b .words) at 0)) ≡ d
           → _≡_ {A = Option ℕ} (elim d [ true ↦ some (getD (b .words) (at + 1) 0) | false ↦ findField (c .texts) (b .words) name (at + 2) k ]) (some w)
           → _≡_ {A = Option Ty} (elim (sameBytes name n) [ true ↦ some x | false ↦ fieldTy name fs ]) (some (tyOf (c .texts) (b .words) w))
       by go true d i = rw (← q, d) (ap some (sym (M.means-tyOf m (omega arith)) ∙ ap (tyOf (c .texts) (b .words)) (some-is i)))
@@ -229,7 +246,8 @@ module _ (c : Ctx) (type : ℕ → Ty) where
   opened (M.recorded {fs = fs} e l m) d k = record { fields = fs; is = refl; mean = m; low = omega arith }
   opened (M.called {k = j₀} e h n) d k = absurd (elim (one-of 9 10 j₀ h) [ inl i ↦ (let j = sym e ∙ k in omega arith) | inr i ↦ (let j = sym e ∙ k in omega arith) ])
 
-  field-ok : {b : Buffer} {w v : ℕ} {x l y : Ty} (name : List ℕ) → l ≡ x → Opened b w x → findField (c .texts) (b .words) name (payloadOf w + 1) (fieldCount (b .words) w) ≡ some v → y ≡ tyOf (c .texts) (b .words) v → FieldOk name l y
+  field-ok : {b : Buffer} {w v : ℕ} {x l y : Ty} (name : List ℕ) → l ≡ x → Opened b w x
+      → findField (c .texts) (b .words) name (payloadOf w + 1) (fieldCount (b .words) w) ≡ some v → y ≡ tyOf (c .texts) (b .words) v → FieldOk name l y
   field-ok {b} name p o e q = record { fields = o .fields; record′ = p ∙ o .is; has = field-tree name b (o .mean) (o .low) e ∙ ap some (sym q) }
 
   -- nothing is Unknown
@@ -239,7 +257,8 @@ module _ (c : Ctx) (type : ℕ → Ty) where
   known-kind (M.recorded e l m) f k = let j = sym e ∙ k in omega arith
   known-kind (M.called {k = j₀} e h n) f k = elim (one-of 9 10 j₀ h) [ inl i ↦ (let j = sym e ∙ k in omega arith) | inr i ↦ (let j = sym e ∙ k in omega arith) ]
 
-  pub h-field : {s : World} (h : Silent (silent c) s → Holds (silent c) s) (n slot name : ℕ) → slot < c .void → (Silent (silent c) s → getD (s .slots) slot 0 ≡ 0) → {a : ℕ} → (Silent (silent c) s → Recorded (silent c) s a)
+  pub h-field : {s : World} (h : Silent (silent c) s → Holds (silent c) s) (n slot name : ℕ) → slot < c .void → (Silent (silent c) s → getD (s .slots) slot 0 ≡ 0)
+      → {a : ℕ} → (Silent (silent c) s → Recorded (silent c) s a)
       → Tells c type (Rule slot s (FieldOk (nameBytes (c .texts) name) (type a) (type slot))) s (field c n slot name a s)
   unfolding field fieldType ty tree
   h-field {s} h n slot name own unset {a} ea =
@@ -247,7 +266,8 @@ module _ (c : Ctx) (type : ℕ → Ty) where
       (λ k. g-option (silent c) _ _ (λ _. h-poison c type h n _) (λ w e.
       let good : Silent (silent c) s → Good (silent c) (s .types) w = λ z. field-found (silent c) _ (fieldCount (s .types .words) (getD (s .slots) a 0)) (payloadOf (getD (s .slots) a 0) + 1)
       (fields-typed (silent c) (h z .slots a (ea z)) (eqb-true (kindOf (getD (s .slots) a 0)) 8 k)) e in
-      g-when (silent c) _ _ (λ u. g-next (silent c) _ (told-set c type {Q = λ _ _. ⊥} slot unknownWord (λ z. let g = good z in known-kind (g .is .means) (g .is .fine) (eqb-true (kindOf w) 11 u))) (λ _ v t y. g-return (silent c) (λ z. y z .holds) (λ z. absurd (y z .value))))
+      g-when (silent c) _ _ (λ u. g-next (silent c) _ (told-set c type {Q = λ _ _. ⊥} slot unknownWord
+      (λ z. let g = good z in known-kind (g .is .means) (g .is .fine) (eqb-true (kindOf w) 11 u))) (λ _ v t y. g-return (silent c) (λ z. y z .holds) (λ z. absurd (y z .value))))
       (λ _. h-map c type (λ u v t p z fx.
       let z₀ = before (silent c) t z in
       let y = p z .value .fact fx in

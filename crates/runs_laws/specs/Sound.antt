@@ -16,7 +16,7 @@ use Rattle.ast.specs.Node.{Node, Nodes, Cases, Values, Atom, Ident, Bin, Unary,
 use Rattle.runs.specs.Value.{Value, Members, Named, void, bool, array, object, Fits, isVoid, isBool, isInt, isDouble, isStr, isNothing, isJust, isArray, isObject, isForeign, MembersFit, noMember, oneMember, FieldsFit, noField′, oneField, Fit, noneLeft, oneMore, count}
 use Rattle.rules.specs.Functions.{typeMeant}
 use Rattle.runs.specs.Declared.{Own, Sig, own, external, Chosen, targetAt, givenTypes}
-use Rattle.runs.specs.Machine.{Open, State, Stopped, Run, Done, withEnv, unboundName, missingField, question, counted, truth, fieldIn, orHalted, bind}
+use Rattle.runs.specs.Machine.{Open, State, Stopped, Run, Done, withEnv, unboundName, missingField, question, counted, truth, fieldIn, orHalted, bind, withCall}
 use Rattle.runs.specs.Running.{castKind, callOwn, apply, eval, block, rest, branch, evalAll, evalValues, bodyWithin, root, roots, runOf}
 use Rattle.runs.specs.Stands.{Place, statement, operand, LetMay, FnMay}
 use Rattle.runs.specs.Stands as P
@@ -66,7 +66,8 @@ module _ (t : Texts) (type : ℕ → Ty) (table : List Chosen) where
   operand-same (Array n slot token ms) h = refl
   operand-same (Absent n) h = refl
 
-  as-operand : (x : Node) {ks : List Known} {y : Ty} {r : Result State Stopped Value} → Judged t type table x operand ks → Runs type (Val type y (after t type table x ks)) r → Runs type (Val type y ks) r
+  as-operand : (x : Node) {ks : List Known} {y : Ty} {r : Result State Stopped Value} → Judged t type table x operand ks
+      → Runs type (Val type y (after t type table x ks)) r → Runs type (Val type y ks) r
   as-operand x h g = rw (operand-same x h) at g
 
   -- values in a row, and names in scope
@@ -82,7 +83,8 @@ module _ (t : Texts) (type : ℕ → Ty) (table : List Chosen) where
   unfolding truth
   r-truth l e isBool = went l e
 
-  r-field : {ks : List Known} {s : State} {v : Value} {a x : Ty} (name : List ℕ) → ValuesFit type s → EnvFits (s .env) ks → Fits v a → J.FieldOk name a x → Runs type (Val type x ks) (fieldIn name v s)
+  r-field : {ks : List Known} {s : State} {v : Value} {a x : Ty} (name : List ℕ) → ValuesFit type s → EnvFits (s .env) ks → Fits v a → J.FieldOk name a x
+      → Runs type (Val type x ks) (fieldIn name v s)
   unfolding fieldIn
   r-field {ks} {s} {v} {a} {x} name l e f h = by (rw (h .record′) at f)
     where
@@ -90,7 +92,8 @@ module _ (t : Texts) (type : ℕ → Ty) (table : List Chosen) where
       by (isObject fs) = r-map type (λ u w p. record { fits = p .0; env = p .1 }) (r-found type l e missingField (field-found name fs (h .has)))
 
   module _ (o : Open) (honest : Answering table o) (bodies : Bodies t type table) (body : Nodes → Run Value)
-      (runs : (b : Nodes) (ks : List Known) (x : Ty) → JudgedBody t type table b ks voidTy x → (s : State) → ValuesFit type s → EnvFits (s .env) ks → Runs type (λ u v. Fits v x) (body b s)) where
+      (runs : (b : Nodes) (ks : List Known) (x : Ty) → JudgedBody t type table b ks voidTy x → (s : State) → ValuesFit type s → EnvFits (s .env) ks
+      → Runs type (λ u v. Fits v x) (body b s)) where
     r-halted : {ks : List Known} {s : State} {x : Ty} {a : Option Value} → ValuesFit type s → EnvFits (s .env) ks → Answers x a → Runs type (Val type x ks) (orHalted a s)
     unfolding orHalted NotStuck
     r-halted l e halts = out tt l
@@ -101,8 +104,9 @@ module _ (t : Texts) (type : ℕ → Ty) (table : List Chosen) where
     unfolding apply callOwn counted question HonestAt
     r-apply {ks} {s} n slot {vs} {ts} l e h (ofOwn {f = f} q g r) =
         let a = arguments-fit t type table (f .args) noneYet (rw g at h) in
-        rw (q, a .is, r) (r-within type {s = record { left = s .left; asked = s .asked; calls = s .calls + 1; env = s .env; entered = s .entered; values = s .values }}
-        (record { fit = l .fit }) e (a .item) (body (f .body)) (runs (f .body) (argsKnown t type table [] (f .args)) (typeMeant t (f .ret)) (bodies .each slot f q) _ (record { fit = l .fit }) (a .has)))
+        rw (q, a .is, r) (r-within type {s = withCall s}
+        (record { fit = l .fit }) e (a .item) (body (f .body)) (runs (f .body) (argsKnown t type table [] (f .args)) (typeMeant t (f .ret)) (bodies .each slot f q) _
+        (record { fit = l .fit }) (a .has)))
     r-apply {ks} {s} n slot {vs} {ts} l e h (ofPackage {origin = og} {position = k} {sig = sig} q f g r) =
         rw (q, r) (r-when type _ _ (λ _. r-halted (record { fit = l .fit }) e (honest (s .asked) slot og k sig ts q f g vs h))
         (λ i. absurd (true≢false (sym (eq-eqb (count vs) (length (sig .params)) (fit-count h ∙ (ap length (sym g) ∙ length-map (sig .params) (substitute f)))) ∙ i))))
@@ -115,7 +119,8 @@ module _ (t : Texts) (type : ℕ → Ty) (table : List Chosen) where
       r-eval (Atom n slot token k) p ks np h l e =
           r-next type _ (r-enter type l e n) (λ _ u l₁ e₁. r-gives type l₁ e₁ n slot (rw (h .is) (literal-fits o k (nameBytes t token) (h .low) (h .high))))
       r-eval (Ident n slot name) p ks np h l e =
-          r-next type _ (r-enter type l e n) (λ _ u l₁ e₁. r-next type _ (r-found type l₁ e₁ unboundName (value-found t (nameBytes t name) e₁ h)) (λ v w l₂ q. r-gives type l₂ (q .1) n slot (q .0)))
+          r-next type _ (r-enter type l e n) (λ _ u l₁ e₁. r-next type _ (r-found type l₁ e₁ unboundName (value-found t (nameBytes t name) e₁ h))
+          (λ v w l₂ q. r-gives type l₂ (q .1) n slot (q .0)))
       r-eval (Bin n slot token op a b) p ks np h l e =
           r-next type _ (r-enter type l e n) (λ _ u l₁ e₁.
           r-next type _ (as-operand a (h .0) (r-eval a operand ks (λ z. z) (h .0) l₁ e₁)) (λ v u₂ l₂ q.
@@ -129,7 +134,8 @@ module _ (t : Texts) (type : ℕ → Ty) (table : List Chosen) where
           r-next type _ (r-bind type l₂ (q .env) name (q .fits)) (λ _ u₃ l₃ e₃. r-gives type l₃ e₃ n slot (rw (h .2) isVoid))))
       r-eval (Fn n slot name ret args b) p ks np h l e = absurd (np (h .0))
       r-eval (Match n slot cs token d) p ks np h l e =
-          r-next type _ (r-enter type l e n) (λ _ u l₁ e₁. r-next type _ (r-branch cs ks (type slot) (h .0) (block t o table body d) (λ s₂ l₂ e₂. r-block d ks (type slot) (h .1) l₂ e₂) l₁ e₁)
+          r-next type _ (r-enter type l e n) (λ _ u l₁ e₁. r-next type _
+          (r-branch cs ks (type slot) (h .0) (block t o table body d) (λ s₂ l₂ e₂. r-block d ks (type slot) (h .1) l₂ e₂) l₁ e₁)
           (λ v u₂ l₂ q. r-gives type l₂ (q .env) n slot (q .fits)))
       r-eval (Call n slot target args) p ks np h l e =
           r-next type _ (r-enter type l e n) (λ _ u l₁ e₁. r-next type _ (r-all args ks (h .0) l₁ e₁) (λ vs u₂ l₂ q.
@@ -149,7 +155,8 @@ module _ (t : Texts) (type : ℕ → Ty) (table : List Chosen) where
           r-gives type l₂ (q .env) n slot (rw (h .1 .is) (isArray (members-fit t type table ms (q .fit) (h .1 .members))))))
       r-eval (Absent n) p ks np h l e = absurd h
 
-      pub r-block : (xs : Nodes) (ks : List Known) (x : Ty) → JudgedBody t type table xs ks voidTy x → {s : State} → ValuesFit type s → EnvFits (s .env) ks → Runs type (Val type x ks) (block t o table body xs s)
+      pub r-block : (xs : Nodes) (ks : List Known) (x : Ty) → JudgedBody t type table xs ks voidTy x → {s : State} → ValuesFit type s → EnvFits (s .env) ks
+          → Runs type (Val type x ks) (block t o table body xs s)
       r-block done ks x h l e = went l (record { fits = fits-as h isVoid; env = e })
       r-block (then y ys) ks x h l e =
           r-scoped type l e _ (r-next type _ (r-eval y statement ks (λ z. z) (h .0) l e) (λ v u l₁ q. r-rest ys (after t type table y ks) (type (slotOf y)) x (h .1) l₁ (q .env) (q .fits)))
@@ -157,9 +164,11 @@ module _ (t : Texts) (type : ℕ → Ty) (table : List Chosen) where
       r-rest : (xs : Nodes) (ks : List Known) (last x : Ty) → JudgedBody t type table xs ks last x → {s : State} {v : Value} → ValuesFit type s → EnvFits (s .env) ks → Fits v last
           → Runs type (λ u v. Fits v x) (rest t o table body v xs s)
       r-rest done ks last x h l e f = went l (fits-as h f)
-      r-rest (then y ys) ks last x h l e f = r-next type _ (r-eval y statement ks (λ z. z) (h .0) l e) (λ v u l₁ q. r-rest ys (after t type table y ks) (type (slotOf y)) x (h .1) l₁ (q .env) (q .fits))
+      r-rest (then y ys) ks last x h l e f = r-next type _ (r-eval y statement ks (λ z. z) (h .0) l e)
+          (λ v u l₁ q. r-rest ys (after t type table y ks) (type (slotOf y)) x (h .1) l₁ (q .env) (q .fits))
 
-      r-branch : (cs : Cases) (ks : List Known) (x : Ty) → JudgedCases t type table cs ks x → (d : Run Value) → ((s : State) → ValuesFit type s → EnvFits (s .env) ks → Runs type (Val type x ks) (d s))
+      r-branch : (cs : Cases) (ks : List Known) (x : Ty) → JudgedCases t type table cs ks x → (d : Run Value)
+          → ((s : State) → ValuesFit type s → EnvFits (s .env) ks → Runs type (Val type x ks) (d s))
           → {s : State} → ValuesFit type s → EnvFits (s .env) ks → Runs type (Val type x ks) (branch t o table body cs d s)
       r-branch noCase ks x h d g l e = g _ l e
       r-branch (case token y b cs) ks x h d g l e =
@@ -167,13 +176,15 @@ module _ (t : Texts) (type : ℕ → Ty) (table : List Chosen) where
           r-next type _ (r-truth l₁ (q .env) (fits-as (h .1) (q .fits))) (λ c u₂ l₂ e₂.
           r-when type _ _ (λ _. r-block b ks x (h .2) l₂ e₂) (λ _. r-branch cs ks x (h .3) d g l₂ e₂)))
 
-      r-all : (xs : Nodes) (ks : List Known) → JudgedAll t type table xs ks → {s : State} → ValuesFit type s → EnvFits (s .env) ks → Runs type (Vals (givenTypes type xs) ks) (evalAll t o table body xs s)
+      r-all : (xs : Nodes) (ks : List Known) → JudgedAll t type table xs ks → {s : State} → ValuesFit type s → EnvFits (s .env) ks
+          → Runs type (Vals (givenTypes type xs) ks) (evalAll t o table body xs s)
       r-all done ks h l e = went l (record { fit = noneLeft; env = e })
       r-all (then x xs) ks h l e =
           r-next type _ (as-operand x (h .0) (r-eval x operand ks (λ z. z) (h .0) l e)) (λ v u l₁ q. r-next type _ (r-all xs ks (h .1) l₁ (q .env)) (λ vs u₂ l₂ q₁.
           went l₂ (record { fit = oneMore (q .fits) (q₁ .fit); env = q₁ .env })))
 
-      r-values : (vs : Values) (ks : List Known) → JudgedValues t type table vs ks → {s : State} → ValuesFit type s → EnvFits (s .env) ks → Runs type (Pairs vs ks) (evalValues t o table body vs s)
+      r-values : (vs : Values) (ks : List Known) → JudgedValues t type table vs ks → {s : State} → ValuesFit type s → EnvFits (s .env) ks
+          → Runs type (Pairs vs ks) (evalValues t o table body vs s)
       r-values noValue ks h l e = went l (record { fit = noField′; env = e })
       r-values (value name x vs) ks h l e =
           r-next type _ (as-operand x (h .0) (r-eval x operand ks (λ z. z) (h .0) l e)) (λ v u l₁ q. r-next type _ (r-values vs ks (h .1) l₁ (q .env)) (λ fs u₂ l₂ q₁.
@@ -213,7 +224,8 @@ module _ (t : Texts) (type : ℕ → Ty) (table : List Chosen) where
       r-root (Array n slot token ms) ks h l e = r-value (Array n slot token ms) ks h l e
       r-root (Absent n) ks h l e = absurd h
 
-      pub r-roots : (xs : Nodes) (ks : List Known) → JudgedRoots t type table xs ks → {s : State} → ValuesFit type s → EnvFits (s .env) ks → Runs type (λ u k. k ≡ lengthOf xs) (roots t o table deep xs s)
+      pub r-roots : (xs : Nodes) (ks : List Known) → JudgedRoots t type table xs ks → {s : State} → ValuesFit type s → EnvFits (s .env) ks
+          → Runs type (λ u k. k ≡ lengthOf xs) (roots t o table deep xs s)
       unfolding roots JudgedRoots lengthOf
       r-roots done ks h l e = went l refl
       r-roots (then x xs) ks h l e =
