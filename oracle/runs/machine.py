@@ -6,23 +6,22 @@ is its last node's, void where it has none. A function body sees its arguments a
 
 What S-11 leaves open is asked of an Open, whose methods are
 
-    number(k)                        a number result: of + - * / %, of unary + -, of a cast to Int or Double
+    number(k)                        a number: of a literal, of + - * / %, of unary + -, of a cast to Int or Double
     answer(k, slot, values)          a package function's answer to the call with that slot, or HALT
     compare(op, kind, left, right)   a comparison of two numbers, by operator number and kind of type
     to_bool(kind, number)            a cast of a number to Bool
-    literal(kind, bytes)             the number of a literal
 
-k counts the questions asked, numbers and answers alike, from 0; the other three are fixed functions of the whole run, and not counted.
+k counts the questions asked, numbers and answers alike, from 0; the other two are fixed functions of the whole run, and not counted.
 """
 import sys
 from collections import namedtuple
 
+from values import VOID_VALUE  # first: it puts the definitions' folder on the path
 from model_words import BOOL, DOUBLE, FN, INT, STR
 from program import Own
-from values import VOID_VALUE
 
-# ending: ended, halted, spent or stuck; why: of a stuck one
-Result = namedtuple("Result", "ending why roots_run steps questions own_calls entered given")
+# ending: ended, halted, spent or stuck; why and at: of a stuck one, the node whose rule is stuck
+Result = namedtuple("Result", "ending why at roots_run steps questions own_calls entered given")
 
 HALT = object()
 ENDED, HALTED, SPENT, STUCK = "ended", "halted", "spent", "stuck"
@@ -33,15 +32,15 @@ NO_DECLARATION, MISPLACED = "call without declaration", "misplaced node"
 ARITHMETIC, REMAINDER, EQUALITY = (0, 1, 2, 3), (4,), (5, 6)
 NUMBERS = {"int": INT, "double": DOUBLE}
 # a node takes a few of Python's frames, and a script of endless calls as many nodes as its budget
-sys.setrecursionlimit(400000)
+DEEP = 400000
 
 
 class Stop(Exception):
     """The run is over before its last root."""
 
-    def __init__(self, ending, why=None):
+    def __init__(self, ending, why=None, at=None):
         Exception.__init__(self)
-        self.ending, self.why = ending, why
+        self.ending, self.why, self.at = ending, why, at
 
 
 class Run:
@@ -52,15 +51,16 @@ class Run:
         self.entered, self.given = [], []
 
     def whole(self):
-        """Every root in order, until something stops the run."""
-        ending, why = ENDED, None
+        """Every root in order, until something stops the run: its state at the end."""
+        sys.setrecursionlimit(DEEP)
+        ending, why, at = ENDED, None, None
         try:
             for n in self.program.roots:
                 self.root(n)
                 self.roots_run += 1
         except Stop as stop:
-            ending, why = stop.ending, stop.why
-        return Result(ending, why, self.roots_run, len(self.entered), self.questions, self.own_calls, self.entered, self.given)
+            ending, why, at = stop.ending, stop.why, stop.at
+        return Result(ending, why, at, self.roots_run, len(self.entered), self.questions, self.own_calls, self.entered, self.given)
 
     # nodes
 
@@ -78,8 +78,11 @@ class Run:
             self.node(n)
 
     def node(self, n):
-        self.enter(n)
+        """A node's value. An Fn has none, so that one that stands where a value is asked for is not even entered."""
         k, slot, what = self.nodes[n]
+        if k == FN:
+            raise Stop(STUCK, MISPLACED, n)
+        self.enter(n)
         value = self.RULES[k](self, n, what)
         self.given.append((n, slot, value))
         return value
@@ -109,19 +112,19 @@ class Run:
             return ("bool", data == b"true")
         if k == STR:
             return ("str", data)
-        return ("int" if k == INT else "double", self.open.literal(k, data))
+        return self.number("int" if k == INT else "double")
 
     def ident(self, n, name):
         for frame in reversed(self.frames):
             if name in frame:
                 return frame[name]
-        raise Stop(STUCK, UNBOUND)
+        raise Stop(STUCK, UNBOUND, n)
 
     def bin(self, n, what):
         op, left, right = what
         l, r = self.node(left), self.node(right)
         if l[0] != r[0] or l[0] not in self.kinds_of(op):
-            raise Stop(STUCK, WRONG_KINDS)
+            raise Stop(STUCK, WRONG_KINDS, n)
         if op in ARITHMETIC or op in REMAINDER:
             return self.number(l[0])
         if l[0] in NUMBERS:
@@ -139,7 +142,7 @@ class Run:
         op, right = what
         value = self.node(right)
         if op > 1 or value[0] not in NUMBERS:
-            raise Stop(STUCK, WRONG_KINDS)
+            raise Stop(STUCK, WRONG_KINDS, n)
         return self.number(value[0])
 
     def let(self, n, what):
@@ -148,15 +151,12 @@ class Run:
         self.frames[-1][name] = value
         return VOID_VALUE
 
-    def fn(self, n, what):
-        raise Stop(STUCK, MISPLACED)
-
     def match(self, n, what):
         cases, default = what
         for condition, body in cases:
             value = self.node(condition)
             if value[0] != "bool":
-                raise Stop(STUCK, NOT_BOOL)
+                raise Stop(STUCK, NOT_BOOL, n)
             if value[1]:
                 return self.body(body)
         return self.body(default)
@@ -168,7 +168,7 @@ class Run:
             for field, v in value[1]:
                 if field == name:
                     return v
-        raise Stop(STUCK, NO_FIELD)
+        raise Stop(STUCK, NO_FIELD, n)
 
     def cast(self, n, what):
         left, to = what
@@ -177,7 +177,7 @@ class Run:
             return self.number("double" if to == DOUBLE else "int")
         if (value[0], to) == ("int", BOOL):
             return ("bool", self.open.to_bool(INT, value[1]))
-        raise Stop(STUCK, WRONG_KINDS)
+        raise Stop(STUCK, WRONG_KINDS, n)
 
     def nothing(self, n, what):
         """Import and Extern: what they declare was fixed by the check's visits."""
@@ -204,11 +204,11 @@ class Run:
             given.append(self.node(a))
         declaration = self.declaration(n)
         if declaration is None:
-            raise Stop(STUCK, NO_DECLARATION)
+            raise Stop(STUCK, NO_DECLARATION, n)
         if isinstance(declaration, Own):
-            return self.own_call(declaration, given)
+            return self.own_call(n, declaration, given)
         if len(given) != len(declaration.declared.args):
-            raise Stop(STUCK, WRONG_COUNT)
+            raise Stop(STUCK, WRONG_COUNT, n)
         value = self.ask(n, given)
         if value is HALT:
             raise Stop(HALTED)
@@ -220,10 +220,10 @@ class Run:
     def ask(self, n, given):
         return self.open.answer(self.question(), self.nodes[n][1], tuple(given))
 
-    def own_call(self, declaration, given):
+    def own_call(self, n, declaration, given):
         _, names, body = self.nodes[declaration.fn][2]
         if len(given) != len(names):
-            raise Stop(STUCK, WRONG_COUNT)
+            raise Stop(STUCK, WRONG_COUNT, n)
         self.own_calls += 1
         before, self.frames = self.frames, [self.arguments(names, given)]
         value = self.body(body)
@@ -234,9 +234,9 @@ class Run:
         """Of equal names the last is bound."""
         return dict(zip(names, given))
 
-    RULES = [atom, ident, bin, unary, let, fn, match, call, field, cast, nothing, nothing, record, array]
+    # by kind; an Fn has no rule
+    RULES = [atom, ident, bin, unary, let, None, match, call, field, cast, nothing, nothing, record, array]
 
 
 def run(program, open_, budget):
-    """One run of a script: its state at the end."""
     return Run(program, open_, budget).whole()

@@ -4,8 +4,6 @@ The answers of package functions are honest to the declaration that the call has
 call's slot: that the two agree is part of what is tried. That answers depend on the question's number, not on the values given, is no loss:
 in a run the number decides the values.
 """
-from zlib import crc32
-
 from machine import HALT
 from program import Package
 from values import mixed, value_of
@@ -32,9 +30,6 @@ class Open:
     def to_bool(self, kind, number):
         return mixed(self.seed, 3, kind, number) % 2 == 1
 
-    def literal(self, kind, data):
-        return mixed(self.seed, 4, kind, crc32(data)) % 5
-
     def answer(self, k, slot, values):
         return self.answer_of(k, self.returns[slot])
 
@@ -42,3 +37,43 @@ class Open:
         if self.halting and mixed(self.seed, 5, k) % self.halting == 0:
             return HALT
         return value_of(type_, mixed(self.seed, 6, k))
+
+
+class Written:
+    """An Open that can be written out: the rest small sums, the answers of packages in a list of (slot, how many values, value).
+
+    The k-th of the list answers question k, if it comes from that slot with so many values; every other call halts the run.
+    `against_definitions.py` gives the definitions the same functions.
+    """
+
+    def __init__(self, answers=()):
+        self.answers = list(answers)
+
+    def number(self, k):
+        return k
+
+    def compare(self, op, kind, left, right):
+        return (op + kind + left + right) % 2 == 0
+
+    def to_bool(self, kind, number):
+        return (kind + number) % 2 == 0
+
+    def answer(self, k, slot, values):
+        if k < len(self.answers) and self.answers[k] is not None and self.answers[k][:2] == (slot, len(values)):
+            return self.answers[k][2]
+        return HALT
+
+
+class Writing(Written):
+    """A Written that makes its list while a script is run: honest answers by chance, some of which halt."""
+
+    def __init__(self, program, seed):
+        Written.__init__(self)
+        self.seed, self.returns = seed, Open.returns_of(program)
+
+    def answer(self, k, slot, values):
+        self.answers += [None] * (k - len(self.answers))
+        if mixed(self.seed, 5, k) % 8 == 0:
+            return HALT
+        self.answers.append((slot, len(values), value_of(self.returns[slot], mixed(self.seed, 6, k))))
+        return self.answers[k][2]

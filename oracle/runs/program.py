@@ -17,9 +17,11 @@ ROOT, STATEMENT, OPERAND = "root", "statement", "operand"
 
 # a package function: argument types, return type, whether it has slots
 Declared = namedtuple("Declared", "args ret slots")
-# what a call has: an own function's Fn node, or a package function; group is how many candidates there were
+# a package held: the Extern's node, or N plus the library package's position; and {function: [Declared]}
+Held = namedtuple("Held", "origin groups")
+# what a call has: an own function's Fn node, or a package function; group is how many candidates there were, place the one among them
 Own = namedtuple("Own", "fn")
-Package = namedtuple("Package", "declared group place")
+Package = namedtuple("Package", "declared group place origin")
 
 
 def bind(expected, given, bindings):
@@ -89,8 +91,11 @@ class Program:
         self.visited, self.misplaced_lets, self.misplaced_fns = [], [], []
         self.in_body_of, self.recursive, self.replaced, self.packages_in_bodies = None, False, False, False
         self.library = self.read_library()
-        for n in self.roots:
+        self.first_misplaced = None
+        for k, n in enumerate(self.roots):
             self.visit(n, ROOT)
+            if self.first_misplaced is None and not self.placed():
+                self.first_misplaced = k
 
     # declarations
 
@@ -128,17 +133,17 @@ class Program:
         """Puts in force what an Import of these paths brings: nothing for a name that is held."""
         for path in paths:
             name = self.words.name(path)
-            found = [groups for lib, groups in self.library if lib == name]
+            found = [Held(self.count + k, groups) for k, (lib, groups) in enumerate(self.library) if lib == name]
             if name not in packages and found:
                 packages[name] = found[0]
 
-    def externed(self, packages, rest):
-        """Puts in force what an Extern declares, in place of what its name had."""
-        groups = {}
+    def externed(self, packages, n):
+        """Puts in force what the Extern n declares, in place of what its name had."""
+        groups, rest = {}, self.nodes[n][2]
         for name, ret, args in self.words.externs(rest):
             declared = Declared([self.type_expression(t) for _, t in args], self.type_expression(ret), False)
             groups.setdefault(self.words.name(name), []).append(declared)
-        packages[self.words.name(rest[1])] = groups
+        packages[self.words.name(rest[1])] = Held(n, groups)
 
     def given_types(self, args):
         return [self.slot_types[self.nodes[a][1]] for a in args]
@@ -156,9 +161,10 @@ class Program:
         pkg, name = self.nodes[target][2]
         if self.nodes[pkg][0] != IDENT:
             return None
-        candidates = packages.get(self.nodes[pkg][2], {}).get(name, [])
+        held = packages.get(self.nodes[pkg][2])
+        candidates = held.groups.get(name, []) if held else []
         place = 0 if len(candidates) == 1 else self.candidate(candidates, self.given_types(args))
-        return None if not candidates or place is None else Package(candidates[place], len(candidates), place)
+        return None if not candidates or place is None else Package(candidates[place], len(candidates), place, held.origin)
 
     def declaration(self, n):
         """The declaration that a call has at this point of the pass."""
@@ -170,10 +176,12 @@ class Program:
         self.packages_in_bodies = self.packages_in_bodies or self.in_body_of is not None
         return self.package_function(self.packages, n)
 
-    def returned(self, n):
-        """The declared return type of a package call, its slots filled as at the call."""
-        declared, bindings = self.calls[n].declared, {}
+    def filled_return(self, n, declared):
+        """A declared return type, its slots filled as at the call n."""
         return filled(declared.ret, self.bindings(n, declared)) if declared.slots else declared.ret
+
+    def returned(self, n):
+        return self.filled_return(n, self.calls[n].declared)
 
     def bindings(self, n, declared):
         found = {}
@@ -226,7 +234,11 @@ class Program:
             self.imported(self.packages, what)
         elif k == EXTERN:
             self.replaced = self.replaced or self.words.name(what[1]) in self.packages
-            self.externed(self.packages, what)
+            self.externed(self.packages, n)
+
+    def roots_before_misplaced(self):
+        """How many roots stand before the first that holds a let or an Fn elsewhere."""
+        return len(self.roots) if self.first_misplaced is None else self.first_misplaced
 
     def placed(self):
         """The two hypotheses on where a let and an Fn stand."""

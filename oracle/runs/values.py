@@ -12,7 +12,7 @@ import sys
 from os.path import abspath, dirname, join
 
 sys.path.insert(0, join(dirname(abspath(__file__)), "..", "definitions"))
-from model_words import ARRAY, BOOL, DOUBLE, FOREIGN, INT, OPTION, RECORD, SLOT, STR, UNKNOWN, VOID  # noqa: E402
+from model_words import ARRAY, BOOL, DOUBLE, FOREIGN, INT, OPTION, RECORD, STR, VOID  # noqa: E402
 
 VOID_VALUE = ("void",)
 NOTHING = ("nothing",)

@@ -115,9 +115,9 @@ answered = scriptOf (text "extern p { g() Int }; p.g() + 1")
 
 -- ── What is left open ──
 
--- a literal is as long as its bytes, every number result is 7, every comparison false, a package function's answer is by its call's slot
+-- every number is 7, every comparison false, a package function's answer is by its call's slot
 unfoldable pub answering : (ℕ → Option Value) → Open
-answering f = record { literal = λ k b. length b; number = λ k. 7; compare = λ op k a b. false; toBool = λ k a. false; answer = λ k slot vs. f slot }
+answering f = record { number = λ k. 7; compare = λ op k a b. false; toBool = λ k a. false; answer = λ k slot vs. f slot }
 
 -- ── How a run went ──
 

@@ -24,8 +24,8 @@ use Rattle.rules.specs.Promises.{Every}
 use Rattle.runs.specs.Promise.{ValuesFit, NotStuck, Answers, halts, answers, HonestAt}
 use Rattle.runs_laws.specs.Judged.{Known, knows, CallOk, ofOwn, ofPackage, argTypes, argsKnown, recordTy, ArrayOk, after, Judged, JudgedBody, JudgedAll, JudgedCases, JudgedValues, JudgedRoots, Bodies}
 use Rattle.runs_laws.specs.Judged as J
-use Rattle.runs_laws.specs.Values.{literal-fits, Found, EnvFits, noneYet, value-found, field-found, arguments-fit, fit-count}
-use Rattle.runs_laws.specs.Logic.{Runs, went, out, r-next, r-map, r-when, Val, r-enter, r-gives, r-bind, r-found, r-scoped, r-within, r-operate, r-unary, r-cast}
+use Rattle.runs_laws.specs.Values.{Found, EnvFits, noneYet, value-found, field-found, arguments-fit, fit-count}
+use Rattle.runs_laws.specs.Logic.{Runs, went, out, r-next, r-map, r-when, Val, r-enter, r-gives, r-bind, r-found, r-scoped, r-within, r-literal, r-operate, r-unary, r-cast}
 
 -- how many nodes a list has
 unfoldable pub lengthOf : Nodes → ℕ
@@ -117,7 +117,8 @@ module _ (t : Texts) (type : ℕ → Ty) (table : List Chosen) where
       pub r-eval : (x : Node) (p : Place) (ks : List Known) → (FnMay p → ⊥) → Judged t type table x p ks → {s : State} → ValuesFit type s → EnvFits (s .env) ks
           → Runs type (Val type (type (slotOf x)) (after t type table x ks)) (eval t o table body x s)
       r-eval (Atom n slot token k) p ks np h l e =
-          r-next type _ (r-enter type l e n) (λ _ u l₁ e₁. r-gives type l₁ e₁ n slot (rw (h .is) (literal-fits o k (nameBytes t token) (h .low) (h .high))))
+          r-next type _ (r-enter type l e n) (λ _ u l₁ e₁. r-next type _ (r-literal type l₁ e₁ o k (nameBytes t token) (h .low) (h .high))
+          (λ v w l₂ q. r-gives type l₂ (q .env) n slot (fits-as (sym (h .is)) (q .fits))))
       r-eval (Ident n slot name) p ks np h l e =
           r-next type _ (r-enter type l e n) (λ _ u l₁ e₁. r-next type _ (r-found type l₁ e₁ unboundName (value-found t (nameBytes t name) e₁ h))
           (λ v w l₂ q. r-gives type l₂ (q .1) n slot (q .0)))
