@@ -58,8 +58,8 @@ first-spent : ran first 4 ≡ 2 ∷ 0 ∷ 0 ∷ 3 ∷ []
 unfolding texts f′ x′ intType one x ran first answering numbers stopNumber faultNumber scriptRun
 first-spent = refl
 
--- fn f(x: Int) Int { f(x) }, f(1): a function that calls itself spends any budget, and is not stuck. "an Fn having no value": ten nodes are
--- entered, of which the Fn, and the calls, give none
+-- fn f(x: Int) Int { f(x) }, f(1): a function that calls itself spends any budget, and is not stuck. Twenty nodes are entered: "an Fn having no
+-- value", ten calls, of which none has come back, and nine that gave a value
 again : Nodes
 again =
     then (Fn 3 3 f′ intType (record { name = x′; type = intType } ∷ []) (then (Call 2 2 (Ident 1 1 f′) (then (x 0) done)) done))
