@@ -6,5 +6,5 @@ const LONGEST: usize = 65_537;
 fn main() {
     let mut input = [0u8; LONGEST];
     let n = io::read_full(0, &mut input);
-    printing::bench(&input[0..n], false);
+    bench_run::bench(&input[0..n], false);
 }

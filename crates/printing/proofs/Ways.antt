@@ -2,7 +2,7 @@
 use Prim.Native.Nat.{ℕ, _+_, _%_, _^_, _≤_, _<_}
 use mathlib.Core.Path.{_≡_, refl, sym, ap, _∙_}
 use mathlib.Core.Bool.{Bool, true, false, not, true≢false}
-use mathlib.Core.List.{List, [], _∷_}
+use mathlib.Core.List.{[], _∷_}
 use mathlib.Core.Logic.{⊎-elim}
 use types.Run.{OneOf}
 use denote.Enum.Declared.{tagOf}
@@ -10,21 +10,14 @@ use native.Mathlib.Nat.{zero-add}
 use native.Mathlib.Omega.{arith}
 use lib.ListN.{length}
 use borrow.Author.Tests.{eqb-false, not-true, not-false}
-use Rattle.tok.specs.Text.{textsOf}
-use Rattle.refusals.specs.Inputs.{Buffers}
-use Rattle.bench_rows.specs.Bench.{inputsIn, lent}
 use Rattle.rows_part.specs.declared.Row.{Row}
 use Rattle.rows_part.specs.declared.Row.the-variants.{Slot, Fn, Diag, End, Refused, Input, Done}
 use Rattle.rows_part.specs.declared.Part.{Part}
-use Rattle.rows_part.specs.Printing.{Answer, answerOf, rowOf, restFrom, partOf, roomAt}
+use Rattle.rows_part.specs.Printing.{Answer, rowOf, restFrom, partOf, roomAt}
 use Rattle.rows_part.specs.PrintingLaws.{part-bytes, room-whole}
 use Rattle.rows_part.proofs.Row.{the-type}
-use Rattle.rows_begin.specs.declared.Begun.{Begun}
-use Rattle.rows_begin.specs.Beginning.{Begins}
-use Rattle.rows_begin.specs.BeginningLaws.{begins-bench}
-use Rattle.printing.specs.declared.Printed.{Printed}
 use Rattle.printing.specs.Loop.{isDone, left, turn-nearer, done-left}
-use Rattle.printing.specs.Handed.{Handed, Benched}
+use Rattle.printing.specs.Handed.{Handed}
 
 pub done-is : {row : Row} → row ≡ Done → true ≡ isDone row
 unfolding isDone
@@ -80,12 +73,3 @@ handed-all a row first skip {done} e h l t =
 -- in a row that is too long
 pub handed-cut : (a : Answer) (row first : Row) (skip : ℕ) {total : ℕ} → 2 ^ 62 ≤ skip → skip ≤ length (rowOf a row) → Handed a first (record { bytes = total; whole = false })
 handed-cut a row first skip h l = record { all = λ q. absurd (true≢false (sym q)); cut = λ _. record { row = row; long = omega arith } }
-
--- from the input on
-pub benched : (input : List ℕ) {after : Buffers} {begun : Begun} {r : Printed} {script library : List ℕ} → Begins input lent after begun
-    → script ≡ inputsIn input .script → library ≡ inputsIn input .libraryText
-    → Handed (answerOf (textsOf script library) (after .slots) (after .types) (after .functions) (after .diagnostics) (after .messages) (begun .last) (begun .words) (begun .count)) (begun .first) r
-    → Benched input r
-benched input {after} {begun} b es el h =
-    let k = rw (es, el) at h in
-    record { after = after; begun = begun; begins = b; all = λ q. k .all q ∙ ap (λ (l : List ℕ). length l % 2 ^ 64) (begins-bench input b); cut = k .cut }

@@ -11,7 +11,7 @@ ghost use Prim.Native.Nat.{_^_, _<_};
 ghost use Rattle.tok.specs.Text.{textsOf};
 ghost use Rattle.rows_part.specs.Printing.{answerOf, partOf};
 ghost use Rattle.printing.specs.Loop.{isDone};
-ghost use Rattle.printing.specs.Handed.{Handed, Benched};
+ghost use Rattle.printing.specs.Handed.{Handed};
 
 // How much of a row is printed at the most: more than any machine prints, and so little that no place in a row is too large for a number.
 const MOST: usize = 0x4000_0000_0000_0000;
@@ -123,7 +123,7 @@ pub struct Printed {
 }
 
 // Prints all rows; if `full`, with primary messages and counts between them, which are not counted.
-fn print_rows<'a>(
+pub fn print_rows<'a>(
     script: &'a [u8],
     library: &'a [u8],
     slots: &[u32; 4_097],
@@ -178,37 +178,4 @@ fn print_rows<'a>(
         bytes: total,
         whole: true,
     }
-}
-
-// The printing program: the check of the input's parts, and its rows. It answers what it handed to the C library, whose contract leaves open
-// whether it writes it.
-pub fn bench(bytes: &[u8], full: bool) -> Printed
-    ensures { λ r. ⌜ Benched (now (bytes .entry)) r ⌝ }
-{
-    let mut slots = [0u32; 4_097];
-    let mut functions = [0u32; 8_192];
-    let mut types = [0u32; 8_192];
-    let mut diagnostics = [0u32; 1_536];
-    let mut messages = [0u8; 65_536];
-    let mut scratch = [0u32; 16_384];
-    let begun = rows_begin::begin(
-        bytes,
-        &mut slots,
-        &mut functions,
-        &mut types,
-        &mut diagnostics,
-        &mut messages,
-        &mut scratch,
-    );
-    print_rows(
-        rows_input::script(bytes),
-        rows_input::library_text(bytes),
-        &slots,
-        &types,
-        &functions,
-        &diagnostics,
-        &messages,
-        begun,
-        full,
-    )
 }

@@ -24,7 +24,7 @@ fn read_case(input: &mut [u8], length: usize) -> usize {
 fn one_case(length: usize) {
     let mut input = [0u8; LONGEST];
     let n = read_case(&mut input, length);
-    printing::bench(rows_input::bytes_in(&input, 0, n), true);
+    bench_run::bench(rows_input::bytes_in(&input, 0, n), true);
 }
 
 fn all_cases(count: usize) {

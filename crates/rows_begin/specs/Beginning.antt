@@ -7,8 +7,8 @@ use Rattle.ast.specs.Image.{slotCount}
 use Rattle.refusals.specs.Inputs.{Inputs, Buffers, textsIn}
 use Rattle.rules.specs.Check.{Ended, checkOf}
 use Rattle.bench_rows.specs.Bench.{fits, inputsIn}
-use Rattle.checker.specs.declared.Checked.{Checked}
-use Rattle.checker.specs.declared.Checked.the-variants as C
+use Rattle.ending.specs.declared.Checked.{Checked}
+use Rattle.ending.specs.declared.Checked.the-variants as C
 use Rattle.rows_part.specs.declared.Row.{Row}
 use Rattle.rows_part.specs.declared.Row.the-variants.{Slot, Refused, Input}
 use Rattle.rows_part.specs.Printing.{Answer, answerOf, firstOf}

@@ -1,3 +1,4 @@
 -- The rows of an input.
 pub mod Beginning
 pub mod BeginningLaws
+pub mod RunLaws

@@ -1,13 +1,14 @@
 -- The numbers told are those of the check's answer. By cases. Assumes nothing.
 use mathlib.Core.Path.{_≡_, refl, sym, ap, _∙_}
-use mathlib.Core.List.{List, [], _∷_}
+use mathlib.Core.List.{List}
 use Prim.Native.Nat.{ℕ}
 use Rattle.refusals.specs.Inputs.{Inputs, Buffers}
 use Rattle.rules.specs.Check.{Ended, checkOf}
-use Rattle.checker.specs.declared.Checked.{Checked}
-use Rattle.checker.specs.declared.Checked.the-variants as C
-use Rattle.checker.specs.Ended.{endedOf, checkedOf}
-use Rattle.shelfstork.specs.Told.{told, numbersOf, Tells}
+use Rattle.ending.specs.declared.Checked.{Checked}
+use Rattle.ending.specs.declared.Checked.the-variants as C
+use Rattle.ending.specs.Ended.{endedOf, checkedOf}
+use Rattle.ending.specs.Numbers.{told, numbersOf}
+use Rattle.shelfstork.specs.Told.{Tells}
 
 numbers-are : (r : Checked) (b : Buffers) → numbersOf r ≡ told (endedOf r b)
 numbers-are (C.Done f t d m) b = refl
@@ -22,10 +23,3 @@ tells {b′ = b′} r (e, _) q = record {
   numbers = q ∙ numbers-are r b′ ∙ ap told (sym e);
   after = after-is r b′ ∙ ap (λ x. x .after) (sym e);
 }
-
--- ---- `numbers`
-pub numbers-done : {c : Checked} {f t d m : ℕ} → c ≡ C.Done f t d m → 0 ∷ 0 ∷ f ∷ t ∷ d ∷ m ∷ [] ≡ numbersOf c
-numbers-done e = rw e
-
-pub numbers-refused : {c : Checked} {n p : ℕ} → c ≡ C.Refused n p → n ∷ p ∷ 0 ∷ 0 ∷ 0 ∷ 0 ∷ [] ≡ numbersOf c
-numbers-refused e = rw e

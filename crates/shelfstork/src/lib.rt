@@ -2,34 +2,7 @@
 ghost use mathlib.Core.Path.{_≡_};
 ghost use Rattle.refusals.specs.Inputs.{Inputs, Buffers};
 ghost use Rattle.refuse.specs.Answer.{inputsOf, buffersOf};
-ghost use Rattle.shelfstork.specs.Told.{numbersOf, Tells};
-use checker::Checked;
-
-// What the check answers as six numbers: number, place, function words, type words, diagnostics, message bytes.
-fn numbers(checked: Checked) -> [u64; 6]
-    ensures { λ r. ⌜ r ≡ numbersOf checked ⌝ }
-{
-    match checked {
-        Checked::Done {
-            function_words,
-            type_words,
-            diagnostics,
-            message_bytes,
-        } => {
-            return [
-                0,
-                0,
-                function_words as u64,
-                type_words as u64,
-                diagnostics as u64,
-                message_bytes as u64,
-            ];
-        }
-        Checked::Refused { number, place } => {
-            return [number as u64, place as u64, 0, 0, 0, 0];
-        }
-    }
-}
+ghost use Rattle.shelfstork.specs.Told.{Tells};
 
 // Typechecker::check, of whatever is given; `text` is the library text.
 #[no_mangle]
@@ -63,5 +36,5 @@ pub extern "C" fn shelfstork_check<'a>(
         messages,
         scratch,
     );
-    *answer = numbers(checked);
+    *answer = ending::numbers(checked);
 }

@@ -1,5 +1,5 @@
 -- `checker::check` meets its contract: a refusal before the walk, or the walk. Assumes nothing.
-use Rattle.checker.proofs.Ends.{refused-before, passed-before}
+use Rattle.ending.specs.Ends.{refused-before, passed-before}
 use borrow.Author.Needs.{needs}
 use Rattle.checker.proofs.check.Statement.{statement}
 use Rattle.checker.proofs.check.Tie as tie

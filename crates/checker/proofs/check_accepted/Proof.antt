@@ -1,5 +1,5 @@
 -- `checker::check_accepted` meets its contract: the walk, and what is left in the buffers. Assumes nothing.
-use Rattle.checker.proofs.Ends.{accepted-ends}
+use Rattle.ending.specs.Ends.{accepted-ends}
 use borrow.Author.Needs.{needs}
 use Rattle.checker.proofs.check_accepted.Statement.{statement}
 use Rattle.checker.proofs.check_accepted.Tie as tie

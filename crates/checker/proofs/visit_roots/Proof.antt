@@ -6,7 +6,7 @@ use lib.ListN.{replicate}
 use denote.Ref.{now}
 use Rattle.tok.specs.Text.{textsOf}
 use Rattle.places.specs.Places.{placesIn, noPlaces, placesOf}
-use Rattle.checker.proofs.Ends.{roots-counted, roots-visited}
+use Rattle.checker.proofs.Walks.{roots-counted, roots-visited}
 use borrow.Author.Needs.{needs}
 use Rattle.checker.proofs.visit_roots.Statement.{statement}
 use Rattle.checker.proofs.visit_roots.Tie as tie

@@ -1,7 +1,7 @@
 -- `checker::walk` meets its contract: one law for each return. Assumes nothing.
 use mathlib.Core.Path.{refl}
 use denote.Ref.{now}
-use Rattle.checker.proofs.Ends.{walk-refused, roots-ready, walk-roots}
+use Rattle.checker.proofs.Walks.{walk-refused, roots-ready, walk-roots}
 use borrow.Author.Needs.{needs}
 use Rattle.checker.proofs.walk.Statement.{statement}
 use Rattle.checker.proofs.walk.Tie as tie

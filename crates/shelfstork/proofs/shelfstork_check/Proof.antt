@@ -6,7 +6,7 @@ use Rattle.shelfstork.proofs.shelfstork_check.Tie as tie
 use Rattle.shelfstork.proofs.shelfstork_check.Reads as reads
 use Rattle.shelfstork.proofs.shelfstork_check.Lts as lts
 use Rattle.checker.proofs.check.Reads as check-reads
-use Rattle.shelfstork.proofs.numbers.Reads as numbers-reads
+use Rattle.ending.proofs.numbers.Reads as numbers-reads
 
 -- src/lib.rt:50:9
 check-requires : tie.Need-check-requires

@@ -1,0 +1,2 @@
+-- The way out of `bench`.
+mod Ways

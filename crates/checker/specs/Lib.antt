@@ -1,3 +1,0 @@
--- What the check answers.
-pub mod Demands
-pub mod Ended

@@ -1,0 +1,2 @@
+-- The mission's demands, of what the check answers.
+pub mod Demands

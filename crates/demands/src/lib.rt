@@ -1,0 +1,1 @@
+// Theorems about what the check answers; no code.

@@ -1,0 +1,2 @@
+-- What is left in the buffers.
+mod Left
