@@ -51,6 +51,7 @@ still-kept = record {
   frame = λ {s} {u} h. record { used = h .used };
   alone = λ {s} {u} h. record { used = h .used };
   holds = λ p s. record { used = refl };
+  logs = λ l s. record { used = refl };
   typesFull = tt;
   tooDeep = tt;
   toldFull = tt;

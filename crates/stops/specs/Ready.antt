@@ -137,6 +137,7 @@ leaves-kept ys = record {
   frame = λ {s} {u} h. record { left = h .left };
   alone = λ {s} {u} h. record { left = h .left };
   holds = λ p s. record { left = λ q l. refl };
+  logs = λ l s. record { left = λ q l. refl };
   typesFull = tt;
   tooDeep = tt;
   toldFull = tt;

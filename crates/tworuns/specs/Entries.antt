@@ -71,6 +71,7 @@ module _ (before : List ℕ) where
     frame = λ {s} {u} x h. record { functions = x h .functions };
     alone = λ {s} {u} x h. record { functions = x (record { functions = h .functions }) .functions };
     holds = λ p s h. record { functions = h .functions };
+    logs = λ l s h. record { functions = h .functions };
     typesFull = λ e. omega arith;
     tooDeep = λ e. omega arith;
     toldFull = λ e. omega arith;
