@@ -44,6 +44,11 @@ pub data Logs (Q : ℕ → Type 0) {A : Type 0} : Result Log Refusal A → Type 
   logged : {a : A} {l : Log} → Logs Q (ok a l)
   unlogged : {r : Refusal} → Q (r .number) → Logs Q (refused r)
 
+-- any step does so where every number has Q
+pub logs-all : {Q : ℕ → Type 0} → ((k : ℕ) → Q k) → {A : Type 0} (r : Result Log Refusal A) → Logs Q r
+logs-all h (ok a l) = logged
+logs-all h (refused r) = unlogged (h (r .number))
+
 -- What is asked of R and Q: a preorder with the primitive steps in it, but for `enter`, and the three refusals of the walk.
 pub record StepsKeep (R : World → World → Type 0) (Q P : ℕ → Type 0) : Type 0 where
   pub same : (s : World) → R s s
