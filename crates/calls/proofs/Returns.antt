@@ -24,7 +24,7 @@ use Rattle.state.specs.declared.Used.{Used}
 use Rattle.state.specs.declared.Step.{Step}
 use Rattle.state.specs.Context.{ctx}
 use Rattle.state.specs.Reporting.{poisonOf, poisons-step}
-use Rattle.state.specs.World.{Rest, stepped, Steps}
+use Rattle.state.specs.World.{Rest, stepped, Steps, moreOf}
 use Rattle.own_call.specs.OwnCalls.{OwnCalls}
 use Rattle.visit.specs.declared.State.{State}
 use Rattle.visit.specs.declared.Visit.{Visit}
@@ -104,7 +104,7 @@ field-told {image} n st z et ep en {d} {m} {d′} {m′} {x} p er ev c slot give
 
 -- what a world has beside slots, types, diagnostics and messages
 abbrev restIn : World → Rest
-restIn w = record { functions = w .functions; env = w .env; packages = w .packages; own = w .own }
+restIn w = record { functions = w .functions; env = w .env; packages = w .packages; own = w .own; more = moreOf (w .log) }
 
 pub own-visits : (T : Texts) (n slot name : ℕ) (given : List Provided) (st : State) {s f t d m s′ d′ m′ : List ℕ} {r : Step} {v : Visit} → OwnCalls T n slot name given f (st .functions) s t d m (st .used) s′ d′ m′ r
     → v ≡ visitOf st r → (ls : List Package) (v₀ : ℕ) (words e : List ℕ) → Visits (resolveCall (ctx T ls v₀) n slot name given) 0 0 words st (lent s f t d m e) (lent s′ f t d′ m′ e) v

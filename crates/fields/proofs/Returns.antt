@@ -42,11 +42,11 @@ module _ (n k : ℕ) (st : State) {t t′ : List ℕ} {a : Added} (p : Adds (λ 
   opened-is words s f d m e = ap (raised (whole words st (lent s f t d m e))) (p .result (textsOf [] []) n)
 
   pub opened-put : {w more : ℕ} → a ≡ A.Put w more
-      → (words s f d m e : List ℕ) → Gives (onTypes (opened n k)) 0 0 words st (lent s f t d m e) (lent s f t′ d m e) (G.Word w (withUsed st (record { types = more; told = st .used .told })))
+      → (words s f d m e : List ℕ) → Gives (onTypes (opened n k)) 0 0 words st (lent s f t d m e) (lent s f t′ d m e) (G.Word w (withUsed st (record { types = more; told = st .used .told; kept = st .used .kept })))
   unfolding raised gaveIn
   opened-put {w} {more} ea words s f d m e = record {
     step = opened-is words s f d m e ∙ rw ea refl;
-    keeps = gives (within-plain st (record { types = more; told = st .used .told }) s t d m s t′ d m f e);
+    keeps = gives (within-plain st (record { types = more; told = st .used .told; kept = st .used .kept }) s t d m s t′ d m f e);
   }
 
   pub opened-full : a ≡ A.Full → (words s f d m e : List ℕ) → Gives (onTypes (opened n k)) 0 0 words st (lent s f t d m e) (lent s f t′ d m e) (G.Refused 7 n)

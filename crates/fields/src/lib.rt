@@ -33,12 +33,14 @@ fn open(types: &mut [u32], st: State, n: u32, k: usize) -> Gave
     match added {
         Added::Put(word, after) => {
             let counts = used.told;
+            let kept = used.kept;
             return Gave::Word(
                 word,
                 State {
                     used: Used {
                         types: after,
                         told: counts,
+                        kept,
                     },
                     base: st.base,
                     depth: st.depth,

@@ -63,11 +63,13 @@ pub fn one_argument(
     operators::store(slots, slot, w);
     names::bind_name(scratch, st.base, st.depth, name, w);
     let counts = used.told;
+    let kept = used.kept;
     Walked::On(names::one_more(
         st,
         Used {
             types: more,
             told: counts,
+            kept,
         },
     ))
 }

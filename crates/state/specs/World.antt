@@ -28,6 +28,10 @@ noMore = record {}
 abbrev pub logOf : More → Kept → Log
 logOf o k = record {}
 
+-- and back
+abbrev pub moreOf : Log → More
+moreOf l = record {}
+
 -- what a plain step neither reads nor changes
 pub record Rest : Type 0 where
   pub functions : Buffer
