@@ -7,7 +7,7 @@ use mathlib.Core.Bool.{Bool, true, false}
 use mathlib.Core.Option.{Option, none, some}
 use mathlib.Core.List.{List, [], _∷_, _++_}
 use lib.ListN.{length, length-append}
-use Rattle.tok.specs.Step.{Result, ok, refused, Refusal, next, _>>=_}
+use Rattle.tok.specs.Step.{Result, ok, refused, Refusal, Step, next, _>>=_}
 use Rattle.ptype.specs.Add.{append}
 use Rattle.ast.specs.TypeExpr.{TypeExpr, Arg}
 use Rattle.ast.specs.Node.{Node, Nodes, Cases, Values, Atom, Ident, Bin, Unary, Let, Fn, Match, Call, Field, Cast, Import, Extern, Record, Array, Absent, done, then, noCase, case, noValue, value, rootsOf}
@@ -18,13 +18,13 @@ use Rattle.ast.specs.Image.{nodeCount}
 use Rattle.library.specs.Package.{Param, poolOf}
 use Rattle.refusals.specs.Inputs.{Inputs, Buffers}
 use Rattle.rules.specs.declared.Answer.{Answer}
-use Rattle.rules.specs.World.{Ctx, World, Walk, withEnv}
-use Rattle.rules.specs.Steps.{Done, framed, apart, onOption, pairsOf, entryOf, enter}
+use Rattle.rules.specs.World.{Ctx, Log, World, Walk, withEnv}
+use Rattle.rules.specs.Steps.{Done, onLog, framed, apart, onOption, pairsOf, entryOf, enter}
 use Rattle.rules.specs.Calls.{Callee, ownFunction, packageFunction, throughField, noCallee, Provided, calleeOf, providedOf, resolveCall, resolvePkgCall, call}
 use Rattle.rules.specs.Rules.{fnArguments, fn, unlessDefined, Member, alike, silent, differs, goOn, node, block, last, visitAll, cases, values, array, members}
 use Rattle.rules.specs.Visited.{visitedBelow, visitedAmong, visitedInCases, visitedInValues, visitedIn}
 use Rattle.rules.specs.Walk.{ctxOf, startOf, copyPool, walkFirst, walk, walkOf}
-use Rattle.laws.specs.Keeps.{Keeps, kept, stopped, StepsKeep}
+use Rattle.laws.specs.Keeps.{Keeps, kept, stopped, StepsKeep, logs-all}
 use Rattle.laws.specs.Keeps as K
 use Rattle.accepts.specs.Count.{total, total-append}
 use Rattle.accepts.specs.Passed.{Passed}
@@ -51,6 +51,7 @@ still-kept = record {
   frame = λ {s} {u} h. record { used = h .used };
   alone = λ {s} {u} h. record { used = h .used };
   holds = λ p s. record { used = refl };
+  logs = λ l s. record { used = refl };
   typesFull = tt;
   tooDeep = tt;
   toldFull = tt;
@@ -101,6 +102,10 @@ first-none {k = k} f x y s = then-spends 0 k (omega arith) f (still (x s)) (λ a
 
 then-none : {A C : Type 0} {B : A → Type 0} {m : Walk A} {k : ℕ} (f : A → Walk C) → Costs B k m → ((a : A) → In (f a)) → Costs Some k (_>>=_ m f)
 then-none {k = k} f x y s = then-spends k 0 (omega arith) f (x s) (λ a _ u. still (y a u))
+
+-- a step of the log uses none
+log-none : {A : Type 0} (m : Step Log Refusal A) → In (onLog m)
+log-none m = K.in-onLog Still Any Any still-kept m (λ l. logs-all (λ _. tt) (m l))
 
 -- "a block has its own frame", "a function body sees only its arguments": the environment taken back
 back : {A : Type 0} {B : A → Type 0} {s t : World} {r : Result World Refusal A} {k : ℕ} → t .functions .used ≡ s .functions .used → Spends B k t r

@@ -11,14 +11,14 @@ use borrow.Author.Tests.{leb-true}
 use Rattle.tok.specs.Step.{Result, ok, refused, Refusal}
 use Rattle.tok.specs.Reader.{Cursor}
 use Rattle.ptype.specs.Words.{voidWord}
-use Rattle.ptype.specs.Add.{Buffer, typeRoom}
+use Rattle.ptype.specs.Add.{Buffer, buffer, typeRoom, write}
 use Rattle.library.specs.Package.{poolOf}
 use Rattle.ast.specs.Image.{rootCount, slotCount}
 use Rattle.ast.specs.Node.{rootsOf}
 use Rattle.ast.specs.ImageFault.{Outlines}
 use Rattle.refusals.specs.Inputs.{Inputs, Buffers}
 use Rattle.refusals.specs.Refusals.{orElse, refusalOfOutlines, refusalOfImage, refusalOf}
-use Rattle.rules.specs.World.{World}
+use Rattle.rules.specs.World.{World, withTypes}
 use Rattle.rules.specs.Steps.{Done}
 use Rattle.rules.specs.Walk.{emptySlots, startOf, copyPool, walk, walkOf}
 use Rattle.rules.specs.Check.{endOf, unlessRefused, checkOf}
@@ -65,7 +65,7 @@ unfolding walkOf walk copyPool
 walk-limits i b =
     at-walk Stays Any Any limits-kept limits-enters i (rootCount (i .image)) (startOf i b) (all-among (λ _. tt) _)
     (at-when Stays Any Any limits-kept _ _ _ (startOf i b)
-    (λ e. kept (λ h. record {
+    (λ e. kept {u = withTypes (startOf i b) (buffer (write (startOf i b .types .words) 0 (poolOf (i .library))) (length (poolOf (i .library))))} (λ h. record {
       types = rw (length-write (startOf i b .types .words) 0 (poolOf (i .library))) (leb-true (length (poolOf (i .library))) (typeRoom (startOf i b .types)) e);
       diagnostics = h .diagnostics;
       messages = h .messages;

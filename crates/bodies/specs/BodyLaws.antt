@@ -21,7 +21,7 @@ use Rattle.visit.specs.declared.Visit.the-variants as X
 use Rattle.visit.specs.declared.Gave.{Gave}
 use Rattle.visit.specs.declared.Gave.the-variants as G
 use Rattle.state.specs.declared.Step.{Step}
-use Rattle.state.specs.World.{Steps}
+use Rattle.state.specs.World.{More, Steps}
 use Rattle.visit.specs.Plain.{visitOf, steps-visits}
 use Rattle.visit.specs.Whole.{Lent, lent, whole, visited}
 use Rattle.visit.specs.Within.{top, Within, within-then, Keeps, knows, poisons, refuses, Visits}
@@ -120,8 +120,8 @@ gives-inner c image at n st ei es en er ec x = rw (← ei, ← es, ← en, ← e
 pub ends-visit : (c : Ctx) (image : List ℕ) (at n ret : ℕ) (computed : Answer) (inside before : State) {slot name expr : ℕ} {left : State} {s t d m s′ d′ m′ : List ℕ} {step : Step} {v : Visit}
     → slot ≡ slotAt image at → name ≡ nameAt image at → expr ≡ wordAt image (at + 3) → left ≡ leftOf inside before → v ≡ visitOf left step
     → Steps (fnEnd c n slot name (typeOf image expr) ret computed) s t d m (inside .used) s′ t d′ m′ step
-    → (words f e : List ℕ) → Visits (endAt c image at n ret computed) 0 0 words (leftOf inside before) (lent s f t d m e) (lent s′ f t d′ m′ e) v
-ends-visit c image at n ret computed inside before es en ex el ev x words f e = rw (ev, el, ← es, ← en, ← ex) (steps-visits x words f e)
+    → (words f e : List ℕ) (o : More) → Visits (endAt c image at n ret computed) 0 0 words (leftOf inside before) (lent s f t d m e o) (lent s′ f t d′ m′ e o) v
+ends-visit c image at n ret computed inside before es en ex el ev x words f e o = rw (ev, el, ← es, ← en, ← ex) (steps-visits x words f e o)
 
 -- ── The body ──
 

@@ -5,6 +5,7 @@ ghost use Prim.Native.Nat.{ℕ};
 ghost use Rattle.tok.specs.Text.{Texts, textsOf};
 ghost use Rattle.library.specs.Package.{Package};
 ghost use Rattle.state.specs.Context.{ctx};
+ghost use Rattle.state.specs.World.{More};
 ghost use Rattle.visit.specs.Whole.{Lent, lent};
 ghost use Rattle.visit.specs.Within.{Visits};
 ghost use Rattle.visiting.specs.Then.{leftOf};
@@ -55,9 +56,10 @@ pub fn begin<'a>(
 ) -> Begun
     requires { ⌜ BeginReady (now image) (now places) at st (now functions) (now scratch) ⌝ }
     ensures { λ r. let T : Texts = textsOf (now (script .entry)) (now (library .entry)) in
-        let b : Lent = lent (now (slots .entry)) (now (functions .entry)) (now (types .entry)) (now (diagnostics .entry)) (now (messages .entry)) (now (scratch .entry)) in
-        let b′ : Lent = lent (now (slots .exit)) (now (functions .exit)) (now (types .exit)) (now (diagnostics .exit)) (now (messages .exit)) (now (scratch .exit)) in
-        ⌜ ((ls : List Package) (v : ℕ) (words : List ℕ) → Begins (ctx T ls v) (now (image .entry)) at n words st b b′ r) ⌝ }
+        ⌜ ((ls : List Package) (v : ℕ) (words : List ℕ) (o : More) →
+        let b : Lent = lent (now (slots .entry)) (now (functions .entry)) (now (types .entry)) (now (diagnostics .entry)) (now (messages .entry)) (now (scratch .entry)) o in
+        let b′ : Lent = lent (now (slots .exit)) (now (functions .exit)) (now (types .exit)) (now (diagnostics .exit)) (now (messages .exit)) (now (scratch .exit)) o in
+        Begins (ctx T ls v) (now (image .entry)) at n words st b b′ r) ⌝ }
 {
     let name = word_at(image, at + 2);
     let met = functions::unless_defined(
@@ -114,9 +116,9 @@ pub fn end<'a>(
 ) -> Visit
     requires { ⌜ EndReady (now image) (now places) at ⌝ }
     ensures { λ r. let T : Texts = textsOf (now (script .entry)) (now (library .entry)) in
-        ⌜ ((ls : List Package) (v : ℕ) (words f e : List ℕ) →
-        let b : Lent = lent (now (slots .entry)) f (now (types .entry)) (now (diagnostics .entry)) (now (messages .entry)) e in
-        let b′ : Lent = lent (now (slots .exit)) f (now (types .entry)) (now (diagnostics .exit)) (now (messages .exit)) e in
+        ⌜ ((ls : List Package) (v : ℕ) (words f e : List ℕ) (o : More) →
+        let b : Lent = lent (now (slots .entry)) f (now (types .entry)) (now (diagnostics .entry)) (now (messages .entry)) e o in
+        let b′ : Lent = lent (now (slots .exit)) f (now (types .entry)) (now (diagnostics .exit)) (now (messages .exit)) e o in
         Visits (endAt (ctx T ls v) (now (image .entry)) at n ret computed) 0 0 words (leftOf inside before) b b′ r) ⌝ }
 {
     let used = inside.used;

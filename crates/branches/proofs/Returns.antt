@@ -27,7 +27,7 @@ use Rattle.state.specs.declared.Step.the-variants as S
 use Rattle.state.specs.declared.Went.{Went}
 use Rattle.state.specs.declared.Went.the-variants as W
 use Rattle.state.specs.Context.{ctx}
-use Rattle.state.specs.World.{gone, stepped, Steps, Goes}
+use Rattle.state.specs.World.{More, gone, stepped, Steps, Goes}
 use Rattle.visit.specs.declared.State.{State}
 use Rattle.visit.specs.declared.Visit.{Visit}
 use Rattle.visit.specs.declared.Visit.the-variants as X
@@ -43,8 +43,8 @@ use Rattle.branches.specs.Branches.{answerOf, isField, nodeAnswer, bodyA
 
 pub condition-walks : (T : Texts) (image : List ℕ) (n at : ℕ) (a : Answer) (st : State) {s t d m d′ m′ : List ℕ} {token : ℕ} {went : Went} {r : Walked} → token ≡ getD image at 0
     → ((ls : List Package) (v : ℕ) → Goes (condition (ctx T ls v) n token a) s t d m (st .used) s t d′ m′ went) → r ≡ walkedOf st went
-    → (ls : List Package) (v : ℕ) (words f e : List ℕ) → Walks (condition (ctx T ls v) n (wordAt image at) a) 0 0 words st (lent s f t d m e) (lent s f t d′ m′ e) r
-condition-walks T image n at a st et g er ls v words f e = rw (er, ← et) (goes-walks (g ls v) words f e)
+    → (ls : List Package) (v : ℕ) (words f e : List ℕ) (o : More) → Walks (condition (ctx T ls v) n (wordAt image at) a) 0 0 words st (lent s f t d m e o) (lent s f t d′ m′ e o) r
+condition-walks T image n at a st et g er ls v words f e o = rw (er, ← et) (goes-walks (g ls v) words f e o)
 
 -- ── What a node and a body answered ──
 
@@ -91,24 +91,24 @@ module _ (image slots : List ℕ) (at : ℕ) {count : ℕ} where
 -- ── The end of a Match ──
 
 module _ (T : Texts) (n own : ℕ) (bs : List Branch) (st : State) (s t d m : List ℕ) {default : Answer} where
-  pub end-poisoned : default ≡ Poison → (ls : List Package) (v : ℕ) (words f e : List ℕ) → Visits (matched (ctx T ls v) n own bs default) 0 0 words st (lent s f t d m e) (lent s f t d m e) (X.Poison st)
+  pub end-poisoned : default ≡ Poison → (ls : List Package) (v : ℕ) (words f e : List ℕ) (o : More) → Visits (matched (ctx T ls v) n own bs default) 0 0 words st (lent s f t d m e o) (lent s f t d m e o) (X.Poison st)
   unfolding matched
-  end-poisoned q ls v words f e = visits-poison _ words st (lent s f t d m e) q
+  end-poisoned q ls v words f e o = visits-poison _ words st (lent s f t d m e o) q
 
   module _ {slot : ℕ} {bs′ : List Branch} (q : default ≡ Known slot) (eb : bs′ ≡ bs) {d′ m′ : List ℕ} {went : Went}
       (g : (ls : List Package) (v : ℕ) → Goes (compareBranches (ctx T ls v) n slot bs′) s t d m (st .used) s t d′ m′ went) where
     pub end-stops : {number place : ℕ} → went ≡ W.Refused number place
-        → (ls : List Package) (v : ℕ) (words f e : List ℕ) → Visits (matched (ctx T ls v) n own bs default) 0 0 words st (lent s f t d m e) (lent s f t d′ m′ e) (X.Refused number place)
+        → (ls : List Package) (v : ℕ) (words f e : List ℕ) (o : More) → Visits (matched (ctx T ls v) n own bs default) 0 0 words st (lent s f t d m e o) (lent s f t d′ m′ e o) (X.Refused number place)
     unfolding gone stepped visitOf
-    end-stops {number} {place} o ls v words f e = steps-visits {r = S.Refused number place} steps words f e
+    end-stops {number} {place} ew ls v words f e o = steps-visits {r = S.Refused number place} steps words f e o
       where
         steps : Steps (matched (ctx T ls v) n own bs default) s t d m (st .used) s t d′ m′ (S.Refused number place)
-        steps = record { step = λ rest. rw (q, ← eb, matched-known (ctx T ls v) n own bs′ slot) (ap (λ z. next z (λ _. alias own slot)) (g ls v .step rest) ∙ rw o refl) }
+        steps = record { step = λ rest. rw (q, ← eb, matched-known (ctx T ls v) n own bs′ slot) (ap (λ z. next z (λ _. alias own slot)) (g ls v .step rest) ∙ rw ew refl) }
 
     pub end-compared : {after : Used} {w : ℕ} {s′ : List ℕ} {x : Step} {r : Visit} → went ≡ W.On after → w ≡ own → ((t d m : List ℕ) → Steps (alias w slot) s t d m after s′ t d m x) → r ≡ visitOf st x
-        → (ls : List Package) (v : ℕ) (words f e : List ℕ) → Visits (matched (ctx T ls v) n own bs default) 0 0 words st (lent s f t d m e) (lent s′ f t d′ m′ e) r
+        → (ls : List Package) (v : ℕ) (words f e : List ℕ) (o : More) → Visits (matched (ctx T ls v) n own bs default) 0 0 words st (lent s f t d m e o) (lent s′ f t d′ m′ e o) r
     unfolding gone
-    end-compared {w = w} {s′ = s′} {x = x} o ew a er ls v words f e = rw er (steps-visits {r = x} steps words f e)
+    end-compared {w = w} {s′ = s′} {x = x} eg ew a er ls v words f e o = rw er (steps-visits {r = x} steps words f e o)
       where
         steps : Steps (matched (ctx T ls v) n own bs default) s t d m (st .used) s′ t d′ m′ x
-        steps = record { step = λ rest. rw (q, ← eb, ← ew, matched-known (ctx T ls v) n w bs′ slot) (ap (λ z. next z (λ _. alias w slot)) (g ls v .step rest) ∙ rw o (a t d′ m′ .step rest)) }
+        steps = record { step = λ rest. rw (q, ← eb, ← ew, matched-known (ctx T ls v) n w bs′ slot) (ap (λ z. next z (λ _. alias w slot)) (g ls v .step rest) ∙ rw eg (a t d′ m′ .step rest)) }

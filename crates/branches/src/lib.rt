@@ -9,7 +9,7 @@ ghost use Rattle.ast.specs.Image.{wordAt};
 ghost use Rattle.places.specs.NodesAt.{NodeReady};
 ghost use Rattle.rules.specs.Rules.{condition, compareBranches, matched};
 ghost use Rattle.state.specs.Context.{ctx};
-ghost use Rattle.state.specs.World.{Goes};
+ghost use Rattle.state.specs.World.{More, Goes};
 ghost use Rattle.spans.specs.Ready.{NodesReady, CasesReady};
 ghost use Rattle.visit.specs.Whole.{Lent, lent};
 ghost use Rattle.visit.specs.Within.{Visits};
@@ -43,9 +43,9 @@ pub fn condition<'a>(
     answer: Answer,
 ) -> Walked
     ensures { λ r. let T : Texts = textsOf (now (script .entry)) (now (library .entry)) in
-        ⌜ ((ls : List Package) (v : ℕ) (words f e : List ℕ) →
-        let b : Lent = lent (now (slots .entry)) f (now (types .entry)) (now (diagnostics .entry)) (now (messages .entry)) e in
-        let b′ : Lent = lent (now (slots .entry)) f (now (types .entry)) (now (diagnostics .exit)) (now (messages .exit)) e in
+        ⌜ ((ls : List Package) (v : ℕ) (words f e : List ℕ) (o : More) →
+        let b : Lent = lent (now (slots .entry)) f (now (types .entry)) (now (diagnostics .entry)) (now (messages .entry)) e o in
+        let b′ : Lent = lent (now (slots .entry)) f (now (types .entry)) (now (diagnostics .exit)) (now (messages .exit)) e o in
         Walks (condition (ctx T ls v) n (wordAt (now (image .entry)) at) answer) 0 0 words st b b′ r) ⌝ }
 {
     let used = st.used;
@@ -186,9 +186,9 @@ pub fn end<'a>(
 ) -> Visit
     requires { ⌜ CasesReady (now image) (now places) n (at + 3) (wordAt (now image) (at + 2)) ⌝ }
     ensures { λ r. let T : Texts = textsOf (now (script .entry)) (now (library .entry)) in let I : List ℕ = now (image .entry) in
-        ⌜ ((ls : List Package) (v : ℕ) (words f e : List ℕ) →
-        let b : Lent = lent (now (slots .entry)) f (now (types .entry)) (now (diagnostics .entry)) (now (messages .entry)) e in
-        let b′ : Lent = lent (now (slots .exit)) f (now (types .entry)) (now (diagnostics .exit)) (now (messages .exit)) e in
+        ⌜ ((ls : List Package) (v : ℕ) (words f e : List ℕ) (o : More) →
+        let b : Lent = lent (now (slots .entry)) f (now (types .entry)) (now (diagnostics .entry)) (now (messages .entry)) e o in
+        let b′ : Lent = lent (now (slots .exit)) f (now (types .entry)) (now (diagnostics .exit)) (now (messages .exit)) e o in
         Visits (matched (ctx T ls v) n (wordAt I (at + 1)) (branchesFrom I (now (slots .entry)) (at + 3) (wordAt I (at + 2))) default) 0 0 words st b b′ r) ⌝ }
 {
     let Answer::Known(slot) = default else {

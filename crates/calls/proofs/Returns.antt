@@ -24,7 +24,7 @@ use Rattle.state.specs.declared.Used.{Used}
 use Rattle.state.specs.declared.Step.{Step}
 use Rattle.state.specs.Context.{ctx}
 use Rattle.state.specs.Reporting.{poisonOf, poisons-step}
-use Rattle.state.specs.World.{Rest, stepped, Steps}
+use Rattle.state.specs.World.{More, Rest, stepped, Steps, moreOf}
 use Rattle.own_call.specs.OwnCalls.{OwnCalls}
 use Rattle.visit.specs.declared.State.{State}
 use Rattle.visit.specs.declared.Visit.{Visit}
@@ -95,20 +95,20 @@ field-name {image} {places} {at} c {t} {p} et ep = by (ℕ-discrete (kindOf (get
 
 pub field-told : {image places : List ℕ} {at : ℕ} (n : ℕ) (st : State) → FieldCall image places at → {t p name : ℕ} → t ≡ getD image (at + 2) 0 → p ≡ getD places t 0 → name ≡ getD image (p + 3) 0
     → {d m d′ m′ : List ℕ} {x : Reported} {r : Step} {v : Visit} → Reports (callThroughField name) d m (st .used .told) d′ m′ x → r ≡ poisonOf n (st .used) x → v ≡ visitOf st r
-    → (c : Ctx) (slot : ℕ) (given : List Provided) (visits : Walk Bool) (words s f t e : List ℕ) → Visits (call c n slot (calleeAt image at) given visits) 0 0 words st (lent s f t d m e) (lent s f t d′ m′ e) v
+    → (c : Ctx) (slot : ℕ) (given : List Provided) (visits : Walk Bool) (words s f t e : List ℕ) (o : More) → Visits (call c n slot (calleeAt image at) given visits) 0 0 words st (lent s f t d m e o) (lent s f t d′ m′ e o) v
 unfolding call
-field-told {image} n st z et ep en {d} {m} {d′} {m′} {x} p er ev c slot given visits words s f t e =
-    rw (field-name z et ep, ← en, ev, er) (steps-visits {rule = poison n (callThroughField _)} (poisons-step n {s = s} {t = t} {u = st .used} p) words f e)
+field-told {image} n st z et ep en {d} {m} {d′} {m′} {x} p er ev c slot given visits words s f t e o =
+    rw (field-name z et ep, ← en, ev, er) (steps-visits {rule = poison n (callThroughField _)} (poisons-step n {s = s} {t = t} {u = st .used} p) words f e o)
 
 -- ── A call of an own function ──
 
 -- what a world has beside slots, types, diagnostics and messages
 abbrev restIn : World → Rest
-restIn w = record { functions = w .functions; env = w .env; packages = w .packages; own = w .own }
+restIn w = record { functions = w .functions; env = w .env; packages = w .packages; own = w .own; more = moreOf (w .log) }
 
 pub own-visits : (T : Texts) (n slot name : ℕ) (given : List Provided) (st : State) {s f t d m s′ d′ m′ : List ℕ} {r : Step} {v : Visit} → OwnCalls T n slot name given f (st .functions) s t d m (st .used) s′ d′ m′ r
-    → v ≡ visitOf st r → (ls : List Package) (v₀ : ℕ) (words e : List ℕ) → Visits (resolveCall (ctx T ls v₀) n slot name given) 0 0 words st (lent s f t d m e) (lent s′ f t d′ m′ e) v
-own-visits T n slot name given st {s} {f} {t} {d} {m} {s′} {d′} {m′} {r} p ev ls v₀ words e =
+    → v ≡ visitOf st r → (ls : List Package) (v₀ : ℕ) (words e : List ℕ) (o : More) → Visits (resolveCall (ctx T ls v₀) n slot name given) 0 0 words st (lent s f t d m e o) (lent s′ f t d′ m′ e o) v
+own-visits T n slot name given st {s} {f} {t} {d} {m} {s′} {d′} {m′} {r} p ev ls v₀ words e o =
     let z : Steps (λ w. stepped (restIn w) s′ t d′ m′ r) s t d m (st .used) s′ t d′ m′ r = record { step = λ rest. refl } in
-    let y = steps-visits z words f e in
-    rw ev (record { step = p .step ls v₀ (restOf words st (lent s f t d m e)) refl ∙ y .step; keeps = y .keeps })
+    let y = steps-visits z words f e o in
+    rw ev (record { step = p .step ls v₀ (restOf words st (lent s f t d m e o)) refl ∙ y .step; keeps = y .keeps })

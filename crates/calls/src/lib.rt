@@ -14,6 +14,7 @@ ghost use Rattle.rules.specs.Calls.{Provided, resolveCall, call};
 ghost use Rattle.state.specs.Context.{ctx};
 ghost use Rattle.own_call.specs.OwnCalls.{OwnReady};
 ghost use Rattle.call_args.specs.Given.{givenFrom};
+ghost use Rattle.state.specs.World.{More, noMore};
 ghost use Rattle.visit.specs.Whole.{Lent, lent};
 ghost use Rattle.visit.specs.Within.{Visits};
 ghost use Rattle.calls.specs.Callees.{calleeAt, isThroughField, callEnd, CallAt, FieldCall};
@@ -53,9 +54,9 @@ pub fn report_field(
 ) -> Visit
     requires { ⌜ FieldCall (now image) (now places) at ⌝ }
     ensures { λ r.
-        ⌜ ((c : Ctx) (slot : ℕ) (given : List Provided) (visits : Walk Bool) (words s f t e : List ℕ) →
-        let b : Lent = lent s f t (now (diagnostics .entry)) (now (messages .entry)) e in
-        let b′ : Lent = lent s f t (now (diagnostics .exit)) (now (messages .exit)) e in
+        ⌜ ((c : Ctx) (slot : ℕ) (given : List Provided) (visits : Walk Bool) (words s f t e : List ℕ) (o : More) →
+        let b : Lent = lent s f t (now (diagnostics .entry)) (now (messages .entry)) e o in
+        let b′ : Lent = lent s f t (now (diagnostics .exit)) (now (messages .exit)) e o in
         Visits (call c n slot (calleeAt (now (image .entry)) at) given visits) 0 0 words st b b′ r) ⌝ }
 {
     let used = st.used;
@@ -100,9 +101,9 @@ fn resolve_own<'a>(
 ) -> Visit
     requires { ⌜ OwnReady (now functions) (st .functions) (now image) (now places) n args count ⌝ }
     ensures { λ r. let T : Texts = textsOf (now (script .entry)) (now (library .entry)) in
-        ⌜ ((ls : List Package) (v : ℕ) (words e : List ℕ) →
-        let b : Lent = lent (now (slots .entry)) (now (functions .entry)) (now (types .entry)) (now (diagnostics .entry)) (now (messages .entry)) e in
-        let b′ : Lent = lent (now (slots .exit)) (now (functions .entry)) (now (types .entry)) (now (diagnostics .exit)) (now (messages .exit)) e in
+        ⌜ ((ls : List Package) (v : ℕ) (words e : List ℕ) (o : More) →
+        let b : Lent = lent (now (slots .entry)) (now (functions .entry)) (now (types .entry)) (now (diagnostics .entry)) (now (messages .entry)) e o in
+        let b′ : Lent = lent (now (slots .exit)) (now (functions .entry)) (now (types .entry)) (now (diagnostics .exit)) (now (messages .exit)) e o in
         Visits (resolveCall (ctx T ls v) n slot name (givenFrom (now (image .entry)) args count)) 0 0 words st b b′ r) ⌝ }
 {
     let used = st.used;
@@ -147,11 +148,11 @@ pub fn resolve<'a>(
     poisoned: bool,
 ) -> Visit
     requires { let T : Texts = textsOf (now script) (now library) in
-        ⌜ Resolvable T (now image) (now places) (now words) n at count st (lent (now slots) (now functions) (now types) (now diagnostics) (now messages) (now scratch)) ⌝ }
+        ⌜ Resolvable T (now image) (now places) (now words) n at count st (lent (now slots) (now functions) (now types) (now diagnostics) (now messages) (now scratch) noMore) ⌝ }
     ensures { λ r. let T : Texts = textsOf (now (script .entry)) (now (library .entry)) in
-        let b : Lent = lent (now (slots .entry)) (now (functions .entry)) (now (types .entry)) (now (diagnostics .entry)) (now (messages .entry)) (now (scratch .entry)) in
+        let b : Lent = lent (now (slots .entry)) (now (functions .entry)) (now (types .entry)) (now (diagnostics .entry)) (now (messages .entry)) (now (scratch .entry)) noMore in
         ⌜ ((ls : List Package) (v : ℕ) →
-        let b′ : Lent = lent (now (slots .exit)) (now (functions .entry)) (now (types .exit)) (now (diagnostics .exit)) (now (messages .exit)) (now (scratch .exit)) in
+        let b′ : Lent = lent (now (slots .exit)) (now (functions .entry)) (now (types .exit)) (now (diagnostics .exit)) (now (messages .exit)) (now (scratch .exit)) noMore in
         Visits (callEnd (ctx T ls v) n (getD (now (image .entry)) (at + 1) 0) (calleeAt (now (image .entry)) at) (givenFrom (now (image .entry)) (at + 3) count) poisoned) count 0
         (now (words .entry)) st b b′ r) ⌝ }
 {

@@ -23,6 +23,7 @@ use Rattle.state.specs.declared.Went.the-variants as W
 use Rattle.state.specs.Context.{ctx}
 use Rattle.state.specs.Signatures.{entriesFrom, entriesEnd}
 use Rattle.state.specs.Store.{envUp, externAt, heldAt, heldSize, heldFrom}
+use Rattle.state.specs.World.{More}
 use Rattle.visit.specs.declared.State.{State}
 use Rattle.visit.specs.declared.Visit.the-variants as X
 use Rattle.visit.specs.Whole.{lent, restOf, visited}
@@ -88,11 +89,11 @@ module _ {image places : List ℕ} {st : State} {e : List ℕ} {from end count :
       p : WritesFunctions image n from (start + 3) count t (st .used) e₂ t′ e′ went
       p = rw (← ec) q
 
-      pub package-refused : {number place : ℕ} {s s′ : List ℕ} → went ≡ W.Refused number place → (T : Texts) (ls : List Package) (v : ℕ) (words f d m : List ℕ)
-          → Visits (externRule (ctx T ls v) n slot name (externsFrom image from count)) (externWords (externsFrom image from count)) 0 words st (lent s f t d m e) (lent s′ f t′ d m e′) (X.Refused number place)
+      pub package-refused : {number place : ℕ} {s s′ : List ℕ} → went ≡ W.Refused number place → (T : Texts) (ls : List Package) (v : ℕ) (words f d m : List ℕ) (o : More)
+          → Visits (externRule (ctx T ls v) n slot name (externsFrom image from count)) (externWords (externsFrom image from count)) 0 words st (lent s f t d m e o) (lent s′ f t′ d m e′ o) (X.Refused number place)
       unfolding externRule functionsGiven visited
-      package-refused {s = s} eg T ls v words f d m = record {
-        step = rw (p .step T ls v (restOf words st (lent s f t d m e)) s d m, eg) refl;
+      package-refused {s = s} eg T ls v words f d m o = record {
+        step = rw (p .step T ls v (restOf words st (lent s f t d m e o)) s d m, eg) refl;
         keeps = refuses;
       }
 
@@ -142,11 +143,11 @@ module _ {image places : List ℕ} {st : State} {e : List ℕ} {from end count :
       front : take (top st) e′ ≡ take (top st) e
       front = sym (take-take (top st) start e′ above) ∙ ap (take (top st)) (whole-frame .front) ∙ take-take (top st) start e above
 
-      pub package-done : {after : Used} {at : ℕ} {s s′ : List ℕ} {st′ : State} → went ≡ W.On after → at ≡ slot → s′ ≡ set s at voidWord → st′ ≡ externHeld st after start → (T : Texts) (ls : List Package) (v : ℕ) (words f d m : List ℕ)
-          → Visits (externRule (ctx T ls v) n slot name (externsFrom image from count)) (externWords (externsFrom image from count)) 0 words st (lent s f t d m e) (lent s′ f t′ d m e′) (X.Known slot st′)
+      pub package-done : {after : Used} {at : ℕ} {s s′ : List ℕ} {st′ : State} → went ≡ W.On after → at ≡ slot → s′ ≡ set s at voidWord → st′ ≡ externHeld st after start → (T : Texts) (ls : List Package) (v : ℕ) (words f d m : List ℕ) (o : More)
+          → Visits (externRule (ctx T ls v) n slot name (externsFrom image from count)) (externWords (externsFrom image from count)) 0 words st (lent s f t d m e o) (lent s′ f t′ d m e′ o) (X.Known slot st′)
       unfolding externRule functionsGiven visited hold setKnown
-      package-done {after} {s = s} {s′} eg ea eq eu T ls v words f d m = record {
-        step = rw (p .step T ls v (restOf words st (lent s f t d m e)) s d m, eg, eu, eq, ea, held-extern words, env-front (top st) e e′ front (st .base) (st .depth) (omega arith)) refl;
+      package-done {after} {s = s} {s′} eg ea eq eu T ls v words f d m o = record {
+        step = rw (p .step T ls v (restOf words st (lent s f t d m e o)) s d m, eg, eu, eq, ea, held-extern words, env-front (top st) e e′ front (st .base) (st .depth) (omega arith)) refl;
         keeps = rw eu (knows {st′ = externHeld st after start} (record {
           base = refl;
           deeper = omega arith;

@@ -7,6 +7,7 @@ ghost use Rattle.tok.specs.Text.{Texts};
 ghost use Rattle.library.specs.Package.{Package};
 ghost use Rattle.ast.specs.Node.{externsFrom};
 ghost use Rattle.state.specs.Context.{ctx};
+ghost use Rattle.state.specs.World.{More};
 ghost use Rattle.visit.specs.Whole.{Lent, lent};
 ghost use Rattle.visit.specs.Within.{Visits};
 ghost use Rattle.room_laws.specs.Room.{externWords};
@@ -88,9 +89,9 @@ pub fn extern_package(
 ) -> Visit
     requires { ⌜ ExternReady (now image) (now places) st (now scratch) from end count ⌝ }
     ensures { λ r.
-        ⌜ ((T : Texts) (ls : List Package) (v : ℕ) (words f d m : List ℕ) →
-        let b : Lent = lent (now (slots .entry)) f (now (types .entry)) d m (now (scratch .entry)) in
-        let b′ : Lent = lent (now (slots .exit)) f (now (types .exit)) d m (now (scratch .exit)) in
+        ⌜ ((T : Texts) (ls : List Package) (v : ℕ) (words f d m : List ℕ) (o : More) →
+        let b : Lent = lent (now (slots .entry)) f (now (types .entry)) d m (now (scratch .entry)) o in
+        let b′ : Lent = lent (now (slots .exit)) f (now (types .exit)) d m (now (scratch .exit)) o in
         Visits (externRule (ctx T ls v) n slot name (externsFrom (now (image .entry)) from count)) (externWords (externsFrom (now (image .entry)) from count)) 0 words st b b′ r) ⌝ }
 {
     let size = 3 + (end - from);

@@ -39,9 +39,11 @@ pub fn extern_arguments(
         let name = word_at(image, from + 2 * k);
         add::set_pair(scratch, at + 2 * k, name, w);
         let counts = after.told;
+        let kept = after.kept;
         after = Used {
             types: more,
             told: counts,
+            kept,
         };
         k += 1;
     }
@@ -88,9 +90,11 @@ pub fn extern_function(
             };
             operators::store(scratch, at + 2 + 2 * wide(count), w);
             let counts = after.told;
+            let kept = after.kept;
             return Went::On(Used {
                 types: more,
                 told: counts,
+                kept,
             });
         }
     }

@@ -10,6 +10,7 @@ ghost use Rattle.add.specs.Parts.{opened};
 ghost use Rattle.places.specs.NodesAt.{NodeReady};
 ghost use Rattle.spans.specs.Ready.{ValuesReady};
 ghost use Rattle.rules.specs.Steps.{onTypes};
+ghost use Rattle.state.specs.World.{More};
 ghost use Rattle.visit.specs.Whole.{Lent, lent};
 ghost use Rattle.visit.specs.Within.{Visits};
 ghost use Rattle.visit.specs.Walks.{Gives};
@@ -26,19 +27,21 @@ const UNKNOWN_WORD: u32 = 0xB000_0000;
 
 // Opens the Record of node n, of k fields, and gives its word.
 fn open(types: &mut [u32], st: State, n: u32, k: usize) -> Gave
-    ensures { λ r. ⌜ ((words s f d m e : List ℕ) → Gives (onTypes (opened n k)) 0 0 words st (lent s f (now (types .entry)) d m e) (lent s f (now (types .exit)) d m e) r) ⌝ }
+    ensures { λ r. ⌜ ((words s f d m e : List ℕ) (o : More) → Gives (onTypes (opened n k)) 0 0 words st (lent s f (now (types .entry)) d m e o) (lent s f (now (types .exit)) d m e o) r) ⌝ }
 {
     let used = st.used;
     let added = add::open_record(types, used.types, k);
     match added {
         Added::Put(word, after) => {
             let counts = used.told;
+            let kept = used.kept;
             return Gave::Word(
                 word,
                 State {
                     used: Used {
                         types: after,
                         told: counts,
+                        kept,
                     },
                     base: st.base,
                     depth: st.depth,
@@ -68,9 +71,9 @@ fn close(
     word: u32,
 ) -> Visit
     requires { ⌜ at ≤ 8192 ⌝ }
-    ensures { λ r. ⌜ ((T : Texts) (words f d m e : List ℕ) →
-        let b : Lent = lent (now (slots .entry)) f (now (types .entry)) d m e in
-        let b′ : Lent = lent (now (slots .exit)) f (now (types .entry)) d m e in
+    ensures { λ r. ⌜ ((T : Texts) (words f d m e : List ℕ) (o : More) →
+        let b : Lent = lent (now (slots .entry)) f (now (types .entry)) d m e o in
+        let b′ : Lent = lent (now (slots .exit)) f (now (types .entry)) d m e o in
         Visits (recordEnd T n (getD (now (image .entry)) (at + 1) 0) word) 0 0 words st b b′ r) ⌝ }
 {
     if !add::is_shallow(types, word) {
@@ -130,9 +133,9 @@ pub fn make(
 ) -> Visit
     requires { ⌜ ValuesReady (now image) (now places) n (at + 3) count ⌝ }
     ensures { λ r. let I : List ℕ = now (image .entry) in
-        ⌜ ((T : Texts) (words f d m e : List ℕ) →
-        let b : Lent = lent (now (slots .entry)) f (now (types .entry)) d m e in
-        let b′ : Lent = lent (now (slots .exit)) f (now (types .exit)) d m e in
+        ⌜ ((T : Texts) (words f d m e : List ℕ) (o : More) →
+        let b : Lent = lent (now (slots .entry)) f (now (types .entry)) d m e o in
+        let b′ : Lent = lent (now (slots .exit)) f (now (types .exit)) d m e o in
         Visits (recordOf T n (getD I (at + 1) 0) (pairsRead I (now (slots .entry)) (at + 3) count)) 0 0 words st b b′ r) ⌝ }
 {
     let opened = open(types, st, n, count);

@@ -33,7 +33,7 @@ use Rattle.state.specs.declared.Went.the-variants as N
 use Rattle.state.specs.Context.{ctx}
 use Rattle.state.specs.Reporting.{poisonOf, poisons-step, on-steps, refused-steps}
 use Rattle.state.specs.Signatures.{entriesEnd, ownIn}
-use Rattle.state.specs.World.{Steps, Goes}
+use Rattle.state.specs.World.{More, noMore, Steps, Goes}
 use Rattle.scope.specs.declared.Own.{Own}
 use Rattle.scope.specs.declared.Own.the-variants as O
 use Rattle.scope.specs.Found.{ownOf}
@@ -58,22 +58,22 @@ use Rattle.functions.specs.Entering.{CopyRoom, EntryRoom, FnReady, enter
 -- ── A name that was met ──
 
 module _ (T : Texts) (n name : ℕ) (st : State) (f : List ℕ) (own : Own) (eo : ownOf f own ≡ findFunction T (nameBytes T name) (ownIn f (st .functions))) where
-  chosen : (o : Option Signature) → ownOf f own ≡ o → (ls : List Package) (v : ℕ) (words s t d m e : List ℕ) (r : Walk Answer)
-      → unlessDefined (ctx T ls v) n name r (whole words st (lent s f t d m e)) ≡ onOption o r (λ _. poison n (definedAlready name (nameBytes T name))) (whole words st (lent s f t d m e))
+  chosen : (q : Option Signature) → ownOf f own ≡ q → (ls : List Package) (v : ℕ) (words s t d m e : List ℕ) (o : More) (r : Walk Answer)
+      → unlessDefined (ctx T ls v) n name r (whole words st (lent s f t d m e o)) ≡ onOption q r (λ _. poison n (definedAlready name (nameBytes T name))) (whole words st (lent s f t d m e o))
   unfolding unlessDefined
-  chosen o eq ls v words s t d m e r = ap (λ x. onOption x r (λ _. poison n (definedAlready name (nameBytes T name))) (whole words st (lent s f t d m e))) (sym eo ∙ eq)
+  chosen q eq ls v words s t d m e o r = ap (λ x. onOption x r (λ _. poison n (definedAlready name (nameBytes T name))) (whole words st (lent s f t d m e o))) (sym eo ∙ eq)
 
-  pub name-new : own ≡ O.Nothing → (ls : List Package) (v : ℕ) (words s t d m e : List ℕ) → Meets (ctx T ls v) n name words st (lent s f t d m e) (lent s f t d m e) M.New
+  pub name-new : own ≡ O.Nothing → (ls : List Package) (v : ℕ) (words s t d m e : List ℕ) (o : More) → Meets (ctx T ls v) n name words st (lent s f t d m e o) (lent s f t d m e o) M.New
   unfolding onOption metIn
-  name-new eq ls v words s t d m e = record { step = λ r. chosen none (ap (λ x. ownOf f x) eq) ls v words s t d m e r; keeps = new refl }
+  name-new eq ls v words s t d m e o = record { step = λ r. chosen none (ap (λ x. ownOf f x) eq) ls v words s t d m e o r; keeps = new refl }
 
   pub name-met : {at : ℕ} {d m d′ m′ : List ℕ} {q : Reported} {r : Step} {x : Visit} → own ≡ O.At at → Reports (definedAlready name (nameBytes T name)) d m (st .used .told) d′ m′ q
       → r ≡ poisonOf n (st .used) q → x ≡ visitOf st r
-      → (ls : List Package) (v : ℕ) (words s t e : List ℕ) → Meets (ctx T ls v) n name words st (lent s f t d m e) (lent s f t d′ m′ e) (M.Already x)
+      → (ls : List Package) (v : ℕ) (words s t e : List ℕ) (o : More) → Meets (ctx T ls v) n name words st (lent s f t d m e o) (lent s f t d′ m′ e o) (M.Already x)
   unfolding onOption metIn
-  name-met {d = d} {m} eq p er ex ls v words s t e =
-      let y = steps-visits {st = st} {s = s} {t = t} (poisons-step n p) words f e in
-      rw (ex, er) (record { step = λ r. chosen _ (ap (λ x. ownOf f x) eq) ls v words s t d m e r ∙ y .step; keeps = already (y .keeps) })
+  name-met {d = d} {m} eq p er ex ls v words s t e o =
+      let y = steps-visits {st = st} {s = s} {t = t} (poisons-step n p) words f e o in
+      rw (ex, er) (record { step = λ r. chosen _ (ap (λ x. ownOf f x) eq) ls v words s t d m e o r ∙ y .step; keeps = already (y .keeps) })
 
 -- ── Pairs copied ──
 
@@ -92,16 +92,16 @@ went (goes x) = x
 
 module _ {image places f e : List ℕ} {st : State} (n slot name ret at count : ℕ) (h : FnReady image places st f e slot ret at count)
     {s t s₁ t₁ e₁ : List ℕ} (bound : Walked)
-    (p : (T : Texts) (ls : List Package) (v : ℕ) (words f d m : List ℕ) → Argues (fnArguments (ctx T ls v) n slot (argsFrom image at count)) count words st (lent s f t d m e) (lent s₁ f t₁ d m e₁) bound) where
-  pub begin-stops : {number place : ℕ} {s′ f′ t′ e′ : List ℕ} → bound ≡ W.Refused number place → (T : Texts) (ls : List Package) (v : ℕ) (words d m : List ℕ)
-      → Gives (fnBegin (ctx T ls v) n slot name (typeOf image ret) (argsFrom image at count)) (2 * count) (3 + 2 * count) words st (lent s f t d m e) (lent s′ f′ t′ d m e′) (G.Refused number place)
+    (p : (T : Texts) (ls : List Package) (v : ℕ) (words f d m : List ℕ) (o : More) → Argues (fnArguments (ctx T ls v) n slot (argsFrom image at count)) count words st (lent s f t d m e o) (lent s₁ f t₁ d m e₁ o) bound) where
+  pub begin-stops : {number place : ℕ} {s′ f′ t′ e′ : List ℕ} → bound ≡ W.Refused number place → (T : Texts) (ls : List Package) (v : ℕ) (words d m : List ℕ) (o : More)
+      → Gives (fnBegin (ctx T ls v) n slot name (typeOf image ret) (argsFrom image at count)) (2 * count) (3 + 2 * count) words st (lent s f t d m e o) (lent s′ f′ t′ d m e′ o) (G.Refused number place)
   unfolding fnBegin arguedIn gaveIn
-  begin-stops eb T ls v words d m = record { step = rw (p T ls v words f d m .step, eb) refl; keeps = K.stops }
+  begin-stops eb T ls v words d m o = record { step = rw (p T ls v words f d m o .step, eb) refl; keeps = K.stops }
 
   module _ {inner : State} (eb : bound ≡ W.On inner) where
     -- what the arguments left
-    left : Within (2 * count) 0 st (lent s f t [] [] e) inner (lent s₁ f t₁ [] [] e₁)
-    left = went (rw eb at (p (record { script = []; library = [] }) [] 0 [] f [] [] .keeps))
+    left : Within (2 * count) 0 st (lent s f t [] [] e noMore) inner (lent s₁ f t₁ [] [] e₁ noMore)
+    left = went (rw eb at (p (record { script = []; library = [] }) [] 0 [] f [] [] noMore .keeps))
 
     pub entry-room : EntryRoom f (inner .functions) (2 * (st .base + st .depth)) count
     entry-room = record {
@@ -113,30 +113,30 @@ module _ {image places f e : List ℕ} {st : State} (n slot name ret at count : 
     few-functions lt = omega (arith, ends-many f (inner .functions) 0, entry-room .room)
 
     module _ (added : Added) {t₂ : List ℕ} (y : Typed (typeOf image ret) t₁ (inner .used .types) added t₂) where
-      pub begin-refused : {k : ℕ} {s′ f′ e′ : List ℕ} → OneOf (1 ∷ 2 ∷ []) (tagOf the-type added) → k ≡ numberOf added → (T : Texts) (ls : List Package) (v : ℕ) (words d m : List ℕ)
-          → Gives (fnBegin (ctx T ls v) n slot name (typeOf image ret) (argsFrom image at count)) (2 * count) (3 + 2 * count) words st (lent s f t d m e) (lent s′ f′ t₂ d m e′) (G.Refused k n)
+      pub begin-refused : {k : ℕ} {s′ f′ e′ : List ℕ} → OneOf (1 ∷ 2 ∷ []) (tagOf the-type added) → k ≡ numberOf added → (T : Texts) (ls : List Package) (v : ℕ) (words d m : List ℕ) (o : More)
+          → Gives (fnBegin (ctx T ls v) n slot name (typeOf image ret) (argsFrom image at count)) (2 * count) (3 + 2 * count) words st (lent s f t d m e o) (lent s′ f′ t₂ d m e′ o) (G.Refused k n)
       unfolding fnBegin arguedIn gaveIn
-      begin-refused o ek T ls v words d m = record {
-        step = rw (p T ls v words f d m .step, eb, type-refused T ls v n (typeOf image ret) (restOf words inner (lent s₁ f t₁ d m e₁)) s₁ t₁ d m (inner .used) added t₂ y o, ek) refl;
+      begin-refused one ek T ls v words d m o = record {
+        step = rw (p T ls v words f d m o .step, eb, type-refused T ls v n (typeOf image ret) (restOf words inner (lent s₁ f t₁ d m e₁ o)) s₁ t₁ d m (inner .used) added t₂ y one, ek) refl;
         keeps = K.stops;
       }
 
       pub begin-done : {w more : ℕ} {f₂ : List ℕ} {st′ : State} → added ≡ A.Put w more
           → f₂ ≡ write f (entriesEnd f 0 0 (inner .functions)) (entryOf name (paramsFrom e₁ (2 * (st .base + st .depth)) count) w) → st′ ≡ enteredWith inner more
-          → (T : Texts) (ls : List Package) (v : ℕ) (words d m : List ℕ)
-          → Gives (fnBegin (ctx T ls v) n slot name (typeOf image ret) (argsFrom image at count)) (2 * count) (3 + 2 * count) words st (lent s f t d m e) (lent s₁ f₂ t₂ d m e₁) (G.Word w st′)
+          → (T : Texts) (ls : List Package) (v : ℕ) (words d m : List ℕ) (o : More)
+          → Gives (fnBegin (ctx T ls v) n slot name (typeOf image ret) (argsFrom image at count)) (2 * count) (3 + 2 * count) words st (lent s f t d m e o) (lent s₁ f₂ t₂ d m e₁ o) (G.Word w st′)
       unfolding fnBegin arguedIn gaveIn enter append
-      begin-done {w} {more} {f₂} ea ef eu T ls v words d m =
+      begin-done {w} {more} {f₂} ea ef eu T ls v words d m o =
           let ps : List Param = paramsFrom e₁ (2 * (st .base + st .depth)) count in
           let k : ℕ = inner .functions in
           let z : length ps ≡ count = length-params e₁ (2 * (st .base + st .depth)) count in
           let room : entriesEnd f 0 0 k + (3 + 2 * length ps) ≤ length f = rw z (entry-room .room) in
-          let x : Within (2 * count) 0 st (lent s f t d m e) inner (lent s₁ f t₁ d m e₁) = went (rw eb at (p T ls v words f d m .keeps)) in
+          let x : Within (2 * count) 0 st (lent s f t d m e o) inner (lent s₁ f t₁ d m e₁ o) = went (rw eb at (p T ls v words f d m o .keeps)) in
           record {
             step = rw (
-              p T ls v words f d m .step,
+              p T ls v words f d m o .step,
               eb,
-              type-word T ls v n (typeOf image ret) (restOf words inner (lent s₁ f t₁ d m e₁)) s₁ t₁ d m (inner .used) added t₂ y ea,
+              type-word T ls v n (typeOf image ret) (restOf words inner (lent s₁ f t₁ d m e₁ o)) s₁ t₁ d m (inner .used) added t₂ y ea,
               eu,
               ef,
               own-more f k name ps w room,

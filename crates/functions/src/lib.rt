@@ -12,7 +12,7 @@ ghost use Rattle.type_expr.specs.Ready.{TypeReady};
 ghost use Rattle.rules.specs.Steps.{pairsOf, entryOf};
 ghost use Rattle.state.specs.Context.{ctx};
 ghost use Rattle.state.specs.Signatures.{entriesEnd};
-ghost use Rattle.state.specs.World.{Steps};
+ghost use Rattle.state.specs.World.{More, Steps};
 ghost use Rattle.visit.specs.Whole.{Lent, lent};
 ghost use Rattle.visit.specs.Walks.{Gives};
 ghost use Rattle.functions.specs.Defined.{fnBegin, fnEnd, Meets};
@@ -51,9 +51,9 @@ pub fn unless_defined<'a>(
 ) -> Met
     requires { ⌜ entriesEnd (now functions) 0 0 (st .functions) ≤ length (now functions) ⌝ }
     ensures { λ r. let T : Texts = textsOf (now (script .entry)) (now (library .entry)) in
-        ⌜ ((ls : List Package) (v : ℕ) (words s t e : List ℕ) →
-        let b : Lent = lent s (now (functions .entry)) t (now (diagnostics .entry)) (now (messages .entry)) e in
-        let b′ : Lent = lent s (now (functions .entry)) t (now (diagnostics .exit)) (now (messages .exit)) e in
+        ⌜ ((ls : List Package) (v : ℕ) (words s t e : List ℕ) (o : More) →
+        let b : Lent = lent s (now (functions .entry)) t (now (diagnostics .entry)) (now (messages .entry)) e o in
+        let b′ : Lent = lent s (now (functions .entry)) t (now (diagnostics .exit)) (now (messages .exit)) e o in
         Meets (ctx T ls v) n name words st b b′ r) ⌝ }
 {
     let own = scope::find_own(script, library, functions, st.functions, name);
@@ -118,10 +118,12 @@ fn entered(st: State, types: usize) -> State
 {
     let used = st.used;
     let counts = used.told;
+    let kept = used.kept;
     State {
         used: Used {
             types: types,
             told: counts,
+            kept,
         },
         base: st.base,
         depth: st.depth,
@@ -150,9 +152,9 @@ pub fn fn_begin(
 ) -> Gave
     requires { ⌜ FnReady (now image) (now places) st (now functions) (now scratch) slot ret at count ⌝ }
     ensures { λ r.
-        ⌜ ((T : Texts) (ls : List Package) (v : ℕ) (words d m : List ℕ) →
-        let b : Lent = lent (now (slots .entry)) (now (functions .entry)) (now (types .entry)) d m (now (scratch .entry)) in
-        let b′ : Lent = lent (now (slots .exit)) (now (functions .exit)) (now (types .exit)) d m (now (scratch .exit)) in
+        ⌜ ((T : Texts) (ls : List Package) (v : ℕ) (words d m : List ℕ) (o : More) →
+        let b : Lent = lent (now (slots .entry)) (now (functions .entry)) (now (types .entry)) d m (now (scratch .entry)) o in
+        let b′ : Lent = lent (now (slots .exit)) (now (functions .exit)) (now (types .exit)) d m (now (scratch .exit)) o in
         Gives (fnBegin (ctx T ls v) n slot name (typeOf (now (image .entry)) ret) (argsFrom (now (image .entry)) at count)) (2 * count) (3 + 2 * count) words st b b′ r) ⌝ }
 {
     let bound = fn_arguments(slots, types, scratch, image, places, st, n, slot, at, count);

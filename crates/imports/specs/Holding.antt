@@ -25,6 +25,7 @@ use Rattle.rules.specs.World.{Ctx, World, Walk}
 use Rattle.rules.specs.Steps.{setKnown}
 use Rattle.rules.specs.Rules.{importAll, node}
 use Rattle.state.specs.Store.{envUp, heldFrom, heldEnd}
+use Rattle.state.specs.World.{More}
 use Rattle.visit.specs.declared.State.{State}
 use Rattle.visit.specs.Whole.{lent}
 use Rattle.visit.specs.Reach.{heldReach}
@@ -107,8 +108,8 @@ module _ {st : State} {e : List ℕ} (free : Free 1 st e) where
     pub names-kept : envUp (set e (st .held - 1) w) (st .base) (st .depth) ≡ envUp e (st .base) (st .depth)
     names-kept = env-front (top st) e (set e (st .held - 1) w) (take-set-le (top st) e (st .held - 1) w (omega (arith, free .between))) (st .base) (st .depth) (omega arith)
 
-    pub within-held : (s f t d m : List ℕ) → Within 1 0 st (lent s f t d m e) (oneHeld st) (lent s f t d m (set e (st .held - 1) w))
-    within-held s f t d m = record {
+    pub within-held : (s f t d m : List ℕ) (o : More) → Within 1 0 st (lent s f t d m e o) (oneHeld st) (lent s f t d m (set e (st .held - 1) w) o)
+    within-held s f t d m o = record {
       base = refl;
       deeper = omega arith;
       taken = omega (arith, free .between);

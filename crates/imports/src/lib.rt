@@ -8,6 +8,7 @@ ghost use Rattle.library.specs.Package.{packagesOf};
 ghost use Rattle.ast.specs.Node.{wordsFrom};
 ghost use Rattle.rules.specs.Rules.{importOne, importAll};
 ghost use Rattle.state.specs.Context.{ctx};
+ghost use Rattle.state.specs.World.{More};
 ghost use Rattle.visit.specs.Whole.{Lent, lent};
 ghost use Rattle.visit.specs.Within.{Visits};
 ghost use Rattle.visit.specs.Walks.{Walks};
@@ -51,9 +52,9 @@ pub fn import_one<'a>(
 ) -> Walked
     requires { ⌜ CanHold (textsOf (now script) (now library)) (now words) st (now scratch) ⌝ }
     ensures { λ r. let T : Texts = textsOf (now (script .entry)) (now (library .entry)) in let W : List ℕ = now (words .entry) in
-        ⌜ ((v : ℕ) (s f t : List ℕ) →
-        let b : Lent = lent s f t (now (diagnostics .entry)) (now (messages .entry)) (now (scratch .entry)) in
-        let b′ : Lent = lent s f t (now (diagnostics .exit)) (now (messages .exit)) (now (scratch .exit)) in
+        ⌜ ((v : ℕ) (s f t : List ℕ) (o : More) →
+        let b : Lent = lent s f t (now (diagnostics .entry)) (now (messages .entry)) (now (scratch .entry)) o in
+        let b′ : Lent = lent s f t (now (diagnostics .exit)) (now (messages .exit)) (now (scratch .exit)) o in
         Walks (importOne (ctx T (packagesOf W) v) n path) 1 0 W st b b′ r) ⌝ }
 {
     let held = scope::find_held(
@@ -109,9 +110,9 @@ pub fn import_all<'a>(
 ) -> Walked
     requires { ⌜ CanHoldAll (textsOf (now script) (now library)) (now words) st (now scratch) at count ⌝ }
     ensures { λ r. let T : Texts = textsOf (now (script .entry)) (now (library .entry)) in let W : List ℕ = now (words .entry) in
-        ⌜ ((v : ℕ) (s f t : List ℕ) →
-        let b : Lent = lent s f t (now (diagnostics .entry)) (now (messages .entry)) (now (scratch .entry)) in
-        let b′ : Lent = lent s f t (now (diagnostics .exit)) (now (messages .exit)) (now (scratch .exit)) in
+        ⌜ ((v : ℕ) (s f t : List ℕ) (o : More) →
+        let b : Lent = lent s f t (now (diagnostics .entry)) (now (messages .entry)) (now (scratch .entry)) o in
+        let b′ : Lent = lent s f t (now (diagnostics .exit)) (now (messages .exit)) (now (scratch .exit)) o in
         Walks (importAll (ctx T (packagesOf W) v) n token (wordsFrom (now (image .entry)) at count)) count 0 W st b b′ r) ⌝ }
 {
     if count == 0 {
@@ -164,9 +165,9 @@ pub fn import_node<'a>(
 ) -> Visit
     requires { ⌜ CanHoldAll (textsOf (now script) (now library)) (now words) st (now scratch) at count ⌝ }
     ensures { λ r. let T : Texts = textsOf (now (script .entry)) (now (library .entry)) in let W : List ℕ = now (words .entry) in
-        ⌜ ((v : ℕ) (f t : List ℕ) →
-        let b : Lent = lent (now (slots .entry)) f t (now (diagnostics .entry)) (now (messages .entry)) (now (scratch .entry)) in
-        let b′ : Lent = lent (now (slots .exit)) f t (now (diagnostics .exit)) (now (messages .exit)) (now (scratch .exit)) in
+        ⌜ ((v : ℕ) (f t : List ℕ) (o : More) →
+        let b : Lent = lent (now (slots .entry)) f t (now (diagnostics .entry)) (now (messages .entry)) (now (scratch .entry)) o in
+        let b′ : Lent = lent (now (slots .exit)) f t (now (diagnostics .exit)) (now (messages .exit)) (now (scratch .exit)) o in
         Visits (importRule (ctx T (packagesOf W) v) n slot token (wordsFrom (now (image .entry)) at count)) count 0 W st b b′ r) ⌝ }
 {
     let all = import_all(

@@ -128,6 +128,7 @@ module _ (v : ℕ) where
     frame = λ {s} {u} h. record { slotsLong = h .slotsLong; slotsPast = h .slotsPast; functions = h .functions; types = h .types; diagnostics = h .diagnostics; messages = h .messages };
     alone = λ {s} {u} h. record { slotsLong = h .slotsLong; slotsPast = h .slotsPast; functions = h .functions; types = h .types; diagnostics = h .diagnostics; messages = h .messages };
     holds = λ p s. rest s _ refl refl refl refl refl;
+    logs = λ l s. rest s _ refl refl refl refl refl;
     typesFull = full;
     tooDeep = deep;
     toldFull = told;

@@ -24,8 +24,8 @@ use Rattle.err.specs.Report.{sixWords, bytesOf, hasRoom, oneMore, added, tell}
 use Rattle.rules.specs.declared.Answer.{Answer}
 use Rattle.rules.specs.declared.Answer.the-variants.{Known, Poison}
 use Rattle.library.specs.Package.{Param, Signature, Function, signature, function, Package, poolOf}
-use Rattle.rules.specs.World.{Ctx, Local, World, Walk, withSlots, withFunctions, withTypes, withTold, withEnv, withPackages}
-use Rattle.rules.specs.Steps.{Done, skip, known, ifKnown, onOption, ty, tree, tyTree, setKnown, raised, onTypes, raisedTold, outputOf, report, poison, envInsert, framed, apart, hold, entryOf, enter, typeFromExpr}
+use Rattle.rules.specs.World.{Ctx, Local, World, Walk, withSlots, withFunctions, withTypes, withTold, withEnv, withPackages, Log, withLog}
+use Rattle.rules.specs.Steps.{Done, skip, known, ifKnown, onOption, ty, tree, tyTree, setKnown, raised, onTypes, raisedLog, onLog, raisedTold, outputOf, report, poison, envInsert, framed, apart, hold, entryOf, enter, typeFromExpr}
 use Rattle.rules.specs.Operators.{fuse, unary, cast}
 use Rattle.rules.specs.Calls.{Callee, ownFunction, packageFunction, throughField, noCallee, calleeOf, Provided, providedOf, compared, afterBinding, slottedArgument, plainArgument, argument, arguments, returned, checkCallArgs, resolveCall, paramTrees, providedTrees, position, allReturn, commonReturn, select, inGroup, resolvePkgCall, call}
 use Rattle.rules.specs.Rules.{ident, letBinding, fnArguments, checkReturn, fn, unlessDefined, fieldType, field, valueType, Member, alike, silent, differs, memberTypes, member, goOn, arrayOf, condition, Branch, compareBranches, matched, importOne, importAll, externFn, node, block, last, visitAll, cases, values, array, members}
@@ -38,6 +38,16 @@ use Rattle.ast.specs.Image.{nodeCount}
 pub data Keeps (R : World → World → Type 0) (Q : ℕ → Type 0) (s : World) {A : Type 0} : Result World Refusal A → Type 0 where
   kept : {a : A} {u : World} → R s u → Keeps R Q s (ok a u)
   stopped : {r : Refusal} → Q (r .number) → Keeps R Q s (refused r)
+
+-- what a step of the log comes to: a log, or a refusal whose number has Q
+pub data Logs (Q : ℕ → Type 0) {A : Type 0} : Result Log Refusal A → Type 0 where
+  logged : {a : A} {l : Log} → Logs Q (ok a l)
+  unlogged : {r : Refusal} → Q (r .number) → Logs Q (refused r)
+
+-- any step does so where every number has Q
+pub logs-all : {Q : ℕ → Type 0} → ((k : ℕ) → Q k) → {A : Type 0} (r : Result Log Refusal A) → Logs Q r
+logs-all h (ok a l) = logged
+logs-all h (refused r) = unlogged (h (r .number))
 
 -- What is asked of R and Q: a preorder with the primitive steps in it, but for `enter`, and the three refusals of the walk.
 pub record StepsKeep (R : World → World → Type 0) (Q P : ℕ → Type 0) : Type 0 where
@@ -52,6 +62,7 @@ pub record StepsKeep (R : World → World → Type 0) (Q P : ℕ → Type 0) : T
   pub frame : {s u : World} → R s u → R s (withEnv u (s .env))
   pub alone : {s u : World} → R (withEnv s []) u → R s (withEnv u (s .env))
   pub holds : (p : Package) (s : World) → R s (withPackages s (p ∷ s .packages))
+  pub logs : (l : Log) (s : World) → R s (withLog s l)
   pub typesFull : Q 7
   pub tooDeep : Q 8
   pub toldFull : Q 9
@@ -143,6 +154,15 @@ module _ (R : World → World → Type 0) (Q P : ℕ → Type 0) (law : StepsKee
   pub in-poison : (n : ℕ) (d : Diagnostic) → In (poison n d)
   unfolding poison
   in-poison n d = in-next _ (in-report n d) λ _. in-return Poison
+
+  at-log : {A : Type 0} (s : World) {r : Result Log Refusal A} → Logs Q r → Keeps R Q s (raisedLog s r)
+  unfolding raisedLog
+  at-log s (logged {l = l}) = kept (law .logs l s)
+  at-log s (unlogged q) = stopped q
+
+  pub in-onLog : {A : Type 0} (m : Step Log Refusal A) → ((l : Log) → Logs Q (m l)) → In (onLog m)
+  unfolding onLog
+  in-onLog m h s = at-log s (h (s .log))
 
   pub in-insert : (name : ℕ) (t : Option ℕ) → In (envInsert name t)
   unfolding envInsert

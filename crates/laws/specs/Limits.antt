@@ -66,6 +66,7 @@ limits-kept = record {
       let i : Within u = x (record { types = h .types; diagnostics = h .diagnostics; messages = h .messages }) in
       record { types = i .types; diagnostics = i .diagnostics; messages = i .messages };
   holds = λ p s h. record { types = h .types; diagnostics = h .diagnostics; messages = h .messages };
+  logs = λ l s h. record { types = h .types; diagnostics = h .diagnostics; messages = h .messages };
   typesFull = tt;
   tooDeep = tt;
   toldFull = tt;

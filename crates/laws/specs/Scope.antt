@@ -47,6 +47,7 @@ scope-kept = record {
   frame = λ {s} {u} h. record { env = still s .env; packages = h .packages; own = h .own };
   alone = λ {s} {u} h. record { env = still s .env; packages = h .packages; own = h .own };
   holds = λ p s. record { env = still s .env; packages = front-one p (s .packages); own = still s .own };
+  logs = λ l s. record { env = still s .env; packages = still s .packages; own = still s .own };
   typesFull = tt;
   tooDeep = tt;
   toldFull = tt;

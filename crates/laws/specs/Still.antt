@@ -32,6 +32,7 @@ module _ (a : ℕ) where
     frame = λ {s} {u} h. record { still = h .still };
     alone = λ {s} {u} h. record { still = h .still };
     holds = λ p s. unmoved refl;
+    logs = λ l s. unmoved refl;
     typesFull = tt;
     tooDeep = tt;
     toldFull = tt;

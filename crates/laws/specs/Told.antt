@@ -23,14 +23,14 @@ use Rattle.err.specs.Message.{Diagnostic, redundantCast, argumentCount, noSpeci
 use Rattle.library.specs.Package.{Signature, pkg}
 use Rattle.rules.specs.declared.Answer.{Answer}
 use Rattle.rules.specs.declared.Answer.the-variants.{Known, Poison}
-use Rattle.rules.specs.World.{Ctx, Local, World, Walk, withEnv}
-use Rattle.rules.specs.Steps.{known, onOption, ty, tree, setKnown, onTypes, report, poison, envInsert, framed, apart, hold, enter, typeFromExpr}
+use Rattle.rules.specs.World.{Ctx, Local, Log, World, Walk, withEnv}
+use Rattle.rules.specs.Steps.{known, onOption, ty, tree, setKnown, onTypes, onLog, report, poison, envInsert, framed, apart, hold, enter, typeFromExpr}
 use Rattle.rules.specs.Operators.{fuse, unary, cast}
 use Rattle.rules.specs.Calls.{Callee, ownFunction, packageFunction, throughField, noCallee, Provided, calleeOf, providedOf, arguments, returned, paramTrees, providedTrees, position, allReturn, checkCallArgs, resolveCall, commonReturn, select, inGroup, resolvePkgCall, call}
 use Rattle.rules.specs.Rules.{ident, letBinding, fnArguments, checkReturn, fn, unlessDefined, fieldType, field, Member, alike, silent, differs, member, goOn, arrayOf, Branch, compareBranches, matched, importAll, externFn, node, block, last, visitAll, cases, values, array, members}
 use Rattle.laws.specs.SlotsOf.{ArgSlots, SlotsOf, SlotsOfAll, PartsOf, lastNode, LastOf}
 use Rattle.laws.specs.Keeps as K
-use Rattle.laws.specs.Keeps.{Keeps, kept, stopped}
+use Rattle.laws.specs.Keeps.{Keeps, kept, stopped, logs-all}
 use Rattle.laws.specs.Still.{Still, Any, Other, still-kept, still-enters}
 
 -- a Field node reads fields
@@ -105,6 +105,9 @@ module _ (F : Type 0) (a w : ℕ) where
 
   k-types : {A : Type 0} (m : Step Buffer Refusal A) → K.InT (Still a) Any (Other a) (still-kept a) m → Leaves (onTypes m)
   k-types m h = K.in-onTypes (Still a) Any (Other a) (still-kept a) m h
+
+  k-log : {A : Type 0} (m : Step Log Refusal A) → Leaves (onLog m)
+  k-log m = K.in-onLog (Still a) Any (Other a) (still-kept a) m (λ l. logs-all (λ _. tt) (m l))
 
   k-next : {A B : Type 0} {m : Walk A} (f : A → Walk B) → Leaves m → ((x : A) → Leaves (f x)) → Leaves (_>>=_ m f)
   k-next f h k = K.in-next (Still a) Any (Other a) (still-kept a) f h k

@@ -4,6 +4,7 @@ ghost use mathlib.Core.List.{List};
 ghost use Prim.Native.Nat.{ℕ, _<_};
 ghost use Rattle.tok.specs.Text.{Texts, textsOf};
 ghost use Rattle.tok.specs.Word.{wordOf};
+ghost use Rattle.state.specs.World.{More};
 ghost use Rattle.visit.specs.Whole.{Lent, lent};
 ghost use Rattle.walking.specs.Contracts.{NodeVisited};
 ghost use Rattle.leaves.specs.Leaves.{LeafReady};
@@ -44,9 +45,9 @@ pub fn leaf<'a>(
 ) -> Visit
     requires { ⌜ LeafReady (textsOf (now script) (now library)) (now image) (now places) (now words) n st (now scratch) ⌝ }
     ensures { λ r. let T : Texts = textsOf (now (script .entry)) (now (library .entry)) in
-        ⌜ ((f : List ℕ) →
-        let b : Lent = lent (now (slots .entry)) f (now (types .entry)) (now (diagnostics .entry)) (now (messages .entry)) (now (scratch .entry)) in
-        let b′ : Lent = lent (now (slots .exit)) f (now (types .exit)) (now (diagnostics .exit)) (now (messages .exit)) (now (scratch .exit)) in
+        ⌜ ((f : List ℕ) (o : More) →
+        let b : Lent = lent (now (slots .entry)) f (now (types .entry)) (now (diagnostics .entry)) (now (messages .entry)) (now (scratch .entry)) o in
+        let b′ : Lent = lent (now (slots .exit)) f (now (types .exit)) (now (diagnostics .exit)) (now (messages .exit)) (now (scratch .exit)) o in
         NodeVisited T (now (image .entry)) (now (words .entry)) n st b b′ r) ⌝ }
 {
     let at = places::node_place(places, n);

@@ -14,7 +14,7 @@ use Rattle.rules.specs.Rules.{member, arrayOf}
 use Rattle.state.specs.declared.Used.{Used}
 use Rattle.state.specs.declared.Step.{Step}
 use Rattle.state.specs.Context.{ctx}
-use Rattle.state.specs.World.{Steps}
+use Rattle.state.specs.World.{More, Steps}
 use Rattle.values.specs.declared.Compared.{Compared}
 use Rattle.values.specs.declared.Compared.the-variants as C
 use Rattle.values.specs.Answers.{compared, Compares}
@@ -32,44 +32,44 @@ use Rattle.members.specs.Turns.{turnOf, memberTurn, turnIn, goes, ends, 
 
 pub empty-told : (n : ℕ) (st : State) {token x : ℕ} {d m d′ m′ : List ℕ} {r : Step} {v : Visit} → token ≡ x
     → ((s t : List ℕ) → Steps (poison n (emptyArray token)) s t d m (st .used) s t d′ m′ r) → v ≡ visitOf st r
-    → (words s f t e : List ℕ) → Visits (poison n (emptyArray x)) 0 0 words st (lent s f t d m e) (lent s f t d′ m′ e) v
-empty-told n st et p ev words s f t e = rw (← et, ev) (steps-visits (p s t) words f e)
+    → (words s f t e : List ℕ) (o : More) → Visits (poison n (emptyArray x)) 0 0 words st (lent s f t d m e o) (lent s f t d′ m′ e o) v
+empty-told n st et p ev words s f t e o = rw (← et, ev) (steps-visits (p s t) words f e o)
 
 pub all-visited : (n : ℕ) (first : Answer) (poisoned : Bool) (st : State) {slot x : ℕ} {s t s′ t′ : List ℕ} {r : Step} {v : Visit} → slot ≡ x
     → ((T : Texts) (ls : List Package) (v : ℕ) (d m : List ℕ) → Steps (arrayOf (ctx T ls v) n slot first poisoned) s t d m (st .used) s′ t′ d m r) → v ≡ visitOf st r
-    → (T : Texts) (ls : List Package) (v₀ : ℕ) (words f d m e : List ℕ) → Visits (arrayOf (ctx T ls v₀) n x first poisoned) 0 0 words st (lent s f t d m e) (lent s′ f t′ d m e) v
-all-visited n first poisoned st es p ev T ls v₀ words f d m e = rw (← es, ev) (steps-visits (p T ls v₀ d m) words f e)
+    → (T : Texts) (ls : List Package) (v₀ : ℕ) (words f d m e : List ℕ) (o : More) → Visits (arrayOf (ctx T ls v₀) n x first poisoned) 0 0 words st (lent s f t d m e o) (lent s′ f t′ d m e o) v
+all-visited n first poisoned st es p ev T ls v₀ words f d m e o = rw (← es, ev) (steps-visits (p T ls v₀ d m) words f e o)
 
 -- ── A member ──
 
 module _ (T : Texts) (n : ℕ) (first second : Answer) (poisoned : Bool) (st : State) {span x : Span} {s t d m d′ m′ : List ℕ} {q : Compared} (es : span ≡ x)
     (p : (ls : List Package) (v : ℕ) → Compares (member (ctx T ls v) n span first second) s t d m (st .used) d′ m′ q) where
-  turn-is : (ls : List Package) (v : ℕ) (words f e : List ℕ)
-      → memberTurn (ctx T ls v) n x first second poisoned (whole words st (lent s f t d m e)) ≡ next (compared (restOf words st (lent s f t d m e)) s t d′ m′ q) (λ y. return (turnOf y poisoned))
+  turn-is : (ls : List Package) (v : ℕ) (words f e : List ℕ) (o : More)
+      → memberTurn (ctx T ls v) n x first second poisoned (whole words st (lent s f t d m e o)) ≡ next (compared (restOf words st (lent s f t d m e o)) s t d′ m′ q) (λ y. return (turnOf y poisoned))
   unfolding memberTurn
-  turn-is ls v words f e =
-      ap (λ z. next (member (ctx T ls v) n z first second (whole words st (lent s f t d m e))) (λ y. return (turnOf y poisoned))) (sym es)
-      ∙ ap (λ r. next r (λ y. return (turnOf y poisoned))) (p ls v .step (restOf words st (lent s f t d m e)))
+  turn-is ls v words f e o =
+      ap (λ z. next (member (ctx T ls v) n z first second (whole words st (lent s f t d m e o))) (λ y. return (turnOf y poisoned))) (sym es)
+      ∙ ap (λ r. next r (λ y. return (turnOf y poisoned))) (p ls v .step (restOf words st (lent s f t d m e o)))
 
   pub turn-alike : {u : Used} {st′ : State} → q ≡ C.Alike u → st′ ≡ withUsed st u
-      → (ls : List Package) (v : ℕ) (words f e : List ℕ) → Turns (memberTurn (ctx T ls v) n x first second poisoned) words st (lent s f t d m e) (lent s f t d′ m′ e) (R.On poisoned st′)
+      → (ls : List Package) (v : ℕ) (words f e : List ℕ) (o : More) → Turns (memberTurn (ctx T ls v) n x first second poisoned) words st (lent s f t d m e o) (lent s f t d′ m′ e o) (R.On poisoned st′)
   unfolding compared turnOf turnIn
-  turn-alike {u} eq et ls v words f e = rw et (record { step = turn-is ls v words f e ∙ rw eq refl; keeps = goes (within-plain st u s t d m s t d′ m′ f e) })
+  turn-alike {u} eq et ls v words f e o = rw et (record { step = turn-is ls v words f e o ∙ rw eq refl; keeps = goes (within-plain st u s t d m s t d′ m′ f e o) })
 
   pub turn-silent : {u : Used} {st′ : State} → q ≡ C.Silent u → st′ ≡ withUsed st u
-      → (ls : List Package) (v : ℕ) (words f e : List ℕ) → Turns (memberTurn (ctx T ls v) n x first second poisoned) words st (lent s f t d m e) (lent s f t d′ m′ e) (R.On true st′)
+      → (ls : List Package) (v : ℕ) (words f e : List ℕ) (o : More) → Turns (memberTurn (ctx T ls v) n x first second poisoned) words st (lent s f t d m e o) (lent s f t d′ m′ e o) (R.On true st′)
   unfolding compared turnOf turnIn
-  turn-silent {u} eq et ls v words f e = rw et (record { step = turn-is ls v words f e ∙ rw eq refl; keeps = goes (within-plain st u s t d m s t d′ m′ f e) })
+  turn-silent {u} eq et ls v words f e o = rw et (record { step = turn-is ls v words f e o ∙ rw eq refl; keeps = goes (within-plain st u s t d m s t d′ m′ f e o) })
 
   pub turn-differs : {u : Used} {st′ : State} → q ≡ C.Differs u → st′ ≡ withUsed st u
-      → (ls : List Package) (v : ℕ) (words f e : List ℕ) → Turns (memberTurn (ctx T ls v) n x first second poisoned) words st (lent s f t d m e) (lent s f t d′ m′ e) (R.Differs st′)
+      → (ls : List Package) (v : ℕ) (words f e : List ℕ) (o : More) → Turns (memberTurn (ctx T ls v) n x first second poisoned) words st (lent s f t d m e o) (lent s f t d′ m′ e o) (R.Differs st′)
   unfolding compared turnOf turnIn
-  turn-differs {u} eq et ls v words f e = rw et (record { step = turn-is ls v words f e ∙ rw eq refl; keeps = ends (within-plain st u s t d m s t d′ m′ f e) })
+  turn-differs {u} eq et ls v words f e o = rw et (record { step = turn-is ls v words f e o ∙ rw eq refl; keeps = ends (within-plain st u s t d m s t d′ m′ f e o) })
 
   pub turn-refused : {number place : ℕ} → q ≡ C.Refused number place
-      → (ls : List Package) (v : ℕ) (words f e : List ℕ) → Turns (memberTurn (ctx T ls v) n x first second poisoned) words st (lent s f t d m e) (lent s f t d′ m′ e) (R.Refused number place)
+      → (ls : List Package) (v : ℕ) (words f e : List ℕ) (o : More) → Turns (memberTurn (ctx T ls v) n x first second poisoned) words st (lent s f t d m e o) (lent s f t d′ m′ e o) (R.Refused number place)
   unfolding compared turnIn
-  turn-refused eq ls v words f e = record { step = turn-is ls v words f e ∙ rw eq refl; keeps = stops }
+  turn-refused eq ls v words f e o = record { step = turn-is ls v words f e o ∙ rw eq refl; keeps = stops }
 
 -- ── A turn that ends the visits ──
 

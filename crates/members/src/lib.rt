@@ -13,6 +13,7 @@ ghost use Rattle.rules.specs.Steps.{poison};
 ghost use Rattle.rules.specs.Rules.{arrayOf};
 ghost use Rattle.state.specs.Context.{ctx};
 ghost use Rattle.places.specs.NodesAt.{NodeReady};
+ghost use Rattle.state.specs.World.{More};
 ghost use Rattle.visit.specs.Whole.{Lent, lent};
 ghost use Rattle.visit.specs.Within.{Visits};
 ghost use Rattle.visit.specs.Plain.{withUsed};
@@ -42,9 +43,9 @@ pub fn empty(
     n: u32,
 ) -> Visit
     requires { ⌜ at ≤ 8192 ⌝ }
-    ensures { λ r. ⌜ ((words s f t e : List ℕ) →
-        let b : Lent = lent s f t (now (diagnostics .entry)) (now (messages .entry)) e in
-        let b′ : Lent = lent s f t (now (diagnostics .exit)) (now (messages .exit)) e in
+    ensures { λ r. ⌜ ((words s f t e : List ℕ) (o : More) →
+        let b : Lent = lent s f t (now (diagnostics .entry)) (now (messages .entry)) e o in
+        let b′ : Lent = lent s f t (now (diagnostics .exit)) (now (messages .exit)) e o in
         Visits (poison n (emptyArray (getD (now (image .entry)) (at + 2) 0))) 0 0 words st b b′ r) ⌝ }
 {
     let used = st.used;
@@ -85,9 +86,9 @@ pub fn member<'a>(
 ) -> Turn
     requires { ⌜ NodeReady (now image) (now places) part ⌝ }
     ensures { λ r. let T : Texts = textsOf (now (script .entry)) (now (library .entry)) in
-        ⌜ ((ls : List Package) (v : ℕ) (words f e : List ℕ) →
-        let b : Lent = lent (now (slots .entry)) f (now (types .entry)) (now (diagnostics .entry)) (now (messages .entry)) e in
-        let b′ : Lent = lent (now (slots .entry)) f (now (types .entry)) (now (diagnostics .exit)) (now (messages .exit)) e in
+        ⌜ ((ls : List Package) (v : ℕ) (words f e : List ℕ) (o : More) →
+        let b : Lent = lent (now (slots .entry)) f (now (types .entry)) (now (diagnostics .entry)) (now (messages .entry)) e o in
+        let b′ : Lent = lent (now (slots .entry)) f (now (types .entry)) (now (diagnostics .exit)) (now (messages .exit)) e o in
         Turns (memberTurn (ctx T ls v) n (spanOf (treeOf (now (image .entry)) part)) first second poisoned) words st b b′ r) ⌝ }
 {
     let used = st.used;
@@ -150,9 +151,9 @@ pub fn end(
     poisoned: bool,
 ) -> Visit
     requires { ⌜ at ≤ 8192 ⌝ }
-    ensures { λ r. ⌜ ((T : Texts) (ls : List Package) (v : ℕ) (words f d m e : List ℕ) →
-        let b : Lent = lent (now (slots .entry)) f (now (types .entry)) d m e in
-        let b′ : Lent = lent (now (slots .exit)) f (now (types .exit)) d m e in
+    ensures { λ r. ⌜ ((T : Texts) (ls : List Package) (v : ℕ) (words f d m e : List ℕ) (o : More) →
+        let b : Lent = lent (now (slots .entry)) f (now (types .entry)) d m e o in
+        let b′ : Lent = lent (now (slots .exit)) f (now (types .exit)) d m e o in
         Visits (arrayOf (ctx T ls v) n (getD (now (image .entry)) (at + 1) 0) first poisoned) 0 0 words st b b′ r) ⌝ }
 {
     let used = st.used;

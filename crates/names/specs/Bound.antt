@@ -17,6 +17,7 @@ use Rattle.rules.specs.Rules.{letBinding, node}
 use Rattle.state.specs.declared.Used.{Used}
 use Rattle.state.specs.Store.{heldFrom}
 use Rattle.visit.specs.declared.State.{State}
+use Rattle.state.specs.World.{More}
 use Rattle.visit.specs.Whole.{lent}
 use Rattle.visit.specs.Within.{top, Within}
 use Rattle.visit.specs.Free.{Free, held-low, free-top}
@@ -54,8 +55,8 @@ module _ {st : State} {e : List ℕ} (free : Free 2 st e) where
   packages-kept x w library =
       held-past e (write e (top st) (x ∷ w ∷ [])) (write-alike e (top st) (st .held) (x ∷ w ∷ []) (omega (arith, free .between))) library (st .held) (st .packages) (omega arith)
 
-  pub within-bound : (x w : ℕ) (u : Used) (s f t d m s′ t′ d′ m′ : List ℕ) → Within 2 0 st (lent s f t d m e) (oneMore st u) (lent s′ f t′ d′ m′ (write e (2 * (st .base + st .depth)) (x ∷ w ∷ [])))
-  within-bound x w u s f t d m s′ t′ d′ m′ = record {
+  pub within-bound : (x w : ℕ) (u : Used) (s f t d m s′ t′ d′ m′ : List ℕ) (o : More) → Within 2 0 st (lent s f t d m e o) (oneMore st u) (lent s′ f t′ d′ m′ (write e (2 * (st .base + st .depth)) (x ∷ w ∷ [])) o)
+  within-bound x w u s f t d m s′ t′ d′ m′ o = record {
     base = refl;
     deeper = omega arith;
     taken = omega arith;

@@ -9,6 +9,7 @@ ghost use Rattle.ptype.specs.Add.{write};
 ghost use Rattle.library.specs.Package.{Package};
 ghost use Rattle.rules.specs.Rules.{ident};
 ghost use Rattle.state.specs.Context.{ctx};
+ghost use Rattle.state.specs.World.{More};
 ghost use Rattle.visit.specs.Whole.{Lent, lent};
 ghost use Rattle.visit.specs.Within.{Visits};
 ghost use Rattle.visit.specs.Free.{Free};
@@ -67,9 +68,9 @@ pub fn ident<'a>(
 ) -> Visit
     requires { ⌜ st .base + st .depth ≤ 4096 ⌝ }
     ensures { λ r. let T : Texts = textsOf (now (script .entry)) (now (library .entry)) in
-        ⌜ ((ls : List Package) (v : ℕ) (words f t : List ℕ) →
-        let b : Lent = lent (now (slots .entry)) f t (now (diagnostics .entry)) (now (messages .entry)) (now (scratch .entry)) in
-        let b′ : Lent = lent (now (slots .exit)) f t (now (diagnostics .exit)) (now (messages .exit)) (now (scratch .entry)) in
+        ⌜ ((ls : List Package) (v : ℕ) (words f t : List ℕ) (o : More) →
+        let b : Lent = lent (now (slots .entry)) f t (now (diagnostics .entry)) (now (messages .entry)) (now (scratch .entry)) o in
+        let b′ : Lent = lent (now (slots .exit)) f t (now (diagnostics .exit)) (now (messages .exit)) (now (scratch .entry)) o in
         Visits (ident (ctx T ls v) n slot name) 0 0 words st b b′ r) ⌝ }
 {
     let used = st.used;
@@ -111,9 +112,9 @@ pub fn let_end(
 ) -> Visit
     requires { ⌜ Bindable st (now scratch) name ⌝ }
     ensures { λ r.
-        ⌜ ((words f t : List ℕ) →
-        let b : Lent = lent (now (slots .entry)) f t (now (diagnostics .entry)) (now (messages .entry)) (now (scratch .entry)) in
-        let b′ : Lent = lent (now (slots .exit)) f t (now (diagnostics .exit)) (now (messages .exit)) (now (scratch .exit)) in
+        ⌜ ((words f t : List ℕ) (o : More) →
+        let b : Lent = lent (now (slots .entry)) f t (now (diagnostics .entry)) (now (messages .entry)) (now (scratch .entry)) o in
+        let b′ : Lent = lent (now (slots .exit)) f t (now (diagnostics .exit)) (now (messages .exit)) (now (scratch .exit)) o in
         Visits (letEnd n slot name answer) 2 0 words st b b′ r) ⌝ }
 {
     let used = st.used;

@@ -15,7 +15,7 @@ use Rattle.ptype.specs.Slots.{Binding}
 use Rattle.library.specs.Package.{Param, Signature, signature, Function, Package}
 use Rattle.rules.specs.declared.Answer.{Answer}
 use Rattle.rules.specs.declared.Answer.the-variants.{Known, Poison}
-use Rattle.rules.specs.World.{Ctx, Local, World}
+use Rattle.rules.specs.World.{Ctx, Local, Log, World}
 use Rattle.tworuns.specs.Means.{Means}
 
 -- A run, and which of the two is claimed of it: where `clean` holds, types free of Unknown and of slots, and only as long as no diagnostic is
@@ -64,6 +64,9 @@ pub record ToldWell (diagnostics messages : Buffer) (k : ℕ) : Type 0 where
   pub within : start + message + primary ≤ messages .used
   pub messageWell : wellFormed (take message (drop start (messages .words))) ≡ true
   pub primaryWell : wellFormed (take primary (drop (start + message) (messages .words))) ≡ true
+
+-- What is logged: nothing yet.
+pub record LogWell (l : Log) : Type 0 where
 
 module _ (r : Run) where
   -- it is names that are claimed to be well formed
@@ -149,6 +152,7 @@ module _ (r : Run) where
     pub own : All (FunctionOk (s .types)) (s .own)
     pub library : All (PackageOk (s .types)) (r .ctx .library)
     pub told : OfNames → (k : ℕ) → k < s .diagnostics .used → ToldWell (s .diagnostics) (s .messages) k
+    pub log : OfNames → LogWell (s .log)
 
   -- An answer: a slot that has a type, or poison, which there is only after a diagnostic.
   pub data AnswerOk (s : World) : Answer → Type 0 where

@@ -67,6 +67,7 @@ holds-grow r {s} g h = record {
   own = all-map (function-grow r g) (h .own);
   library = all-map (package-grow r g) (h .library);
   told = h .told;
+  log = h .log;
 }
 
 -- ── One word ──

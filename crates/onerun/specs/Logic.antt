@@ -12,10 +12,10 @@ use Rattle.tok.specs.Step.{Result, ok, refused, Step, Refusal, next, when}
 use Rattle.ptype.specs.Add.{Buffer}
 use Rattle.rules.specs.declared.Answer.{Answer}
 use Rattle.rules.specs.declared.Answer.the-variants.{Known, Poison}
-use Rattle.rules.specs.World.{World, Walk, withSlots, withTypes}
-use Rattle.rules.specs.Steps.{Done, known, ifKnown, onOption, setKnown, raised, onTypes}
+use Rattle.rules.specs.World.{Log, World, Walk, withSlots, withTypes, withLog}
+use Rattle.rules.specs.Steps.{Done, known, ifKnown, onOption, setKnown, raised, onTypes, raisedLog, onLog}
 use Rattle.tworuns.specs.Means.{Grown, grown-same, grown-trans}
-use Rattle.onerun.specs.Claim.{Run, OfNames, Good, Recorded, Holds, AnswerOk, poison}
+use Rattle.onerun.specs.Claim.{Run, OfNames, Good, Recorded, LogWell, Holds, AnswerOk, poison}
 use Rattle.onerun.specs.Claim as C
 use Rattle.onerun.specs.Grows.{holds-grow, typed-other}
 
@@ -52,6 +52,11 @@ module _ (r : Run) where
   pub data GivesT {A : Type 0} (Q : Buffer → A → Type 0) (b : Buffer) : Result Buffer Refusal A → Type 0 where
     typed : {a : A} {d : Buffer} → Grown b d → Q d a → GivesT Q b (ok a d)
     stoppedT : {e : Refusal} → GivesT Q b (refused e)
+
+  -- of steps of the log, beside this types buffer
+  pub data GivesL {A : Type 0} (Q : Buffer → A → Type 0) (b : Buffer) : Result Log Refusal A → Type 0 where
+    logged : {a : A} {l : Log} → (OfNames r → LogWell l) → Q b a → GivesL Q b (ok a l)
+    stoppedL : {e : Refusal} → GivesL Q b (refused e)
 
   pub t-next : {A B : Type 0} {P : Buffer → A → Type 0} {Q : Buffer → B → Type 0} {b : Buffer} {x : Result Buffer Refusal A} (f : A → Step Buffer Refusal B) → GivesT P b x
       → ((a : A) (d : Buffer) → Grown b d → P d a → GivesT Q d (f a d)) → GivesT Q b (next x f)
@@ -117,6 +122,33 @@ module _ (r : Run) where
       go (ok a d) k = gives {u = withTypes s d} (record { more = omega arith }) (λ z. after a d (h (record { none = z .none })) (k (record { none = z .none })))
       go (refused e) k = stopped
 
+  pub g-onLog : {A : Type 0} {Q : Buffer → A → Type 0} (m : Step Log Refusal A) {s : World} → (Silent s → Holds r s) → (Silent s → GivesL Q (s .types) (m (s .log)))
+      → Gives (λ u a. Q (u .types) a) s (onLog m s)
+  unfolding onLog raisedLog
+  g-onLog {A} {Q} m {s} h k = go (m (s .log)) k
+    where
+      after : (a : A) (l : Log) → Holds r s → GivesL Q (s .types) (ok a l) → After (λ u a. Q (u .types) a) s (withLog s l) a
+      after a l h (logged w q) = record {
+        grown = grown-same (s .types);
+        recorded = λ x e. record { other = e .other; low = e .low };
+        holds = record {
+          slots = λ x e. h .slots x (record { other = e .other; low = e .low });
+          voids = record { other = h .voids .other; low = h .voids .low };
+          room = h .room;
+          env = h .env;
+          packages = h .packages;
+          own = h .own;
+          library = h .library;
+          told = h .told;
+          log = w;
+        };
+        value = q;
+      }
+
+      go : (x : Result Log Refusal A) → (Silent s → GivesL Q (s .types) x) → Gives (λ u a. Q (u .types) a) s (raisedLog s x)
+      go (ok a l) k = gives {u = withLog s l} (record { more = omega arith }) (λ z. after a l (h (record { none = z .none })) (k (record { none = z .none })))
+      go (refused e) k = stopped
+
   -- ── Answers ──
 
   pub answer-later : {A : Type 0} {Q : World → A → Type 0} {s u : World} {a : A} {x : Answer} → After Q s u a → AnswerOk r s x → AnswerOk r u x
@@ -171,6 +203,7 @@ module _ (r : Run) where
           own = h .own;
           library = h .library;
           told = h .told;
+          log = h .log;
         };
         value = record { answer = C.known here; own = λ q. here };
       }

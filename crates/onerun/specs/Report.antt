@@ -157,6 +157,7 @@ module _ (r : Run) where
             own = x .own;
             library = x .library;
             told = λ l. told-all s d room (x .told l) (w l (before-it z));
+            log = x .log;
           };
           value = ofNames z;
         }

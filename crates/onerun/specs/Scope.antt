@@ -43,6 +43,7 @@ module _ (r : Run) where
     own = h .own;
     library = h .library;
     told = h .told;
+    log = h .log;
   }
 
   -- nothing is claimed of the answer
@@ -77,6 +78,7 @@ module _ (r : Run) where
           own = h .own;
           library = h .library;
           told = h .told;
+          log = h .log;
         };
         value = tt;
       }
@@ -101,6 +103,7 @@ module _ (r : Run) where
           own = and k (h .own);
           library = h .library;
           told = h .told;
+          log = h .log;
         };
         value = tt;
       }

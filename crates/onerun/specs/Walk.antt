@@ -84,6 +84,7 @@ module _ (r : Run) (pool : List ℕ) where
       own = rw (fresh .own) end;
       library = all-map (package-grow r (begins-grown begins)) lib;
       told = λ l k i. absurd (omega (arith, fresh .diagnostics));
+      log = λ l. record {};
     }
 
     module _ (words : List ℕ) (fine : Every FineType words) (lib : Every Shallow words → All (PackageOk r (buffer pool (length pool))) (r .ctx .library))

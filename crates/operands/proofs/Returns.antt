@@ -22,7 +22,7 @@ use Rattle.rules.specs.Operators.{fuse, unary, cast}
 use Rattle.rules.specs.Rules.{field}
 use Rattle.state.specs.declared.Step.{Step}
 use Rattle.state.specs.Context.{ctx}
-use Rattle.state.specs.World.{Steps}
+use Rattle.state.specs.World.{More, Steps}
 use Rattle.visit.specs.declared.State.{State}
 use Rattle.visit.specs.declared.Visit.{Visit}
 use Rattle.visit.specs.declared.Visit.the-variants as X
@@ -57,55 +57,55 @@ module _ (image : List ℕ) (at : ℕ) {h k : ℕ} (eh : h ≡ getD image at 0) 
 -- ── Bin ──
 
 module _ (T : Texts) (image : List ℕ) (n at : ℕ) (st : State) (left right : Answer) where
-  pub bin-left : left ≡ Poison → (ls : List Package) (v : ℕ) (words s f t d m e : List ℕ)
-      → Visits (binEnd (ctx T ls v) image n at left right) 0 0 words st (lent s f t d m e) (lent s f t d m e) (X.Poison st)
+  pub bin-left : left ≡ Poison → (ls : List Package) (v : ℕ) (words s f t d m e : List ℕ) (o : More)
+      → Visits (binEnd (ctx T ls v) image n at left right) 0 0 words st (lent s f t d m e o) (lent s f t d m e o) (X.Poison st)
   unfolding binEnd
-  bin-left el ls v words s f t d m e = visits-poison _ words st (lent s f t d m e) el
+  bin-left el ls v words s f t d m e o = visits-poison _ words st (lent s f t d m e o) el
 
-  pub bin-right : {i : ℕ} → left ≡ Known i → right ≡ Poison → (ls : List Package) (v : ℕ) (words s f t d m e : List ℕ)
-      → Visits (binEnd (ctx T ls v) image n at left right) 0 0 words st (lent s f t d m e) (lent s f t d m e) (X.Poison st)
+  pub bin-right : {i : ℕ} → left ≡ Known i → right ≡ Poison → (ls : List Package) (v : ℕ) (words s f t d m e : List ℕ) (o : More)
+      → Visits (binEnd (ctx T ls v) image n at left right) 0 0 words st (lent s f t d m e o) (lent s f t d m e o) (X.Poison st)
   unfolding binEnd
-  bin-right el er ls v words s f t d m e = visits-known _ el (visits-poison _ words st (lent s f t d m e) er)
+  bin-right el er ls v words s f t d m e o = visits-known _ el (visits-poison _ words st (lent s f t d m e o) er)
 
   pub bin-fused : {i j slot token op : ℕ} {s t d m s′ d′ m′ : List ℕ} {r : Step} {x : Visit} → left ≡ Known i → right ≡ Known j
       → slot ≡ getD image (at + 1) 0 → token ≡ getD image (at + 2) 0 → op ≡ getD image (at + 3) 0
       → ((ls : List Package) (v : ℕ) → Steps (fuse (ctx T ls v) n slot token op i j) s t d m (st .used) s′ t d′ m′ r) → x ≡ visitOf st r
-      → (ls : List Package) (v : ℕ) (words f e : List ℕ) → Visits (binEnd (ctx T ls v) image n at left right) 0 0 words st (lent s f t d m e) (lent s′ f t d′ m′ e) x
+      → (ls : List Package) (v : ℕ) (words f e : List ℕ) (o : More) → Visits (binEnd (ctx T ls v) image n at left right) 0 0 words st (lent s f t d m e o) (lent s′ f t d′ m′ e o) x
   unfolding binEnd
-  bin-fused el er es et eo p ex ls v words f e = rw ex (visits-known _ el (visits-known _ er (steps-visits (rw (es, et, eo) at (p ls v)) words f e)))
+  bin-fused el er es et eo p ex ls v words f e o = rw ex (visits-known _ el (visits-known _ er (steps-visits (rw (es, et, eo) at (p ls v)) words f e o)))
 
 -- ── Cast ──
 
 module _ (T : Texts) (image : List ℕ) (n at : ℕ) (st : State) (to : ℕ) (answer : Answer) where
-  pub cast-poisoned : answer ≡ Poison → (ls : List Package) (v : ℕ) (words s f t d m e : List ℕ)
-      → Visits (castEnd (ctx T ls v) image n at to answer) 0 0 words st (lent s f t d m e) (lent s f t d m e) (X.Poison st)
+  pub cast-poisoned : answer ≡ Poison → (ls : List Package) (v : ℕ) (words s f t d m e : List ℕ) (o : More)
+      → Visits (castEnd (ctx T ls v) image n at to answer) 0 0 words st (lent s f t d m e o) (lent s f t d m e o) (X.Poison st)
   unfolding castEnd
-  cast-poisoned ea ls v words s f t d m e = visits-poison _ words st (lent s f t d m e) ea
+  cast-poisoned ea ls v words s f t d m e o = visits-poison _ words st (lent s f t d m e o) ea
 
   pub cast-done : {i slot token : ℕ} {s t d m s′ d′ m′ : List ℕ} {r : Step} {x : Visit} → answer ≡ Known i → slot ≡ getD image (at + 1) 0 → token ≡ getD image (at + 2) 0
       → ((ls : List Package) (v : ℕ) → Steps (cast (ctx T ls v) n slot token i to) s t d m (st .used) s′ t d′ m′ r) → x ≡ visitOf st r
-      → (ls : List Package) (v : ℕ) (words f e : List ℕ) → Visits (castEnd (ctx T ls v) image n at to answer) 0 0 words st (lent s f t d m e) (lent s′ f t d′ m′ e) x
+      → (ls : List Package) (v : ℕ) (words f e : List ℕ) (o : More) → Visits (castEnd (ctx T ls v) image n at to answer) 0 0 words st (lent s f t d m e o) (lent s′ f t d′ m′ e o) x
   unfolding castEnd
-  cast-done ea es et p ex ls v words f e = rw ex (visits-known _ ea (steps-visits (rw (es, et) at (p ls v)) words f e))
+  cast-done ea es et p ex ls v words f e o = rw ex (visits-known _ ea (steps-visits (rw (es, et) at (p ls v)) words f e o))
 
 module _ (image : List ℕ) (n at : ℕ) (st : State) (added : Added) {expr : ℕ} {t t′ : List ℕ} (ee : expr ≡ getD image (at + 4) 0) (p : Typed (typeOf image expr) t (st .used .types) added t′) where
   there : Typed (typeOf image (wordAt image (at + 4))) t (st .used .types) added t′
   there = rw (← ee) p
 
-  pub cast-refused : {k : ℕ} → OneOf (1 ∷ 2 ∷ []) (tagOf the-type added) → k ≡ numberOf added → (T : Texts) (ls : List Package) (v : ℕ) (words s f d m e : List ℕ)
-      → Gives (castType (ctx T ls v) image n at) 0 0 words st (lent s f t d m e) (lent s f t′ d m e) (G.Refused k n)
+  pub cast-refused : {k : ℕ} → OneOf (1 ∷ 2 ∷ []) (tagOf the-type added) → k ≡ numberOf added → (T : Texts) (ls : List Package) (v : ℕ) (words s f d m e : List ℕ) (o : More)
+      → Gives (castType (ctx T ls v) image n at) 0 0 words st (lent s f t d m e o) (lent s f t′ d m e o) (G.Refused k n)
   unfolding castType gaveIn
-  cast-refused o ek T ls v words s f d m e = record {
-    step = rw (type-refused T ls v n (typeOf image (wordAt image (at + 4))) (restOf words st (lent s f t d m e)) s t d m (st .used) added t′ there o, ek) refl;
+  cast-refused one ek T ls v words s f d m e o = record {
+    step = rw (type-refused T ls v n (typeOf image (wordAt image (at + 4))) (restOf words st (lent s f t d m e o)) s t d m (st .used) added t′ there one, ek) refl;
     keeps = stops;
   }
 
-  pub cast-word : {w more : ℕ} {st′ : State} → added ≡ A.Put w more → st′ ≡ moreTypes st more → (T : Texts) (ls : List Package) (v : ℕ) (words s f d m e : List ℕ)
-      → Gives (castType (ctx T ls v) image n at) 0 0 words st (lent s f t d m e) (lent s f t′ d m e) (G.Word w st′)
+  pub cast-word : {w more : ℕ} {st′ : State} → added ≡ A.Put w more → st′ ≡ moreTypes st more → (T : Texts) (ls : List Package) (v : ℕ) (words s f d m e : List ℕ) (o : More)
+      → Gives (castType (ctx T ls v) image n at) 0 0 words st (lent s f t d m e o) (lent s f t′ d m e o) (G.Word w st′)
   unfolding castType gaveIn
-  cast-word {w} {more} ea eu T ls v words s f d m e = record {
-    step = rw (type-word T ls v n (typeOf image (wordAt image (at + 4))) (restOf words st (lent s f t d m e)) s t d m (st .used) added t′ there ea, eu) refl;
-    keeps = rw eu (gives (within-plain st (withTypesUsed (st .used) more) s t d m s t′ d m f e));
+  cast-word {w} {more} ea eu T ls v words s f d m e o = record {
+    step = rw (type-word T ls v n (typeOf image (wordAt image (at + 4))) (restOf words st (lent s f t d m e o)) s t d m (st .used) added t′ there ea, eu) refl;
+    keeps = rw eu (gives (within-plain st (withTypesUsed (st .used) more) s t d m s t′ d m f e o));
   }
 
 -- ── One operand ──
@@ -119,37 +119,37 @@ module _ (T : Texts) (image : List ℕ) (n at : ℕ) (st : State) (answer : Answ
   there-one = kind-there image at eh ek
 
   pub one-let : {slot name : ℕ} {s t d m e s′ d′ m′ e′ : List ℕ} {x : Visit} → k ≡ 4 → slot ≡ getD image (at + 1) 0 → name ≡ getD image (at + 2) 0
-      → ((words f t : List ℕ) → Visits (letEnd n slot name answer) 2 0 words st (lent s f t d m e) (lent s′ f t d′ m′ e′) x)
-      → (ls : List Package) (v : ℕ) (words f : List ℕ) → Visits (oneEnd (ctx T ls v) image n at answer) (oneRoom image at) 0 words st (lent s f t d m e) (lent s′ f t d′ m′ e′) x
+      → ((words f t : List ℕ) (o : More) → Visits (letEnd n slot name answer) 2 0 words st (lent s f t d m e o) (lent s′ f t d′ m′ e′ o) x)
+      → (ls : List Package) (v : ℕ) (words f : List ℕ) (o : More) → Visits (oneEnd (ctx T ls v) image n at answer) (oneRoom image at) 0 words st (lent s f t d m e o) (lent s′ f t d′ m′ e′ o) x
   unfolding oneEnd oneRoom
-  one-let {t = t} q es en p ls v words f = visits-as (by-let _ _ _ (sym there-one ∙ q)) (by-let 0 2 0 (sym there-one ∙ q)) (rw (es, en) at (p words f t))
+  one-let {t = t} q es en p ls v words f o = visits-as (by-let _ _ _ (sym there-one ∙ q)) (by-let 0 2 0 (sym there-one ∙ q)) (rw (es, en) at (p words f t o))
 
   pub one-unary : {i slot token op : ℕ} {s t d m s′ d′ m′ : List ℕ} {r : Step} {x : Visit} → k ≡ 3 → answer ≡ Known i
       → slot ≡ getD image (at + 1) 0 → token ≡ getD image (at + 2) 0 → op ≡ getD image (at + 3) 0
       → ((ls : List Package) (v : ℕ) → Steps (unary (ctx T ls v) n slot token op i) s t d m (st .used) s′ t d′ m′ r) → x ≡ visitOf st r
-      → (e : List ℕ) (ls : List Package) (v : ℕ) (words f : List ℕ) → Visits (oneEnd (ctx T ls v) image n at answer) (oneRoom image at) 0 words st (lent s f t d m e) (lent s′ f t d′ m′ e) x
+      → (e : List ℕ) (ls : List Package) (v : ℕ) (words f : List ℕ) (o : More) → Visits (oneEnd (ctx T ls v) image n at answer) (oneRoom image at) 0 words st (lent s f t d m e o) (lent s′ f t d′ m′ e o) x
   unfolding oneEnd oneRoom
-  one-unary q ea es et eo p ex e ls v words f =
-      visits-as (by-unary _ _ _ (sym there-one ∙ q)) (by-unary 0 2 0 (sym there-one ∙ q)) (rw ex (visits-known _ ea (steps-visits (rw (es, et, eo) at (p ls v)) words f e)))
+  one-unary q ea es et eo p ex e ls v words f o =
+      visits-as (by-unary _ _ _ (sym there-one ∙ q)) (by-unary 0 2 0 (sym there-one ∙ q)) (rw ex (visits-known _ ea (steps-visits (rw (es, et, eo) at (p ls v)) words f e o)))
 
   pub one-field : {i slot name : ℕ} {s t d m s′ d′ m′ : List ℕ} {r : Step} {x : Visit} → (k ≡ 3 → ⊥) → (k ≡ 4 → ⊥) → answer ≡ Known i
       → slot ≡ getD image (at + 1) 0 → name ≡ getD image (at + 3) 0
       → ((ls : List Package) (v : ℕ) → Steps (field (ctx T ls v) n slot name i) s t d m (st .used) s′ t d′ m′ r) → x ≡ visitOf st r
-      → (e : List ℕ) (ls : List Package) (v : ℕ) (words f : List ℕ) → Visits (oneEnd (ctx T ls v) image n at answer) (oneRoom image at) 0 words st (lent s f t d m e) (lent s′ f t d′ m′ e) x
+      → (e : List ℕ) (ls : List Package) (v : ℕ) (words f : List ℕ) (o : More) → Visits (oneEnd (ctx T ls v) image n at answer) (oneRoom image at) 0 words st (lent s f t d m e o) (lent s′ f t d′ m′ e o) x
   unfolding oneEnd oneRoom
-  one-field a b ea es en p ex e ls v words f =
+  one-field a b ea es en p ex e ls v words f o =
       let l : recordKind image at ≡ 3 → ⊥ = λ q. a (there-one ∙ q) in
       let k : recordKind image at ≡ 4 → ⊥ = λ q. b (there-one ∙ q) in
-      visits-as (by-field _ _ _ l k) (by-field 0 2 0 l k) (rw ex (visits-known _ ea (steps-visits (rw (es, en) at (p ls v)) words f e)))
+      visits-as (by-field _ _ _ l k) (by-field 0 2 0 l k) (rw ex (visits-known _ ea (steps-visits (rw (es, en) at (p ls v)) words f e o)))
 
-  pub one-poisoned : (k ≡ 4 → ⊥) → answer ≡ Poison → (ls : List Package) (v : ℕ) (words s f t d m e : List ℕ)
-      → Visits (oneEnd (ctx T ls v) image n at answer) (oneRoom image at) 0 words st (lent s f t d m e) (lent s f t d m e) (X.Poison st)
+  pub one-poisoned : (k ≡ 4 → ⊥) → answer ≡ Poison → (ls : List Package) (v : ℕ) (words s f t d m e : List ℕ) (o : More)
+      → Visits (oneEnd (ctx T ls v) image n at answer) (oneRoom image at) 0 words st (lent s f t d m e o) (lent s f t d m e o) (X.Poison st)
   unfolding oneEnd oneRoom
-  one-poisoned b ea ls v words s f t d m e =
+  one-poisoned b ea ls v words s f t d m e o =
       let z : recordKind image at ≡ 4 → ⊥ = λ q. b (there-one ∙ q) in
       elim (ℕ-discrete (recordKind image at) 3) [
-        | yes q ↦ visits-as (by-unary _ _ _ q) (by-unary 0 2 0 q) (visits-poison _ words st (lent s f t d m e) ea)
-        | no a ↦ visits-as (by-field _ _ _ a z) (by-field 0 2 0 a z) (visits-poison _ words st (lent s f t d m e) ea)
+        | yes q ↦ visits-as (by-unary _ _ _ q) (by-unary 0 2 0 q) (visits-poison _ words st (lent s f t d m e o) ea)
+        | no a ↦ visits-as (by-field _ _ _ a z) (by-field 0 2 0 a z) (visits-poison _ words st (lent s f t d m e o) ea)
       ]
 
 -- a Let's name can be bound

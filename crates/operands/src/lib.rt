@@ -7,6 +7,7 @@ ghost use Prim.Native.Nat.{ℕ, _+_, _≤_};
 ghost use Rattle.tok.specs.Text.{Texts, textsOf};
 ghost use Rattle.library.specs.Package.{Package};
 ghost use Rattle.state.specs.Context.{ctx};
+ghost use Rattle.state.specs.World.{More};
 ghost use Rattle.visit.specs.Whole.{Lent, lent};
 ghost use Rattle.visit.specs.Within.{Visits};
 ghost use Rattle.visit.specs.Walks.{Gives};
@@ -58,9 +59,9 @@ pub fn bin_end<'a>(
 ) -> Visit
     requires { ⌜ at ≤ 8192 ⌝ }
     ensures { λ r. let T : Texts = textsOf (now (script .entry)) (now (library .entry)) in
-        ⌜ ((ls : List Package) (v : ℕ) (words f e : List ℕ) →
-        let b : Lent = lent (now (slots .entry)) f (now (types .entry)) (now (diagnostics .entry)) (now (messages .entry)) e in
-        let b′ : Lent = lent (now (slots .exit)) f (now (types .entry)) (now (diagnostics .exit)) (now (messages .exit)) e in
+        ⌜ ((ls : List Package) (v : ℕ) (words f e : List ℕ) (o : More) →
+        let b : Lent = lent (now (slots .entry)) f (now (types .entry)) (now (diagnostics .entry)) (now (messages .entry)) e o in
+        let b′ : Lent = lent (now (slots .exit)) f (now (types .entry)) (now (diagnostics .exit)) (now (messages .exit)) e o in
         Visits (binEnd (ctx T ls v) (now (image .entry)) n at left right) 0 0 words st b b′ r) ⌝ }
 {
     let Answer::Known(left_slot) = left else {
@@ -110,9 +111,9 @@ pub fn one_end<'a>(
 ) -> Visit
     requires { ⌜ OneReady (now image) at st (now scratch) ⌝ }
     ensures { λ r. let T : Texts = textsOf (now (script .entry)) (now (library .entry)) in
-        ⌜ ((ls : List Package) (v : ℕ) (words f : List ℕ) →
-        let b : Lent = lent (now (slots .entry)) f (now (types .entry)) (now (diagnostics .entry)) (now (messages .entry)) (now (scratch .entry)) in
-        let b′ : Lent = lent (now (slots .exit)) f (now (types .entry)) (now (diagnostics .exit)) (now (messages .exit)) (now (scratch .exit)) in
+        ⌜ ((ls : List Package) (v : ℕ) (words f : List ℕ) (o : More) →
+        let b : Lent = lent (now (slots .entry)) f (now (types .entry)) (now (diagnostics .entry)) (now (messages .entry)) (now (scratch .entry)) o in
+        let b′ : Lent = lent (now (slots .exit)) f (now (types .entry)) (now (diagnostics .exit)) (now (messages .exit)) (now (scratch .exit)) o in
         Visits (oneEnd (ctx T ls v) (now (image .entry)) n at answer) (oneRoom (now (image .entry)) at) 0 words st b b′ r) ⌝ }
 {
     let k = kind(word_at(image, at));
@@ -179,10 +180,12 @@ fn more_types(st: State, types: usize) -> State
 {
     let used = st.used;
     let counts = used.told;
+    let kept = used.kept;
     State {
         used: Used {
             types: types,
             told: counts,
+            kept,
         },
         base: st.base,
         depth: st.depth,
@@ -203,9 +206,9 @@ pub fn cast_begin(
 ) -> Gave
     requires { ⌜ CastReady (now image) (now places) at ⌝ }
     ensures { λ r.
-        ⌜ ((T : Texts) (ls : List Package) (v : ℕ) (words s f d m e : List ℕ) →
-        let b : Lent = lent s f (now (types .entry)) d m e in
-        let b′ : Lent = lent s f (now (types .exit)) d m e in
+        ⌜ ((T : Texts) (ls : List Package) (v : ℕ) (words s f d m e : List ℕ) (o : More) →
+        let b : Lent = lent s f (now (types .entry)) d m e o in
+        let b′ : Lent = lent s f (now (types .exit)) d m e o in
         Gives (castType (ctx T ls v) (now (image .entry)) n at) 0 0 words st b b′ r) ⌝ }
 {
     let used = st.used;
@@ -234,9 +237,9 @@ pub fn cast_end<'a>(
 ) -> Visit
     requires { ⌜ at ≤ 8192 ⌝ }
     ensures { λ r. let T : Texts = textsOf (now (script .entry)) (now (library .entry)) in
-        ⌜ ((ls : List Package) (v : ℕ) (words f e : List ℕ) →
-        let b : Lent = lent (now (slots .entry)) f (now (types .entry)) (now (diagnostics .entry)) (now (messages .entry)) e in
-        let b′ : Lent = lent (now (slots .exit)) f (now (types .entry)) (now (diagnostics .exit)) (now (messages .exit)) e in
+        ⌜ ((ls : List Package) (v : ℕ) (words f e : List ℕ) (o : More) →
+        let b : Lent = lent (now (slots .entry)) f (now (types .entry)) (now (diagnostics .entry)) (now (messages .entry)) e o in
+        let b′ : Lent = lent (now (slots .exit)) f (now (types .entry)) (now (diagnostics .exit)) (now (messages .exit)) e o in
         Visits (castEnd (ctx T ls v) (now (image .entry)) n at to answer) 0 0 words st b b′ r) ⌝ }
 {
     let Answer::Known(value) = answer else {

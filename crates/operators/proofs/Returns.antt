@@ -112,7 +112,7 @@ module _ (T : Texts) (s t d m : List ℕ) (u : Used) (n slot token left to : ℕ
       cast-full hx ls v = record { step = λ rest. cast-is ls v rest ∙ rw (z, ← hs, e) (refused-steps (setKnown slot to) (full-goes n hx p) .step rest) }
 
       pub cast-same :
-          {c : Counts} {s′ : List ℕ} {q : Step} → x ≡ Told c → ((t d m : List ℕ) → Steps (setKnown slot to) s t d m (record { types = u .types; told = c }) s′ t d m q) →
+          {c : Counts} {s′ : List ℕ} {q : Step} → x ≡ Told c → ((t d m : List ℕ) → Steps (setKnown slot to) s t d m (record { types = u .types; told = c; kept = u .kept }) s′ t d m q) →
           (ls : List Package) (v : ℕ) → Steps (cast (ctx T ls v) n slot token left to) s t d m u s′ t d′ m′ q
       unfolding when
       cast-same hx k ls v = record { step = λ rest. cast-is ls v rest ∙ rw (z, ← hs, e) (on-steps (told-goes n hx p) (k t d′ m′) .step rest) }

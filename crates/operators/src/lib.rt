@@ -311,11 +311,13 @@ pub fn cast<'a>(
     let Reported::Told(after) = reported else {
         return Step::Refused(9, n);
     };
+    let kept = used.kept;
     set_known(
         slots,
         Used {
             types: used.types,
             told: after,
+            kept,
         },
         slot,
         to,

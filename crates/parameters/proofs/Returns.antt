@@ -23,6 +23,7 @@ use Rattle.rules.specs.Rules.{fnArguments}
 use Rattle.tworuns.specs.Written.{getD-written}
 use Rattle.state.specs.declared.Used.{Used}
 use Rattle.state.specs.Context.{ctx}
+use Rattle.state.specs.World.{More, noMore}
 use Rattle.visit.specs.declared.State.{State}
 use Rattle.visit.specs.declared.Walked.{Walked}
 use Rattle.visit.specs.declared.Walked.the-variants as W
@@ -56,20 +57,20 @@ module _ {image places e : List ℕ} {st : State} (n slot at : ℕ) (h : Argumen
   expr = rw (← et) p
 
   pub one-refused : {s s′ e′ : List ℕ} {k : ℕ} → OneOf (1 ∷ 2 ∷ []) (tagOf the-type a) → k ≡ numberOf a
-      → (T : Texts) (ls : List Package) (v : ℕ) (words f d m : List ℕ)
-      → Argues (fnArguments (ctx T ls v) n slot (argsFrom image at 1)) 1 words st (lent s f types d m e) (lent s′ f types′ d m e′) (W.Refused k n)
+      → (T : Texts) (ls : List Package) (v : ℕ) (words f d m : List ℕ) (o : More)
+      → Argues (fnArguments (ctx T ls v) n slot (argsFrom image at 1)) 1 words st (lent s f types d m e o) (lent s′ f types′ d m e′ o) (W.Refused k n)
   unfolding fnArguments argsFrom arguedIn
-  one-refused {s} o ek T ls v words f d m = record {
-    step = rw (type-refused T ls v n (typeOf image (getD image (at + 1) 0)) (restOf words st (lent s f types d m e)) s types d m (st .used) a types′ expr o, ek) refl;
+  one-refused {s} one ek T ls v words f d m o = record {
+    step = rw (type-refused T ls v n (typeOf image (getD image (at + 1) 0)) (restOf words st (lent s f types d m e o)) s types d m (st .used) a types′ expr one, ek) refl;
     keeps = stops;
     names = P.stops;
   }
 
   pub one-bound : {s s′ e′ : List ℕ} {w more : ℕ} {st′ : State} → a ≡ A.Put w more → s′ ≡ set s slot w → e′ ≡ write e (2 * (st .base + st .depth)) (name ∷ w ∷ []) → st′ ≡ oneMore st (withTypesUsed (st .used) more)
-      → (T : Texts) (ls : List Package) (v : ℕ) (words f d m : List ℕ)
-      → Argues (fnArguments (ctx T ls v) n slot (argsFrom image at 1)) 1 words st (lent s f types d m e) (lent s′ f types′ d m e′) (W.On st′)
+      → (T : Texts) (ls : List Package) (v : ℕ) (words f d m : List ℕ) (o : More)
+      → Argues (fnArguments (ctx T ls v) n slot (argsFrom image at 1)) 1 words st (lent s f types d m e o) (lent s′ f types′ d m e′ o) (W.On st′)
   unfolding fnArguments argsFrom arguedIn setKnown envInsert paramsFrom
-  one-bound {s} {s′} {w = w} {more} ea es ee eu T ls v words f d m =
+  one-bound {s} {s′} {w = w} {more} ea es ee eu T ls v words f d m o =
       let x : ℕ = getD image at 0 in
       let e₁ : List ℕ = write e (2 * (st .base + st .depth)) (x ∷ w ∷ []) in
       let one : getD e₁ (2 * (st .base + st .depth)) 0 ≡ x =
@@ -77,7 +78,7 @@ module _ {image places e : List ℕ} {st : State} (n slot at : ℕ) (h : Argumen
       let two : getD e₁ (2 * (st .base + st .depth) + 1) 0 ≡ w = getD-written e (2 * (st .base + st .depth)) (x ∷ w ∷ []) (fits (h .free)) 1 (omega arith) in
       record {
         step = rw (
-          type-word T ls v n (typeOf image (getD image (at + 1) 0)) (restOf words st (lent s f types d m e)) s types d m (st .used) a types′ expr ea,
+          type-word T ls v n (typeOf image (getD image (at + 1) 0)) (restOf words st (lent s f types d m e o)) s types d m (st .used) a types′ expr ea,
           eu,
           ee,
           es,
@@ -87,7 +88,7 @@ module _ {image places e : List ℕ} {st : State} (n slot at : ℕ) (h : Argumen
           one,
           two,
         ) refl;
-        keeps = rw (eu, ee) (goes (within-bound (h .free) name w (withTypesUsed (st .used) more) s f types d m s′ types′ d m));
+        keeps = rw (eu, ee) (goes (within-bound (h .free) name w (withTypesUsed (st .used) more) s f types d m s′ types′ d m o));
         names = rw eu (P.deeper refl);
       }
 
@@ -107,19 +108,19 @@ append-stop c n slot xs ys w e = args-append c n ys xs slot w ∙ rw e refl
 
 -- k arguments are bound
 pub record Arguing (image : List ℕ) (n slot at k : ℕ) (st₀ : State) (s₀ t₀ e₀ : List ℕ) (st : State) (s t e : List ℕ) : Type 0 where
-  pub argues : (T : Texts) (ls : List Package) (v : ℕ) (words f d m : List ℕ)
-      → Argues (fnArguments (ctx T ls v) n slot (argsFrom image at k)) k words st₀ (lent s₀ f t₀ d m e₀) (lent s f t d m e) (W.On st)
-  pub within : Within (2 * k) 0 st₀ (lent s₀ [] t₀ [] [] e₀) st (lent s [] t [] [] e)
+  pub argues : (T : Texts) (ls : List Package) (v : ℕ) (words f d m : List ℕ) (o : More)
+      → Argues (fnArguments (ctx T ls v) n slot (argsFrom image at k)) k words st₀ (lent s₀ f t₀ d m e₀ o) (lent s f t d m e o) (W.On st)
+  pub within : Within (2 * k) 0 st₀ (lent s₀ [] t₀ [] [] e₀ noMore) st (lent s [] t [] [] e noMore)
 
 pub arguing-begin : (image : List ℕ) (n slot at : ℕ) (st : State) (s t e : List ℕ) → Arguing image n slot at 0 st s t e st s t e
 unfolding fnArguments argsFrom arguedIn paramsFrom
 arguing-begin image n slot at st s t e = record {
-  argues = λ T ls v words f d m. record {
+  argues = λ T ls v words f d m o. record {
     step = refl;
-    keeps = goes (within-most (within-plain st (st .used) s t d m s t d m f e) (omega arith) (omega arith));
+    keeps = goes (within-most (within-plain st (st .used) s t d m s t d m f e o) (omega arith) (omega arith));
     names = P.deeper {st′ = st} (omega arith);
   };
-  within = within-most (within-plain st (st .used) s t [] [] s t [] [] [] e) (omega arith) (omega arith);
+  within = within-most (within-plain st (st .used) s t [] [] s t [] [] [] e noMore) (omega arith) (omega arith);
 }
 
 module _ {image places : List ℕ} {n slot at count k : ℕ} {st₀ : State} {s₀ t₀ e₀ : List ℕ} (h : ArgumentsReady image places st₀ e₀ slot at count)
@@ -132,30 +133,30 @@ module _ {image places : List ℕ} {n slot at count k : ℕ} {st₀ : State} {s�
     low = omega (arith, h .arguments .room);
   }
 
-  pub arguments-over : k ≤ count → count ≤ k → (T : Texts) (ls : List Package) (v : ℕ) (words f d m : List ℕ)
-      → Argues (fnArguments (ctx T ls v) n slot (argsFrom image at count)) count words st₀ (lent s₀ f t₀ d m e₀) (lent s f t d m e) (W.On st)
-  arguments-over l m₁ T ls v words f d m =
+  pub arguments-over : k ≤ count → count ≤ k → (T : Texts) (ls : List Package) (v : ℕ) (words f d m : List ℕ) (o : More)
+      → Argues (fnArguments (ctx T ls v) n slot (argsFrom image at count)) count words st₀ (lent s₀ f t₀ d m e₀ o) (lent s f t d m e o) (W.On st)
+  arguments-over l m₁ T ls v words f d m o =
       let z : count ≡ k = omega arith in
-      rw z (i .argues T ls v words f d m)
+      rw z (i .argues T ls v words f d m o)
 
-  module _ {s′ t′ e′ : List ℕ} {r : Walked} (p : (T : Texts) (ls : List Package) (v : ℕ) (words f d m : List ℕ)
-      → Argues (fnArguments (ctx T ls v) n (slot + k) (argsFrom image (at + 2 * k) 1)) 1 words st (lent s f t d m e) (lent s′ f t′ d m e′) r) where
-    pub arguments-stop : {number place : ℕ} → k < count → r ≡ W.Refused number place → (T : Texts) (ls : List Package) (v : ℕ) (words f d m : List ℕ)
-        → Argues (fnArguments (ctx T ls v) n slot (argsFrom image at count)) count words st₀ (lent s₀ f t₀ d m e₀) (lent s′ f t′ d m e′) r
+  module _ {s′ t′ e′ : List ℕ} {r : Walked} (p : (T : Texts) (ls : List Package) (v : ℕ) (words f d m : List ℕ) (o : More)
+      → Argues (fnArguments (ctx T ls v) n (slot + k) (argsFrom image (at + 2 * k) 1)) 1 words st (lent s f t d m e o) (lent s′ f t′ d m e′ o) r) where
+    pub arguments-stop : {number place : ℕ} → k < count → r ≡ W.Refused number place → (T : Texts) (ls : List Package) (v : ℕ) (words f d m : List ℕ) (o : More)
+        → Argues (fnArguments (ctx T ls v) n slot (argsFrom image at count)) count words st₀ (lent s₀ f t₀ d m e₀ o) (lent s′ f t′ d m e′ o) r
     unfolding arguedIn others
-    arguments-stop {number} {place} l er T ls v words f d m =
+    arguments-stop {number} {place} l er T ls v words f d m o =
         let j : count ≡ k + (1 + (count - (k + 1))) = omega arith in
         let c : Ctx = ctx T ls v in
-        let w₀ : World = whole words st₀ (lent s₀ f t₀ d m e₀) in
-        let w₁ : World = whole words st (lent s f t d m e) in
-        let one : fnArguments c n (slot + k) (argsFrom image (at + 2 * k) 1) w₁ ≡ refused (refusal number place) = p T ls v words f d m .step ∙ rw er refl in
+        let w₀ : World = whole words st₀ (lent s₀ f t₀ d m e₀ o) in
+        let w₁ : World = whole words st (lent s f t d m e o) in
+        let one : fnArguments c n (slot + k) (argsFrom image (at + 2 * k) 1) w₁ ≡ refused (refusal number place) = p T ls v words f d m o .step ∙ rw er refl in
         let two : fnArguments c n (slot + k) (argsFrom image (at + 2 * k) (1 + (count - (k + 1)))) w₁ ≡ refused (refusal number place) =
         rw (args-split image (at + 2 * k) 1 (count - (k + 1))) (append-stop c n (slot + k) (argsFrom image (at + 2 * k) 1) _ w₁ one) in
         rw er (record {
           step =
               ap (λ y. fnArguments c n slot (argsFrom image at y) w₀) j
               ∙ ap (λ y. fnArguments c n slot y w₀) (args-split image at k (1 + (count - (k + 1))))
-              ∙ append-ok c n slot (argsFrom image at k) _ w₀ (i .argues T ls v words f d m .step)
+              ∙ append-ok c n slot (argsFrom image at k) _ w₀ (i .argues T ls v words f d m o .step)
               ∙ rw (length-args image at k, two) refl;
           keeps = stops;
           names = P.stops;
@@ -164,12 +165,12 @@ module _ {image places : List ℕ} {n slot at count k : ℕ} {st₀ : State} {s�
     pub arguing-more : {st′ : State} → r ≡ W.On st′ → Arguing image n slot at (k + 1) st₀ s₀ t₀ e₀ st′ s′ t′ e′
     unfolding arguedIn others
     arguing-more {st′} er = record {
-      argues = λ T ls v words f d m.
+      argues = λ T ls v words f d m o.
           let c : Ctx = ctx T ls v in
-          let w₀ : World = whole words st₀ (lent s₀ f t₀ d m e₀) in
-          let w₁ : World = whole words st (lent s f t d m e) in
-          let q = i .argues T ls v words f d m in
-          let x : Argues (fnArguments c n (slot + k) (argsFrom image (at + 2 * k) 1)) 1 words st (lent s f t d m e) (lent s′ f t′ d m e′) (W.On st′) = rw er at (p T ls v words f d m) in
+          let w₀ : World = whole words st₀ (lent s₀ f t₀ d m e₀ o) in
+          let w₁ : World = whole words st (lent s f t d m e o) in
+          let q = i .argues T ls v words f d m o in
+          let x : Argues (fnArguments c n (slot + k) (argsFrom image (at + 2 * k) 1)) 1 words st (lent s f t d m e o) (lent s′ f t′ d m e′ o) (W.On st′) = rw er at (p T ls v words f d m o) in
           let y = went (q .keeps) in
           let z = went (x .keeps) in
           let u : top st ≡ top st₀ + 2 * k = omega (arith, y .base, depth-of (q .names)) in
@@ -178,9 +179,9 @@ module _ {image places : List ℕ} {n slot at count k : ℕ} {st₀ : State} {s�
             step =
                 ap (λ y. fnArguments c n slot y w₀) (args-split image at k 1)
                 ∙ append-ok c n slot (argsFrom image at k) _ w₀ (q .step)
-                ∙ rw (length-args image at k, x .step) (ap (λ ps. ok ps (whole words st′ (lent s′ f t′ d m e′))) (ap (λ b. paramsFrom e (top st₀) k ++ paramsFrom e′ b 1) u ∙ ap (λ ps. ps ++ paramsFrom e′ (top st₀ + 2 * k) 1) g ∙ sym (params-split e′ (top st₀) k 1)));
+                ∙ rw (length-args image at k, x .step) (ap (λ ps. ok ps (whole words st′ (lent s′ f t′ d m e′ o))) (ap (λ b. paramsFrom e (top st₀) k ++ paramsFrom e′ b 1) u ∙ ap (λ ps. ps ++ paramsFrom e′ (top st₀ + 2 * k) 1) g ∙ sym (params-split e′ (top st₀) k 1)));
             keeps = goes (within-most (within-then y z) (omega arith) (omega arith));
             names = P.deeper {st′ = st′} (omega (arith, depth-of (q .names), depth-of (x .names)));
           };
-      within = within-most (within-then (i .within) (went (rw er at (p (record { script = []; library = [] }) [] 0 [] [] [] [] .keeps)))) (omega arith) (omega arith);
+      within = within-most (within-then (i .within) (went (rw er at (p (record { script = []; library = [] }) [] 0 [] [] [] [] noMore .keeps)))) (omega arith) (omega arith);
     }

@@ -23,7 +23,7 @@ use Rattle.state.specs.World.{Rest, world}
 
 -- as much of the types used
 abbrev pub withTypesUsed : Used → (types : ℕ) → Used
-withTypesUsed u n = record { types = n; told = u .told }
+withTypesUsed u n = record { types = n; told = u .told; kept = u .kept }
 
 -- what the code that adds the type of an expression says
 pub record Typed (e : TypeExpr) (t : List ℕ) (used : ℕ) (a : Added) (t′ : List ℕ) : Type 0 where

@@ -9,6 +9,7 @@ ghost use Rattle.add.specs.Answer.{numberOf};
 ghost use Rattle.ast.specs.TypeExpr.{argsFrom};
 ghost use Rattle.rules.specs.Rules.{fnArguments};
 ghost use Rattle.state.specs.Context.{ctx};
+ghost use Rattle.state.specs.World.{More};
 ghost use Rattle.visit.specs.Whole.{Lent, lent};
 ghost use Rattle.parameters.specs.Arguments.{ArgumentReady, ArgumentsReady, Argues};
 use add::Added;
@@ -49,9 +50,9 @@ pub fn one_argument(
 ) -> Walked
     requires { ⌜ ArgumentReady (now image) (now places) st (now scratch) at ⌝ }
     ensures { λ r.
-        ⌜ ((T : Texts) (ls : List Package) (v : ℕ) (words f d m : List ℕ) →
-        let b : Lent = lent (now (slots .entry)) f (now (types .entry)) d m (now (scratch .entry)) in
-        let b′ : Lent = lent (now (slots .exit)) f (now (types .exit)) d m (now (scratch .exit)) in
+        ⌜ ((T : Texts) (ls : List Package) (v : ℕ) (words f d m : List ℕ) (o : More) →
+        let b : Lent = lent (now (slots .entry)) f (now (types .entry)) d m (now (scratch .entry)) o in
+        let b′ : Lent = lent (now (slots .exit)) f (now (types .exit)) d m (now (scratch .exit)) o in
         Argues (fnArguments (ctx T ls v) n slot (argsFrom (now (image .entry)) at 1)) 1 words st b b′ r) ⌝ }
 {
     let name = word_at(image, at);
@@ -63,11 +64,13 @@ pub fn one_argument(
     operators::store(slots, slot, w);
     names::bind_name(scratch, st.base, st.depth, name, w);
     let counts = used.told;
+    let kept = used.kept;
     Walked::On(names::one_more(
         st,
         Used {
             types: more,
             told: counts,
+            kept,
         },
     ))
 }
@@ -87,9 +90,9 @@ pub fn fn_arguments(
 ) -> Walked
     requires { ⌜ ArgumentsReady (now image) (now places) st (now scratch) slot at count ⌝ }
     ensures { λ r.
-        ⌜ ((T : Texts) (ls : List Package) (v : ℕ) (words f d m : List ℕ) →
-        let b : Lent = lent (now (slots .entry)) f (now (types .entry)) d m (now (scratch .entry)) in
-        let b′ : Lent = lent (now (slots .exit)) f (now (types .exit)) d m (now (scratch .exit)) in
+        ⌜ ((T : Texts) (ls : List Package) (v : ℕ) (words f d m : List ℕ) (o : More) →
+        let b : Lent = lent (now (slots .entry)) f (now (types .entry)) d m (now (scratch .entry)) o in
+        let b′ : Lent = lent (now (slots .exit)) f (now (types .exit)) d m (now (scratch .exit)) o in
         Argues (fnArguments (ctx T ls v) n slot (argsFrom (now (image .entry)) at count)) count words st b b′ r) ⌝ }
 {
     let mut after = st;

@@ -16,7 +16,7 @@ use Rattle.state.specs.declared.Step.the-variants as S
 use Rattle.state.specs.declared.Used.{Used}
 use Rattle.state.specs.Context.{ctx}
 use Rattle.state.specs.Store.{envUp, heldFrom}
-use Rattle.state.specs.World.{Rest, stepped}
+use Rattle.state.specs.World.{More, Rest, stepped}
 use Rattle.call_args.specs.Given.{givenFrom}
 use Rattle.call_types.specs.Gather.{wordsIn, Gatherable}
 use Rattle.visit.specs.declared.State.{State}
@@ -89,11 +89,11 @@ module _ {count : ℕ} {st : State} {e e₁ e′ : List ℕ} (free : Free count 
   env-same : envUp e′ (st .base) (st .depth) ≡ envUp e (st .base) (st .depth)
   env-same = env-front (top st) e e′ front (st .base) (st .depth) (omega arith)
 
-  module _ (s t d m s′ t′ d′ m′ f : List ℕ) where
-    rest-same : (words : List ℕ) → restOf words st (lent s f t d m e) ≡ restOf words st (lent s′ f t′ d′ m′ e′)
+  module _ (s t d m s′ t′ d′ m′ f : List ℕ) (o : More) where
+    rest-same : (words : List ℕ) → restOf words st (lent s f t d m e o) ≡ restOf words st (lent s′ f t′ d′ m′ e′ o)
     rest-same words = rw (held-same words, env-same) refl
 
-    within : (u : Used) → Within count 0 st (lent s f t d m e) (withUsed st u) (lent s′ f t′ d′ m′ e′)
+    within : (u : Used) → Within count 0 st (lent s f t d m e o) (withUsed st u) (lent s′ f t′ d′ m′ e′ o)
     within u = record {
       base = refl;
       deeper = omega arith;
@@ -106,13 +106,13 @@ module _ {count : ℕ} {st : State} {e e₁ e′ : List ℕ} (free : Free count 
       functions = refl;
     }
 
-    keeps : (r : Step) → Keeps count 0 st (lent s f t d m e) (lent s′ f t′ d′ m′ e′) (visitOf st r)
+    keeps : (r : Step) → Keeps count 0 st (lent s f t d m e o) (lent s′ f t′ d′ m′ e′ o) (visitOf st r)
     unfolding visitOf
     keeps (S.Known slot u) = knows (within u)
     keeps (S.Poison u) = poisons (within u)
     keeps (S.Refused number place) = refuses
 
-    visited-is : (words : List ℕ) (r : Step) → stepped (restOf words st (lent s′ f t′ d′ m′ e′)) s′ t′ d′ m′ r ≡ visited words (lent s′ f t′ d′ m′ e′) (visitOf st r)
+    visited-is : (words : List ℕ) (r : Step) → stepped (restOf words st (lent s′ f t′ d′ m′ e′ o)) s′ t′ d′ m′ r ≡ visited words (lent s′ f t′ d′ m′ e′ o) (visitOf st r)
     unfolding visitOf stepped visited
     visited-is words (S.Known slot u) = refl
     visited-is words (S.Poison u) = refl
@@ -120,12 +120,12 @@ module _ {count : ℕ} {st : State} {e e₁ e′ : List ℕ} (free : Free count 
 
   pub calls-visit : (texts : Texts) (n slot pkg name : ℕ) (given : List Provided) (poisoned : Bool) (words s t d m : List ℕ) {s′ t′ d′ m′ : List ℕ} {r : Step} {v : Visit}
       → HeldCalls texts n slot pkg name given poisoned words (st .held) (st .packages) e₁ s t d m (st .used) e′ s′ t′ d′ m′ r → v ≡ visitOf st r
-      → (library : List Package) (void : ℕ) (f : List ℕ)
-      → Visits (resolvePkgCall (ctx texts library void) n slot pkg name given poisoned) count 0 words st (lent s f t d m e) (lent s′ f t′ d′ m′ e′) v
-  calls-visit texts n slot pkg name given poisoned words s t d m {s′} {t′} {d′} {m′} {r} {v} h q library void f = rw q (record {
-    step = h .step library void (restOf words st (lent s f t d m e)) (sym (held₁ words)) ∙ ap (λ x. stepped x s′ t′ d′ m′ r) (rest-same s t d m s′ t′ d′ m′ f words)
-        ∙ visited-is s t d m s′ t′ d′ m′ f words r;
-    keeps = keeps s t d m s′ t′ d′ m′ f r;
+      → (library : List Package) (void : ℕ) (f : List ℕ) (o : More)
+      → Visits (resolvePkgCall (ctx texts library void) n slot pkg name given poisoned) count 0 words st (lent s f t d m e o) (lent s′ f t′ d′ m′ e′ o) v
+  calls-visit texts n slot pkg name given poisoned words s t d m {s′} {t′} {d′} {m′} {r} {v} h q library void f o = rw q (record {
+    step = h .step library void (restOf words st (lent s f t d m e o)) (sym (held₁ words)) ∙ ap (λ x. stepped x s′ t′ d′ m′ r) (rest-same s t d m s′ t′ d′ m′ f o words)
+        ∙ visited-is s t d m s′ t′ d′ m′ f o words r;
+    keeps = keeps s t d m s′ t′ d′ m′ f o r;
   })
 
 -- ── The code's steps ──
@@ -159,8 +159,8 @@ module _ {texts : Texts} {image places words : List ℕ} {st : State} {e : List 
         → HeldCalls texts n slot pkg name (givenFrom image args count) poisoned words (st .held) (st .packages)
         (take (top st) e ++ (ys ++ drop (end - top st) (drop (top st) e))) slots types d m (st .used) e′ s′ t′ d′ m′ r
         → length e′ ≡ length (take (top st) e ++ (ys ++ drop (end - top st) (drop (top st) e)))
-        → v ≡ visitOf st r → (library : List Package) (void : ℕ) (f : List ℕ)
-        → Visits (resolvePkgCall (ctx texts library void) n slot pkg name (givenFrom image args count) poisoned) count 0 words st (lent slots f types d m e) (lent s′ f t′ d′ m′ e′) v
+        → v ≡ visitOf st r → (library : List Package) (void : ℕ) (f : List ℕ) (o : More)
+        → Visits (resolvePkgCall (ctx texts library void) n slot pkg name (givenFrom image args count) poisoned) count 0 words st (lent slots f types d m e o) (lent s′ f t′ d′ m′ e′ o) v
     pkg-visits slot pkg name poisoned d m h z q =
         calls-visit (p .free) (front-same e ys (top st) count ee fits long) (past-same e ys (top st) count ee fits long) (back-length e ys (top st) count ee fits long) (h .low) z
         texts n slot pkg name (givenFrom image args count) poisoned words slots types d m h q

@@ -12,6 +12,7 @@ ghost use Rattle.rules.specs.Calls.{resolvePkgCall};
 ghost use Rattle.state.specs.Context.{ctx};
 ghost use Rattle.state.specs.Store.{externAt};
 ghost use Rattle.call_args.specs.Given.{givenFrom};
+ghost use Rattle.state.specs.World.{More};
 ghost use Rattle.visit.specs.Whole.{Lent, lent};
 ghost use Rattle.visit.specs.Within.{Visits};
 ghost use Rattle.pkg_group.specs.Groups.{InGroup};
@@ -311,9 +312,9 @@ pub fn resolve_pkg_call<'a>(
     requires { let T : Texts = textsOf (now script) (now library) in
         ⌜ PkgReady T (now image) (now places) (now words) st (now scratch) n args count (now slots) (now types) ⌝ }
     ensures { λ r. let T : Texts = textsOf (now (script .entry)) (now (library .entry)) in
-        ⌜ ((ls : List Package) (v : ℕ) (f : List ℕ) →
-        let b : Lent = lent (now (slots .entry)) f (now (types .entry)) (now (diagnostics .entry)) (now (messages .entry)) (now (scratch .entry)) in
-        let b′ : Lent = lent (now (slots .exit)) f (now (types .exit)) (now (diagnostics .exit)) (now (messages .exit)) (now (scratch .exit)) in
+        ⌜ ((ls : List Package) (v : ℕ) (f : List ℕ) (o : More) →
+        let b : Lent = lent (now (slots .entry)) f (now (types .entry)) (now (diagnostics .entry)) (now (messages .entry)) (now (scratch .entry)) o in
+        let b′ : Lent = lent (now (slots .exit)) f (now (types .exit)) (now (diagnostics .exit)) (now (messages .exit)) (now (scratch .exit)) o in
         Visits (resolvePkgCall (ctx T ls v) n slot pkg name (givenFrom (now (image .entry)) args count) poisoned) count 0 (now (words .entry)) st b b′ r) ⌝ }
 {
     let top = 2 * (st.base + st.depth);

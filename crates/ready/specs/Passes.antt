@@ -16,7 +16,7 @@ use Rattle.onerun.specs.Logic.{Silent, After, Gives, gives, answer-later}
 use Rattle.state.specs.declared.Went.{Went}
 use Rattle.state.specs.declared.Went.the-variants as N
 use Rattle.state.specs.declared.Used.{Used}
-use Rattle.state.specs.World.{gone, Goes}
+use Rattle.state.specs.World.{More, gone, Goes}
 use Rattle.visit.specs.declared.State.{State}
 use Rattle.visit.specs.declared.Visit.{Visit}
 use Rattle.visit.specs.declared.Walked.{Walked}
@@ -129,10 +129,10 @@ word-passes {words = words} {m = m} {r = r} {w = w} {word = word} {st = st} {st�
     rule-passes m g (y .step) (word-within (y .keeps))
 
 -- a plain step that only writes
-pub goes-passes : {T : Texts} {image words : List ℕ} {Q : World → Done → Type 0} {m : Walk Done} {st : State} {s t d n s′ t′ d′ n′ : List ℕ} {u : Used} {v : Went} (f e : List ℕ)
-    → Goes m s t d n (st .used) s′ t′ d′ n′ v → v ≡ N.On u → Gives (walkRun T image words) Q (whole words st (lent s f t d n e)) (m (whole words st (lent s f t d n e)))
-    → Passes T image words Q 0 0 st (lent s f t d n e) (withUsed st u) (lent s′ f t′ d′ n′ e) tt
+pub goes-passes : {T : Texts} {image words : List ℕ} {Q : World → Done → Type 0} {m : Walk Done} {st : State} {s t d n s′ t′ d′ n′ : List ℕ} {u : Used} {v : Went} (f e : List ℕ) (o : More)
+    → Goes m s t d n (st .used) s′ t′ d′ n′ v → v ≡ N.On u → Gives (walkRun T image words) Q (whole words st (lent s f t d n e o)) (m (whole words st (lent s f t d n e o)))
+    → Passes T image words Q 0 0 st (lent s f t d n e o) (withUsed st u) (lent s′ f t′ d′ n′ e o) tt
 unfolding gone
-goes-passes {words = words} {m = m} {st = st} {s = s} {t = t} {d = d} {n = n} {s′ = s′} {t′ = t′} {d′ = d′} {n′ = n′} {u = u} f e x q g =
+goes-passes {words = words} {m = m} {st = st} {s = s} {t = t} {d = d} {n = n} {s′ = s′} {t′ = t′} {d′ = d′} {n′ = n′} {u = u} f e o x q g =
     let y : Goes m s t d n (st .used) s′ t′ d′ n′ (N.On u) = rw q at x in
-    rule-passes m g (y .step (restOf words st (lent s f t d n e))) (within-plain st u s t d n s′ t′ d′ n′ f e)
+    rule-passes m g (y .step (restOf words st (lent s f t d n e o))) (within-plain st u s t d n s′ t′ d′ n′ f e o)

@@ -18,6 +18,7 @@ use Rattle.onerun.specs.Claim.{Good, AnswerOk}
 use Rattle.onerun.specs.Rules.{MemberOk}
 use Rattle.state.specs.declared.Used.{Used}
 use Rattle.state.specs.Context.{ctx}
+use Rattle.state.specs.World.{More}
 use Rattle.visit.specs.declared.State.{State}
 use Rattle.visit.specs.Whole.{lent, restOf, whole}
 use Rattle.visit.specs.Plain.{withUsed, within-plain}
@@ -29,26 +30,26 @@ use Rattle.ready.specs.Ready.{walkRun, Ready}
 use Rattle.ready.specs.Passes.{Passes, rule-passes}
 use Rattle.ready.specs.After.{type-gives, member-gives}
 
-module _ {T : Texts} {image places words : List ℕ} {r w : ℕ} {st : State} {s f t d m e : List ℕ} (y : Ready T image places words r w st (lent s f t d m e)) where
+module _ {T : Texts} {image places words : List ℕ} {r w : ℕ} {st : State} {s f t d m e : List ℕ} {o : More} (y : Ready T image places words r w st (lent s f t d m e o)) where
   -- the type of a type expression was added
   pub after-type : (n : ℕ) {x word more : ℕ} {a : Added} {t′ : List ℕ} → x < typeCount image → Typed (typeOf image x) t (st .used .types) a t′ → a ≡ A.Put word more
-      → Passes T image words (λ u z. Good (walkRun T image words) (u .types) z) 0 0 st (lent s f t d m e) (withUsed st (withTypesUsed (st .used) more)) (lent s f t′ d m e) word
+      → Passes T image words (λ u z. Good (walkRun T image words) (u .types) z) 0 0 st (lent s f t d m e o) (withUsed st (withTypesUsed (st .used) more)) (lent s f t′ d m e o) word
   after-type n {x} {word} {more} {a} {t′} l p q =
       rule-passes (typeFromExpr (ctx T (packagesOf words) (slotCount image)) n (typeOf image x)) (type-gives y n x l)
-      (type-word T (packagesOf words) (slotCount image) n (typeOf image x) (restOf words st (lent s f t d m e)) s t d m (st .used) a t′ p q)
-      (within-plain st (withTypesUsed (st .used) more) s t d m s t′ d m f e)
+      (type-word T (packagesOf words) (slotCount image) n (typeOf image x) (restOf words st (lent s f t d m e o)) s t d m (st .used) a t′ p q)
+      (within-plain st (withTypesUsed (st .used) more) s t d m s t′ d m f e o)
 
   -- a member was compared, and the array goes on
-  module _ (n : ℕ) (span : Span) {first second : Answer} (k : AnswerOk (walkRun T image words) (whole words st (lent s f t d m e)) first) (l : AnswerOk (walkRun T image words) (whole words st (lent s f t d m e)) second)
+  module _ (n : ℕ) (span : Span) {first second : Answer} (k : AnswerOk (walkRun T image words) (whole words st (lent s f t d m e o)) first) (l : AnswerOk (walkRun T image words) (whole words st (lent s f t d m e o)) second)
       {d′ m′ : List ℕ} {u : Used} {c : Compared} (x : Compares (member (ctx T (packagesOf words) (slotCount image)) n span first second) s t d m (st .used) d′ m′ c) where
-    pub after-alike : c ≡ C.Alike u → Passes T image words (λ _ o. MemberOk (walkRun T image words) o) 0 0 st (lent s f t d m e) (withUsed st u) (lent s f t d′ m′ e) alike
+    pub after-alike : c ≡ C.Alike u → Passes T image words (λ _ z. MemberOk (walkRun T image words) z) 0 0 st (lent s f t d m e o) (withUsed st u) (lent s f t d′ m′ e o) alike
     unfolding compared
     after-alike q =
         let z : Compares (member (ctx T (packagesOf words) (slotCount image)) n span first second) s t d m (st .used) d′ m′ (C.Alike u) = rw q at x in
-        rule-passes (member (ctx T (packagesOf words) (slotCount image)) n span first second) (member-gives y n span k l) (z .step (restOf words st (lent s f t d m e))) (within-plain st u s t d m s t d′ m′ f e)
+        rule-passes (member (ctx T (packagesOf words) (slotCount image)) n span first second) (member-gives y n span k l) (z .step (restOf words st (lent s f t d m e o))) (within-plain st u s t d m s t d′ m′ f e o)
 
-    pub after-silent : c ≡ C.Silent u → Passes T image words (λ _ o. MemberOk (walkRun T image words) o) 0 0 st (lent s f t d m e) (withUsed st u) (lent s f t d′ m′ e) silent
+    pub after-silent : c ≡ C.Silent u → Passes T image words (λ _ z. MemberOk (walkRun T image words) z) 0 0 st (lent s f t d m e o) (withUsed st u) (lent s f t d′ m′ e o) silent
     unfolding compared
     after-silent q =
         let z : Compares (member (ctx T (packagesOf words) (slotCount image)) n span first second) s t d m (st .used) d′ m′ (C.Silent u) = rw q at x in
-        rule-passes (member (ctx T (packagesOf words) (slotCount image)) n span first second) (member-gives y n span k l) (z .step (restOf words st (lent s f t d m e))) (within-plain st u s t d m s t d′ m′ f e)
+        rule-passes (member (ctx T (packagesOf words) (slotCount image)) n span first second) (member-gives y n span k l) (z .step (restOf words st (lent s f t d m e o))) (within-plain st u s t d m s t d′ m′ f e o)

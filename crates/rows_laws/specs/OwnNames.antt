@@ -44,6 +44,7 @@ module _ (P N : ℕ → Type 0) where
     frame = λ {s} {u} x h. record { own = x h .own };
     alone = λ {s} {u} x h. record { own = x (record { own = h .own }) .own };
     holds = λ p s h. record { own = h .own };
+    logs = λ l s h. record { own = h .own };
     typesFull = tt;
     tooDeep = tt;
     toldFull = tt;

@@ -16,7 +16,7 @@ use Rattle.err.specs.Report.{Output, tell}
 use Rattle.rules.specs.declared.Answer.{Answer}
 use Rattle.rules.specs.declared.Answer.the-variants.{Known, Poison}
 use Rattle.library.specs.Package.{Param, signature, function, Package}
-use Rattle.rules.specs.World.{Ctx, Local, World, Walk, withSlots, withFunctions, withTypes, withTold, withEnv, withPackages}
+use Rattle.rules.specs.World.{Ctx, Local, World, Walk, withSlots, withFunctions, withTypes, withTold, withEnv, withPackages, Log, withLog}
 
 abbrev pub Done : Type 0
 Done = Unit {0}
@@ -75,6 +75,14 @@ raised s (refused r) = refused r
 
 unfoldable pub onTypes : {A : Type 0} → Step Buffer Refusal A → Walk A
 onTypes m = λ s. raised s (m (s .types))
+
+-- Steps of the log.
+unfoldable pub raisedLog : {A : Type 0} → World → Result Log Refusal A → Result World Refusal A
+raisedLog s (ok a l) = ok a (withLog s l)
+raisedLog s (refused r) = refused r
+
+unfoldable pub onLog : {A : Type 0} → Step Log Refusal A → Walk A
+onLog m = λ s. raisedLog s (m (s .log))
 
 -- Steps of the diagnostics and their messages, with refusal 9.
 unfoldable pub raisedTold : {A : Type 0} → World → Result Output Refusal A → Result World Refusal A

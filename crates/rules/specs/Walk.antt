@@ -35,6 +35,7 @@ startOf i b = record {
   env = [];
   packages = [];
   own = [];
+  log = record {};
 }
 
 -- "Then the pool is copied (7)": "N for the pool". "The types buffer begins with the library pool".

@@ -22,6 +22,9 @@ pub record Local : Type 0 where
   pub name : ℕ
   pub type : Option ℕ
 
+-- What later requests add beside the five buffers: nothing yet.
+pub record Log : Type 0 where
+
 -- Each lent buffer whole, with what is used of it; and what the Rust keeps in its maps, newest first, so that the first of a name is found.
 pub record World : Type 0 where
   -- map: the type word of each slot, 0 where none; used to V
@@ -40,25 +43,29 @@ pub record World : Type 0 where
   pub packages : List Package
   -- own functions met: "calls visited from there on find the new one"
   pub own : List Function
+  pub log : Log
 
 abbrev pub Walk : Type 0 → Type 0
 Walk A = Step World Refusal A
 
 -- A world that differs in one thing.
 abbrev pub withSlots : World → List ℕ → World
-withSlots s x = record { slots = x; functions = s .functions; types = s .types; diagnostics = s .diagnostics; messages = s .messages; env = s .env; packages = s .packages; own = s .own }
+withSlots s x = record { slots = x; functions = s .functions; types = s .types; diagnostics = s .diagnostics; messages = s .messages; env = s .env; packages = s .packages; own = s .own; log = s .log }
 
 abbrev pub withFunctions : World → Buffer → List Function → World
-withFunctions s x o = record { slots = s .slots; functions = x; types = s .types; diagnostics = s .diagnostics; messages = s .messages; env = s .env; packages = s .packages; own = o }
+withFunctions s x o = record { slots = s .slots; functions = x; types = s .types; diagnostics = s .diagnostics; messages = s .messages; env = s .env; packages = s .packages; own = o; log = s .log }
 
 abbrev pub withTypes : World → Buffer → World
-withTypes s x = record { slots = s .slots; functions = s .functions; types = x; diagnostics = s .diagnostics; messages = s .messages; env = s .env; packages = s .packages; own = s .own }
+withTypes s x = record { slots = s .slots; functions = s .functions; types = x; diagnostics = s .diagnostics; messages = s .messages; env = s .env; packages = s .packages; own = s .own; log = s .log }
 
 abbrev pub withTold : World → (diagnostics messages : Buffer) → World
-withTold s d m = record { slots = s .slots; functions = s .functions; types = s .types; diagnostics = d; messages = m; env = s .env; packages = s .packages; own = s .own }
+withTold s d m = record { slots = s .slots; functions = s .functions; types = s .types; diagnostics = d; messages = m; env = s .env; packages = s .packages; own = s .own; log = s .log }
 
 abbrev pub withEnv : World → List Local → World
-withEnv s e = record { slots = s .slots; functions = s .functions; types = s .types; diagnostics = s .diagnostics; messages = s .messages; env = e; packages = s .packages; own = s .own }
+withEnv s e = record { slots = s .slots; functions = s .functions; types = s .types; diagnostics = s .diagnostics; messages = s .messages; env = e; packages = s .packages; own = s .own; log = s .log }
 
 abbrev pub withPackages : World → List Package → World
-withPackages s p = record { slots = s .slots; functions = s .functions; types = s .types; diagnostics = s .diagnostics; messages = s .messages; env = s .env; packages = p; own = s .own }
+withPackages s p = record { slots = s .slots; functions = s .functions; types = s .types; diagnostics = s .diagnostics; messages = s .messages; env = s .env; packages = p; own = s .own; log = s .log }
+
+abbrev pub withLog : World → Log → World
+withLog s l = record { slots = s .slots; functions = s .functions; types = s .types; diagnostics = s .diagnostics; messages = s .messages; env = s .env; packages = s .packages; own = s .own; log = l }

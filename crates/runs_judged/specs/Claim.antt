@@ -14,9 +14,9 @@ use Rattle.ptype.specs.Add.{Buffer}
 use Rattle.ast.specs.Node.{Node, Nodes, Ident, slotOf}
 use Rattle.rules.specs.declared.Answer.{Answer}
 use Rattle.rules.specs.declared.Answer.the-variants.{Known, Poison}
-use Rattle.rules.specs.World.{Ctx, Local, World, Walk, withSlots}
+use Rattle.rules.specs.World.{Ctx, Local, Log, World, Walk, withSlots}
 use Rattle.err.specs.Message.{Diagnostic}
-use Rattle.rules.specs.Steps.{Done, known, setKnown, onTypes, raised}
+use Rattle.rules.specs.Steps.{Done, known, setKnown, onTypes, raised, onLog, raisedLog}
 use Rattle.rules.specs.Steps as S
 use Rattle.rules.specs.Rules.{node, block}
 use Rattle.rules.specs.Visited.{visitedBelow, visitedAmong}
@@ -32,7 +32,7 @@ use Rattle.accepts.specs.OtherSlots.{owned}
 use Rattle.onerun.specs.Claim.{Run, NameAt, Is, Good, Recorded, Holds, AnswerOk, poison}
 use Rattle.onerun.specs.Claim as C
 use Rattle.onerun.specs.Grows.{is-grow, is-tree}
-use Rattle.onerun.specs.Logic.{Later, later, Silent, before, After, Gives, gives, stopped, GivesT, g-next, g-map, g-onTypes, g-set, Own}
+use Rattle.onerun.specs.Logic.{Later, later, Silent, before, After, Gives, gives, stopped, GivesT, GivesL, g-next, g-map, g-onTypes, g-onLog, g-set, Own}
 use Rattle.onerun.specs.Report.{g-report}
 use Rattle.onerun.specs.Proper.{Proper, ProperAll}
 use Rattle.onerun.specs.Functions.{Below}
@@ -230,6 +230,18 @@ module _ (c : Ctx) (type : ℕ → Ty) where
     where
       up : (x : Result Buffer Refusal A) → Gives (silent c) (λ u a. Q (u .types) a) s (raised s x) → Gives (silent c) (Built Q s) s (raised s x)
       up (ok a d) (gives t p) = gives t (λ z. let x = p z in
+          record { grown = x .grown; recorded = x .recorded; holds = x .holds; value = record { is = x .value; slots = refl; same = record { env = refl; packages = refl; own = refl } } })
+      up (refused r) g = stopped
+
+  -- a step of the log: the rest is as it was
+  pub h-onLog : {A : Type 0} {Q : Buffer → A → Type 0} (m : Step Log Refusal A) {s : World} → (Silent (silent c) s → Holds (silent c) s)
+      → (Silent (silent c) s → GivesL (silent c) Q (s .types) (m (s .log)))
+      → Gives (silent c) (Built Q s) s (onLog m s)
+  unfolding onLog raisedLog
+  h-onLog {A} {Q} m {s} h k = up (m (s .log)) (g-onLog (silent c) {Q = Q} m h k)
+    where
+      up : (x : Result Log Refusal A) → Gives (silent c) (λ u a. Q (u .types) a) s (raisedLog s x) → Gives (silent c) (Built Q s) s (raisedLog s x)
+      up (ok a l) (gives t p) = gives t (λ z. let x = p z in
           record { grown = x .grown; recorded = x .recorded; holds = x .holds; value = record { is = x .value; slots = refl; same = record { env = refl; packages = refl; own = refl } } })
       up (refused r) g = stopped
 

@@ -166,7 +166,7 @@ module _ (c : Ctx) where
         let y = x₃ z .value in
         let g : Grown (u .types) (u₃ .types) = grown-trans (x₁ z₁ .grown) (grown-trans (x₂ z₂ .grown) (x₃ z .grown)) in
         record {
-          keep = keep-trans (record {
+          keep = keep-trans {s = s} {u = u₂} {v = u₃} (record {
             word = λ q m. word q e₂ ∙ (word′ u q w e₁
                 (λ k. m (ap (λ (l : ℕ). getD (s .slots) l 0) k ∙ e slot (omega arith) (omega arith) (before (silent c) t z₀))) ∙ ap (λ (l : List ℕ). getD l q 0) (i .slots));
           }) (y .keep);

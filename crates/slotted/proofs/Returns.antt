@@ -66,7 +66,7 @@ module _ (texts : Texts) (n : ℕ) (callName : List ℕ) (name expected : ℕ) (
       tyOf-grow (apply-grows texts n (bindingsIn texts pairs count) expected (buffer t (u .types)) (e n ∙ ap (λ a. resultOf n a t′) p) .front) texts (mp .means .within 33)
 
   pub applied-compared : {w v : ℕ} {d′ m′ : List ℕ} {went : Went} → r ≡ Put w v
-      → Compares texts n callName name span (tyOf texts t′ w) (tyOf texts t′ provided) t′ d m (record { types = v; told = u .told }) d′ m′ went
+      → Compares texts n callName name span (tyOf texts t′ w) (tyOf texts t′ provided) t′ d m (record { types = v; told = u .told; kept = u .kept }) d′ m′ went
       → AfterBinding texts n callName name expected span provided t d m u pairs (Done count) t′ d′ m′ went
   unfolding afterBinding onTypes raised tree bindingsAfter
   applied-compared {w} {v} {d′} {m′} {went} p q = record {

@@ -47,6 +47,7 @@ fn applied<'a>(
         (now (types .exit)) (now (diagnostics .exit)) (now (messages .exit)) r ⌝ }
 {
     let told = used.told;
+    let kept = used.kept;
     let r = apply::apply_slot_binding(types, used.types, script, library, pairs, count, expected);
     match r {
         Added::Put(w, u) => {
@@ -56,7 +57,7 @@ fn applied<'a>(
                 messages,
                 script,
                 library,
-                Used { types: u, told },
+                Used { types: u, told, kept },
                 n,
                 callee,
                 name,

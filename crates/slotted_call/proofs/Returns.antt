@@ -44,7 +44,7 @@ use Rattle.state.specs.declared.Step.{Step}
 use Rattle.state.specs.declared.Step.the-variants as S
 use Rattle.state.specs.Context.{ctx}
 use Rattle.state.specs.Signatures.{signatureAt}
-use Rattle.state.specs.World.{Rest, world, stepped, Steps}
+use Rattle.state.specs.World.{Rest, world, stepped, Steps, noMore}
 use Rattle.state.specs.Reporting.{poisonOf, poisons-step}
 use Rattle.arguments.specs.Argument.{given}
 use Rattle.slotted.specs.declared.Argued.{Argued}
@@ -113,7 +113,7 @@ module _ (P : List Binding → Type 0) where
 
 -- a world for facts that hold in any
 somewhere : Rest
-somewhere = record { functions = buffer [] 0; env = []; packages = []; own = [] }
+somewhere = record { functions = buffer [] 0; env = []; packages = []; own = []; more = noMore }
 
 -- ── Each argument ──
 
@@ -232,7 +232,7 @@ module _ (texts : Texts) (n slot ret : ℕ) (pairs : List ℕ) (bound : ℕ) (s 
   by-tree : applySlotBinding texts n (bindingsIn texts pairs bound) (tyOf texts t ret) ret (buffer t (u .types)) ≡ resultOf n r t′
   by-tree = sym (apply-tree texts n (bindingsIn texts pairs bound) (mr .means)) ∙ e n
 
-  pub returns-put : {w v : ℕ} {s′ : List ℕ} {x : Step} → r ≡ Put w v → ((t d m : List ℕ) → Steps (setKnown slot w) s t d m (record { types = v; told = u .told }) s′ t d m x)
+  pub returns-put : {w v : ℕ} {s′ : List ℕ} {x : Step} → r ≡ Put w v → ((t d m : List ℕ) → Steps (setKnown slot w) s t d m (record { types = v; told = u .told; kept = u .kept }) s′ t d m x)
       → Returns texts n slot ret pairs bound s t d m u s′ t′ x
   unfolding onTypes raised
   returns-put p k = record { step = λ rest. rw (by-tree ∙ ap (λ a. resultOf n a t′) p) (k t′ d m .step rest) }

@@ -95,10 +95,11 @@ fn returned<'a>(
         ⌜ ((d m : List ℕ) → Returns T n slot ret (now (pairs .entry)) bound (now (slots .entry)) (now (types .entry)) d m used (now (slots .exit)) (now (types .exit)) r) ⌝ }
 {
     let told = used.told;
+    let kept = used.kept;
     let r = apply::apply_slot_binding(types, used.types, script, library, pairs, bound, ret);
     match r {
         Added::Put(w, u) => {
-            return operators::set_known(slots, Used { types: u, told }, slot, w);
+            return operators::set_known(slots, Used { types: u, told, kept }, slot, w);
         }
         Added::Full => {
             return Step::Refused(7, n);

@@ -33,7 +33,7 @@ beginning i = do
 
 -- the state before the first root: so many types are used; nothing is in scope, no package is held, no own function is met
 abbrev pub firstState : (pool : ℕ) → State
-firstState pool = record { used = record { types = pool; told = record { diagnostics = 0; bytes = 0 } }; base = 0; depth = 0; held = 8192; packages = 0; functions = 0 }
+firstState pool = record { used = record { types = pool; told = record { diagnostics = 0; bytes = 0 }; kept = record {} }; base = 0; depth = 0; held = 8192; packages = 0; functions = 0 }
 
 -- "The types buffer begins with the library pool": where it fits
 unfoldable pub withPool : (pool types : List ℕ) → List ℕ

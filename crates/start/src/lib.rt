@@ -11,6 +11,7 @@ ghost use Rattle.rules.specs.Walk.{emptySlots, paramTypes, functionTypes, packa
 ghost use Rattle.tworuns.specs.Accepted.{libraryTypes};
 ghost use Rattle.start.specs.Begin.{firstState, Starts};
 use err::Counts;
+use state::Kept;
 use state::Used;
 use visit::State;
 use visit::Walked;
@@ -117,6 +118,7 @@ fn first_state(pool: usize) -> State
                 diagnostics: 0,
                 bytes: 0,
             },
+            kept: Kept {},
         },
         base: 0,
         depth: 0,

@@ -10,7 +10,7 @@ use Rattle.state.specs.declared.Went.the-variants as W
 use Rattle.state.specs.Reporting.{toldOf, poisonOf}
 
 module _ (n : ℕ) (u : Used) {r : Reported} where
-  pub told-on : {c : Counts} → r ≡ Told c → W.On (record { types = u .types; told = c }) ≡ toldOf n u r
+  pub told-on : {c : Counts} → r ≡ Told c → W.On (record { types = u .types; told = c; kept = u .kept }) ≡ toldOf n u r
   unfolding toldOf
   told-on e = rw e
 
@@ -18,7 +18,7 @@ module _ (n : ℕ) (u : Used) {r : Reported} where
   unfolding toldOf
   told-none e = rw e
 
-  pub poison-on : {c : Counts} → r ≡ Told c → S.Poison (record { types = u .types; told = c }) ≡ poisonOf n u r
+  pub poison-on : {c : Counts} → r ≡ Told c → S.Poison (record { types = u .types; told = c; kept = u .kept }) ≡ poisonOf n u r
   unfolding poisonOf
   poison-on e = rw e
 

@@ -21,12 +21,12 @@ use Rattle.state.specs.World.{Rest, world, stepped, gone, Steps, Goes}
 
 -- what a step of node n answers after a diagnostic: what is used then; or refusal 9
 unfoldable pub toldOf : (n : ℕ) → Used → Reported → Went
-toldOf n u (Told c) = W.On (record { types = u .types; told = c })
+toldOf n u (Told c) = W.On (record { types = u .types; told = c; kept = u .kept })
 toldOf n u NoRoom = W.Refused 9 n
 
 -- the same, where the rule ends poisoned
 unfoldable pub poisonOf : (n : ℕ) → Used → Reported → Step
-poisonOf n u (Told c) = S.Poison (record { types = u .types; told = c })
+poisonOf n u (Told c) = S.Poison (record { types = u .types; told = c; kept = u .kept })
 poisonOf n u NoRoom = S.Refused 9 n
 
 -- ---- a diagnostic written is the rules' `report`, and `poison`
@@ -52,7 +52,7 @@ module _ (n : ℕ) {d : Diagnostic} {s t ds ms ds′ ms′ : List ℕ} {u : Used
 
 -- the same where the answer is known: told, or no room for it
 module _ (n : ℕ) {d : Diagnostic} {s t ds ms ds′ ms′ : List ℕ} {u : Used} {r : Reported} where
-  pub told-goes : {c : Counts} → r ≡ Told c → Reports d ds ms (u .told) ds′ ms′ r → Goes (report n d) s t ds ms u s t ds′ ms′ (W.On (record { types = u .types; told = c }))
+  pub told-goes : {c : Counts} → r ≡ Told c → Reports d ds ms (u .told) ds′ ms′ r → Goes (report n d) s t ds ms u s t ds′ ms′ (W.On (record { types = u .types; told = c; kept = u .kept }))
   unfolding toldOf
   told-goes e p = reports-step n (rw e at p)
 

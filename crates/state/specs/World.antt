@@ -7,8 +7,9 @@ use Rattle.ptype.specs.Add.{Buffer, buffer}
 use Rattle.library.specs.Package.{Function, Package}
 use Rattle.rules.specs.declared.Answer.{Answer}
 use Rattle.rules.specs.declared.Answer.the-variants.{Known, Poison}
-use Rattle.rules.specs.World.{Local, World, Walk}
+use Rattle.rules.specs.World.{Local, Log, World, Walk}
 use Rattle.rules.specs.Steps.{Done}
+use Rattle.state.specs.declared.Kept.{Kept}
 use Rattle.state.specs.declared.Used.{Used}
 use Rattle.state.specs.declared.Step.{Step}
 use Rattle.state.specs.declared.Step.the-variants as S
@@ -17,12 +18,27 @@ use Rattle.state.specs.declared.Went.the-variants as W
 use Rattle.state.specs.declared.Typed.{Typed}
 use Rattle.state.specs.declared.Typed.the-variants as T
 
+-- the buffers that later requests lend: none yet
+pub record More : Type 0 where
+
+abbrev pub noMore : More
+noMore = record {}
+
+-- the log of the rules, from these buffers and what is used of them
+abbrev pub logOf : More → Kept → Log
+logOf o k = record {}
+
+-- and back
+abbrev pub moreOf : Log → More
+moreOf l = record {}
+
 -- what a plain step neither reads nor changes
 pub record Rest : Type 0 where
   pub functions : Buffer
   pub env : List Local
   pub packages : List Package
   pub own : List Function
+  pub more : More
 
 abbrev pub world : Rest → (slots types diagnostics messages : List ℕ) → Used → World
 world r s t d m u = record {
@@ -34,6 +50,7 @@ world r s t d m u = record {
   env = r .env;
   packages = r .packages;
   own = r .own;
+  log = logOf (r .more) (u .kept);
 }
 
 -- The paper's number and values for each case of an answer. After a refusal the rules say nothing of the buffers: the check sets them to zero.

@@ -4,10 +4,14 @@ ghost use Rattle.state.specs.Reporting.{toldOf, poisonOf};
 use err::Counts;
 use err::Reported;
 
+// What is used of what later requests add: nothing yet.
+pub struct Kept {}
+
 // How much of the types, of the diagnostics and of their messages is used.
 pub struct Used {
     pub types: usize,
     pub told: Counts,
+    pub kept: Kept,
 }
 
 // What a rule answers: a value's slot, or that an error was reported already (typedefs.rs, `enum TcType`), with what is used then; or a
@@ -36,9 +40,11 @@ pub fn told(n: u32, used: Used, reported: Reported) -> Went
 {
     match reported {
         Reported::Told(counts) => {
+            let kept = used.kept;
             return Went::On(Used {
                 types: used.types,
                 told: counts,
+                kept,
             });
         }
         Reported::NoRoom => {
@@ -53,9 +59,11 @@ pub fn poisoned(n: u32, used: Used, reported: Reported) -> Step
 {
     match reported {
         Reported::Told(counts) => {
+            let kept = used.kept;
             return Step::Poison(Used {
                 types: used.types,
                 told: counts,
+                kept,
             });
         }
         Reported::NoRoom => {

@@ -29,6 +29,7 @@ world w = record {
   env = [];
   packages = [];
   own = [];
+  log = record {};
 }
 
 abbrev ctx : Ctx

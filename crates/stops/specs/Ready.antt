@@ -12,12 +12,14 @@ use Rattle.ast.specs.Node.{Node, Nodes, Cases, Atom, Ident, Bin, Unary, Let, Fn
 use Rattle.image_laws.specs.NodesRead.{atom-words, bin-words}
 use Rattle.image_laws.specs.Accepted.{Accepted}
 use Rattle.trees.specs.Trees.{tree-atom, tree-ident, tree-bin, tree-unary, tree-let, tree-fn, tree-match, tree-call, tree-field, tree-cast, tree-import, tree-extern, tree-record, tree-array}
-use Rattle.rules.specs.World.{Ctx, World}
+use Rattle.tok.specs.Step.{Step, Refusal}
+use Rattle.rules.specs.World.{Ctx, Log, World}
+use Rattle.rules.specs.Steps.{onLog}
 use Rattle.rules.specs.Rules.{node, block, cases}
 use Rattle.rules.specs.Visited.{visitedBelow, visitedAmong, visitedInCases, slotsOf, argumentsOf}
 use Rattle.rules.specs.Promises.{Every}
 use Rattle.laws.specs.SlotsOf.{ArgSlots, SlotsOf, SlotsOfAll}
-use Rattle.laws.specs.Keeps.{Keeps, StepsKeep, Enters}
+use Rattle.laws.specs.Keeps.{Keeps, StepsKeep, Enters, logs-all}
 use Rattle.laws.specs.Keeps as K
 use Rattle.accepts.specs.Count.{total, total-append, one-same, count}
 use Rattle.accepts.specs.Once.{own-slot}
@@ -137,6 +139,7 @@ leaves-kept ys = record {
   frame = λ {s} {u} h. record { left = h .left };
   alone = λ {s} {u} h. record { left = h .left };
   holds = λ p s. record { left = λ q l. refl };
+  logs = λ l s. record { left = λ q l. refl };
   typesFull = tt;
   tooDeep = tt;
   toldFull = tt;
@@ -144,6 +147,10 @@ leaves-kept ys = record {
 
 pub leaves-enters : (ys : List Node) → Enters (Leaves ys)
 leaves-enters ys = record { enters = λ name ps ret s. record { left = λ q l. refl } }
+
+-- a step of the log leaves them
+pub log-leaves : (ys : List Node) {A : Type 0} (m : Step Log Refusal A) (s : World) → Keeps (Leaves ys) Any s (onLog m s)
+log-leaves ys m s = K.in-onLog (Leaves ys) Any (Free ys) (leaves-kept ys) m (λ l. logs-all (λ _. tt) (m l)) s
 
 -- what is left is still to be visited
 pub ready-then : (xs ys : List Node) {s u : World} → Ready s (xs ++ ys) → Leaves ys s u → Ready u ys

@@ -118,6 +118,7 @@ module _ (c : Ctx) where
     frame = λ {s} {u} h. record { slots = h .slots; types = h .types };
     alone = λ {s} {u} h. record { slots = h .slots; types = h .types };
     holds = λ p s. record { slots = refl; types = grown-same (s .types) };
+    logs = λ l s. record { slots = refl; types = grown-same (s .types) };
     typesFull = tt;
     tooDeep = tt;
     toldFull = tt;

@@ -6,7 +6,9 @@ use mathlib.Core.Bool.{false}
 use mathlib.Core.Path.{_≡_, refl, ap}
 use mathlib.Core.List.{List, [], _∷_, _++_}
 use lib.ListN.{length, length-append}
+use Rattle.tok.specs.Step.{refusal}
 use Rattle.ptype.specs.Add.{buffer, overwrite, write, append}
+use Rattle.ast.specs.Image.{nodeCount}
 use Rattle.library.specs.Package.{Param, Function, function, signature}
 use Rattle.refusals.specs.Inputs.{Inputs, Buffers}
 use Rattle.rules.specs.World.{World}
@@ -71,6 +73,7 @@ module _ (before : List ℕ) where
     frame = λ {s} {u} x h. record { functions = x h .functions };
     alone = λ {s} {u} x h. record { functions = x (record { functions = h .functions }) .functions };
     holds = λ p s h. record { functions = h .functions };
+    logs = λ l s h. record { functions = h .functions };
     typesFull = λ e. omega arith;
     tooDeep = λ e. omega arith;
     toldFull = λ e. omega arith;
@@ -83,7 +86,7 @@ module _ (before : List ℕ) where
   unfolding copyPool NotZero
   walk-holds i k s =
       at-walk Stays NotZero Any holds-kept holds-enters i k s (all-among (λ _. tt) _)
-      (at-when Stays NotZero Any holds-kept _ _ _ s (λ _. kept (λ h. record { functions = h .functions })) (λ _. stopped (λ e. omega arith)))
+      (at-when Stays NotZero Any holds-kept _ _ _ s (λ _. kept (λ h. record { functions = h .functions })) (λ _. stopped {r = refusal 7 (nodeCount (i .image))} (λ e. omega arith)))
 
 pub start-holds : (i : Inputs) (b : Buffers) → Holds (b .functions) (startOf i b)
 unfolding startOf wordsOf

@@ -7,12 +7,12 @@ use mathlib.Core.List.{List, [], _∷_, _++_, append-assoc, append-nil}
 use lib.ListN.{length}
 use Rattle.tok.specs.Text.{Texts}
 use Rattle.tok.specs.Step.{Result, ok, Refusal}
-use Rattle.ptype.specs.Add.{Buffer}
+use Rattle.ptype.specs.Add.{Buffer, buffer, write}
 use Rattle.ast.specs.TypeExpr.{Arg}
 use Rattle.ast.specs.Node.{rootsOf}
 use Rattle.library.specs.Package.{Param, Function}
 use Rattle.refusals.specs.Inputs.{Inputs, Buffers, textsIn}
-use Rattle.rules.specs.World.{World}
+use Rattle.rules.specs.World.{World, withTypes}
 use Rattle.rules.specs.Steps.{Done}
 use Rattle.rules.specs.Walk.{ctxOf, startOf, copyPool, walkFirst, walk, walkOf}
 use Rattle.rules.specs.Visited.{visitedIn}
@@ -73,7 +73,8 @@ module _ (i : Inputs) (b : Buffers) (P N : ℕ → Type 0) (sound : SoundAll P N
   unfolding copyPool startOf
   copies n pool =
       K.at-when Q Any Any law _ _ _ (startOf i b)
-      (λ _. kept (record { more = omega arith; grown = record { more = omega arith; front = λ j l. absurd (omega arith) }; met = λ e. noFn })) (λ _. stopped tt)
+      (λ _. kept {u = withTypes (startOf i b) (buffer (write (b .types) 0 pool) (length pool))}
+      (record { more = omega arith; grown = record { more = omega arith; front = λ j l. absurd (omega arith) }; met = λ e. noFn })) (λ _. stopped tt)
 
   walk-fns : Gives (ctxOf i .texts) Nothing (fnsIn (i .image)) (startOf i b) (walkOf i b)
   unfolding walkOf walk walkFirst rootsOf fnsIn visitedIn

@@ -51,6 +51,7 @@ module _ (Old : ℕ → Type 0) where
     frame = λ {s} {u} h. record { types = h .types; slots = h .slots };
     alone = λ {s} {u} h. record { types = h .types; slots = h .slots };
     holds = λ p s. record { types = grown-same (s .types); slots = λ a o. refl };
+    logs = λ l s. record { types = grown-same (s .types); slots = λ a o. refl };
     typesFull = tt;
     tooDeep = tt;
     toldFull = tt;

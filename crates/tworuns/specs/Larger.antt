@@ -149,6 +149,7 @@ module _ {i i′ : Inputs} (mp : MorePackages i i′) (ms : MoreStatements i i�
       fine = a .types;
       longDiagnostics = long .diagnostics;
       longMessages = long .messages;
+      log = λ z. absurd z;
       longTypes = λ z. absurd z;
       pools = λ z. absurd z;
       measures = λ z. absurd z;

@@ -11,12 +11,12 @@ use lib.Seq.{getD-set-same, getD-set-other}
 use Rattle.tok.specs.Step.{Result, ok, refused, Step, Refusal, next, when}
 use Rattle.ptype.specs.Add.{Buffer}
 use Rattle.rules.specs.declared.Answer.{Answer}
-use Rattle.rules.specs.World.{World, Walk, withSlots}
-use Rattle.rules.specs.Steps.{Done, known, ifKnown, onOption, setKnown, raised, onTypes}
+use Rattle.rules.specs.World.{Log, World, Walk, withSlots}
+use Rattle.rules.specs.Steps.{Done, known, ifKnown, onOption, setKnown, raised, onTypes, raisedLog, onLog}
 use Rattle.laws.specs.Keeps.{Keeps, kept, StepsKeep, Enters}
 use Rattle.laws.specs.Keeps as K
 use Rattle.tworuns.specs.Means.{Grown, grown-same, grown-trans}
-use Rattle.tworuns.specs.Runs.{Runs, Relation, Both?, neither, present, Used, Slot, own, void, SameAnswer, Worlds, worlds-grow, SameType}
+use Rattle.tworuns.specs.Runs.{Runs, Relation, Both?, neither, present, Used, Slot, own, void, SameAnswer, SameLog, Worlds, worlds-grow, worlds-log, SameType}
 use Rattle.tworuns.specs.Runs as R
 
 module _ (r : Runs) where
@@ -25,6 +25,12 @@ module _ (r : Runs) where
     typed : {a a′ : A} {d d′ : Buffer} → Grown b d → Grown b′ d′ → Used r d d′ → Q d d′ a a′ → Typed Q b b′ (ok a d) (ok a′ d′)
     stopped : {e : Refusal} {x : Result Buffer Refusal A} → Typed Q b b′ (refused e) x
     cut : {e : Refusal} {x : Result Buffer Refusal A} → (r .strict → ⊥) → Typed Q b b′ x (refused e)
+
+  -- and of steps of the logs, beside these types buffers
+  pub data Logged {A : Type 0} (Q : Relation A) (b b′ : Buffer) : Result Log Refusal A → Result Log Refusal A → Type 0 where
+    logged : {a a′ : A} {l l′ : Log} → (r .strict → SameLog r l l′) → Q b b′ a a′ → Logged Q b b′ (ok a l) (ok a′ l′)
+    stopped : {e : Refusal} {x : Result Log Refusal A} → Logged Q b b′ (refused e) x
+    cut : {e : Refusal} {x : Result Log Refusal A} → (r .strict → ⊥) → Logged Q b b′ x (refused e)
 
   -- and of steps of the walk, from the worlds s and s′
   pub data Gives {A : Type 0} (Q : Relation A) (s s′ : World) : Result World Refusal A → Result World Refusal A → Type 0 where
@@ -94,6 +100,26 @@ module _ (r : Runs) where
         go stopped = stopped
         go (cut n) = cut n
 
+    pub p-onLog : (m m′ : Step Log Refusal A) {s s′ : World} → Worlds r s s′ → Logged Q (s .types) (s′ .types) (m (s .log)) (m′ (s′ .log))
+        → Gives Q s s′ (onLog m s) (onLog m′ s′)
+    unfolding onLog raisedLog
+    p-onLog m m′ {s} {s′} ws h = go h
+      where
+        go : {x x′ : Result Log Refusal A} → Logged Q (s .types) (s′ .types) x x′ → Gives Q s s′ (raisedLog s x) (raisedLog s′ x′)
+        go (logged l q) = gives (grown-same (s .types)) (grown-same (s′ .types)) (worlds-log r l ws) q
+        go stopped = stopped
+        go (cut n) = cut n
+
+    -- a step of the second run alone, where the runs are not alike word for word
+    pub p-second : (r .strict → ⊥) → (a : A) (m′ : Step Log Refusal A) {s s′ : World} → Worlds r s s′ → ((a′ : A) → Q (s .types) (s′ .types) a a′)
+        → Gives Q s s′ (ok a s) (onLog m′ s′)
+    unfolding onLog raisedLog
+    p-second n a m′ {s} {s′} ws q = go (m′ (s′ .log))
+      where
+        go : (x′ : Result Log Refusal A) → Gives Q s s′ (ok a s) (raisedLog s′ x′)
+        go (ok a′ l′) = gives (grown-same (s .types)) (grown-same (s′ .types)) (worlds-log r {l = s .log} (λ z. absurd (n z)) ws) (q a′)
+        go (refused e) = cut n
+
   -- slots of answers
   abbrev pub Answers : Relation Answer
   Answers b b′ a a′ = SameAnswer r a a′
@@ -137,6 +163,7 @@ module _ (r : Runs) where
         library = ws .library;
         diagnostics = ws .diagnostics;
         messages = ws .messages;
+        log = ws .log;
       }) (R.known (own l))
     where
       after : (a a′ : ℕ) → Slot r a a′ → SameType r (s .types) (s′ .types) (getD (set (s .slots) slot w) a 0) (getD (set (s′ .slots) slot w′) a′ 0)
@@ -170,6 +197,7 @@ told-kept = record {
   frame = λ {s} {u} h. h;
   alone = λ {s} {u} h. h;
   holds = λ p s. omega arith;
+  logs = λ l s. omega arith;
   typesFull = tt;
   tooDeep = tt;
   toldFull = tt;

@@ -127,6 +127,7 @@ module _ (i : Inputs) {b b′ : Buffers} (long : Longer b b′) where
     fine = a .types;
     longDiagnostics = long .diagnostics;
     longMessages = long .messages;
+    log = λ z. record {};
     longTypes = λ z. long .types;
     pools = λ z. refl;
     measures = λ z. refl;

@@ -86,6 +86,7 @@ module _ (t : Texts) where
     frame = λ {s} {u} h. record { more = h .more; grown = h .grown; met = h .met };
     alone = λ {s} {u} h. record { more = h .more; grown = h .grown; met = h .met };
     holds = λ p s. record { more = omega arith; grown = grown-same (s .types); met = λ e. noFn };
+    logs = λ l s. record { more = omega arith; grown = grown-same (s .types); met = λ e. noFn };
     typesFull = tt;
     tooDeep = tt;
     toldFull = tt;

@@ -89,6 +89,7 @@ module _ (r : Runs) where
       library = ws .library;
       diagnostics = rw (← ws .messages .used) (told-more 6 (6 * s .diagnostics .used) (6 * s′ .diagnostics .used) (sixWords d (s .messages .used)) 1 (ws .diagnostics) refl (omega (arith, ws .diagnostics .used)) (omega arith) (omega (arith, h .told)));
       messages = told-more 1 (s .messages .used) (s′ .messages .used) (bytesOf d) (length (bytesOf d)) (ws .messages) (omega arith) (sym (ws .messages .used)) (omega arith) (omega (arith, h .bytes));
+      log = ws .log;
     }
 
     reported : (n : ℕ) (d : Diagnostic) → Gives r (Nothing r) s s′ (report n d s) (report n d s′)
@@ -121,6 +122,7 @@ module _ (r : Runs) where
           library = ws .library;
           diagnostics = ws .diagnostics;
           messages = ws .messages;
+          log = ws .log;
         }) tt
 
     pub p-hold : {p p′ : Package} → SamePackage r (s .types) (s′ .types) p p′ → Gives r (Nothing r) s s′ (hold p s) (hold p′ s′)
@@ -139,6 +141,7 @@ module _ (r : Runs) where
           library = ws .library;
           diagnostics = ws .diagnostics;
           messages = ws .messages;
+          log = ws .log;
         }) tt
 
     pub p-enter : (name : ℕ) (ps ps′ : List Param) (ret ret′ : ℕ) → SameFunction r (s .types) (s′ .types) (function name (signature ps ret false)) (function name (signature ps′ ret′ false))
@@ -158,6 +161,7 @@ module _ (r : Runs) where
           library = ws .library;
           diagnostics = ws .diagnostics;
           messages = ws .messages;
+          log = ws .log;
         }) tt
 
     pub worlds-env : {e e′ : List Local} → Each (SameLocal r (s .types) (s′ .types)) e e′ → Worlds r (withEnv s e) (withEnv s′ e′)
@@ -174,6 +178,7 @@ module _ (r : Runs) where
       library = ws .library;
       diagnostics = ws .diagnostics;
       messages = ws .messages;
+      log = ws .log;
     }
 
 -- Steps that only read: the same value in both, and the worlds as they are.

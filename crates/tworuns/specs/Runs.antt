@@ -17,7 +17,7 @@ use Rattle.ptype.specs.Slots.{Binding}
 use Rattle.rules.specs.declared.Answer.{Answer}
 use Rattle.rules.specs.declared.Answer.the-variants.{Known, Poison}
 use Rattle.library.specs.Package.{Param, Signature, Function, Package}
-use Rattle.rules.specs.World.{Ctx, Local, World, withTypes}
+use Rattle.rules.specs.World.{Ctx, Local, Log, World, withTypes, withLog}
 use Rattle.tworuns.specs.Means.{Means, means-kind, means-zero, means-tyOf, Grown, means-grow}
 
 -- The two contexts; and whether the runs are alike word for word, as with longer buffers alone, or only tree for tree.
@@ -88,6 +88,9 @@ module _ (r : Runs) where
     pub front : take (m * b .used) (b .words) ≡ take (m * b .used) (b′ .words)
     pub long : length (b .words) ≤ length (b′ .words)
 
+  -- what is logged beside them: nothing yet
+  pub record SameLog (l l′ : Log) : Type 0 where
+
   -- Two slots: a node's own, below V, or slot V of each.
   pub data Slot : ℕ → ℕ → Type 0 where
     own : {a : ℕ} → a < r .first .void → Slot a a
@@ -137,6 +140,8 @@ module _ (r : Runs) where
     pub library : Front (r .strict) (SamePackage (s .types) (s′ .types)) (r .first .library) (r .second .library)
     pub diagnostics : SameTold 6 (s .diagnostics) (s′ .diagnostics)
     pub messages : SameTold 1 (s .messages) (s′ .messages)
+    -- a hint asks the library, which may be longer in the second: the logs are the same only where the runs are alike word for word
+    pub log : r .strict → SameLog (s .log) (s′ .log)
 
   -- As the types buffers grow, all of this stays.
   module _ {b b′ d d′ : Buffer} (g : Grown b d) (g′ : Grown b′ d′) where
@@ -179,6 +184,25 @@ module _ (r : Runs) where
     library = front-map (package-grow g g′) (ws .library);
     diagnostics = ws .diagnostics;
     messages = ws .messages;
+    log = ws .log;
+  }
+
+  -- worlds with other logs
+  pub worlds-log : {s s′ : World} {l l′ : Log} → (r .strict → SameLog l l′) → Worlds s s′ → Worlds (withLog s l) (withLog s′ l′)
+  worlds-log h ws = record {
+    names = ws .names;
+    up = ws .up;
+    slots = ws .slots;
+    room = ws .room;
+    room′ = ws .room′;
+    types = ws .types;
+    env = ws .env;
+    packages = ws .packages;
+    own = ws .own;
+    library = ws .library;
+    diagnostics = ws .diagnostics;
+    messages = ws .messages;
+    log = h;
   }
 
   -- What two words of one type have in common: the kind, whether they are 0, and the tree that `tyOf` finds.

@@ -110,6 +110,7 @@ pub record Beginning (r : Runs) (s s′ : World) (pool pool′ measured measured
   pub longDiagnostics : length (s .diagnostics .words) ≤ length (s′ .diagnostics .words)
   pub longMessages : length (s .messages .words) ≤ length (s′ .messages .words)
   -- where they are alike word for word
+  pub log : r .strict → R.SameLog r (s .log) (s′ .log)
   pub longTypes : r .strict → length (s .types .words) ≤ length (s′ .types .words)
   pub pools : r .strict → pool ≡ pool′
   pub measures : r .strict → measured ≡ measured′
@@ -186,6 +187,7 @@ module _ (r : Runs) {s s′ : World} {pool pool′ words words′ : List ℕ} (h
             (every-back (λ w. SameType r d d′ w w) (h .others) (packageTypes (r .first .library)) (rw (h .types) at all-same))));
         diagnostics = record { used = h .fresh .diagnostics ∙ sym (h .fresh′ .diagnostics); front = rw (h .fresh .diagnostics) refl; long = h .longDiagnostics };
         messages = record { used = h .fresh .messages ∙ sym (h .fresh′ .messages); front = rw (h .fresh .messages) refl; long = h .longMessages };
+        log = h .log;
       }
 
       -- and the second run measures them so too

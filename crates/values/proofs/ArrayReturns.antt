@@ -76,7 +76,7 @@ module _ (T : Texts) (s t d m : List ℕ) (u : Used) (n : ℕ) (span : Span) (fi
 
           pub member-differs :
               {c : Counts} → x ≡ Told c → (ls : List Package) (v : ℕ) →
-              Compares (memberTypes (ctx T ls v) n span first member) s t d m u d′ m′ (C.Differs (record { types = u .types; told = c }))
+              Compares (memberTypes (ctx T ls v) n span first member) s t d m u d′ m′ (C.Differs (record { types = u .types; told = c; kept = u .kept }))
           unfolding when compared gone
           member-differs hx ls v = record { step = λ rest. types-is ls v rest ∙ rw (← ha T, za, ← hb T, zb, ← hs, e, told-goes n {s = s} {t = t} {u = u} hx p .step rest) }
 
@@ -116,7 +116,7 @@ module _ (s t : List ℕ) (u : Used) (n slot : ℕ) (first : Answer) (poisoned :
       array-is T ls v d m rest = rw (hf, z, ← hi, ← hy, p .result T n)
 
       pub array-put :
-          {w k : ℕ} {s′ : List ℕ} {q : Step} → a ≡ Put w k → ((t d m : List ℕ) → Steps (setKnown slot w) s t d m (record { types = k; told = u .told }) s′ t d m q) →
+          {w k : ℕ} {s′ : List ℕ} {q : Step} → a ≡ Put w k → ((t d m : List ℕ) → Steps (setKnown slot w) s t d m (record { types = k; told = u .told; kept = u .kept }) s′ t d m q) →
           (T : Texts) (ls : List Package) (v : ℕ) (d m : List ℕ) → Steps (arrayOf (ctx T ls v) n slot first poisoned) s t d m u s′ t′ d m q
       unfolding raised
       array-put e h T ls v d m = record { step = λ rest. array-is T ls v d m rest ∙ rw e (h t′ d m .step rest) }

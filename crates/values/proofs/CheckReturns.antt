@@ -129,6 +129,6 @@ module _ (s d m : List ℕ) (u : Used) (n name : ℕ) (a : Answer) where
       unfolding letBinding ty when bound gone
       let-full e t = record { step = λ rest. rw (ha, ← hi, ← hw, ← hk, eq-eqb k 1 h, full-goes n {s = s} {t = t} {u = u} e p .step rest) }
 
-      pub let-void : {c : Counts} → x ≡ Told c → (t : List ℕ) → Binds (letBinding n name a) s t d m u d′ m′ (B.Nothing (record { types = u .types; told = c }))
+      pub let-void : {c : Counts} → x ≡ Told c → (t : List ℕ) → Binds (letBinding n name a) s t d m u d′ m′ (B.Nothing (record { types = u .types; told = c; kept = u .kept }))
       unfolding letBinding ty when bound gone
       let-void e t = record { step = λ rest. rw (ha, ← hi, ← hw, ← hk, eq-eqb k 1 h, told-goes n {s = s} {t = t} {u = u} e p .step rest) }

@@ -211,9 +211,11 @@ fn member_types<'a>(
     let Reported::Told(after) = reported else {
         return Compared::Refused(9, n);
     };
+    let kept = used.kept;
     Compared::Differs(Used {
         types: used.types,
         told: after,
+        kept,
     })
 }
 
@@ -281,11 +283,13 @@ pub fn array_of(
     match added {
         Added::Put(word, after) => {
             let counts = used.told;
+            let kept = used.kept;
             return set_known(
                 slots,
                 Used {
                     types: after,
                     told: counts,
+                    kept,
                 },
                 slot,
                 word,
@@ -420,9 +424,11 @@ pub fn let_binding(
     let Reported::Told(after) = reported else {
         return Binding::Refused(9, n);
     };
+    let kept = used.kept;
     Binding::Nothing(Used {
         types: used.types,
         told: after,
+        kept,
     })
 }
 

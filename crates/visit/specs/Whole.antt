@@ -1,4 +1,4 @@
--- The world of the rules, from all six lent buffers and the walk's state. Definitions.
+-- The world of the rules, from all lent buffers and the walk's state. Definitions.
 use Prim.Native.Nat.{ℕ}
 use mathlib.Core.List.{List}
 use Rattle.tok.specs.Step.{Result, ok, refused, Refusal, refusal}
@@ -8,12 +8,12 @@ use Rattle.rules.specs.declared.Answer.the-variants.{Known, Poison}
 use Rattle.rules.specs.World.{World}
 use Rattle.state.specs.Signatures.{entriesEnd, ownIn}
 use Rattle.state.specs.Store.{envUp, heldFrom}
-use Rattle.state.specs.World.{Rest, world}
+use Rattle.state.specs.World.{More, Rest, world}
 use Rattle.visit.specs.declared.State.{State}
 use Rattle.visit.specs.declared.Visit.{Visit}
 use Rattle.visit.specs.declared.Visit.the-variants as X
 
--- the six lent buffers
+-- the six lent buffers, and those that later requests lend
 pub record Lent : Type 0 where
   pub slots : List ℕ
   pub functions : List ℕ
@@ -21,9 +21,10 @@ pub record Lent : Type 0 where
   pub diagnostics : List ℕ
   pub messages : List ℕ
   pub scratch : List ℕ
+  pub more : More
 
-abbrev pub lent : (slots functions types diagnostics messages scratch : List ℕ) → Lent
-lent s f t d m e = record { slots = s; functions = f; types = t; diagnostics = d; messages = m; scratch = e }
+abbrev pub lent : (slots functions types diagnostics messages scratch : List ℕ) → More → Lent
+lent s f t d m e o = record { slots = s; functions = f; types = t; diagnostics = d; messages = m; scratch = e; more = o }
 
 -- how many words of the functions buffer are used
 abbrev pub functionWords : State → Lent → ℕ
@@ -35,6 +36,7 @@ restOf library st b = record {
   env = envUp (b .scratch) (st .base) (st .depth);
   packages = heldFrom library (b .scratch) (st .held) (st .packages);
   own = ownIn (b .functions) (st .functions);
+  more = b .more;
 }
 
 abbrev pub whole : (library : List ℕ) → State → Lent → World

@@ -44,7 +44,7 @@ same-length-3 c = search needs
 
 -- src/lib.rt:73:13
 returns : tie.Need-returns
-returns c = λ ls v words. begins-already _ _ _ _ _ (meets-already (c .before .before .before .before .before .before .before .before .before .before .before .word-at .ensures) (c .before .met .given .1) (c .before .before .before .before .before .before .before .unless-defined .ensures ls v words _ _ _))
+returns c = λ ls v words o. begins-already _ _ _ _ _ (meets-already (c .before .before .before .before .before .before .before .before .before .before .before .word-at .ensures) (c .before .met .given .1) (c .before .before .before .before .before .before .before .unless-defined .ensures ls v words _ _ _ o))
 
 -- src/lib.rt:77:17
 enum-told : tie.Need-enum-told
@@ -128,7 +128,7 @@ same-length-9 c = search needs
 
 -- src/lib.rt:91:13
 returns-2 : tie.Need-returns-2
-returns-2 c = λ ls v words. begins-new _ _ _ _ _ (meets-new (c .before .before .before .before .before .before .before .before .before .before .before .before .before .before .before .before .before .before .before .before .before .before .before .before .before .before .before .before .before .before .word-at .ensures) (c .before .before .before .before .before .before .before .before .before .before .before .before .before .before .before .before .before .before .before .before .enum-told .given .1) (c .before .before .before .before .before .before .before .before .before .before .before .before .before .before .before .before .before .before .before .before .before .before .before .before .before .before .unless-defined .ensures ls v words _ _ _)) (gives-inner _ _ _ _ (c .before .before .before .before .before .before .before .before .before .before .before .before .before .before .before .before .before .before .before .before .before .before .before .before .before .before .before .before .before .before .before .before .before .before .before .before .before .before .before .before .before .args .st) (c .before .before .before .before .before .before .before .before .before .before .before .before .before .before .before .inner .ensures) (c .before .before .before .before .before .before .before .before .before .before .before .before .before .wide .ensures ∙ c .before .before .before .before .before .before .before .before .before .before .before .before .before .before .word-at2 .ensures) (c .before .before .before .before .before .before .before .before .before .before .before .before .before .before .before .before .before .before .before .before .before .before .before .before .before .before .before .before .before .before .word-at .ensures) (c .before .before .before .before .before .before .before .before .before .before .before .before .word-at3 .ensures) (c .before .before .before .before .before .before .before .before .before .before .wide2 .ensures ∙ c .before .before .before .before .before .before .before .before .before .before .before .word-at4 .ensures) (c .before .before .before .before .before .before .before .before .before .fn-begin .ensures _ ls v words _ _)) (c .made .ensures)
+returns-2 c = λ ls v words o. begins-new _ _ _ _ _ (meets-new (c .before .before .before .before .before .before .before .before .before .before .before .before .before .before .before .before .before .before .before .before .before .before .before .before .before .before .before .before .before .before .word-at .ensures) (c .before .before .before .before .before .before .before .before .before .before .before .before .before .before .before .before .before .before .before .before .enum-told .given .1) (c .before .before .before .before .before .before .before .before .before .before .before .before .before .before .before .before .before .before .before .before .before .before .before .before .before .before .unless-defined .ensures ls v words _ _ _ o)) (gives-inner _ _ _ _ (c .before .before .before .before .before .before .before .before .before .before .before .before .before .before .before .before .before .before .before .before .before .before .before .before .before .before .before .before .before .before .before .before .before .before .before .before .before .before .before .before .before .args .st) (c .before .before .before .before .before .before .before .before .before .before .before .before .before .before .before .inner .ensures) (c .before .before .before .before .before .before .before .before .before .before .before .before .before .wide .ensures ∙ c .before .before .before .before .before .before .before .before .before .before .before .before .before .before .word-at2 .ensures) (c .before .before .before .before .before .before .before .before .before .before .before .before .before .before .before .before .before .before .before .before .before .before .before .before .before .before .before .before .before .before .word-at .ensures) (c .before .before .before .before .before .before .before .before .before .before .before .before .word-at3 .ensures) (c .before .before .before .before .before .before .before .before .before .before .wide2 .ensures ∙ c .before .before .before .before .before .before .before .before .before .before .before .word-at4 .ensures) (c .before .before .before .before .before .before .before .before .before .fn-begin .ensures _ ls v words _ _ o)) (c .made .ensures)
 
 pub begin-spec : {M : Type 1} → statement M
 begin-spec =

@@ -61,7 +61,7 @@ same-length-3 c = search needs
 
 -- src/lib.rt:97:1
 returns : tie.Need-returns
-returns c = λ ls v words f e. ends-visit _ _ _ _ _ _ (c .before .before .before .before .before .before .before .before .before .before .before .before .before .before .before .before .before .before .before .before .before .before .before .before .args .inside) (c .before .before .before .before .before .before .before .before .before .before .before .before .before .before .before .before .before .before .before .before .before .before .before .before .args .before) (c .before .before .before .before .before .before .before .before .before .before .before .word-at .ensures) (c .before .before .before .before .before .before .before .before .before .before .word-at2 .ensures) (c .before .before .before .before .before .before .before .before .before .word-at3 .ensures) (c .before .left .ensures) (c .answered .ensures) (c .before .before .before .before .before .before .before .before .fn-end .ensures ls v) words f e
+returns c = λ ls v words f e o. ends-visit _ _ _ _ _ _ (c .before .before .before .before .before .before .before .before .before .before .before .before .before .before .before .before .before .before .before .before .before .before .before .before .args .inside) (c .before .before .before .before .before .before .before .before .before .before .before .before .before .before .before .before .before .before .before .before .before .before .before .before .args .before) (c .before .before .before .before .before .before .before .before .before .before .before .word-at .ensures) (c .before .before .before .before .before .before .before .before .before .before .word-at2 .ensures) (c .before .before .before .before .before .before .before .before .before .word-at3 .ensures) (c .before .left .ensures) (c .answered .ensures) (c .before .before .before .before .before .before .before .before .fn-end .ensures ls v) words f e o
 
 pub end-spec : {M : Type 1} → statement M
 end-spec =

@@ -93,15 +93,15 @@ set-pair-requires c κs = search needs
 
 -- src/lib.rt:46:9
 add-k : tie.Need-add-k Inv-loop μ-loop
-add-k c = omega (arith, c .before .before .before .before .before .before .before .before .before .before .before .before .before .before .before .loop .inv .0 .0 .room, c .before .before .before .before .before .before .before .before .before .before .before .before .before .before .before .loop .inv .0 .0 .arguments .room, c .before .before .before .before .before .before .before .before .before .before .before .before .before .before .loop-test .taken)
+add-k c = omega (arith, c .before .before .before .before .before .before .before .before .before .before .before .before .before .before .before .before .loop .inv .0 .0 .room, c .before .before .before .before .before .before .before .before .before .before .before .before .before .before .before .before .loop .inv .0 .0 .arguments .room, c .before .before .before .before .before .before .before .before .before .before .before .before .before .before .before .loop-test .taken)
 
 -- src/lib.rt:33:5
 loop-less : tie.Need-loop-less Inv-loop μ-loop
-loop-less c = omega (arith, c .before .before .before .before .before .before .before .before .before .before .before .before .before .before .loop-test .taken)
+loop-less c = omega (arith, c .before .before .before .before .before .before .before .before .before .before .before .before .before .before .before .loop-test .taken)
 
 -- src/lib.rt:33:5
 loop-again : tie.Need-loop-again Inv-loop μ-loop
-loop-again c = ((c .before .before .before .before .before .before .before .before .before .before .before .before .before .before .before .loop .inv .0 .0, (omega (arith, c .before .before .before .before .before .before .before .before .before .before .before .before .before .before .loop-test .taken), (c .before .before .before .before .before .before .before .before .before .before .types .given ∙ c .before .before .before .before .before .before .before .before .before .before .before .before .before .before .before .loop .inv .0 .1 .1 .0, c .before .before .scratch .given ∙ c .before .before .before .before .before .before .before .before .before .before .before .before .before .before .before .loop .inv .0 .1 .1 .1))), writing-more (c .before .before .before .before .before .before .before .before .before .before .before .before .before .before .before .loop .inv .0 .0) (c .before .before .before .before .before .before .before .before .before .before .before .before .before .before .before .loop .inv .1) (c .before .before .before .before .before .before .before .before .before .before .before .before .before .before .loop-test .taken) (c .before .before .before .before .before .before .before .before .before .before .before .before .before .word-at .ensures) (c .before .before .before .before .before .before .before .before .before .before .before .type-from-type-expr .result) (record { result = c .before .before .before .before .before .before .before .before .before .before .before .type-from-type-expr .ensures }) (c .before .before .before .before .before .before .before .added .given .1) (c .before .before .before .before .before .word-at2 .ensures) (c .before .before .before .set-pair .ensures))
+loop-again c = ((c .before .before .before .before .before .before .before .before .before .before .before .before .before .before .before .before .loop .inv .0 .0, (omega (arith, c .before .before .before .before .before .before .before .before .before .before .before .before .before .before .before .loop-test .taken), (c .before .before .before .before .before .before .before .before .before .before .before .types .given ∙ c .before .before .before .before .before .before .before .before .before .before .before .before .before .before .before .before .loop .inv .0 .1 .1 .0, c .before .before .before .scratch .given ∙ c .before .before .before .before .before .before .before .before .before .before .before .before .before .before .before .before .loop .inv .0 .1 .1 .1))), writing-more (c .before .before .before .before .before .before .before .before .before .before .before .before .before .before .before .before .loop .inv .0 .0) (c .before .before .before .before .before .before .before .before .before .before .before .before .before .before .before .before .loop .inv .1) (c .before .before .before .before .before .before .before .before .before .before .before .before .before .before .before .loop-test .taken) (c .before .before .before .before .before .before .before .before .before .before .before .before .before .before .word-at .ensures) (c .before .before .before .before .before .before .before .before .before .before .before .before .type-from-type-expr .result) (record { result = c .before .before .before .before .before .before .before .before .before .before .before .before .type-from-type-expr .ensures }) (c .before .before .before .before .before .before .before .before .added .given .1) (c .before .before .before .before .before .before .word-at2 .ensures) (c .before .before .before .before .set-pair .ensures))
 
 -- src/lib.rt:17:1
 same-length-3 : tie.Need-same-length-3 Inv-loop μ-loop

@@ -125,11 +125,11 @@ same-length-5 c = search needs
 
 -- src/lib.rt:91:13
 same-length-6 : tie.Need-same-length-6
-same-length-6 c = c .before .before .scratch3 .given ∙ c .before .before .before .before .before .before .before .before .before .before .before .before .before .before .before .before .before .before .scratch2 .given ∙ c .before .before .before .before .before .before .before .before .before .before .before .before .before .before .before .before .before .before .before .before .before .before .before .before .before .before .scratch .given
+same-length-6 c = c .before .before .before .scratch3 .given ∙ c .before .before .before .before .before .before .before .before .before .before .before .before .before .before .before .before .before .before .before .scratch2 .given ∙ c .before .before .before .before .before .before .before .before .before .before .before .before .before .before .before .before .before .before .before .before .before .before .before .before .before .before .before .scratch .given
 
 -- src/lib.rt:91:13
 returns-3 : tie.Need-returns-3
-returns-3 c = function-done (c .before .before .before .before .before .before .before .before .before .before .before .before .before .before .before .before .before .before .before .before .before .before .before .before .before .before .before .before .before .before .before .before .before .before .before .pre) (c .before .before .before .before .before .before .before .before .before .before .before .before .before .before .before .before .before .before .before .before .before .before .before .before .before .before .before .before .before .before .word-at .ensures) (c .before .before .before .before .before .before .before .before .before .before .before .before .before .before .before .before .before .before .before .before .before .before .before .before .before .before .before .before .before .word-at2 .ensures) (c .before .before .before .before .before .before .before .before .before .before .before .before .before .before .before .before .before .before .before .before .before .before .before .before .before .before .before .set-pair .ensures) (c .before .before .before .before .before .before .before .before .before .before .before .before .before .before .before .before .before .before .before .before .before .before .wide .ensures) (c .before .before .before .before .before .before .before .before .before .before .before .before .before .before .before .before .before .before .before .before .before .extern-arguments .result) (c .before .before .before .before .before .before .before .before .before .before .before .before .before .before .before .before .before .before .before .before .before .extern-arguments .ensures) (c .before .before .before .before .before .before .before .before .before .before .before .before .before .before .before .args3 .given .1) (c .before .before .before .before .before .before .before .before .before .before .before .before .before .word-at3 .ensures) (c .before .before .before .before .before .before .before .before .before .before .before .type-from-type-expr .result) (record { result = c .before .before .before .before .before .before .before .before .before .before .before .type-from-type-expr .ensures }) (c .before .before .before .before .before .before .before .added .given .1) (c .before .before .before .before .wide2 .ensures) (c .before .before .before .store .ensures)
+returns-3 c = function-done (c .before .before .before .before .before .before .before .before .before .before .before .before .before .before .before .before .before .before .before .before .before .before .before .before .before .before .before .before .before .before .before .before .before .before .before .before .pre) (c .before .before .before .before .before .before .before .before .before .before .before .before .before .before .before .before .before .before .before .before .before .before .before .before .before .before .before .before .before .before .before .word-at .ensures) (c .before .before .before .before .before .before .before .before .before .before .before .before .before .before .before .before .before .before .before .before .before .before .before .before .before .before .before .before .before .before .word-at2 .ensures) (c .before .before .before .before .before .before .before .before .before .before .before .before .before .before .before .before .before .before .before .before .before .before .before .before .before .before .before .before .set-pair .ensures) (c .before .before .before .before .before .before .before .before .before .before .before .before .before .before .before .before .before .before .before .before .before .before .before .wide .ensures) (c .before .before .before .before .before .before .before .before .before .before .before .before .before .before .before .before .before .before .before .before .before .before .extern-arguments .result) (c .before .before .before .before .before .before .before .before .before .before .before .before .before .before .before .before .before .before .before .before .before .before .extern-arguments .ensures) (c .before .before .before .before .before .before .before .before .before .before .before .before .before .before .before .before .args3 .given .1) (c .before .before .before .before .before .before .before .before .before .before .before .before .before .before .word-at3 .ensures) (c .before .before .before .before .before .before .before .before .before .before .before .before .type-from-type-expr .result) (record { result = c .before .before .before .before .before .before .before .before .before .before .before .before .type-from-type-expr .ensures }) (c .before .before .before .before .before .before .before .before .added .given .1) (c .before .before .before .before .before .wide2 .ensures) (c .before .before .before .before .store .ensures)
 
 pub extern-function-spec : {M : Type 1} → statement M
 extern-function-spec =

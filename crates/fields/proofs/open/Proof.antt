@@ -21,7 +21,7 @@ same-length c = search needs
 
 -- src/lib.rt:28:13
 returns : tie.Need-returns
-returns c = opened-put (c .before .before .before .before .before .before .before .before .before .before .args .n) (c .before .before .before .before .before .before .before .before .before .before .args .k) (c .before .before .before .before .before .before .before .before .before .before .args .st) (c .before .before .before .before .before .before .open-record .ensures) (c .before .before .added .given .1)
+returns c = opened-put (c .before .before .before .before .before .before .before .before .before .before .before .args .n) (c .before .before .before .before .before .before .before .before .before .before .before .args .k) (c .before .before .before .before .before .before .before .before .before .before .before .args .st) (c .before .before .before .before .before .before .before .open-record .ensures) (c .before .before .before .added .given .1)
 
 -- src/lib.rt:44:13
 enum-told : tie.Need-enum-told

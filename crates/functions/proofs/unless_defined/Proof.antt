@@ -22,7 +22,7 @@ enum-told c = search needs
 
 -- src/lib.rt:59:13
 returns : tie.Need-returns
-returns c = λ ls v words s t e. name-new _ (c .before .before .before .before .before .before .before .before .args .n) (c .before .before .before .before .before .before .before .before .args .name) (c .before .before .before .before .before .before .before .before .args .st) _ (c .before .before .find-own .result) (c .before .before .find-own .ensures) (c .enum-told .given .1) ls v words s t _ _ e
+returns c = λ ls v words s t e o. name-new _ (c .before .before .before .before .before .before .before .before .args .n) (c .before .before .before .before .before .before .before .before .args .name) (c .before .before .before .before .before .before .before .before .args .st) _ (c .before .before .find-own .result) (c .before .before .find-own .ensures) (c .enum-told .given .1) ls v words s t _ _ e o
 
 -- src/lib.rt:62:17
 enum-told-2 : tie.Need-enum-told-2

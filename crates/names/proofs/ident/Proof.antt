@@ -35,7 +35,7 @@ same-length c = search needs
 
 -- src/lib.rt:81:13
 returns : tie.Need-returns
-returns c = λ ls v words f t. ident-bound _ (c .before .before .before .before .before .before .before .before .before .before .before .before .before .before .before .before .args .n) (c .before .before .before .before .before .before .before .before .before .before .before .before .before .before .before .before .args .slot) (c .before .before .before .before .before .before .before .before .before .before .before .before .before .before .before .before .args .name) _ (c .before .before .before .before .before .before .before .before .before .before .before .before .before .before .before .before .args .st) _ (c .before .before .before .before .before .before .before .before .env-get .ensures) (c .before .before .before .before .before .before .found .given .1) (c .before .before .before .set-known .ensures) (c .answered .ensures) ls v words f t _ _
+returns c = λ ls v words f t o. ident-bound _ (c .before .before .before .before .before .before .before .before .before .before .before .before .before .before .before .before .args .n) (c .before .before .before .before .before .before .before .before .before .before .before .before .before .before .before .before .args .slot) (c .before .before .before .before .before .before .before .before .before .before .before .before .before .before .before .before .args .name) _ (c .before .before .before .before .before .before .before .before .before .before .before .before .before .before .before .before .args .st) _ (c .before .before .before .before .before .before .before .before .env-get .ensures) (c .before .before .before .before .before .before .found .given .1) (c .before .before .before .set-known .ensures) (c .answered .ensures) ls v words f t _ _ o
 
 -- src/lib.rt:84:13
 enum-told : tie.Need-enum-told
@@ -43,7 +43,7 @@ enum-told c = search needs
 
 -- src/lib.rt:84:13
 returns-2 : tie.Need-returns-2
-returns-2 c = λ ls v words f t. ident-poisoned _ (c .before .before .before .before .before .before .before .before .before .before .args .n) (c .before .before .before .before .before .before .before .before .before .before .args .slot) (c .before .before .before .before .before .before .before .before .before .before .args .name) _ (c .before .before .before .before .before .before .before .before .before .before .args .st) _ (c .before .before .env-get .ensures) (c .enum-told .given .1) ls v words _ f t _ _
+returns-2 c = λ ls v words f t o. ident-poisoned _ (c .before .before .before .before .before .before .before .before .before .before .args .n) (c .before .before .before .before .before .before .before .before .before .before .args .slot) (c .before .before .before .before .before .before .before .before .before .before .args .name) _ (c .before .before .before .before .before .before .before .before .before .before .args .st) _ (c .before .before .env-get .ensures) (c .enum-told .given .1) ls v words _ f t _ _ o
 
 -- src/lib.rt:87:17
 enum-told-2 : tie.Need-enum-told-2
@@ -83,7 +83,7 @@ same-length-3 c = search needs
 
 -- src/lib.rt:89:13
 returns-3 : tie.Need-returns-3
-returns-3 c = λ ls v words f t. ident-none _ (c .before .before .before .before .before .before .before .before .before .before .before .before .before .before .before .before .before .before .before .before .before .before .args .n) (c .before .before .before .before .before .before .before .before .before .before .before .before .before .before .before .before .before .before .before .before .before .before .args .slot) (c .before .before .before .before .before .before .before .before .before .before .before .before .before .before .before .before .before .before .before .before .before .before .args .name) _ (c .before .before .before .before .before .before .before .before .before .before .before .before .before .before .before .before .before .before .before .before .before .before .args .st) _ (c .before .before .before .before .before .before .before .before .before .before .before .before .before .before .env-get .ensures) (c .before .before .before .before .before .before .before .before .before .before .before .before .enum-told2 .given .1) (told-in-whole (now (c .before .before .before .before .before .before .before .before .before .before .before .before .before .before .before .before .before .before .before .before .before .before .args .messages)) (c .before .before .before .before .before .before .before .before .before .first-free .ensures) (c .before .before .before .before .before .before .no-binding .ensures)) (c .before .poisoned .ensures) (c .answered2 .ensures) ls v words _ f t
+returns-3 c = λ ls v words f t o. ident-none _ (c .before .before .before .before .before .before .before .before .before .before .before .before .before .before .before .before .before .before .before .before .before .before .args .n) (c .before .before .before .before .before .before .before .before .before .before .before .before .before .before .before .before .before .before .before .before .before .before .args .slot) (c .before .before .before .before .before .before .before .before .before .before .before .before .before .before .before .before .before .before .before .before .before .before .args .name) _ (c .before .before .before .before .before .before .before .before .before .before .before .before .before .before .before .before .before .before .before .before .before .before .args .st) _ (c .before .before .before .before .before .before .before .before .before .before .before .before .before .before .env-get .ensures) (c .before .before .before .before .before .before .before .before .before .before .before .before .enum-told2 .given .1) (told-in-whole (now (c .before .before .before .before .before .before .before .before .before .before .before .before .before .before .before .before .before .before .before .before .before .before .args .messages)) (c .before .before .before .before .before .before .before .before .before .first-free .ensures) (c .before .before .before .before .before .before .no-binding .ensures)) (c .before .poisoned .ensures) (c .answered2 .ensures) ls v words _ f t o
 
 pub ident-spec : {M : Type 1} → statement M
 ident-spec =

@@ -20,7 +20,7 @@ enum-told c = search needs
 
 -- src/lib.rt:64:9
 returns : tie.Need-returns
-returns c = λ ls v words f e. bin-left _ (now (c .before .before .before .before .before .before .before .before .before .args .image)) (c .before .before .before .before .before .before .before .before .before .args .n) (c .before .before .before .before .before .before .before .before .before .args .at) (c .before .before .before .before .before .before .before .before .before .args .st) (c .before .before .before .before .before .before .before .before .before .args .left) (c .before .before .before .before .before .before .before .before .before .args .right) (c .enum-told .given .1) ls v words _ f _ _ _ e
+returns c = λ ls v words f e o. bin-left _ (now (c .before .before .before .before .before .before .before .before .before .args .image)) (c .before .before .before .before .before .before .before .before .before .args .n) (c .before .before .before .before .before .before .before .before .before .args .at) (c .before .before .before .before .before .before .before .before .before .args .st) (c .before .before .before .before .before .before .before .before .before .args .left) (c .before .before .before .before .before .before .before .before .before .args .right) (c .enum-told .given .1) ls v words _ f _ _ _ e o
 
 -- src/lib.rt:66:23
 enum-known-right : tie.Need-enum-known-right
@@ -32,7 +32,7 @@ enum-told-2 c = search needs
 
 -- src/lib.rt:67:9
 returns-2 : tie.Need-returns-2
-returns-2 c = λ ls v words f e. bin-right _ (now (c .before .before .before .before .before .before .before .before .before .before .before .before .args .image)) (c .before .before .before .before .before .before .before .before .before .before .before .before .args .n) (c .before .before .before .before .before .before .before .before .before .before .before .before .args .at) (c .before .before .before .before .before .before .before .before .before .before .before .before .args .st) (c .before .before .before .before .before .before .before .before .before .before .before .before .args .left) (c .before .before .before .before .before .before .before .before .before .before .before .before .args .right) (c .before .before .before .left .given .1) (c .enum-told2 .given .1) ls v words _ f _ _ _ e
+returns-2 c = λ ls v words f e o. bin-right _ (now (c .before .before .before .before .before .before .before .before .before .before .before .before .args .image)) (c .before .before .before .before .before .before .before .before .before .before .before .before .args .n) (c .before .before .before .before .before .before .before .before .before .before .before .before .args .at) (c .before .before .before .before .before .before .before .before .before .before .before .before .args .st) (c .before .before .before .before .before .before .before .before .before .before .before .before .args .left) (c .before .before .before .before .before .before .before .before .before .before .before .before .args .right) (c .before .before .before .left .given .1) (c .enum-told2 .given .1) ls v words _ f _ _ _ e o
 
 -- src/lib.rt:70:31
 add-word-at : tie.Need-add-word-at

@@ -20,7 +20,7 @@ enum-told c = search needs
 
 -- src/lib.rt:231:9
 returns : tie.Need-returns
-returns c = λ ls v words f e. cast-poisoned _ (now (c .before .before .before .before .before .before .before .before .before .args .image)) (c .before .before .before .before .before .before .before .before .before .args .n) (c .before .before .before .before .before .before .before .before .before .args .at) (c .before .before .before .before .before .before .before .before .before .args .st) (c .before .before .before .before .before .before .before .before .before .args .to) (c .before .before .before .before .before .before .before .before .before .args .answer) (c .enum-told .given .1) ls v words _ f _ _ _ e
+returns c = λ ls v words f e o. cast-poisoned _ (now (c .before .before .before .before .before .before .before .before .before .args .image)) (c .before .before .before .before .before .before .before .before .before .args .n) (c .before .before .before .before .before .before .before .before .before .args .at) (c .before .before .before .before .before .before .before .before .before .args .st) (c .before .before .before .before .before .before .before .before .before .args .to) (c .before .before .before .before .before .before .before .before .before .args .answer) (c .enum-told .given .1) ls v words _ f _ _ _ e o
 
 -- src/lib.rt:234:31
 add-word-at : tie.Need-add-word-at

@@ -80,7 +80,7 @@ enum-told c = search needs
 
 -- src/lib.rt:130:9
 returns-2 : tie.Need-returns-2
-returns-2 c = λ ls v words f. one-poisoned _ (now (c .before .before .before .before .before .before .before .before .before .before .before .before .before .before .before .before .args .image)) (c .before .before .before .before .before .before .before .before .before .before .before .before .before .before .before .before .args .n) (c .before .before .before .before .before .before .before .before .before .before .before .before .before .before .before .before .args .at) (c .before .before .before .before .before .before .before .before .before .before .before .before .before .before .before .before .args .st) (c .before .before .before .before .before .before .before .before .before .before .before .before .before .before .before .before .args .answer) (c .before .before .before .before .before .before .before .word-at .ensures) (c .before .before .before .before .before .before .kind .ensures) (c .before .before .if1 .left) (c .enum-told .given .1) ls v words _ f _ _ _ _
+returns-2 c = λ ls v words f o. one-poisoned _ (now (c .before .before .before .before .before .before .before .before .before .before .before .before .before .before .before .before .args .image)) (c .before .before .before .before .before .before .before .before .before .before .before .before .before .before .before .before .args .n) (c .before .before .before .before .before .before .before .before .before .before .before .before .before .before .before .before .args .at) (c .before .before .before .before .before .before .before .before .before .before .before .before .before .before .before .before .args .st) (c .before .before .before .before .before .before .before .before .before .before .before .before .before .before .before .before .args .answer) (c .before .before .before .before .before .before .before .word-at .ensures) (c .before .before .before .before .before .before .kind .ensures) (c .before .before .if1 .left) (c .enum-told .given .1) ls v words _ f _ _ _ _ o
 
 -- src/lib.rt:136:13
 unary-requires : tie.Need-unary-requires

@@ -56,7 +56,7 @@ bind-name-requires c κs = few-names (c .before .before .before .before .before 
 
 -- src/lib.rt:63:16
 one-more-requires : tie.Need-one-more-requires
-one-more-requires c κs = few-names (c .before .before .before .before .before .before .before .before .before .before .before .before .before .before .before .before .before .before .before .before .before .before .before .before .pre .free)
+one-more-requires c κs = few-names (c .before .before .before .before .before .before .before .before .before .before .before .before .before .before .before .before .before .before .before .before .before .before .before .before .before .pre .free)
 
 -- src/lib.rt:39:1
 same-length-2 : tie.Need-same-length-2
@@ -72,7 +72,7 @@ same-length-4 c = search needs
 
 -- src/lib.rt:39:1
 returns-2 : tie.Need-returns-2
-returns-2 c = one-bound (c .before .before .before .before .before .before .before .before .before .before .before .before .before .before .before .before .before .before .before .before .before .before .before .before .before .args .n) (c .before .before .before .before .before .before .before .before .before .before .before .before .before .before .before .before .before .before .before .before .before .before .before .before .before .args .slot) (c .before .before .before .before .before .before .before .before .before .before .before .before .before .before .before .before .before .before .before .before .before .before .before .before .before .args .at) (c .before .before .before .before .before .before .before .before .before .before .before .before .before .before .before .before .before .before .before .before .before .before .before .before .before .pre) (c .before .before .before .before .before .before .before .before .before .before .before .before .before .before .before .before .before .before .before .word-at .ensures) (c .before .before .before .before .before .before .before .before .before .before .before .before .before .before .before .before .word-at2 .ensures) (c .before .before .before .before .before .before .before .before .before .before .before .before .before .before .before .type-from-type-expr .result) (record { result = c .before .before .before .before .before .before .before .before .before .before .before .before .before .before .before .type-from-type-expr .ensures }) (c .before .before .before .before .before .before .before .before .before .before .before .added .given .1) (c .before .before .before .before .before .before .before .before .store .ensures) (c .before .before .before .before .bind-name .ensures) (c .one-more .ensures)
+returns-2 c = one-bound (c .before .before .before .before .before .before .before .before .before .before .before .before .before .before .before .before .before .before .before .before .before .before .before .before .before .before .args .n) (c .before .before .before .before .before .before .before .before .before .before .before .before .before .before .before .before .before .before .before .before .before .before .before .before .before .before .args .slot) (c .before .before .before .before .before .before .before .before .before .before .before .before .before .before .before .before .before .before .before .before .before .before .before .before .before .before .args .at) (c .before .before .before .before .before .before .before .before .before .before .before .before .before .before .before .before .before .before .before .before .before .before .before .before .before .before .pre) (c .before .before .before .before .before .before .before .before .before .before .before .before .before .before .before .before .before .before .before .before .word-at .ensures) (c .before .before .before .before .before .before .before .before .before .before .before .before .before .before .before .before .before .word-at2 .ensures) (c .before .before .before .before .before .before .before .before .before .before .before .before .before .before .before .before .type-from-type-expr .result) (record { result = c .before .before .before .before .before .before .before .before .before .before .before .before .before .before .before .before .type-from-type-expr .ensures }) (c .before .before .before .before .before .before .before .before .before .before .before .before .added .given .1) (c .before .before .before .before .before .before .before .before .before .store .ensures) (c .before .before .before .before .before .bind-name .ensures) (c .one-more .ensures)
 
 pub one-argument-spec : {M : Type 1} → statement M
 one-argument-spec =

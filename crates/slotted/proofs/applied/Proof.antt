@@ -23,7 +23,7 @@ same-length-3 : tie.Need-same-length-3
 same-length-3 c = search needs
 
 returns : tie.Need-returns
-returns c = applied-compared _ _ _ _ _ _ _ _ _ _ _ _ _ (c .before .before .before .before .before .before .before .before .before .before .before .before .before .before .before .before .before .before .before .before .before .before .pre .0) (c .before .before .before .before .before .before .before .before .before .before .before .before .before .before .before .before .before .before .before .before .before .before .pre .1) (c .before .before .before .before .before .before .before .before .before .before .before .before .before .apply-slot-binding .result) _ (c .before .before .before .before .before .before .before .before .before .before .before .before .before .apply-slot-binding .ensures) (c .before .before .before .before .before .before .before .before .before .r .given .1) (c .before .before .before .before .compared .ensures)
+returns c = applied-compared _ _ _ _ _ _ _ _ _ _ _ _ _ (c .before .before .before .before .before .before .before .before .before .before .before .before .before .before .before .before .before .before .before .before .before .before .before .pre .0) (c .before .before .before .before .before .before .before .before .before .before .before .before .before .before .before .before .before .before .before .before .before .before .before .pre .1) (c .before .before .before .before .before .before .before .before .before .before .before .before .before .apply-slot-binding .result) _ (c .before .before .before .before .before .before .before .before .before .before .before .before .before .apply-slot-binding .ensures) (c .before .before .before .before .before .before .before .before .before .r .given .1) (c .before .before .before .before .compared .ensures)
 
 enum-told : tie.Need-enum-told
 enum-told c = search needs
@@ -32,7 +32,7 @@ same-length-4 : tie.Need-same-length-4
 same-length-4 c = search needs
 
 returns-2 : tie.Need-returns-2
-returns-2 c = applied-full _ _ _ _ _ _ _ _ _ _ _ _ _ (c .before .before .before .before .before .before .before .before .before .before .before .before .before .pre .0) (c .before .before .before .before .before .before .before .before .before .before .before .before .before .pre .1) (c .before .before .before .before .apply-slot-binding .result) _ (c .before .before .before .before .apply-slot-binding .ensures) (c .enum-told .given .1)
+returns-2 c = applied-full _ _ _ _ _ _ _ _ _ _ _ _ _ (c .before .before .before .before .before .before .before .before .before .before .before .before .before .before .pre .0) (c .before .before .before .before .before .before .before .before .before .before .before .before .before .before .pre .1) (c .before .before .before .before .apply-slot-binding .result) _ (c .before .before .before .before .apply-slot-binding .ensures) (c .enum-told .given .1)
 
 enum-told-2 : tie.Need-enum-told-2
 enum-told-2 c = search needs
@@ -41,7 +41,7 @@ same-length-5 : tie.Need-same-length-5
 same-length-5 c = search needs
 
 returns-3 : tie.Need-returns-3
-returns-3 c = applied-deep _ _ _ _ _ _ _ _ _ _ _ _ _ (c .before .before .before .before .before .before .before .before .before .before .before .before .before .pre .0) (c .before .before .before .before .before .before .before .before .before .before .before .before .before .pre .1) (c .before .before .before .before .apply-slot-binding .result) _ (c .before .before .before .before .apply-slot-binding .ensures) (c .enum-told2 .given .1)
+returns-3 c = applied-deep _ _ _ _ _ _ _ _ _ _ _ _ _ (c .before .before .before .before .before .before .before .before .before .before .before .before .before .before .pre .0) (c .before .before .before .before .before .before .before .before .before .before .before .before .before .before .pre .1) (c .before .before .before .before .apply-slot-binding .result) _ (c .before .before .before .before .apply-slot-binding .ensures) (c .enum-told2 .given .1)
 
 pub applied-spec : {M : Type 1} → statement M
 applied-spec =

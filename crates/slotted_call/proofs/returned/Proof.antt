@@ -21,7 +21,7 @@ same-length-2 : tie.Need-same-length-2
 same-length-2 c = search needs
 
 returns : tie.Need-returns
-returns c = λ d m. returns-put _ _ _ _ _ _ _ _ d m _ (c .before .before .before .before .before .before .before .before .before .before .before .before .before .before .before .before .before .pre) (c .before .before .before .before .before .before .before .before .before .apply-slot-binding .result) _ (c .before .before .before .before .before .before .before .before .before .apply-slot-binding .ensures) (c .before .before .before .before .before .r .given .1) (c .before .before .set-known .ensures)
+returns c = λ d m. returns-put _ _ _ _ _ _ _ _ d m _ (c .before .before .before .before .before .before .before .before .before .before .before .before .before .before .before .before .before .before .pre) (c .before .before .before .before .before .before .before .before .before .apply-slot-binding .result) _ (c .before .before .before .before .before .before .before .before .before .apply-slot-binding .ensures) (c .before .before .before .before .before .r .given .1) (c .before .before .set-known .ensures)
 
 enum-told : tie.Need-enum-told
 enum-told c = search needs
@@ -30,7 +30,7 @@ same-length-3 : tie.Need-same-length-3
 same-length-3 c = search needs
 
 returns-2 : tie.Need-returns-2
-returns-2 c = λ d m. returns-full _ _ _ _ _ _ _ _ d m _ (c .before .before .before .before .before .before .before .before .before .before .before .before .pre) (c .before .before .before .before .apply-slot-binding .result) _ (c .before .before .before .before .apply-slot-binding .ensures) (c .enum-told .given .1)
+returns-2 c = λ d m. returns-full _ _ _ _ _ _ _ _ d m _ (c .before .before .before .before .before .before .before .before .before .before .before .before .before .pre) (c .before .before .before .before .apply-slot-binding .result) _ (c .before .before .before .before .apply-slot-binding .ensures) (c .enum-told .given .1)
 
 enum-told-2 : tie.Need-enum-told-2
 enum-told-2 c = search needs
@@ -39,7 +39,7 @@ same-length-4 : tie.Need-same-length-4
 same-length-4 c = search needs
 
 returns-3 : tie.Need-returns-3
-returns-3 c = λ d m. returns-deep _ _ _ _ _ _ _ _ d m _ (c .before .before .before .before .before .before .before .before .before .before .before .before .pre) (c .before .before .before .before .apply-slot-binding .result) _ (c .before .before .before .before .apply-slot-binding .ensures) (c .enum-told2 .given .1)
+returns-3 c = λ d m. returns-deep _ _ _ _ _ _ _ _ d m _ (c .before .before .before .before .before .before .before .before .before .before .before .before .before .pre) (c .before .before .before .before .apply-slot-binding .result) _ (c .before .before .before .before .apply-slot-binding .ensures) (c .enum-told2 .given .1)
 
 pub returned-spec : {M : Type 1} → statement M
 returned-spec =
