@@ -19,6 +19,7 @@ use Rattle.rules.specs.Steps.{Done, skip}
 use Rattle.rules.specs.Rules.{last}
 use Rattle.rules.specs.Walk.{ctxOf, emptySlots, startOf, walk, walkOf}
 use Rattle.rules.specs.Visited.{visitedAmong}
+use Rattle.state.specs.World.{noMore}
 use Rattle.visit.specs.declared.State.{State}
 use Rattle.visit.specs.declared.Visit.{Visit}
 use Rattle.visit.specs.declared.Visit.the-variants as X
@@ -79,34 +80,34 @@ module _ (script image text words s f t d m e : List ℕ) {s₁ t₁ : List ℕ}
   abbrev before : Buffers
   before = buffersOf s f t d m e
 
-  begun : walkOf inputs before ≡ next (walkedIn words (lent s₁ f t₁ d m e) r) (λ _ w. next (last (ctxOf inputs) (Known (slotCount image)) (rootsOf image) w) (λ _. skip))
+  begun : walkOf inputs before ≡ next (walkedIn words (lent s₁ f t₁ d m e noMore) r) (λ _ w. next (last (ctxOf inputs) (Known (slotCount image)) (rootsOf image) w) (λ _. skip))
   begun = walk-is inputs before ∙ rw (h .step script text f d m e)
 
-  pub walk-refused : {number place : ℕ} → r ≡ W.Refused number place → WalkEnds inputs before (lent s₁ f t₁ d m e) (X.Refused number place)
+  pub walk-refused : {number place : ℕ} → r ≡ W.Refused number place → WalkEnds inputs before (lent s₁ f t₁ d m e noMore) (X.Refused number place)
   unfolding walkedIn visited EndsWell
   walk-refused {number} {place} p =
-      let is : walkOf inputs before ≡ overOf words (lent s₁ f t₁ d m e) (X.Refused number place) = begun ∙ rw p in
+      let is : walkOf inputs before ≡ overOf words (lent s₁ f t₁ d m e noMore) (X.Refused number place) = begun ∙ rw p in
       record { step = is; well = numbered inputs before is }
 
   module _ {st : State} (p : r ≡ W.On st) where
     walk-visits : {b′ : Lent} {v : Visit} {room rows : ℕ} → FreeRows rows st f
-        → Visits (last (ctxIn (textsOf script text) image words) (Known (slotCount image)) (nodesAt image 4 (rootCount image))) room rows words st (lent s₁ f t₁ d m e) b′ v → WalkEnds inputs before b′ v
+        → Visits (last (ctxIn (textsOf script text) image words) (Known (slotCount image)) (nodesAt image 4 (rootCount image))) room rows words st (lent s₁ f t₁ d m e noMore) b′ v → WalkEnds inputs before b′ v
     unfolding walkedIn ctxOf rootsOf firstRoots
     walk-visits {b′} {v} g q =
         let is : walkOf inputs before ≡ overOf words b′ v = begun ∙ rw (p, q .step) in
         record { step = is; well = ends-well inputs before v g is (q .keeps) }
 
     -- what the visits of the roots ask for
-    roots-begun : beginning inputs (startOf inputs before) ≡ ok tt (whole words (startState (firstState (length (poolOf words)) .used)) (lent s₁ f t₁ d m e))
+    roots-begun : beginning inputs (startOf inputs before) ≡ ok tt (whole words (startState (firstState (length (poolOf words)) .used)) (lent s₁ f t₁ d m e noMore))
     unfolding walkedIn
     roots-begun = h .step script text f d m e ∙ rw (p, h .state st p)
 
     module _ (accepted : refusalOf inputs before ≡ none) where
-      roots-start : Ready (textsOf script text) image (placesOf image) words (rooms (rootsOf image)) (rowsAll (rootsOf image)) st (lent s₁ f t₁ d m e)
+      roots-start : Ready (textsOf script text) image (placesOf image) words (rooms (rootsOf image)) (rowsAll (rootsOf image)) st (lent s₁ f t₁ d m e noMore)
       unfolding beginning ctxOf
-      roots-start = rw (h .state st p) (ready-start inputs before accepted (firstState (length (poolOf words)) .used) (lent s₁ f t₁ d m e) roots-begun refl refl)
+      roots-start = rw (h .state st p) (ready-start inputs before accepted (firstState (length (poolOf words)) .used) (lent s₁ f t₁ d m e noMore) roots-begun refl refl)
 
-      pub walk-roots : {b′ : Lent} {v : Visit} {k : ℕ} → k ≡ rootCount image → ListVisited (textsOf script text) image words 4 k st (lent s₁ f t₁ d m e) b′ v → WalkEnds inputs before b′ v
+      pub walk-roots : {b′ : Lent} {v : Visit} {k : ℕ} → k ≡ rootCount image → ListVisited (textsOf script text) image words 4 k st (lent s₁ f t₁ d m e noMore) b′ v → WalkEnds inputs before b′ v
       unfolding rootsOf firstRoots
       walk-roots hk q = walk-visits (roots-start .rows) (rw hk at q)
 
@@ -116,7 +117,7 @@ module _ (script image text words s f t d m e : List ℕ) {s₁ t₁ : List ℕ}
       no-types = let p = passed inputs before accepted in rw (h .slots) (roots-fresh inputs before p (emptySlots (slotCount image) s) (fresh-start inputs before (p .slots) .empty))
 
       pub roots-ready : {places : List ℕ} {n k : ℕ} → places ≡ placesOf image → n ≡ nodeCount image → k ≡ rootCount image
-          → ListVisit (textsOf script text) image places words n 4 k st (lent s₁ f t₁ d m e)
+          → ListVisit (textsOf script text) image places words n 4 k st (lent s₁ f t₁ d m e noMore)
       unfolding rootsOf firstRoots
       roots-ready hp hn hk =
           let a = passed inputs before accepted .image in

@@ -11,6 +11,7 @@ ghost use Rattle.rules.specs.Check.{checkOf};
 ghost use Rattle.tok.specs.Text.{Texts, textsOf};
 ghost use Rattle.ast.specs.Image.{nodeCount, rootCount};
 ghost use Rattle.places.specs.Places.{placesOf};
+ghost use Rattle.state.specs.World.{noMore};
 ghost use Rattle.visit.specs.Whole.{Lent, lent};
 ghost use Rattle.walking.specs.Contracts.{ListVisit, ListVisited};
 ghost use Rattle.ending.specs.Ended.{endedOf, checkedOf, EndsAs, WalkEnds};
@@ -36,11 +37,11 @@ fn visit_roots<'a>(
     st: State,
 ) -> Visit
     requires { let T : Texts = textsOf (now script) (now text) in let I : List ℕ = now image in
-        let b : Lent = lent (now slots) (now functions) (now types) (now diagnostics) (now messages) (now scratch) in
+        let b : Lent = lent (now slots) (now functions) (now types) (now diagnostics) (now messages) (now scratch) noMore in
         ⌜ ListVisit T I (placesOf I) (now library) (nodeCount I) 4 (rootCount I) st b ⌝ }
     ensures { λ r. let T : Texts = textsOf (now (script .entry)) (now (text .entry)) in let I : List ℕ = now (image .entry) in
-        let b : Lent = lent (now (slots .entry)) (now (functions .entry)) (now (types .entry)) (now (diagnostics .entry)) (now (messages .entry)) (now (scratch .entry)) in
-        let b′ : Lent = lent (now (slots .exit)) (now (functions .exit)) (now (types .exit)) (now (diagnostics .exit)) (now (messages .exit)) (now (scratch .exit)) in
+        let b : Lent = lent (now (slots .entry)) (now (functions .entry)) (now (types .entry)) (now (diagnostics .entry)) (now (messages .entry)) (now (scratch .entry)) noMore in
+        let b′ : Lent = lent (now (slots .exit)) (now (functions .exit)) (now (types .exit)) (now (diagnostics .exit)) (now (messages .exit)) (now (scratch .exit)) noMore in
         ⌜ ListVisited T I (now (library .entry)) 4 (rootCount I) st b b′ r ⌝ }
 {
     let mut places = [0u16; 3072];
@@ -84,7 +85,7 @@ fn walk<'a>(
         ⌜ refusalOf i b ≡ none ⌝ }
     ensures { λ r. let i : Inputs = inputsOf (now (script .entry)) (now (image .entry)) (now (text .entry)) (now (library .entry)) in
         let b : Buffers = buffersOf (now (slots .entry)) (now (functions .entry)) (now (types .entry)) (now (diagnostics .entry)) (now (messages .entry)) (now (scratch .entry)) in
-        let b′ : Lent = lent (now (slots .exit)) (now (functions .exit)) (now (types .exit)) (now (diagnostics .exit)) (now (messages .exit)) (now (scratch .exit)) in
+        let b′ : Lent = lent (now (slots .exit)) (now (functions .exit)) (now (types .exit)) (now (diagnostics .exit)) (now (messages .exit)) (now (scratch .exit)) noMore in
         ⌜ WalkEnds i b b′ r ⌝ }
 {
     match start::begin(slots, types, image, library) {

@@ -8,6 +8,7 @@ use Rattle.refusals.specs.Inputs.{Buffers}
 use Rattle.refuse.specs.Answer.{buffersOf}
 use Rattle.rules.specs.Check.{Ended, zeroed, endOf}
 use Rattle.state.specs.Signatures.{entriesEnd}
+use Rattle.state.specs.World.{noMore}
 use Rattle.visit.specs.declared.State.{State}
 use Rattle.visit.specs.declared.Visit.{Visit}
 use Rattle.visit.specs.declared.Visit.the-variants as X
@@ -20,7 +21,7 @@ use Rattle.ending.specs.Numbers.{numbersOf}
 
 module _ (words s f t d m e : List ℕ) (v : Visit) where
   abbrev finished : Ended
-  finished = endOf (buffersOf s f t d m e) (overOf words (lent s f t d m e) v)
+  finished = endOf (buffersOf s f t d m e) (overOf words (lent s f t d m e noMore) v)
 
   module _ {e′ : List ℕ} {st : State} {r : Checked} (h : Answers f st e e′ r) where
     pub finish-known : {slot : ℕ} → v ≡ X.Known slot st → EndsAs finished (buffersOf s f t d m e′) r

@@ -18,6 +18,7 @@ use Rattle.rules.specs.World.{World}
 use Rattle.rules.specs.Steps.{Done}
 use Rattle.rules.specs.Walk.{walkOf}
 use Rattle.rules.specs.Check.{zeros, zeroed, endOf, unlessRefused, checkOf}
+use Rattle.state.specs.World.{noMore}
 use Rattle.visit.specs.declared.Visit.{Visit}
 use Rattle.visit.specs.Whole.{lent}
 use Rattle.ending.specs.declared.Checked.{Checked}
@@ -71,10 +72,10 @@ accepted-is : (i : Inputs) (b : Buffers) → refusalOf i b ≡ none → checkOf 
 unfolding checkOf unlessRefused
 accepted-is i b h = rw h
 
-module _ {i : Inputs} {s f t d m e s′ f′ t′ d′ m′ e′ : List ℕ} {v : Visit} (w : WalkEnds i (buffersOf s f t d m e) (lent s′ f′ t′ d′ m′ e′) v) where
+module _ {i : Inputs} {s f t d m e s′ f′ t′ d′ m′ e′ : List ℕ} {v : Visit} (w : WalkEnds i (buffersOf s f t d m e) (lent s′ f′ t′ d′ m′ e′ noMore) v) where
   pub accepted-ends : {after : Buffers} {r : Checked} → refusalOf i (buffersOf s f t d m e) ≡ none
       → length s′ ≡ length s → length f′ ≡ length f → length t′ ≡ length t → length d′ ≡ length d → length m′ ≡ length m → length e′ ≡ length e
-      → EndsAs (endOf (buffersOf s′ f′ t′ d′ m′ e′) (overOf (i .library) (lent s′ f′ t′ d′ m′ e′) v)) after r → EndsAs (checkOf i (buffersOf s f t d m e)) after r
+      → EndsAs (endOf (buffersOf s′ f′ t′ d′ m′ e′) (overOf (i .library) (lent s′ f′ t′ d′ m′ e′ noMore) v)) after r → EndsAs (checkOf i (buffersOf s f t d m e)) after r
   accepted-ends {after} {r} h p₁ p₂ p₃ p₄ p₅ p₆ q = subst (λ x. EndsAs x after r) (sym (
       accepted-is i (buffersOf s f t d m e) h ∙ ap (endOf (buffersOf s f t d m e)) (w .step)
-      ∙ sym (end-as-long s′ f′ t′ d′ m′ e′ s f t d m e p₁ p₂ p₃ p₄ p₅ p₆ (overOf (i .library) (lent s′ f′ t′ d′ m′ e′) v)))) q
+      ∙ sym (end-as-long s′ f′ t′ d′ m′ e′ s f t d m e p₁ p₂ p₃ p₄ p₅ p₆ (overOf (i .library) (lent s′ f′ t′ d′ m′ e′ noMore) v)))) q

@@ -8,6 +8,7 @@ ghost use Rattle.refusals.specs.Inputs.{Buffers};
 ghost use Rattle.refuse.specs.Answer.{buffersOf};
 ghost use Rattle.rules.specs.Check.{endOf};
 ghost use Rattle.state.specs.Signatures.{entriesEnd};
+ghost use Rattle.state.specs.World.{noMore};
 ghost use Rattle.visit.specs.Whole.{Lent, lent};
 ghost use Rattle.ending.specs.Numbers.{numbersOf};
 ghost use Rattle.ending.specs.Ended.{EndsAs, beforeOf, Answers, overOf, EndsWell};
@@ -95,7 +96,7 @@ pub fn finish(
 ) -> Checked
     requires { ⌜ EndsWell (now functions) visit ⌝ }
     ensures { λ r. let before : Buffers = buffersOf (now (slots .entry)) (now (functions .entry)) (now (types .entry)) (now (diagnostics .entry)) (now (messages .entry)) (now (scratch .entry)) in
-        let b : Lent = lent (now (slots .entry)) (now (functions .entry)) (now (types .entry)) (now (diagnostics .entry)) (now (messages .entry)) (now (scratch .entry)) in
+        let b : Lent = lent (now (slots .entry)) (now (functions .entry)) (now (types .entry)) (now (diagnostics .entry)) (now (messages .entry)) (now (scratch .entry)) noMore in
         let after : Buffers = buffersOf (now (slots .exit)) (now (functions .exit)) (now (types .exit)) (now (diagnostics .exit)) (now (messages .exit)) (now (scratch .exit)) in
         ⌜ ((words : List ℕ) → EndsAs (endOf before (overOf words b visit)) after r) ⌝ }
 {
