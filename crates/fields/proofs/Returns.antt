@@ -135,7 +135,7 @@ module _ (n count : ℕ) (st : State) (image slots : List ℕ) (at : ℕ) {t t�
       ≡ next (next (gaveIn words (lent slots f t₁ d m e o) g) (λ w. onTypes (paired 0 pairs w))) (recordEnd T n slot)
   parts T slot words f d m e o =
       record-parts-are T n slot count pairs (read-length image slots (at + 3) count) (whole words st (lent slots f t d m e o))
-      ∙ ap (λ r. next (next r (λ w. onTypes (paired 0 pairs w))) (recordEnd T n slot)) (x words slots f d m e .step)
+      ∙ ap (λ r. next (next r (λ w. onTypes (paired 0 pairs w))) (recordEnd T n slot)) (x words slots f d m e o .step)
 
   pub made-refused : (slot : ℕ) {number place : ℕ} → g ≡ G.Refused number place
       → (T : Texts) (words f d m e : List ℕ) (o : More) → Visits (recordOf T n slot pairs) 0 0 words st (lent slots f t d m e o) (lent slots f t₁ d m e o) (X.Refused number place)
