@@ -42,7 +42,8 @@ module _ (n k : ℕ) (st : State) {t t′ : List ℕ} {a : Added} (p : Adds (λ 
   opened-is words s f d m e o = ap (raised (whole words st (lent s f t d m e o))) (p .result (textsOf [] []) n)
 
   pub opened-put : {w more : ℕ} → a ≡ A.Put w more
-      → (words s f d m e : List ℕ) (o : More) → Gives (onTypes (opened n k)) 0 0 words st (lent s f t d m e o) (lent s f t′ d m e o) (G.Word w (withUsed st (record { types = more; told = st .used .told; kept = st .used .kept })))
+      → (words s f d m e : List ℕ) (o : More)
+      → Gives (onTypes (opened n k)) 0 0 words st (lent s f t d m e o) (lent s f t′ d m e o) (G.Word w (withUsed st (record { types = more; told = st .used .told; kept = st .used .kept })))
   unfolding raised gaveIn
   opened-put {w} {more} ea words s f d m e o = record {
     step = opened-is words s f d m e o ∙ rw ea refl;
@@ -60,7 +61,8 @@ module _ (n k : ℕ) (st : State) {t t′ : List ℕ} {a : Added} (p : Adds (λ 
 -- ── The end of Node::Record ──
 
 module _ (n word : ℕ) (st : State) {s t : List ℕ} {b : Bool} (hb : (T : Texts) → b ≡ shallow T t word) where
-  pub closed-deep : (slot : ℕ) → not b ≡ true → (T : Texts) (words f d m e : List ℕ) (o : More) → Visits (recordEnd T n slot word) 0 0 words st (lent s f t d m e o) (lent s f t d m e o) (X.Refused 8 n)
+  pub closed-deep : (slot : ℕ) → not b ≡ true → (T : Texts) (words f d m e : List ℕ) (o : More)
+      → Visits (recordEnd T n slot word) 0 0 words st (lent s f t d m e o) (lent s f t d m e o) (X.Refused 8 n)
   unfolding recordEnd onTypes raised measured when visited
   closed-deep slot q T words f d m e o = record { step = rw (← hb T, not-true b q); keeps = refuses }
 

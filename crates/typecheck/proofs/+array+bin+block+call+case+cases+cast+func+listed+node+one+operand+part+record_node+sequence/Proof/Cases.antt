@@ -19,7 +19,8 @@ use Rattle.typecheck.proofs.+array+bin+block+call+case+cases+cast+func+
 
 abbrev pub cases-Inv-loop : cases-lts.InvT-loop
 cases-Inv-loop slots₀ functions₀ types₀ diagnostics₀ messages₀ scratch₀ script library image words places n at count here₀ place₀ i₀ slots functions types diagnostics messages scratch here place i =
-    Turn (textsOf script library) image places words n at count here₀ (lent slots₀ functions₀ types₀ diagnostics₀ messages₀ scratch₀ noMore) here place i (lent slots functions types diagnostics messages scratch noMore)
+    Turn (textsOf script library) image places words n at count here₀ (lent slots₀ functions₀ types₀ diagnostics₀ messages₀ scratch₀ noMore)
+    here place i (lent slots functions types diagnostics messages scratch noMore)
     × (length slots ≡ length slots₀) × (length functions ≡ length functions₀) × (length types ≡ length types₀) × (length diagnostics ≡ length diagnostics₀)
     × (length messages ≡ length messages₀) × (length scratch ≡ length scratch₀)
 
@@ -29,7 +30,8 @@ cases-μ-loop slots₀ functions₀ types₀ diagnostics₀ messages₀ scratch�
 
 abbrev pub cases-Inv-loop2 : cases-lts.InvT-loop2
 cases-Inv-loop2 slots₀ functions₀ types₀ diagnostics₀ messages₀ scratch₀ script library image words places n at count here place i default₀ end₀ next₀ left₀ slots functions types diagnostics messages scratch default end next left =
-    L.Turn (textsOf script library) image places words n next₀ left₀ end₀ (lent slots₀ functions₀ types₀ diagnostics₀ messages₀ scratch₀ noMore) next left default end (lent slots functions types diagnostics messages scratch noMore)
+    L.Turn (textsOf script library) image places words n next₀ left₀ end₀ (lent slots₀ functions₀ types₀ diagnostics₀ messages₀ scratch₀ noMore)
+    next left default end (lent slots functions types diagnostics messages scratch noMore)
     × (length slots ≡ length slots₀) × (length functions ≡ length functions₀) × (length types ≡ length types₀) × (length diagnostics ≡ length diagnostics₀)
     × (length messages ≡ length messages₀) × (length scratch ≡ length scratch₀)
 

@@ -17,7 +17,8 @@ use Rattle.typecheck.proofs.+array+bin+block+call+case+cases+cast+func+
 
 abbrev pub record-node-Inv-loop : record-node-lts.InvT-loop
 record-node-Inv-loop slots₀ functions₀ types₀ diagnostics₀ messages₀ scratch₀ script library image words places n at count here₀ i₀ slots functions types diagnostics messages scratch here i =
-    Turn (textsOf script library) image places words n at count here₀ (lent slots₀ functions₀ types₀ diagnostics₀ messages₀ scratch₀ noMore) here i (lent slots functions types diagnostics messages scratch noMore)
+    Turn (textsOf script library) image places words n at count here₀ (lent slots₀ functions₀ types₀ diagnostics₀ messages₀ scratch₀ noMore)
+    here i (lent slots functions types diagnostics messages scratch noMore)
     × (length slots ≡ length slots₀) × (length functions ≡ length functions₀) × (length types ≡ length types₀) × (length diagnostics ≡ length diagnostics₀)
     × (length messages ≡ length messages₀) × (length scratch ≡ length scratch₀)
 
