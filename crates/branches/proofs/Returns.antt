@@ -91,7 +91,8 @@ module _ (image slots : List ℕ) (at : ℕ) {count : ℕ} where
 -- ── The end of a Match ──
 
 module _ (T : Texts) (n own : ℕ) (bs : List Branch) (st : State) (s t d m : List ℕ) {default : Answer} where
-  pub end-poisoned : default ≡ Poison → (ls : List Package) (v : ℕ) (words f e : List ℕ) (o : More) → Visits (matched (ctx T ls v) n own bs default) 0 0 words st (lent s f t d m e o) (lent s f t d m e o) (X.Poison st)
+  pub end-poisoned : default ≡ Poison → (ls : List Package) (v : ℕ) (words f e : List ℕ) (o : More)
+      → Visits (matched (ctx T ls v) n own bs default) 0 0 words st (lent s f t d m e o) (lent s f t d m e o) (X.Poison st)
   unfolding matched
   end-poisoned q ls v words f e o = visits-poison _ words st (lent s f t d m e o) q
 

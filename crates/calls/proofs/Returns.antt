@@ -95,7 +95,8 @@ field-name {image} {places} {at} c {t} {p} et ep = by (ℕ-discrete (kindOf (get
 
 pub field-told : {image places : List ℕ} {at : ℕ} (n : ℕ) (st : State) → FieldCall image places at → {t p name : ℕ} → t ≡ getD image (at + 2) 0 → p ≡ getD places t 0 → name ≡ getD image (p + 3) 0
     → {d m d′ m′ : List ℕ} {x : Reported} {r : Step} {v : Visit} → Reports (callThroughField name) d m (st .used .told) d′ m′ x → r ≡ poisonOf n (st .used) x → v ≡ visitOf st r
-    → (c : Ctx) (slot : ℕ) (given : List Provided) (visits : Walk Bool) (words s f t e : List ℕ) (o : More) → Visits (call c n slot (calleeAt image at) given visits) 0 0 words st (lent s f t d m e o) (lent s f t d′ m′ e o) v
+    → (c : Ctx) (slot : ℕ) (given : List Provided) (visits : Walk Bool) (words s f t e : List ℕ) (o : More)
+    → Visits (call c n slot (calleeAt image at) given visits) 0 0 words st (lent s f t d m e o) (lent s f t d′ m′ e o) v
 unfolding call
 field-told {image} n st z et ep en {d} {m} {d′} {m′} {x} p er ev c slot given visits words s f t e o =
     rw (field-name z et ep, ← en, ev, er) (steps-visits {rule = poison n (callThroughField _)} (poisons-step n {s = s} {t = t} {u = st .used} p) words f e o)

@@ -42,7 +42,8 @@ module _ (n k : ℕ) (st : State) {t t′ : List ℕ} {a : Added} (p : Adds (λ 
   opened-is words s f d m e o = ap (raised (whole words st (lent s f t d m e o))) (p .result (textsOf [] []) n)
 
   pub opened-put : {w more : ℕ} → a ≡ A.Put w more
-      → (words s f d m e : List ℕ) (o : More) → Gives (onTypes (opened n k)) 0 0 words st (lent s f t d m e o) (lent s f t′ d m e o) (G.Word w (withUsed st (record { types = more; told = st .used .told; kept = st .used .kept })))
+      → (words s f d m e : List ℕ) (o : More)
+      → Gives (onTypes (opened n k)) 0 0 words st (lent s f t d m e o) (lent s f t′ d m e o) (G.Word w (withUsed st (record { types = more; told = st .used .told; kept = st .used .kept })))
   unfolding raised gaveIn
   opened-put {w} {more} ea words s f d m e o = record {
     step = opened-is words s f d m e o ∙ rw ea refl;
@@ -60,7 +61,8 @@ module _ (n k : ℕ) (st : State) {t t′ : List ℕ} {a : Added} (p : Adds (λ 
 -- ── The end of Node::Record ──
 
 module _ (n word : ℕ) (st : State) {s t : List ℕ} {b : Bool} (hb : (T : Texts) → b ≡ shallow T t word) where
-  pub closed-deep : (slot : ℕ) → not b ≡ true → (T : Texts) (words f d m e : List ℕ) (o : More) → Visits (recordEnd T n slot word) 0 0 words st (lent s f t d m e o) (lent s f t d m e o) (X.Refused 8 n)
+  pub closed-deep : (slot : ℕ) → not b ≡ true → (T : Texts) (words f d m e : List ℕ) (o : More)
+      → Visits (recordEnd T n slot word) 0 0 words st (lent s f t d m e o) (lent s f t d m e o) (X.Refused 8 n)
   unfolding recordEnd onTypes raised measured when visited
   closed-deep slot q T words f d m e o = record { step = rw (← hb T, not-true b q); keeps = refuses }
 
@@ -135,7 +137,7 @@ module _ (n count : ℕ) (st : State) (image slots : List ℕ) (at : ℕ) {t t�
       ≡ next (next (gaveIn words (lent slots f t₁ d m e o) g) (λ w. onTypes (paired 0 pairs w))) (recordEnd T n slot)
   parts T slot words f d m e o =
       record-parts-are T n slot count pairs (read-length image slots (at + 3) count) (whole words st (lent slots f t d m e o))
-      ∙ ap (λ r. next (next r (λ w. onTypes (paired 0 pairs w))) (recordEnd T n slot)) (x words slots f d m e .step)
+      ∙ ap (λ r. next (next r (λ w. onTypes (paired 0 pairs w))) (recordEnd T n slot)) (x words slots f d m e o .step)
 
   pub made-refused : (slot : ℕ) {number place : ℕ} → g ≡ G.Refused number place
       → (T : Texts) (words f d m e : List ℕ) (o : More) → Visits (recordOf T n slot pairs) 0 0 words st (lent slots f t d m e o) (lent slots f t₁ d m e o) (X.Refused number place)

@@ -92,7 +92,8 @@ went (goes x) = x
 
 module _ {image places f e : List ℕ} {st : State} (n slot name ret at count : ℕ) (h : FnReady image places st f e slot ret at count)
     {s t s₁ t₁ e₁ : List ℕ} (bound : Walked)
-    (p : (T : Texts) (ls : List Package) (v : ℕ) (words f d m : List ℕ) (o : More) → Argues (fnArguments (ctx T ls v) n slot (argsFrom image at count)) count words st (lent s f t d m e o) (lent s₁ f t₁ d m e₁ o) bound) where
+    (p : (T : Texts) (ls : List Package) (v : ℕ) (words f d m : List ℕ) (o : More)
+    → Argues (fnArguments (ctx T ls v) n slot (argsFrom image at count)) count words st (lent s f t d m e o) (lent s₁ f t₁ d m e₁ o) bound) where
   pub begin-stops : {number place : ℕ} {s′ f′ t′ e′ : List ℕ} → bound ≡ W.Refused number place → (T : Texts) (ls : List Package) (v : ℕ) (words d m : List ℕ) (o : More)
       → Gives (fnBegin (ctx T ls v) n slot name (typeOf image ret) (argsFrom image at count)) (2 * count) (3 + 2 * count) words st (lent s f t d m e o) (lent s′ f′ t′ d m e′ o) (G.Refused number place)
   unfolding fnBegin arguedIn gaveIn

@@ -167,7 +167,8 @@ module _ {T : Texts} {words : List ℕ} (image : List ℕ) (n token at count : �
     }
 
     pub import-over : count ≤ k → (count ≡ 0 → ⊥)
-        → (v : ℕ) (s f t : List ℕ) (o : More) → Walks (importAll (ctx T (packagesOf words) v) n token (wordsFrom image at count)) count 0 words st₀ (lent s f t d₀ m₀ e₀ o) (lent s f t d m e o) (W.On st)
+        → (v : ℕ) (s f t : List ℕ) (o : More)
+        → Walks (importAll (ctx T (packagesOf words) v) n token (wordsFrom image at count)) count 0 words st₀ (lent s f t d₀ m₀ e₀ o) (lent s f t d m e o) (W.On st)
     unfolding wordsFrom each forEach walkedIn
     import-over l z v s f t o =
         let y : count - k ≡ 0 = omega arith in
@@ -211,12 +212,14 @@ module _ {T : Texts} {words : List ℕ} (image : List ℕ) (n token at count : �
 module _ (T : Texts) (words image : List ℕ) (n slot token at count : ℕ) {st : State} {d m e d′ m′ e′ : List ℕ} {r : Walked}
     (p : (v : ℕ) (s f t : List ℕ) (o : More) → Walks (importAll (ctx T (packagesOf words) v) n token (wordsFrom image at count)) count 0 words st (lent s f t d m e o) (lent s f t d′ m′ e′ o) r) where
   pub node-stops : {number place : ℕ} {s s′ : List ℕ} → r ≡ W.Refused number place
-      → (v : ℕ) (f t : List ℕ) (o : More) → Visits (importRule (ctx T (packagesOf words) v) n slot token (wordsFrom image at count)) count 0 words st (lent s f t d m e o) (lent s′ f t d′ m′ e′ o) (X.Refused number place)
+      → (v : ℕ) (f t : List ℕ) (o : More)
+      → Visits (importRule (ctx T (packagesOf words) v) n slot token (wordsFrom image at count)) count 0 words st (lent s f t d m e o) (lent s′ f t d′ m′ e′ o) (X.Refused number place)
   unfolding importRule walkedIn visited
   node-stops {s = s} er v f t o = record { step = rw (p v s f t o .step, er) refl; keeps = refuses }
 
   pub node-done : {st′ : State} {s s′ : List ℕ} {i : ℕ} → r ≡ W.On st′ → i ≡ slot → s′ ≡ set s i voidWord
-      → (v : ℕ) (f t : List ℕ) (o : More) → Visits (importRule (ctx T (packagesOf words) v) n slot token (wordsFrom image at count)) count 0 words st (lent s f t d m e o) (lent s′ f t d′ m′ e′ o) (X.Known slot st′)
+      → (v : ℕ) (f t : List ℕ) (o : More)
+      → Visits (importRule (ctx T (packagesOf words) v) n slot token (wordsFrom image at count)) count 0 words st (lent s f t d m e o) (lent s′ f t d′ m′ e′ o) (X.Known slot st′)
   unfolding importRule walkedIn visited setKnown
   node-done {st′} {s} {s′} er ei es v f t o = record {
     step = rw (p v s f t o .step, er, es, ei) refl;

@@ -67,7 +67,8 @@ module _ (T : Texts) (n : ℕ) (first second : Answer) (poisoned : Bool) (st : S
   turn-differs {u} eq et ls v words f e o = rw et (record { step = turn-is ls v words f e o ∙ rw eq refl; keeps = ends (within-plain st u s t d m s t d′ m′ f e o) })
 
   pub turn-refused : {number place : ℕ} → q ≡ C.Refused number place
-      → (ls : List Package) (v : ℕ) (words f e : List ℕ) (o : More) → Turns (memberTurn (ctx T ls v) n x first second poisoned) words st (lent s f t d m e o) (lent s f t d′ m′ e o) (R.Refused number place)
+      → (ls : List Package) (v : ℕ) (words f e : List ℕ) (o : More)
+      → Turns (memberTurn (ctx T ls v) n x first second poisoned) words st (lent s f t d m e o) (lent s f t d′ m′ e o) (R.Refused number place)
   unfolding compared turnIn
   turn-refused eq ls v words f e o = record { step = turn-is ls v words f e o ∙ rw eq refl; keeps = stops }
 

@@ -55,7 +55,8 @@ module _ {st : State} {e : List ℕ} (free : Free 2 st e) where
   packages-kept x w library =
       held-past e (write e (top st) (x ∷ w ∷ [])) (write-alike e (top st) (st .held) (x ∷ w ∷ []) (omega (arith, free .between))) library (st .held) (st .packages) (omega arith)
 
-  pub within-bound : (x w : ℕ) (u : Used) (s f t d m s′ t′ d′ m′ : List ℕ) (o : More) → Within 2 0 st (lent s f t d m e o) (oneMore st u) (lent s′ f t′ d′ m′ (write e (2 * (st .base + st .depth)) (x ∷ w ∷ [])) o)
+  pub within-bound : (x w : ℕ) (u : Used) (s f t d m s′ t′ d′ m′ : List ℕ) (o : More)
+      → Within 2 0 st (lent s f t d m e o) (oneMore st u) (lent s′ f t′ d′ m′ (write e (2 * (st .base + st .depth)) (x ∷ w ∷ [])) o)
   within-bound x w u s f t d m s′ t′ d′ m′ o = record {
     base = refl;
     deeper = omega arith;

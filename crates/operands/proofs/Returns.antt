@@ -127,7 +127,8 @@ module _ (T : Texts) (image : List ℕ) (n at : ℕ) (st : State) (answer : Answ
   pub one-unary : {i slot token op : ℕ} {s t d m s′ d′ m′ : List ℕ} {r : Step} {x : Visit} → k ≡ 3 → answer ≡ Known i
       → slot ≡ getD image (at + 1) 0 → token ≡ getD image (at + 2) 0 → op ≡ getD image (at + 3) 0
       → ((ls : List Package) (v : ℕ) → Steps (unary (ctx T ls v) n slot token op i) s t d m (st .used) s′ t d′ m′ r) → x ≡ visitOf st r
-      → (e : List ℕ) (ls : List Package) (v : ℕ) (words f : List ℕ) (o : More) → Visits (oneEnd (ctx T ls v) image n at answer) (oneRoom image at) 0 words st (lent s f t d m e o) (lent s′ f t d′ m′ e o) x
+      → (e : List ℕ) (ls : List Package) (v : ℕ) (words f : List ℕ) (o : More)
+      → Visits (oneEnd (ctx T ls v) image n at answer) (oneRoom image at) 0 words st (lent s f t d m e o) (lent s′ f t d′ m′ e o) x
   unfolding oneEnd oneRoom
   one-unary q ea es et eo p ex e ls v words f o =
       visits-as (by-unary _ _ _ (sym there-one ∙ q)) (by-unary 0 2 0 (sym there-one ∙ q)) (rw ex (visits-known _ ea (steps-visits (rw (es, et, eo) at (p ls v)) words f e o)))
@@ -135,7 +136,8 @@ module _ (T : Texts) (image : List ℕ) (n at : ℕ) (st : State) (answer : Answ
   pub one-field : {i slot name : ℕ} {s t d m s′ d′ m′ : List ℕ} {r : Step} {x : Visit} → (k ≡ 3 → ⊥) → (k ≡ 4 → ⊥) → answer ≡ Known i
       → slot ≡ getD image (at + 1) 0 → name ≡ getD image (at + 3) 0
       → ((ls : List Package) (v : ℕ) → Steps (field (ctx T ls v) n slot name i) s t d m (st .used) s′ t d′ m′ r) → x ≡ visitOf st r
-      → (e : List ℕ) (ls : List Package) (v : ℕ) (words f : List ℕ) (o : More) → Visits (oneEnd (ctx T ls v) image n at answer) (oneRoom image at) 0 words st (lent s f t d m e o) (lent s′ f t d′ m′ e o) x
+      → (e : List ℕ) (ls : List Package) (v : ℕ) (words f : List ℕ) (o : More)
+      → Visits (oneEnd (ctx T ls v) image n at answer) (oneRoom image at) 0 words st (lent s f t d m e o) (lent s′ f t d′ m′ e o) x
   unfolding oneEnd oneRoom
   one-field a b ea es en p ex e ls v words f o =
       let l : recordKind image at ≡ 3 → ⊥ = λ q. a (there-one ∙ q) in

@@ -57,7 +57,11 @@ fn applied<'a>(
                 messages,
                 script,
                 library,
-                Used { types: u, told, kept },
+                Used {
+                    types: u,
+                    told,
+                    kept,
+                },
                 n,
                 callee,
                 name,

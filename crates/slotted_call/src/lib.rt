@@ -99,7 +99,16 @@ fn returned<'a>(
     let r = apply::apply_slot_binding(types, used.types, script, library, pairs, bound, ret);
     match r {
         Added::Put(w, u) => {
-            return operators::set_known(slots, Used { types: u, told, kept }, slot, w);
+            return operators::set_known(
+                slots,
+                Used {
+                    types: u,
+                    told,
+                    kept,
+                },
+                slot,
+                w,
+            );
         }
         Added::Full => {
             return Step::Refused(7, n);

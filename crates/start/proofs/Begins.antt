@@ -25,6 +25,7 @@ use Rattle.rules.specs.Walk.{ctxOf, emptySlots, startOf, copyPool, measure}
 use Rattle.tworuns.specs.Accepted.{libraryTypes}
 use Rattle.state.specs.Signatures.{entriesEnd, entriesBack, ownIn}
 use Rattle.state.specs.Store.{envUp, heldFrom}
+use Rattle.state.specs.World.{noMore}
 use Rattle.visit.specs.declared.State.{State}
 use Rattle.visit.specs.declared.Walked.{Walked}
 use Rattle.visit.specs.declared.Walked.the-variants.{On, Refused}
@@ -103,11 +104,11 @@ module _ (image words s t : List ℕ) {n v : ℕ} {s′ t′ pool : List ℕ} {q
       deep : p ≡ false → beginning inputs first ≡ refused (refusal 8 n)
       deep y = rw (tested, y, hn)
 
-      after-is : after ≡ whole words (firstState (length (poolOf words))) (lent s′ f t′ d m e)
+      after-is : after ≡ whole words (firstState (length (poolOf words))) (lent s′ f t′ d m e noMore)
       unfolding startOf entriesEnd entriesBack ownIn envUp heldFrom
       after-is = rw slots-are
 
-      on : p ≡ true → beginning inputs first ≡ ok tt (whole words (firstState (length (poolOf words))) (lent s′ f t′ d m e))
+      on : p ≡ true → beginning inputs first ≡ ok tt (whole words (firstState (length (poolOf words))) (lent s′ f t′ d m e noMore))
       on y = rw (tested, y, after-is)
 
   pub begin-full : q ≡ false → Starts image words s t s′ t′ (Refused 7 n)

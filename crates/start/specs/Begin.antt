@@ -19,6 +19,7 @@ use Rattle.rules.specs.Steps.{Done, skip}
 use Rattle.rules.specs.Rules.{last}
 use Rattle.rules.specs.Walk.{ctxOf, emptySlots, startOf, copyPool, measure, walkFirst}
 use Rattle.tworuns.specs.Accepted.{libraryTypes}
+use Rattle.state.specs.World.{noMore}
 use Rattle.visit.specs.declared.State.{State}
 use Rattle.visit.specs.declared.Walked.{Walked}
 use Rattle.visit.specs.declared.Walked.the-variants.{On}
@@ -41,7 +42,7 @@ withPool pool types = cond (leb (length pool) (min (length types) 8192)) (write 
 
 -- Slots s and types t came in, s′ and t′ are they now, r is the answer; the texts and the other buffers may be any.
 pub record Starts (image words s t s′ t′ : List ℕ) (r : Walked) : Type 0 where
-  pub step : (script text f d m e : List ℕ) → beginning (inputsOf script image text words) (startOf (inputsOf script image text words) (buffersOf s f t d m e)) ≡ walkedIn words (lent s′ f t′ d m e) r
+  pub step : (script text f d m e : List ℕ) → beginning (inputsOf script image text words) (startOf (inputsOf script image text words) (buffersOf s f t d m e)) ≡ walkedIn words (lent s′ f t′ d m e noMore) r
   pub state : (st : State) → r ≡ On st → st ≡ firstState (length (poolOf words))
   pub slots : s′ ≡ emptySlots (slotCount image) s
   pub types : t′ ≡ withPool (poolOf words) t

@@ -3,6 +3,7 @@
 // The buffers are lent in one order: slots, functions, types, diagnostics, messages, scratch; then the two texts, the image, the library's
 // words, the places of the image's records, the state.
 ghost use Rattle.tok.specs.Text.{Texts, textsOf};
+ghost use Rattle.state.specs.World.{noMore};
 ghost use Rattle.visit.specs.Whole.{Lent, lent};
 ghost use Rattle.ready.specs.Ready.{NodeVisit};
 ghost use Rattle.walking.specs.Kinds.{Operand, OneOperand, Listed, Sequence, Is};
@@ -49,11 +50,11 @@ pub fn node<'a>(
     n: u32,
 ) -> Visit
     requires { let T : Texts = textsOf (now script) (now library) in
-        let b : Lent = lent (now slots) (now functions) (now types) (now diagnostics) (now messages) (now scratch) in
+        let b : Lent = lent (now slots) (now functions) (now types) (now diagnostics) (now messages) (now scratch) noMore in
         ⌜ NodeVisit T (now image) (now places) (now words) n st b ⌝ }
     ensures { λ r. let T : Texts = textsOf (now (script .entry)) (now (library .entry)) in
-        let b : Lent = lent (now (slots .entry)) (now (functions .entry)) (now (types .entry)) (now (diagnostics .entry)) (now (messages .entry)) (now (scratch .entry)) in
-        let b′ : Lent = lent (now (slots .exit)) (now (functions .exit)) (now (types .exit)) (now (diagnostics .exit)) (now (messages .exit)) (now (scratch .exit)) in
+        let b : Lent = lent (now (slots .entry)) (now (functions .entry)) (now (types .entry)) (now (diagnostics .entry)) (now (messages .entry)) (now (scratch .entry)) noMore in
+        let b′ : Lent = lent (now (slots .exit)) (now (functions .exit)) (now (types .exit)) (now (diagnostics .exit)) (now (messages .exit)) (now (scratch .exit)) noMore in
         ⌜ NodeVisited T (now (image .entry)) (now (words .entry)) n st b b′ r ⌝ }
 {
     let k = kind(word_at(image, places::node_place(places, n)));
@@ -125,11 +126,11 @@ fn part<'a>(
     n: u32,
 ) -> Visit
     requires { let T : Texts = textsOf (now script) (now library) in
-        let b : Lent = lent (now slots) (now functions) (now types) (now diagnostics) (now messages) (now scratch) in
+        let b : Lent = lent (now slots) (now functions) (now types) (now diagnostics) (now messages) (now scratch) noMore in
         ⌜ NodeVisit T (now image) (now places) (now words) n st b ⌝ }
     ensures { λ r. let T : Texts = textsOf (now (script .entry)) (now (library .entry)) in
-        let b : Lent = lent (now (slots .entry)) (now (functions .entry)) (now (types .entry)) (now (diagnostics .entry)) (now (messages .entry)) (now (scratch .entry)) in
-        let b′ : Lent = lent (now (slots .exit)) (now (functions .exit)) (now (types .exit)) (now (diagnostics .exit)) (now (messages .exit)) (now (scratch .exit)) in
+        let b : Lent = lent (now (slots .entry)) (now (functions .entry)) (now (types .entry)) (now (diagnostics .entry)) (now (messages .entry)) (now (scratch .entry)) noMore in
+        let b′ : Lent = lent (now (slots .exit)) (now (functions .exit)) (now (types .exit)) (now (diagnostics .exit)) (now (messages .exit)) (now (scratch .exit)) noMore in
         ⌜ NodeVisited T (now (image .entry)) (now (words .entry)) n st b b′ r ⌝ }
 {
     node(
@@ -166,11 +167,11 @@ fn operand<'a>(
     n: u32,
 ) -> Visit
     requires { let T : Texts = textsOf (now script) (now library) in
-        let b : Lent = lent (now slots) (now functions) (now types) (now diagnostics) (now messages) (now scratch) in
+        let b : Lent = lent (now slots) (now functions) (now types) (now diagnostics) (now messages) (now scratch) noMore in
         ⌜ ClassVisit Operand T (now image) (now places) (now words) n st b ⌝ }
     ensures { λ r. let T : Texts = textsOf (now (script .entry)) (now (library .entry)) in
-        let b : Lent = lent (now (slots .entry)) (now (functions .entry)) (now (types .entry)) (now (diagnostics .entry)) (now (messages .entry)) (now (scratch .entry)) in
-        let b′ : Lent = lent (now (slots .exit)) (now (functions .exit)) (now (types .exit)) (now (diagnostics .exit)) (now (messages .exit)) (now (scratch .exit)) in
+        let b : Lent = lent (now (slots .entry)) (now (functions .entry)) (now (types .entry)) (now (diagnostics .entry)) (now (messages .entry)) (now (scratch .entry)) noMore in
+        let b′ : Lent = lent (now (slots .exit)) (now (functions .exit)) (now (types .exit)) (now (diagnostics .exit)) (now (messages .exit)) (now (scratch .exit)) noMore in
         ⌜ NodeVisited T (now (image .entry)) (now (words .entry)) n st b b′ r ⌝ }
 {
     let k = kind(word_at(image, places::node_place(places, n)));
@@ -242,11 +243,11 @@ fn bin<'a>(
     n: u32,
 ) -> Visit
     requires { let T : Texts = textsOf (now script) (now library) in
-        let b : Lent = lent (now slots) (now functions) (now types) (now diagnostics) (now messages) (now scratch) in
+        let b : Lent = lent (now slots) (now functions) (now types) (now diagnostics) (now messages) (now scratch) noMore in
         ⌜ ClassVisit (Is 2) T (now image) (now places) (now words) n st b ⌝ }
     ensures { λ r. let T : Texts = textsOf (now (script .entry)) (now (library .entry)) in
-        let b : Lent = lent (now (slots .entry)) (now (functions .entry)) (now (types .entry)) (now (diagnostics .entry)) (now (messages .entry)) (now (scratch .entry)) in
-        let b′ : Lent = lent (now (slots .exit)) (now (functions .exit)) (now (types .exit)) (now (diagnostics .exit)) (now (messages .exit)) (now (scratch .exit)) in
+        let b : Lent = lent (now (slots .entry)) (now (functions .entry)) (now (types .entry)) (now (diagnostics .entry)) (now (messages .entry)) (now (scratch .entry)) noMore in
+        let b′ : Lent = lent (now (slots .exit)) (now (functions .exit)) (now (types .exit)) (now (diagnostics .exit)) (now (messages .exit)) (now (scratch .exit)) noMore in
         ⌜ NodeVisited T (now (image .entry)) (now (words .entry)) n st b b′ r ⌝ }
 {
     let at = places::node_place(places, n);
@@ -319,11 +320,11 @@ fn one<'a>(
     n: u32,
 ) -> Visit
     requires { let T : Texts = textsOf (now script) (now library) in
-        let b : Lent = lent (now slots) (now functions) (now types) (now diagnostics) (now messages) (now scratch) in
+        let b : Lent = lent (now slots) (now functions) (now types) (now diagnostics) (now messages) (now scratch) noMore in
         ⌜ ClassVisit OneOperand T (now image) (now places) (now words) n st b ⌝ }
     ensures { λ r. let T : Texts = textsOf (now (script .entry)) (now (library .entry)) in
-        let b : Lent = lent (now (slots .entry)) (now (functions .entry)) (now (types .entry)) (now (diagnostics .entry)) (now (messages .entry)) (now (scratch .entry)) in
-        let b′ : Lent = lent (now (slots .exit)) (now (functions .exit)) (now (types .exit)) (now (diagnostics .exit)) (now (messages .exit)) (now (scratch .exit)) in
+        let b : Lent = lent (now (slots .entry)) (now (functions .entry)) (now (types .entry)) (now (diagnostics .entry)) (now (messages .entry)) (now (scratch .entry)) noMore in
+        let b′ : Lent = lent (now (slots .exit)) (now (functions .exit)) (now (types .exit)) (now (diagnostics .exit)) (now (messages .exit)) (now (scratch .exit)) noMore in
         ⌜ NodeVisited T (now (image .entry)) (now (words .entry)) n st b b′ r ⌝ }
 {
     let at = places::node_place(places, n);
@@ -379,11 +380,11 @@ fn cast<'a>(
     n: u32,
 ) -> Visit
     requires { let T : Texts = textsOf (now script) (now library) in
-        let b : Lent = lent (now slots) (now functions) (now types) (now diagnostics) (now messages) (now scratch) in
+        let b : Lent = lent (now slots) (now functions) (now types) (now diagnostics) (now messages) (now scratch) noMore in
         ⌜ ClassVisit (Is 9) T (now image) (now places) (now words) n st b ⌝ }
     ensures { λ r. let T : Texts = textsOf (now (script .entry)) (now (library .entry)) in
-        let b : Lent = lent (now (slots .entry)) (now (functions .entry)) (now (types .entry)) (now (diagnostics .entry)) (now (messages .entry)) (now (scratch .entry)) in
-        let b′ : Lent = lent (now (slots .exit)) (now (functions .exit)) (now (types .exit)) (now (diagnostics .exit)) (now (messages .exit)) (now (scratch .exit)) in
+        let b : Lent = lent (now (slots .entry)) (now (functions .entry)) (now (types .entry)) (now (diagnostics .entry)) (now (messages .entry)) (now (scratch .entry)) noMore in
+        let b′ : Lent = lent (now (slots .exit)) (now (functions .exit)) (now (types .exit)) (now (diagnostics .exit)) (now (messages .exit)) (now (scratch .exit)) noMore in
         ⌜ NodeVisited T (now (image .entry)) (now (words .entry)) n st b b′ r ⌝ }
 {
     let at = places::node_place(places, n);
@@ -445,11 +446,11 @@ pub fn nodes<'a>(
     k: usize,
 ) -> Visit
     requires { let T : Texts = textsOf (now script) (now library) in
-        let b : Lent = lent (now slots) (now functions) (now types) (now diagnostics) (now messages) (now scratch) in
+        let b : Lent = lent (now slots) (now functions) (now types) (now diagnostics) (now messages) (now scratch) noMore in
         ⌜ ListVisit T (now image) (now places) (now words) owner at k st b ⌝ }
     ensures { λ r. let T : Texts = textsOf (now (script .entry)) (now (library .entry)) in
-        let b : Lent = lent (now (slots .entry)) (now (functions .entry)) (now (types .entry)) (now (diagnostics .entry)) (now (messages .entry)) (now (scratch .entry)) in
-        let b′ : Lent = lent (now (slots .exit)) (now (functions .exit)) (now (types .exit)) (now (diagnostics .exit)) (now (messages .exit)) (now (scratch .exit)) in
+        let b : Lent = lent (now (slots .entry)) (now (functions .entry)) (now (types .entry)) (now (diagnostics .entry)) (now (messages .entry)) (now (scratch .entry)) noMore in
+        let b′ : Lent = lent (now (slots .exit)) (now (functions .exit)) (now (types .exit)) (now (diagnostics .exit)) (now (messages .exit)) (now (scratch .exit)) noMore in
         ⌜ ListVisited T (now (image .entry)) (now (words .entry)) at k st b b′ r ⌝ }
 {
     let mut answer = Answer::Known(word_at(image, 3));
@@ -502,11 +503,11 @@ fn block<'a>(
     k: usize,
 ) -> Visit
     requires { let T : Texts = textsOf (now script) (now library) in
-        let b : Lent = lent (now slots) (now functions) (now types) (now diagnostics) (now messages) (now scratch) in
+        let b : Lent = lent (now slots) (now functions) (now types) (now diagnostics) (now messages) (now scratch) noMore in
         ⌜ ListVisit T (now image) (now places) (now words) owner at k st b ⌝ }
     ensures { λ r. let T : Texts = textsOf (now (script .entry)) (now (library .entry)) in
-        let b : Lent = lent (now (slots .entry)) (now (functions .entry)) (now (types .entry)) (now (diagnostics .entry)) (now (messages .entry)) (now (scratch .entry)) in
-        let b′ : Lent = lent (now (slots .exit)) (now (functions .exit)) (now (types .exit)) (now (diagnostics .exit)) (now (messages .exit)) (now (scratch .exit)) in
+        let b : Lent = lent (now (slots .entry)) (now (functions .entry)) (now (types .entry)) (now (diagnostics .entry)) (now (messages .entry)) (now (scratch .entry)) noMore in
+        let b′ : Lent = lent (now (slots .exit)) (now (functions .exit)) (now (types .exit)) (now (diagnostics .exit)) (now (messages .exit)) (now (scratch .exit)) noMore in
         ⌜ ListVisited T (now (image .entry)) (now (words .entry)) at k st b b′ r ⌝ }
 {
     let mut answer = Answer::Known(word_at(image, 3));
@@ -557,11 +558,11 @@ fn listed<'a>(
     n: u32,
 ) -> Visit
     requires { let T : Texts = textsOf (now script) (now library) in
-        let b : Lent = lent (now slots) (now functions) (now types) (now diagnostics) (now messages) (now scratch) in
+        let b : Lent = lent (now slots) (now functions) (now types) (now diagnostics) (now messages) (now scratch) noMore in
         ⌜ ClassVisit Listed T (now image) (now places) (now words) n st b ⌝ }
     ensures { λ r. let T : Texts = textsOf (now (script .entry)) (now (library .entry)) in
-        let b : Lent = lent (now (slots .entry)) (now (functions .entry)) (now (types .entry)) (now (diagnostics .entry)) (now (messages .entry)) (now (scratch .entry)) in
-        let b′ : Lent = lent (now (slots .exit)) (now (functions .exit)) (now (types .exit)) (now (diagnostics .exit)) (now (messages .exit)) (now (scratch .exit)) in
+        let b : Lent = lent (now (slots .entry)) (now (functions .entry)) (now (types .entry)) (now (diagnostics .entry)) (now (messages .entry)) (now (scratch .entry)) noMore in
+        let b′ : Lent = lent (now (slots .exit)) (now (functions .exit)) (now (types .exit)) (now (diagnostics .exit)) (now (messages .exit)) (now (scratch .exit)) noMore in
         ⌜ NodeVisited T (now (image .entry)) (now (words .entry)) n st b b′ r ⌝ }
 {
     let k = kind(word_at(image, places::node_place(places, n)));
@@ -633,11 +634,11 @@ fn func<'a>(
     n: u32,
 ) -> Visit
     requires { let T : Texts = textsOf (now script) (now library) in
-        let b : Lent = lent (now slots) (now functions) (now types) (now diagnostics) (now messages) (now scratch) in
+        let b : Lent = lent (now slots) (now functions) (now types) (now diagnostics) (now messages) (now scratch) noMore in
         ⌜ ClassVisit (Is 5) T (now image) (now places) (now words) n st b ⌝ }
     ensures { λ r. let T : Texts = textsOf (now (script .entry)) (now (library .entry)) in
-        let b : Lent = lent (now (slots .entry)) (now (functions .entry)) (now (types .entry)) (now (diagnostics .entry)) (now (messages .entry)) (now (scratch .entry)) in
-        let b′ : Lent = lent (now (slots .exit)) (now (functions .exit)) (now (types .exit)) (now (diagnostics .exit)) (now (messages .exit)) (now (scratch .exit)) in
+        let b : Lent = lent (now (slots .entry)) (now (functions .entry)) (now (types .entry)) (now (diagnostics .entry)) (now (messages .entry)) (now (scratch .entry)) noMore in
+        let b′ : Lent = lent (now (slots .exit)) (now (functions .exit)) (now (types .exit)) (now (diagnostics .exit)) (now (messages .exit)) (now (scratch .exit)) noMore in
         ⌜ NodeVisited T (now (image .entry)) (now (words .entry)) n st b b′ r ⌝ }
 {
     let at = places::node_place(places, n);
@@ -721,11 +722,11 @@ fn case<'a>(
     at: usize,
 ) -> Visit
     requires { let T : Texts = textsOf (now script) (now library) in
-        let b : Lent = lent (now slots) (now functions) (now types) (now diagnostics) (now messages) (now scratch) in
+        let b : Lent = lent (now slots) (now functions) (now types) (now diagnostics) (now messages) (now scratch) noMore in
         ⌜ CaseVisit T (now image) (now places) (now words) n at st b ⌝ }
     ensures { λ r. let T : Texts = textsOf (now (script .entry)) (now (library .entry)) in
-        let b : Lent = lent (now (slots .entry)) (now (functions .entry)) (now (types .entry)) (now (diagnostics .entry)) (now (messages .entry)) (now (scratch .entry)) in
-        let b′ : Lent = lent (now (slots .exit)) (now (functions .exit)) (now (types .exit)) (now (diagnostics .exit)) (now (messages .exit)) (now (scratch .exit)) in
+        let b : Lent = lent (now (slots .entry)) (now (functions .entry)) (now (types .entry)) (now (diagnostics .entry)) (now (messages .entry)) (now (scratch .entry)) noMore in
+        let b′ : Lent = lent (now (slots .exit)) (now (functions .exit)) (now (types .exit)) (now (diagnostics .exit)) (now (messages .exit)) (now (scratch .exit)) noMore in
         ⌜ CaseVisited T (now (image .entry)) (now (words .entry)) n at st b b′ r ⌝ }
 {
     let v = part(
@@ -810,11 +811,11 @@ fn cases<'a>(
     n: u32,
 ) -> Visit
     requires { let T : Texts = textsOf (now script) (now library) in
-        let b : Lent = lent (now slots) (now functions) (now types) (now diagnostics) (now messages) (now scratch) in
+        let b : Lent = lent (now slots) (now functions) (now types) (now diagnostics) (now messages) (now scratch) noMore in
         ⌜ ClassVisit (Is 6) T (now image) (now places) (now words) n st b ⌝ }
     ensures { λ r. let T : Texts = textsOf (now (script .entry)) (now (library .entry)) in
-        let b : Lent = lent (now (slots .entry)) (now (functions .entry)) (now (types .entry)) (now (diagnostics .entry)) (now (messages .entry)) (now (scratch .entry)) in
-        let b′ : Lent = lent (now (slots .exit)) (now (functions .exit)) (now (types .exit)) (now (diagnostics .exit)) (now (messages .exit)) (now (scratch .exit)) in
+        let b : Lent = lent (now (slots .entry)) (now (functions .entry)) (now (types .entry)) (now (diagnostics .entry)) (now (messages .entry)) (now (scratch .entry)) noMore in
+        let b′ : Lent = lent (now (slots .exit)) (now (functions .exit)) (now (types .exit)) (now (diagnostics .exit)) (now (messages .exit)) (now (scratch .exit)) noMore in
         ⌜ NodeVisited T (now (image .entry)) (now (words .entry)) n st b b′ r ⌝ }
 {
     let at = places::node_place(places, n);
@@ -907,11 +908,11 @@ fn sequence<'a>(
     n: u32,
 ) -> Visit
     requires { let T : Texts = textsOf (now script) (now library) in
-        let b : Lent = lent (now slots) (now functions) (now types) (now diagnostics) (now messages) (now scratch) in
+        let b : Lent = lent (now slots) (now functions) (now types) (now diagnostics) (now messages) (now scratch) noMore in
         ⌜ ClassVisit Sequence T (now image) (now places) (now words) n st b ⌝ }
     ensures { λ r. let T : Texts = textsOf (now (script .entry)) (now (library .entry)) in
-        let b : Lent = lent (now (slots .entry)) (now (functions .entry)) (now (types .entry)) (now (diagnostics .entry)) (now (messages .entry)) (now (scratch .entry)) in
-        let b′ : Lent = lent (now (slots .exit)) (now (functions .exit)) (now (types .exit)) (now (diagnostics .exit)) (now (messages .exit)) (now (scratch .exit)) in
+        let b : Lent = lent (now (slots .entry)) (now (functions .entry)) (now (types .entry)) (now (diagnostics .entry)) (now (messages .entry)) (now (scratch .entry)) noMore in
+        let b′ : Lent = lent (now (slots .exit)) (now (functions .exit)) (now (types .exit)) (now (diagnostics .exit)) (now (messages .exit)) (now (scratch .exit)) noMore in
         ⌜ NodeVisited T (now (image .entry)) (now (words .entry)) n st b b′ r ⌝ }
 {
     let k = kind(word_at(image, places::node_place(places, n)));
@@ -983,11 +984,11 @@ fn call<'a>(
     n: u32,
 ) -> Visit
     requires { let T : Texts = textsOf (now script) (now library) in
-        let b : Lent = lent (now slots) (now functions) (now types) (now diagnostics) (now messages) (now scratch) in
+        let b : Lent = lent (now slots) (now functions) (now types) (now diagnostics) (now messages) (now scratch) noMore in
         ⌜ ClassVisit (Is 7) T (now image) (now places) (now words) n st b ⌝ }
     ensures { λ r. let T : Texts = textsOf (now (script .entry)) (now (library .entry)) in
-        let b : Lent = lent (now (slots .entry)) (now (functions .entry)) (now (types .entry)) (now (diagnostics .entry)) (now (messages .entry)) (now (scratch .entry)) in
-        let b′ : Lent = lent (now (slots .exit)) (now (functions .exit)) (now (types .exit)) (now (diagnostics .exit)) (now (messages .exit)) (now (scratch .exit)) in
+        let b : Lent = lent (now (slots .entry)) (now (functions .entry)) (now (types .entry)) (now (diagnostics .entry)) (now (messages .entry)) (now (scratch .entry)) noMore in
+        let b′ : Lent = lent (now (slots .exit)) (now (functions .exit)) (now (types .exit)) (now (diagnostics .exit)) (now (messages .exit)) (now (scratch .exit)) noMore in
         ⌜ NodeVisited T (now (image .entry)) (now (words .entry)) n st b b′ r ⌝ }
 {
     let at = places::node_place(places, n);
@@ -1058,11 +1059,11 @@ fn record_node<'a>(
     n: u32,
 ) -> Visit
     requires { let T : Texts = textsOf (now script) (now library) in
-        let b : Lent = lent (now slots) (now functions) (now types) (now diagnostics) (now messages) (now scratch) in
+        let b : Lent = lent (now slots) (now functions) (now types) (now diagnostics) (now messages) (now scratch) noMore in
         ⌜ ClassVisit (Is 12) T (now image) (now places) (now words) n st b ⌝ }
     ensures { λ r. let T : Texts = textsOf (now (script .entry)) (now (library .entry)) in
-        let b : Lent = lent (now (slots .entry)) (now (functions .entry)) (now (types .entry)) (now (diagnostics .entry)) (now (messages .entry)) (now (scratch .entry)) in
-        let b′ : Lent = lent (now (slots .exit)) (now (functions .exit)) (now (types .exit)) (now (diagnostics .exit)) (now (messages .exit)) (now (scratch .exit)) in
+        let b : Lent = lent (now (slots .entry)) (now (functions .entry)) (now (types .entry)) (now (diagnostics .entry)) (now (messages .entry)) (now (scratch .entry)) noMore in
+        let b′ : Lent = lent (now (slots .exit)) (now (functions .exit)) (now (types .exit)) (now (diagnostics .exit)) (now (messages .exit)) (now (scratch .exit)) noMore in
         ⌜ NodeVisited T (now (image .entry)) (now (words .entry)) n st b b′ r ⌝ }
 {
     let at = places::node_place(places, n);
@@ -1111,11 +1112,11 @@ fn array<'a>(
     n: u32,
 ) -> Visit
     requires { let T : Texts = textsOf (now script) (now library) in
-        let b : Lent = lent (now slots) (now functions) (now types) (now diagnostics) (now messages) (now scratch) in
+        let b : Lent = lent (now slots) (now functions) (now types) (now diagnostics) (now messages) (now scratch) noMore in
         ⌜ ClassVisit (Is 13) T (now image) (now places) (now words) n st b ⌝ }
     ensures { λ r. let T : Texts = textsOf (now (script .entry)) (now (library .entry)) in
-        let b : Lent = lent (now (slots .entry)) (now (functions .entry)) (now (types .entry)) (now (diagnostics .entry)) (now (messages .entry)) (now (scratch .entry)) in
-        let b′ : Lent = lent (now (slots .exit)) (now (functions .exit)) (now (types .exit)) (now (diagnostics .exit)) (now (messages .exit)) (now (scratch .exit)) in
+        let b : Lent = lent (now (slots .entry)) (now (functions .entry)) (now (types .entry)) (now (diagnostics .entry)) (now (messages .entry)) (now (scratch .entry)) noMore in
+        let b′ : Lent = lent (now (slots .exit)) (now (functions .exit)) (now (types .exit)) (now (diagnostics .exit)) (now (messages .exit)) (now (scratch .exit)) noMore in
         ⌜ NodeVisited T (now (image .entry)) (now (words .entry)) n st b b′ r ⌝ }
 {
     let at = places::node_place(places, n);

@@ -2,6 +2,7 @@
 use native.Mathlib.Omega.{arith}
 use Rattle.calls.proofs.Resolving.{inside, own-asked, package-asked, target-room, own-resolved, inner-room, package-resolved}
 use borrow.Author.Needs.{needs}
+use Rattle.state.specs.World.{noMore}
 use Rattle.calls.proofs.resolve.Statement.{statement}
 use Rattle.calls.proofs.resolve.Tie as tie
 use Rattle.calls.proofs.resolve.Reads as reads

@@ -5,6 +5,7 @@ use native.Mathlib.Omega.{arith}
 use lib.ListN.{getD, length}
 use mathlib.Core.Path.{_≡_, refl, _∙_}
 use Rattle.tok.specs.Text.{textsOf}
+use Rattle.state.specs.World.{noMore}
 use Rattle.visit.specs.Whole.{lent}
 use Rattle.visiting.specs.Then.{came-after, stopped-after}
 use Rattle.members.specs.ArrayVisits.{Turned, turned-start, turned-next, some-left, none-left, member-under, member-below, member-there, member-visit, member-stopped, member-ended, array-ended, array-length, array-inside, array-low, array-empty, first-under, first-visit, first-stopped, first-passed}
@@ -17,8 +18,8 @@ use Rattle.typecheck.proofs.+array+bin+block+call+case+cases+cast+func+
 
 abbrev pub array-Inv-loop : array-lts.InvT-loop
 array-Inv-loop slots₀ functions₀ types₀ diagnostics₀ messages₀ scratch₀ script library image words places n at count first poisoned₀ here₀ i₀ slots functions types diagnostics messages scratch poisoned here i =
-    Turned (textsOf script library) image places words n (getD image (at + 1) 0) (at + 3) count first i₀ poisoned₀ here₀ (lent slots₀ functions₀ types₀ diagnostics₀ messages₀ scratch₀)
-    i poisoned here (lent slots functions types diagnostics messages scratch)
+    Turned (textsOf script library) image places words n (getD image (at + 1) 0) (at + 3) count first i₀ poisoned₀ here₀ (lent slots₀ functions₀ types₀ diagnostics₀ messages₀ scratch₀ noMore)
+    i poisoned here (lent slots functions types diagnostics messages scratch noMore)
     × (length slots ≡ length slots₀) × (length functions ≡ length functions₀) × (length types ≡ length types₀) × (length diagnostics ≡ length diagnostics₀)
     × (length messages ≡ length messages₀) × (length scratch ≡ length scratch₀)
 
@@ -68,7 +69,7 @@ array-returns t c =
     let c4 = c3 .before in
     let c5 = c4 .before in
     let c6 = c5 .before .before .before .before .before .before .before .before .before .before .before .before in
-    array-empty (c6 .pre .1) (c5 .node-place .ensures) (c4 .word-at .ensures) (c3 .payload .ensures) (c2 .if1 .taken) (c1 .empty .ensures _ _ _ _ _)
+    array-empty (c6 .pre .1) (c5 .node-place .ensures) (c4 .word-at .ensures) (c3 .payload .ensures) (c2 .if1 .taken) (c1 .empty .ensures _ _ _ _ _ noMore)
 
 -- src/lib.rt:223:24
 pub array-add-word-at : (t : ℕ) → array-lts.Need-add-word-at (array-claims t) (array-at t) array.Post array-Inv-loop array-μ-loop
@@ -376,7 +377,7 @@ array-returns-4 t c =
     (c8 .loop .inv .0 .on _ _ (first-passed (c17 .pre .1) (c16 .node-place .ensures) (c15 .word-at .ensures) (c14 .payload .ensures) (c13 .if1 .left) (c12 .word-at2 .ensures) (c11 .part .ensures) (came-after (c11 .part .result) (c10 .after .ensures) (c9 .first .given .1))))
     (some-left (c7 .loop-test .taken)) (c6 .word-at3 .ensures) (c5 .part2 .ensures)
     (member-below (c17 .pre .1) (c16 .node-place .ensures) (c15 .word-at .ensures) (c14 .payload .ensures) (c7 .loop-test .taken) (c6 .word-at3 .ensures))
-    (came-after (c5 .part2 .result) (c4 .after2 .ensures) (c3 .a .given .1)) (c2 .member .ensures _ _ _ _ _) (turn-ended (c2 .member .result) (c1 .match3 .keys2)) (c .ended .ensures)
+    (came-after (c5 .part2 .result) (c4 .after2 .ensures) (c3 .a .given .1)) (c2 .member .ensures _ _ _ _ _ noMore) (turn-ended (c2 .member .result) (c1 .match3 .keys2)) (c .ended .ensures)
 
 -- src/lib.rt:272:9
 pub array-add-i : (t : ℕ) → array-lts.Need-add-i (array-claims t) (array-at t) array.Post array-Inv-loop array-μ-loop
@@ -415,7 +416,7 @@ array-loop-again t c =
     let c13 = c12 .before .before .before .before .before .before .before .before .before .before .before .before in (
       turned-next (c8 .loop .inv .0) (c7 .loop-test .taken) (c6 .word-at3 .ensures) (c5 .part2 .ensures)
           (member-below (c13 .pre .1) (c12 .node-place .ensures) (c11 .word-at .ensures) (c10 .payload .ensures) (c7 .loop-test .taken) (c6 .word-at3 .ensures))
-          (came-after (c5 .part2 .result) (c4 .after2 .ensures) (c3 .a .given .1)) (c2 .member .ensures _ _ _ _ _) (c1 .turn .given .1),
+          (came-after (c5 .part2 .result) (c4 .after2 .ensures) (c3 .a .given .1)) (c2 .member .ensures _ _ _ _ _ noMore) (c1 .turn .given .1),
       c5 .part2 .kept .0 ∙ c8 .loop .inv .1,
       c5 .part2 .kept .1 .0 ∙ c8 .loop .inv .2,
       c5 .part2 .kept .1 .1 .0 ∙ c8 .loop .inv .3,
@@ -495,4 +496,4 @@ array-returns-5 t c =
     let c12 = c11 .before .before .before .before .before .before .before .before .before .before .before .before in
     array-ended
     (c3 .loop .inv .0 .on _ _ (first-passed (c12 .pre .1) (c11 .node-place .ensures) (c10 .word-at .ensures) (c9 .payload .ensures) (c8 .if1 .left) (c7 .word-at2 .ensures) (c6 .part .ensures) (came-after (c6 .part .result) (c5 .after .ensures) (c4 .first .given .1))))
-    (none-left (c2 .loop-test .left)) (c1 .end .ensures (textsOf (now (c12 .args .script)) (now (c12 .args .library))) _ _ _ _ _ _ _)
+    (none-left (c2 .loop-test .left)) (c1 .end .ensures (textsOf (now (c12 .args .script)) (now (c12 .args .library))) _ _ _ _ _ _ _ noMore)

@@ -1,6 +1,7 @@
 -- `typecheck::bin` meets its contract: one law for each return. Assumes nothing.
 use mathlib.Core.Path.{_∙_}
 use native.Mathlib.Omega.{arith}
+use Rattle.state.specs.World.{noMore}
 use Rattle.visiting.specs.Then.{came-after, stopped-after}
 use Rattle.operand_visits.specs.Bin.{bin-low, left-under, right-under, left-visit, left-stops, right-visit, right-stops, bin-ends}
 use borrow.Author.Needs.{needs}
@@ -219,4 +220,4 @@ bin-returns-3 t c =
     let c10 = c9 .before .before .before .before .before .before .before in
     let c11 = c10 .before .before .before .before .before .before .before .before .before .before .before .before in
     bin-ends (c11 .pre .1) (c10 .node-place .ensures) (c9 .word-at .ensures) (c8 .part .ensures) (came-after (c8 .part .result) (c7 .after .ensures) (c6 .l .given .1))
-    (c5 .word-at2 .ensures) (c4 .part2 .ensures) (came-after (c4 .part2 .result) (c3 .after2 .ensures) (c2 .r .given .1)) (c1 .bin-end .ensures _ _ _ _ _)
+    (c5 .word-at2 .ensures) (c4 .part2 .ensures) (came-after (c4 .part2 .result) (c3 .after2 .ensures) (c2 .r .given .1)) (c1 .bin-end .ensures _ _ _ _ _ noMore)

@@ -4,6 +4,7 @@ use mathlib.Core.Path.{_≡_, refl, _∙_}
 use native.Mathlib.Omega.{arith}
 use lib.ListN.{length}
 use Rattle.tok.specs.Text.{textsOf}
+use Rattle.state.specs.World.{noMore}
 use Rattle.visit.specs.Whole.{lent}
 use Rattle.visiting.specs.Then.{came-after, stopped-after}
 use Rattle.walk_laws.specs.Lists.{Turn, turn-begin, place-inside, part-under, turn-visit, turn-stops, turn-next, turn-end}
@@ -15,7 +16,8 @@ use Rattle.typecheck.proofs.+array+bin+block+call+case+cases+cast+func+
 
 abbrev pub block-Inv-loop : block-lts.InvT-loop
 block-Inv-loop slots₀ functions₀ types₀ diagnostics₀ messages₀ scratch₀ script library image words places owner at k answer₀ here₀ place₀ left₀ slots functions types diagnostics messages scratch answer here place left =
-    Turn (textsOf script library) image places words owner at k here₀ (lent slots₀ functions₀ types₀ diagnostics₀ messages₀ scratch₀) place left answer here (lent slots functions types diagnostics messages scratch)
+    Turn (textsOf script library) image places words owner at k here₀ (lent slots₀ functions₀ types₀ diagnostics₀ messages₀ scratch₀ noMore)
+    place left answer here (lent slots functions types diagnostics messages scratch noMore)
     × (length slots ≡ length slots₀) × (length functions ≡ length functions₀) × (length types ≡ length types₀) × (length diagnostics ≡ length diagnostics₀)
     × (length messages ≡ length messages₀) × (length scratch ≡ length scratch₀)
 

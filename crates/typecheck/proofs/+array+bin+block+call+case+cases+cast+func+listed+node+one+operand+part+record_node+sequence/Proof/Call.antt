@@ -4,6 +4,7 @@ use native.Mathlib.Omega.{arith}
 use lib.ListN.{length}
 use mathlib.Core.Path.{_≡_, refl, sym, _∙_}
 use Rattle.tok.specs.Text.{textsOf}
+use Rattle.state.specs.World.{noMore}
 use Rattle.visit.specs.Whole.{lent}
 use Rattle.visiting.specs.Then.{came-after, stopped-after}
 use Rattle.calls.specs.CallVisits as CV
@@ -16,8 +17,8 @@ use Rattle.typecheck.proofs.+array+bin+block+call+case+cases+cast+func+
 
 abbrev pub call-Inv-loop : call-lts.InvT-loop
 call-Inv-loop slots₀ functions₀ types₀ diagnostics₀ messages₀ scratch₀ script library image words places n at count poisoned₀ here₀ i₀ slots functions types diagnostics messages scratch poisoned here i =
-    Argued (textsOf script library) image places words n at count i₀ poisoned₀ here₀ (lent slots₀ functions₀ types₀ diagnostics₀ messages₀ scratch₀) i poisoned here
-    (lent slots functions types diagnostics messages scratch)
+    Argued (textsOf script library) image places words n at count i₀ poisoned₀ here₀ (lent slots₀ functions₀ types₀ diagnostics₀ messages₀ scratch₀ noMore) i poisoned here
+    (lent slots functions types diagnostics messages scratch noMore)
     × (length slots ≡ length slots₀) × (length functions ≡ length functions₀) × (length types ≡ length types₀) × (length diagnostics ≡ length diagnostics₀)
     × (length messages ≡ length messages₀) × (length scratch ≡ length scratch₀)
 
@@ -56,7 +57,7 @@ call-returns t c =
     let c1 = c .before .before .before .before in
     let c2 = c1 .before .before .before .before .before in
     let c3 = c2 .before .before .before .before .before .before .before .before .before .before .before .before in
-    call-field (c3 .pre .1) (c2 .node-place .ensures) (λ ctx slot given visits. c1 .report-field .ensures ctx slot given visits _ _ _ _ _)
+    call-field (c3 .pre .1) (c2 .node-place .ensures) (λ ctx slot given visits. c1 .report-field .ensures ctx slot given visits _ _ _ _ _ noMore)
 
 -- src/lib.rt:72:25
 pub call-word-at-requires : (t : ℕ) → call-lts.Need-word-at-requires (call-claims t) (call-at t) call.Post call-Inv-loop call-μ-loop

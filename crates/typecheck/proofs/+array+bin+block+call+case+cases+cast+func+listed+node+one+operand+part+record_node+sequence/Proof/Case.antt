@@ -4,6 +4,7 @@ use mathlib.Core.Path.{_≡_, refl, sym, ap, _∙_}
 use native.Mathlib.Omega.{arith}
 use lib.ListN.{length}
 use Rattle.tok.specs.Text.{textsOf}
+use Rattle.state.specs.World.{noMore}
 use Rattle.visit.specs.Whole.{lent}
 use Rattle.visiting.specs.Then.{came-after, stopped-after, cameOf}
 use Rattle.branches.specs.Case.{test-under, test-visit, test-stops, condition-stops, body-visit, case-ends}
@@ -16,7 +17,8 @@ use Rattle.typecheck.proofs.+array+bin+block+call+case+cases+cast+func+
 
 abbrev pub case-Inv-loop : case-lts.InvT-loop
 case-Inv-loop slots₀ functions₀ types₀ diagnostics₀ messages₀ scratch₀ script library image words places n at begun answer₀ here₀ place₀ left₀ slots functions types diagnostics messages scratch answer here place left =
-    Turn (textsOf script library) image places words n (at + 3) left₀ begun (lent slots₀ functions₀ types₀ diagnostics₀ messages₀ scratch₀) place left answer here (lent slots functions types diagnostics messages scratch)
+    Turn (textsOf script library) image places words n (at + 3) left₀ begun (lent slots₀ functions₀ types₀ diagnostics₀ messages₀ scratch₀ noMore)
+    place left answer here (lent slots functions types diagnostics messages scratch noMore)
     × (length slots ≡ length slots₀) × (length functions ≡ length functions₀) × (length types ≡ length types₀) × (length diagnostics ≡ length diagnostics₀)
     × (length messages ≡ length messages₀) × (length scratch ≡ length scratch₀)
 
@@ -127,7 +129,7 @@ case-returns-2 t c =
     let c5 = c4 .before .before .before .before .before .before .before .before .before .before .before .before .before in
     let c6 = c5 .before in
     let c7 = c6 .before .before .before .before .before .before .before .before .before .before .before .before .before .before .before .before .before .before in
-    condition-stops (c7 .pre .1) (c6 .word-at .ensures) (c5 .part .ensures) (came-after (c5 .part .result) (c4 .after .ensures) (c3 .a .given .1)) (c2 .condition .ensures _ _ _ _ _)
+    condition-stops (c7 .pre .1) (c6 .word-at .ensures) (c5 .part .ensures) (came-after (c5 .part .result) (c4 .after .ensures) (c3 .a .given .1)) (c2 .condition .ensures _ _ _ _ _ noMore)
     (c1 .match2 .keys2) (c .halted .ensures)
 
 pub case-word-at-requires-2 : (t : ℕ) → case-lts.Need-word-at-requires-2 (case-claims t) (case-at t) case.Post case-Inv-loop case-μ-loop
@@ -165,7 +167,7 @@ case-loop-holds t c =
     let c8 = c7 .before in
     let c9 = c8 .before .before .before .before .before .before .before .before .before .before .before .before .before .before .before .before .before .before in (
       turn-begin
-          (body-visit (c9 .pre .1) (c8 .word-at .ensures) (c7 .part .ensures) (came-after (c7 .part .result) (c6 .after .ensures) (c5 .a .given .1)) (c4 .condition .ensures _ _ _ _ _) (c3 .went .given .1) (c .wide .ensures ∙ c1 .word-at3 .ensures))
+          (body-visit (c9 .pre .1) (c8 .word-at .ensures) (c7 .part .ensures) (came-after (c7 .part .result) (c6 .after .ensures) (c5 .a .given .1)) (c4 .condition .ensures _ _ _ _ _ noMore) (c3 .went .given .1) (c .wide .ensures ∙ c1 .word-at3 .ensures))
           (c2 .word-at2 .ensures),
       refl,
       refl,
@@ -260,7 +262,7 @@ case-returns-3 t c =
     let c12 = c11 .before .before .before .before .before .before .before .before .before .before .before .before .before in
     let c13 = c12 .before in
     let c14 = c13 .before .before .before .before .before .before .before .before .before .before .before .before .before .before .before .before .before .before in
-    case-ends (c14 .pre .1) (c13 .word-at .ensures) (c12 .part .ensures) (came-after (c12 .part .result) (c11 .after .ensures) (c10 .a .given .1)) (c9 .condition .ensures _ _ _ _ _)
+    case-ends (c14 .pre .1) (c13 .word-at .ensures) (c12 .part .ensures) (came-after (c12 .part .result) (c11 .after .ensures) (c10 .a .given .1)) (c9 .condition .ensures _ _ _ _ _ noMore)
     (c8 .went .given .1) (c6 .wide .ensures ∙ c7 .word-at3 .ensures)
     (turn-stops (c5 .loop .inv .0) (c4 .loop-test .taken) (c3 .word-at4 .ensures) (c2 .part2 .ensures) (stopped-after (c2 .part2 .result) (c1 .after2 .ensures) (c .enum-told3 .given .1)))
     (leave-stopped _ (stopped-after (c2 .part2 .result) (c1 .after2 .ensures) (c .enum-told3 .given .1)))
@@ -356,6 +358,6 @@ case-returns-4 t c =
     let c10 = c9 .before .before .before .before .before .before .before .before .before .before .before .before .before in
     let c11 = c10 .before in
     let c12 = c11 .before .before .before .before .before .before .before .before .before .before .before .before .before .before .before .before .before .before in
-    case-ends (c12 .pre .1) (c11 .word-at .ensures) (c10 .part .ensures) (came-after (c10 .part .result) (c9 .after .ensures) (c8 .a .given .1)) (c7 .condition .ensures _ _ _ _ _)
+    case-ends (c12 .pre .1) (c11 .word-at .ensures) (c10 .part .ensures) (came-after (c10 .part .result) (c9 .after .ensures) (c8 .a .given .1)) (c7 .condition .ensures _ _ _ _ _ noMore)
     (c6 .went .given .1) (c4 .wide .ensures ∙ c5 .word-at3 .ensures) (turn-end (c3 .loop .inv .0) (c2 .loop-test .left) refl)
     (c .came .ensures ∙ ap (cameOf (c3 .loop .answer)) (c1 .left .ensures) ∙ sym (leave-came (c3 .loop .answer) (c3 .loop .here) (c6 .went .given .0 .0)))

@@ -7,6 +7,7 @@ use native.Mathlib.Omega.{arith}
 use lib.ListN.{length}
 use Rattle.tok.specs.Text.{textsOf}
 use Rattle.tok.specs.Word.{payloadOf}
+use Rattle.state.specs.World.{noMore}
 use Rattle.visit.specs.Whole.{lent}
 use Rattle.visiting.specs.Then.{came-after, stopped-after, cameOf}
 use Rattle.branches.specs.Cases.{Turn, few, place-room, turn-begin, place-inside, turn-case, turn-stops, turn-next, default-inside, record-inside, default-visit, default-stops, match-ends, end-cases}
@@ -18,7 +19,8 @@ use Rattle.typecheck.proofs.+array+bin+block+call+case+cases+cast+func+
 
 abbrev pub cases-Inv-loop : cases-lts.InvT-loop
 cases-Inv-loop slots₀ functions₀ types₀ diagnostics₀ messages₀ scratch₀ script library image words places n at count here₀ place₀ i₀ slots functions types diagnostics messages scratch here place i =
-    Turn (textsOf script library) image places words n at count here₀ (lent slots₀ functions₀ types₀ diagnostics₀ messages₀ scratch₀) here place i (lent slots functions types diagnostics messages scratch)
+    Turn (textsOf script library) image places words n at count here₀ (lent slots₀ functions₀ types₀ diagnostics₀ messages₀ scratch₀ noMore)
+    here place i (lent slots functions types diagnostics messages scratch noMore)
     × (length slots ≡ length slots₀) × (length functions ≡ length functions₀) × (length types ≡ length types₀) × (length diagnostics ≡ length diagnostics₀)
     × (length messages ≡ length messages₀) × (length scratch ≡ length scratch₀)
 
@@ -28,7 +30,8 @@ cases-μ-loop slots₀ functions₀ types₀ diagnostics₀ messages₀ scratch�
 
 abbrev pub cases-Inv-loop2 : cases-lts.InvT-loop2
 cases-Inv-loop2 slots₀ functions₀ types₀ diagnostics₀ messages₀ scratch₀ script library image words places n at count here place i default₀ end₀ next₀ left₀ slots functions types diagnostics messages scratch default end next left =
-    L.Turn (textsOf script library) image places words n next₀ left₀ end₀ (lent slots₀ functions₀ types₀ diagnostics₀ messages₀ scratch₀) next left default end (lent slots functions types diagnostics messages scratch)
+    L.Turn (textsOf script library) image places words n next₀ left₀ end₀ (lent slots₀ functions₀ types₀ diagnostics₀ messages₀ scratch₀ noMore)
+    next left default end (lent slots functions types diagnostics messages scratch noMore)
     × (length slots ≡ length slots₀) × (length functions ≡ length functions₀) × (length types ≡ length types₀) × (length diagnostics ≡ length diagnostics₀)
     × (length messages ≡ length messages₀) × (length scratch ≡ length scratch₀)
 
@@ -360,4 +363,4 @@ cases-returns-3 t c =
     match-ends (c8 .loop .inv .0) (c7 .loop-test .left) (ap (λ x. c9 .node-place .result + x - (c8 .loop .place + 1)) (c5 .payload .ensures ∙ ap payloadOf (c6 .word-at3 .ensures)))
     (L.turn-end (c4 .loop2 .inv .0) (c3 .loop2-test .left) refl)
     (ap (cameOf (c4 .loop2 .default)) (c2 .left .ensures) ∙ sym (L.leave-came (c4 .loop2 .default) (c4 .loop2 .end) (c8 .loop .here))) (L.came-so (c4 .loop2 .default) (c2 .left .result))
-    (c1 .end .ensures _ _ _ _ _)
+    (c1 .end .ensures _ _ _ _ _ noMore)

@@ -1,6 +1,7 @@
 -- `typecheck::cast` meets its contract: one law for each return. Assumes nothing.
 use mathlib.Core.Path.{_∙_}
 use native.Mathlib.Omega.{arith}
+use Rattle.state.specs.World.{noMore}
 use Rattle.visiting.specs.Then.{came-after, stopped-after}
 use Rattle.operand_visits.specs.Cast.{cast-low, cast-ready, operand-under, type-stops, operand-visit, operand-stops, cast-ends}
 use borrow.Author.Needs.{needs}
@@ -33,7 +34,7 @@ cast-returns t c =
     let c2 = c1 .before .before .before .before in
     let c3 = c2 .before .before in
     let c4 = c3 .before .before .before .before .before .before .before .before .before .before .before .before in
-    type-stops (c4 .pre .1) (c3 .node-place .ensures) (c2 .cast-begin .ensures _ _ _ _ _ _ _ _ _) (c1 .enum-told .given .1) (c .refused .ensures)
+    type-stops (c4 .pre .1) (c3 .node-place .ensures) (c2 .cast-begin .ensures _ _ _ _ _ _ _ _ _ noMore) (c1 .enum-told .given .1) (c .refused .ensures)
 
 pub cast-add-word-at : (t : ℕ) → cast-lts.Need-add-word-at (cast-claims t) (cast-at t) cast.Post
 cast-add-word-at t c =
@@ -51,7 +52,7 @@ cast-part-requires t c κs =
     let c3 = c2 .before .before in
     let c4 = c3 .before .before .before .before .before .before .before .before .before .before .before .before in (
       omega (arith, c4 .pre .0, operand-under (c4 .pre .1) (c3 .node-place .ensures) (c .word-at .ensures)),
-      operand-visit (c4 .pre .1) (c3 .node-place .ensures) (c2 .cast-begin .ensures _ _ _ _ _ _ _ _ _) (c1 .made .given .1) (c .word-at .ensures),
+      operand-visit (c4 .pre .1) (c3 .node-place .ensures) (c2 .cast-begin .ensures _ _ _ _ _ _ _ _ _ noMore) (c1 .made .given .1) (c .word-at .ensures),
     )
 
 pub cast-after-requires : (t : ℕ) → cast-lts.Need-after-requires (cast-claims t) (cast-at t) cast.Post
@@ -93,7 +94,7 @@ cast-returns-2 t c =
     let c5 = c4 .before .before .before .before in
     let c6 = c5 .before .before in
     let c7 = c6 .before .before .before .before .before .before .before .before .before .before .before .before in
-    operand-stops (c7 .pre .1) (c6 .node-place .ensures) (c5 .cast-begin .ensures _ _ _ _ _ _ _ _ _) (c4 .made .given .1) (c3 .word-at .ensures) (c2 .part .ensures)
+    operand-stops (c7 .pre .1) (c6 .node-place .ensures) (c5 .cast-begin .ensures _ _ _ _ _ _ _ _ _ noMore) (c4 .made .given .1) (c3 .word-at .ensures) (c2 .part .ensures)
     (stopped-after (c2 .part .result) (c1 .after .ensures) (c .enum-told2 .given .1))
 
 pub cast-cast-end-requires : (t : ℕ) → cast-lts.Need-cast-end-requires (cast-claims t) (cast-at t) cast.Post
@@ -144,5 +145,5 @@ cast-returns-3 t c =
     let c7 = c6 .before .before .before .before in
     let c8 = c7 .before .before in
     let c9 = c8 .before .before .before .before .before .before .before .before .before .before .before .before in
-    cast-ends (c9 .pre .1) (c8 .node-place .ensures) (c7 .cast-begin .ensures _ _ _ _ _ _ _ _ _) (c6 .made .given .1) (c5 .word-at .ensures) (c4 .part .ensures)
-    (came-after (c4 .part .result) (c3 .after .ensures) (c2 .a .given .1)) (c1 .cast-end .ensures _ _ _ _ _)
+    cast-ends (c9 .pre .1) (c8 .node-place .ensures) (c7 .cast-begin .ensures _ _ _ _ _ _ _ _ _ noMore) (c6 .made .given .1) (c5 .word-at .ensures) (c4 .part .ensures)
+    (came-after (c4 .part .result) (c3 .after .ensures) (c2 .a .given .1)) (c1 .cast-end .ensures _ _ _ _ _ noMore)

@@ -1,6 +1,7 @@
 -- `typecheck::func` meets its contract: one law for each return. Assumes nothing.
 use mathlib.Core.Path.{ap, _∙_}
 use native.Mathlib.Omega.{arith}
+use Rattle.state.specs.World.{noMore}
 use Rattle.tok.specs.Word.{payloadOf}
 use Rattle.visiting.specs.Then.{came-after, stopped-after}
 use Rattle.walk_laws.specs.Bodies.{fn-inside, body-inside, body-end, begin-ready, end-ready, body-visit, fn-ends, fn-stops, fn-done}
@@ -55,7 +56,7 @@ func-returns t c =
     let c2 = c1 .before .before .before .before .before .before .before .before .before .before .before .before .before .before in
     let c3 = c2 .before .before .before .before .before .before .before .before .before in
     let c4 = c3 .before .before .before .before .before .before .before .before .before .before .before .before in
-    fn-ends (c4 .pre .1) (c3 .node-place .ensures) (c2 .begin .ensures _ _ _) (c1 .begun .given .1)
+    fn-ends (c4 .pre .1) (c3 .node-place .ensures) (c2 .begin .ensures _ _ _ noMore) (c1 .begun .given .1)
 
 pub func-enum-known-begun-2 : (t : ℕ) → func-lts.Need-enum-known-begun-2 (func-claims t) (func-at t) func.Post
 func-enum-known-begun-2 t c = search needs
@@ -139,7 +140,7 @@ func-block-requires t c κs =
     let c7 = c6 .before in
     let c8 = c7 .before .before .before .before .before .before .before .before .before .before .before .before in (
       omega (arith, c8 .pre .0),
-      body-visit (c8 .pre .1) (c7 .node-place .ensures) (c4 .begin .ensures _ _ _) (c3 .begun2 .given .1) (c5 .wide .ensures ∙ c6 .word-at .ensures)
+      body-visit (c8 .pre .1) (c7 .node-place .ensures) (c4 .begin .ensures _ _ _ noMore) (c3 .begun2 .given .1) (c5 .wide .ensures ∙ c6 .word-at .ensures)
           (c1 .payload .ensures ∙ ap payloadOf (c2 .word-at2 .ensures)),
     )
 
@@ -206,7 +207,7 @@ func-returns-2 t c =
     let c8 = c7 .before in
     let c9 = c8 .before in
     let c10 = c9 .before .before .before .before .before .before .before .before .before .before .before .before in
-    fn-stops (c10 .pre .1) (c9 .node-place .ensures) (c6 .begin .ensures _ _ _) (c5 .begun2 .given .1) (c7 .wide .ensures ∙ c8 .word-at .ensures)
+    fn-stops (c10 .pre .1) (c9 .node-place .ensures) (c6 .begin .ensures _ _ _ noMore) (c5 .begun2 .given .1) (c7 .wide .ensures ∙ c8 .word-at .ensures)
     (c3 .payload .ensures ∙ ap payloadOf (c4 .word-at2 .ensures)) (c2 .block .ensures) (stopped-after (c2 .block .result) (c1 .after .ensures) (c .enum-told .given .1))
 
 pub func-end-requires : (t : ℕ) → func-lts.Need-end-requires (func-claims t) (func-at t) func.Post
@@ -279,6 +280,6 @@ func-returns-3 t c =
     let c10 = c9 .before in
     let c11 = c10 .before in
     let c12 = c11 .before .before .before .before .before .before .before .before .before .before .before .before in
-    fn-done (c12 .pre .1) (c11 .node-place .ensures) (c8 .begin .ensures _ _ _) (c7 .begun2 .given .1) (c9 .wide .ensures ∙ c10 .word-at .ensures)
+    fn-done (c12 .pre .1) (c11 .node-place .ensures) (c8 .begin .ensures _ _ _ noMore) (c7 .begun2 .given .1) (c9 .wide .ensures ∙ c10 .word-at .ensures)
     (c5 .payload .ensures ∙ ap payloadOf (c6 .word-at2 .ensures)) (c4 .block .ensures) (came-after (c4 .block .result) (c3 .after .ensures) (c2 .computed .given .1))
-    (c1 .end .ensures _ _ _ _ _)
+    (c1 .end .ensures _ _ _ _ _ noMore)

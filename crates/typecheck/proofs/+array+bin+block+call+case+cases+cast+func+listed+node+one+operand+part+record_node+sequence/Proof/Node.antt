@@ -1,5 +1,6 @@
 -- `typecheck::node` meets its contract: by its kind. Assumes nothing.
 use native.Mathlib.Omega.{arith}
+use Rattle.state.specs.World.{noMore}
 use Rattle.walk_laws.specs.Dispatch.{to-leaf, to-operand, to-listed}
 use borrow.Author.Needs.{needs}
 use Prim.Native.Nat.{ℕ}
@@ -45,7 +46,7 @@ pub node-same-length-5 : (t : ℕ) → node-lts.Need-same-length-5 (node-claims 
 node-same-length-5 t c = search needs
 
 pub node-returns : (t : ℕ) → node-lts.Need-returns (node-claims t) (node-at t) node.Post
-node-returns t c = c .before .before .before .before .before .before .before .before .before .before .leaf .ensures _
+node-returns t c = c .before .before .before .before .before .before .before .before .before .before .leaf .ensures _ noMore
 
 pub node-has-operands-requires : (t : ℕ) → node-lts.Need-has-operands-requires (node-claims t) (node-at t) node.Post
 node-has-operands-requires t c κs = search needs

@@ -1,6 +1,7 @@
 -- `typecheck::one` meets its contract: one law for each return. Assumes nothing.
 use mathlib.Core.Path.{_∙_}
 use native.Mathlib.Omega.{arith}
+use Rattle.state.specs.World.{noMore}
 use Rattle.visiting.specs.Then.{came-after, stopped-after}
 use Rattle.operand_visits.specs.One.{one-low, operand-under, operand-visit, operand-stops, end-ready, one-ends}
 use borrow.Author.Needs.{needs}
@@ -116,4 +117,4 @@ one-returns-2 t c =
     let c6 = c5 .before in
     let c7 = c6 .before .before .before .before .before .before .before .before .before .before .before .before in
     one-ends (c7 .pre .1) (c6 .node-place .ensures) (c5 .operand-of .ensures) (c4 .part .ensures) (came-after (c4 .part .result) (c3 .after .ensures) (c2 .a .given .1))
-    (c1 .one-end .ensures _ _ _ _)
+    (c1 .one-end .ensures _ _ _ _ noMore)

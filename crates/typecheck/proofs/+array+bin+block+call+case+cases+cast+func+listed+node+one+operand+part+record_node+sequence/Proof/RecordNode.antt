@@ -6,6 +6,7 @@ use native.Mathlib.Omega.{arith}
 use denote.Ref.{now}
 use lib.ListN.{length}
 use Rattle.tok.specs.Text.{textsOf}
+use Rattle.state.specs.World.{noMore}
 use Rattle.visit.specs.Whole.{lent}
 use Rattle.visiting.specs.Then.{came-after, stopped-after}
 use Rattle.fields.specs.RecordVisits.{Turn, turn-begin, record-length, record-low, value-under, value-visit, turn-stops, turn-next, record-made}
@@ -16,7 +17,8 @@ use Rattle.typecheck.proofs.+array+bin+block+call+case+cases+cast+func+
 
 abbrev pub record-node-Inv-loop : record-node-lts.InvT-loop
 record-node-Inv-loop slots₀ functions₀ types₀ diagnostics₀ messages₀ scratch₀ script library image words places n at count here₀ i₀ slots functions types diagnostics messages scratch here i =
-    Turn (textsOf script library) image places words n at count here₀ (lent slots₀ functions₀ types₀ diagnostics₀ messages₀ scratch₀) here i (lent slots functions types diagnostics messages scratch)
+    Turn (textsOf script library) image places words n at count here₀ (lent slots₀ functions₀ types₀ diagnostics₀ messages₀ scratch₀ noMore)
+    here i (lent slots functions types diagnostics messages scratch noMore)
     × (length slots ≡ length slots₀) × (length functions ≡ length functions₀) × (length types ≡ length types₀) × (length diagnostics ≡ length diagnostics₀)
     × (length messages ≡ length messages₀) × (length scratch ≡ length scratch₀)
 
@@ -177,4 +179,4 @@ record-node-returns-2 t c =
     let c2 = c1 .before .before .before in
     let c3 = c2 .before in
     let c4 = c3 .before .before .before .before .before .before .before .before .before .before .before .before .before .before .before in
-    record-made (c3 .loop .inv .0) (c2 .loop-test .left) (c1 .make .ensures (textsOf (now (c4 .args .script)) (now (c4 .args .library))) _ _ _ _ _)
+    record-made (c3 .loop .inv .0) (c2 .loop-test .left) (c1 .make .ensures (textsOf (now (c4 .args .script)) (now (c4 .args .library))) _ _ _ _ _ noMore)
