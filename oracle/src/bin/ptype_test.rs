@@ -1,6 +1,7 @@
-//! The expected output of the program crates/ptype_test, by the original's `Type` and `FunctionType`:
-//! their `Display`, `PartialEq` and `contains_unknown`. Depth, `contains_slot` (which the original
-//! keeps to itself) and the cut below 33 levels are computed here, from document 01's words.
+//! The first part of the expected output of the program crates/types_test, by the original's `Type`
+//! and `FunctionType`: their `Display`, `PartialEq` and `contains_unknown`. Depth, `contains_slot`
+//! (which the original keeps to itself) and the cut below 33 levels are computed here, from document
+//! 01's words. ../../types_test/make_types_test.py has the same cases as commands for that program.
 //!
 //! Rows, one blank between parts:
 //!     type I DEPTH UNKNOWN SLOT LENGTH SUM FRONT   FRONT: the first 64 bytes of the text

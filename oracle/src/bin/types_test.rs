@@ -1,9 +1,21 @@
-//! The expected output of the program crates/types_test, by the original's `Type`: `bind_slots`,
-//! `apply_slot_binding` with what it allocates, `Display` and `PartialEq`. Depth, and what has no
-//! room, are computed here from document 01's words ("Option and Array add one word, Record of n
-//! fields 1 + 2n"; "type depth 32"; "At most 8,192 words of the types buffer").
+//! The second part of the expected output of the program crates/types_test, by the original's `Type`:
+//! `bind_slots`, `apply_slot_binding` with what it allocates, `Display` and `PartialEq`. Depth, and
+//! what has no room, are computed here from document 01's words ("Option and Array add one word,
+//! Record of n fields 1 + 2n"; "type depth 32"; "At most 8,192 words of the types buffer").
+//! ../../types_test/make_types_test.py has the same cases as commands for that program.
 //!
-//! The rows are described in crates/types_test/src/main.rt.
+//! Rows, one blank between parts:
+//!     bind I J BOUND T KEY A ADDED     parameter I with argument J; what the slots are then bound to; the parameter with types put for them
+//!     again I BOUND T KEY A            the I-th of a sequence of bindings, each after those before
+//!     room N BOUND                     a binding of two slots into N words for pairs
+//!     share I FLAG FLAG                whether the types of a Record's two fields are the words that they were
+//!     chain I ADDED                    Option and Array by turns, one more each time
+//!     tower L ADDED, applied L ADDED   doubled records, and Int put for the slot in them; long texts by their length, a sum and their front
+//!     deep K D ADDED                   a type of depth D put for the slot inside K levels
+//!     short I N ADDED                  parameter I of Int, with N free words
+//!     limit USED ADDED                 with so many words used
+//!     pool N COPIED SHALLOW            N words of a pool
+//! BOUND: done, conflict, void. ADDED: put, how many words, whether the word is the same, and the text; or full, or deep.
 
 use std::collections::HashMap;
 

@@ -20,6 +20,9 @@ mul-s c = search needs
 byte-requires : tie.Need-byte-requires Inv-loop μ-loop
 byte-requires c κs = search needs
 
+wide-requires : tie.Need-wide-requires Inv-loop μ-loop
+wide-requires c κs = search needs
+
 add-s : tie.Need-add-s Inv-loop μ-loop
 add-s c = search needs
 
@@ -44,6 +47,7 @@ sum-spec =
     loop-holds
     mul-s
     byte-requires
+    wide-requires
     add-s
     add-i
     loop-less
