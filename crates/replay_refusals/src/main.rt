@@ -2,6 +2,7 @@
 // afterwards: a refusal before the walk leaves them as they were, one in the walk leaves zeros, an answer changes only what it is to write.
 // oracle/replay/make_refusals.py makes input and expected output, and oracle/replay/README.md says their form.
 use ending::Checked;
+use commands::Command;
 use libc::STDOUT_FILENO;
 ghost use Prim.Native.Nat.{_<_};
 
@@ -87,60 +88,72 @@ fn print_answer(checked: Checked) {
 
 // Cases.
 
-// What a lent buffer holds beforehand, so that what the check leaves alone is seen: `value`, `value + step`, .. Arrays by value: each that is lent to a
-// function to be filled makes the program dearer to prove.
-
-fn filled_slots(value: u32, step: u32) -> [u32; 4_112] {
-    let mut words = [0u32; 4_112];
-    let mut w = value;
-    for i in 0..4_112 {
-        words[i] = w;
-        w = std::num::wrapping_add_u32(w, step);
-    }
-    words
+fn fill(words: &mut [u32], value: u32, step: u32) {
+    let n = words.len();
+    commands::fill_words(words, 1, 0, n, value, step);
 }
 
-fn filled_records(value: u32, step: u32) -> [u32; 8_208] {
-    let mut words = [0u32; 8_208];
-    let mut w = value;
-    for i in 0..8_208 {
-        words[i] = w;
-        w = std::num::wrapping_add_u32(w, step);
-    }
-    words
+// What the lent buffers hold beforehand, so that what the check leaves alone is seen.
+fn fill_lent(
+    slots: &mut [u32],
+    functions: &mut [u32],
+    types: &mut [u32],
+    diagnostics: &mut [u32],
+    messages: &mut [u8],
+    scratch: &mut [u32],
+    value: u32,
+    step: u32,
+) {
+    fill(slots, value, step);
+    fill(functions, value, step);
+    fill(types, value, step);
+    fill(diagnostics, value, step);
+    let n = messages.len();
+    commands::fill_bytes(messages, 1, 0, n, value, step);
+    fill(scratch, value, step);
 }
 
-fn filled_diagnostics(value: u32, step: u32) -> [u32; 1_568] {
-    let mut words = [0u32; 1_568];
-    let mut w = value;
-    for i in 0..1_568 {
-        words[i] = w;
-        w = std::num::wrapping_add_u32(w, step);
-    }
-    words
+// One case, with all that it is given and lent: its answer, and the sums of what is left.
+fn case<'a>(
+    script: &'a [u8],
+    image: &[u32],
+    text: &'a [u8],
+    library: &[u32],
+    slots: &mut [u32],
+    functions: &mut [u32],
+    types: &mut [u32],
+    diagnostics: &mut [u32],
+    messages: &mut [u8],
+    scratch: &mut [u32],
+    value: u32,
+    step: u32,
+) {
+    fill_lent(
+        slots,
+        functions,
+        types,
+        diagnostics,
+        messages,
+        scratch,
+        value,
+        step,
+    );
+    print_answer(checker::check(
+        script,
+        image,
+        text,
+        library,
+        slots,
+        functions,
+        types,
+        diagnostics,
+        messages,
+        scratch,
+    ));
+    print_sums(slots, functions, types, diagnostics, messages, scratch);
 }
 
-fn filled_messages(value: u32, step: u32) -> [u8; 65_552] {
-    let mut bytes = [0u8; 65_552];
-    let mut w = value;
-    for i in 0..65_552 {
-        bytes[i] = (w % 0x100) as u8;
-        w = std::num::wrapping_add_u32(w, step);
-    }
-    bytes
-}
-
-fn filled_scratch(value: u32, step: u32) -> [u32; 32_768] {
-    let mut words = [0u32; 32_768];
-    let mut w = value;
-    for i in 0..32_768 {
-        words[i] = w;
-        w = std::num::wrapping_add_u32(w, step);
-    }
-    words
-}
-
-// The case that the registers tell: as much of the lists and of buffers of its own as they say; its answer, and the sums of what is left.
+// The case that the registers tell: as much of the lists and of buffers of its own as they say.
 fn told_case<'a>(
     script: &'a [u8],
     image: &[u32],
@@ -148,21 +161,19 @@ fn told_case<'a>(
     library: &[u32],
     registers: &[u32],
 ) {
-    let value = tok::word_at(registers, VALUE);
-    let step = tok::word_at(registers, STEP);
-    let mut slots = filled_slots(value, step);
-    let mut functions = filled_records(value, step);
-    let mut types = filled_records(value, step);
-    let mut diagnostics = filled_diagnostics(value, step);
-    let mut messages = filled_messages(value, step);
-    let mut scratch = filled_scratch(value, step);
+    let mut slots = [0u32; 4_112];
+    let mut functions = [0u32; 8_208];
+    let mut types = [0u32; 8_208];
+    let mut diagnostics = [0u32; 1_568];
+    let mut messages = [0u8; 65_552];
+    let mut scratch = [0u32; 32_768];
     let a = commands::lent(registers, commands::SLOTS, slots.len());
     let b = commands::lent(registers, commands::FUNCTIONS, functions.len());
     let c = commands::lent(registers, commands::TYPES, types.len());
     let d = commands::lent(registers, commands::DIAGNOSTICS, diagnostics.len());
     let e = commands::lent(registers, commands::MESSAGES, messages.len());
     let f = commands::lent(registers, commands::SCRATCH, scratch.len());
-    print_answer(checker::check(
+    case(
         commands::bytes_of(script, registers, commands::SCRIPT),
         commands::words_of(image, registers, commands::IMAGE),
         commands::bytes_of(text, registers, commands::TEXT),
@@ -173,15 +184,51 @@ fn told_case<'a>(
         &mut diagnostics[0..d],
         &mut messages[0..e],
         &mut scratch[0..f],
-    ));
-    print_sums(
-        &slots[0..a],
-        &functions[0..b],
-        &types[0..c],
-        &diagnostics[0..d],
-        &messages[0..e],
-        &scratch[0..f],
+        tok::word_at(registers, VALUE),
+        tok::word_at(registers, STEP),
     );
+}
+
+fn obey(
+    script: &mut [u8],
+    image: &mut [u32],
+    text: &mut [u8],
+    library: &mut [u32],
+    registers: &mut [u32],
+    c: Command,
+) {
+    let op = c.op;
+    if op == 4 {
+        commands::begin_line(registers);
+        told_case(script, image, text, library, registers);
+        return;
+    }
+    if op == 5 {
+        commands::put(registers, VALUE, c.a);
+        commands::put(registers, STEP, c.b);
+        return;
+    }
+    commands::change(script, image, text, library, registers, c);
+}
+
+fn run(
+    script: &mut [u8],
+    image: &mut [u32],
+    text: &mut [u8],
+    library: &mut [u32],
+    registers: &mut [u32],
+    count: usize,
+) {
+    for _ in 0..count {
+        obey(
+            script,
+            image,
+            text,
+            library,
+            registers,
+            commands::next_command(),
+        );
+    }
 }
 
 fn main() {
@@ -191,23 +238,12 @@ fn main() {
     let mut library = [0u32; 8_208];
     let mut registers = [0u32; 16];
     let first = commands::next_command();
-    for _ in 0..tok::wide(first.a) {
-        let c = commands::next_command();
-        if c.op == 4 {
-            commands::begin_line(&mut registers);
-            told_case(&script, &image, &text, &library, &registers);
-        } else if c.op == 5 {
-            commands::put(&mut registers, VALUE, c.a);
-            commands::put(&mut registers, STEP, c.b);
-        } else {
-            commands::change(
-                &mut script,
-                &mut image,
-                &mut text,
-                &mut library,
-                &mut registers,
-                c,
-            );
-        }
-    }
+    run(
+        &mut script,
+        &mut image,
+        &mut text,
+        &mut library,
+        &mut registers,
+        tok::wide(first.a),
+    );
 }
