@@ -102,10 +102,14 @@ block-add-place t c =
     omega (arith, place-inside (c2 .loop .inv .0))
 
 pub block-sub-left : (t : ℕ) → block-lts.Need-sub-left (block-claims t) (block-at t) block.Post block-Inv-loop block-μ-loop
-block-sub-left t c = search needs
+block-sub-left t c =
+    let c1 = c .before .before .before .before .before .before .before .before .before .before .before .before .before .before .before .before .before .before .before .before .before .before .before .before in
+    omega (arith, c1 .loop-test .taken)
 
 pub block-loop-less : (t : ℕ) → block-lts.Need-loop-less (block-claims t) (block-at t) block.Post block-Inv-loop block-μ-loop
-block-loop-less t c = search needs
+block-loop-less t c =
+    let c1 = c .before .before .before .before .before .before .before .before .before .before .before .before .before .before .before .before .before .before .before .before .before .before .before .before in
+    omega (arith, c1 .loop-test .taken)
 
 pub block-loop-again : (t : ℕ) → block-lts.Need-loop-again (block-claims t) (block-at t) block.Post block-Inv-loop block-μ-loop
 block-loop-again t c =

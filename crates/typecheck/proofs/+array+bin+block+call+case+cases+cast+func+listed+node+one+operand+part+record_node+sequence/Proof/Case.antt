@@ -274,10 +274,14 @@ case-add-place-2 t c =
     omega (arith, place-inside (c2 .loop .inv .0))
 
 pub case-sub-left : (t : ℕ) → case-lts.Need-sub-left (case-claims t) (case-at t) case.Post case-Inv-loop case-μ-loop
-case-sub-left t c = search needs
+case-sub-left t c =
+    let c1 = c .before .before .before .before .before .before .before .before .before .before .before .before .before .before .before .before .before .before .before .before .before .before .before .before in
+    omega (arith, c1 .loop-test .taken)
 
 pub case-loop-less : (t : ℕ) → case-lts.Need-loop-less (case-claims t) (case-at t) case.Post case-Inv-loop case-μ-loop
-case-loop-less t c = search needs
+case-loop-less t c =
+    let c1 = c .before .before .before .before .before .before .before .before .before .before .before .before .before .before .before .before .before .before .before .before .before .before .before .before in
+    omega (arith, c1 .loop-test .taken)
 
 pub case-loop-again : (t : ℕ) → case-lts.Need-loop-again (case-claims t) (case-at t) case.Post case-Inv-loop case-μ-loop
 case-loop-again t c =

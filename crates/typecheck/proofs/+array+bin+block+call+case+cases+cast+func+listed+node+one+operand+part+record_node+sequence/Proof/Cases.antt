@@ -279,10 +279,14 @@ cases-add-next-2 t c =
     omega (arith, L.place-inside (c2 .loop2 .inv .0))
 
 pub cases-sub-left-2 : (t : ℕ) → cases-lts.Need-sub-left-2 (cases-claims t) (cases-at t) cases.Post cases-Inv-loop cases-μ-loop cases-Inv-loop2 cases-μ-loop2
-cases-sub-left-2 t c = search needs
+cases-sub-left-2 t c =
+    let c1 = c .before .before .before .before .before .before .before .before .before .before .before .before .before .before .before .before .before .before .before .before .before .before .before .before in
+    omega (arith, c1 .loop2-test .taken)
 
 pub cases-loop2-less : (t : ℕ) → cases-lts.Need-loop2-less (cases-claims t) (cases-at t) cases.Post cases-Inv-loop cases-μ-loop cases-Inv-loop2 cases-μ-loop2
-cases-loop2-less t c = search needs
+cases-loop2-less t c =
+    let c1 = c .before .before .before .before .before .before .before .before .before .before .before .before .before .before .before .before .before .before .before .before .before .before .before .before in
+    omega (arith, c1 .loop2-test .taken)
 
 pub cases-loop2-again : (t : ℕ) → cases-lts.Need-loop2-again (cases-claims t) (cases-at t) cases.Post cases-Inv-loop cases-μ-loop cases-Inv-loop2 cases-μ-loop2
 cases-loop2-again t c =
