@@ -32,45 +32,6 @@ is-leaf w ek e n = rw (← ek) (record { noType = e; noField = n })
 plain-kind : {k : ℕ} → Leaf k → (k ≡ 9 → ⊥) → (k ≡ 10 → ⊥) → Plain k
 plain-kind {k} l p q = record { noWrap = l .noType; noRecord = l .noField; noName = rw (ne-eqb k 9 p) (ne-eqb k 10 q) }
 
--- ---- names of kinds
-pub plain-is : {k j : ℕ} → k ≡ j → getD plainNames k [] ≡ getD plainNames j []
-plain-is e = rw e
-
-pub opening-is : {k j : ℕ} → k ≡ j → getD openings k [] ≡ getD openings j []
-opening-is e = rw e
-
-pub plain-other : (k : ℕ) → (k ≡ 1 → ⊥) → (k ≡ 2 → ⊥) → (k ≡ 3 → ⊥) → (k ≡ 4 → ⊥) → (k ≡ 5 → ⊥) → (k ≡ 11 → ⊥) → getD plainNames k [] ≡ []
-unfolding plainNames
-plain-other zero a b c d e f = refl
-plain-other (suc zero) a b c d e f = absurd (a refl)
-plain-other (suc (suc zero)) a b c d e f = absurd (b refl)
-plain-other (suc (suc (suc zero))) a b c d e f = absurd (c refl)
-plain-other (suc (suc (suc (suc zero)))) a b c d e f = absurd (d refl)
-plain-other (suc (suc (suc (suc (suc zero))))) a b c d e f = absurd (e refl)
-plain-other (suc (suc (suc (suc (suc (suc zero)))))) a b c d e f = refl
-plain-other (suc (suc (suc (suc (suc (suc (suc zero))))))) a b c d e f = refl
-plain-other (suc (suc (suc (suc (suc (suc (suc (suc zero)))))))) a b c d e f = refl
-plain-other (suc (suc (suc (suc (suc (suc (suc (suc (suc zero))))))))) a b c d e f = refl
-plain-other (suc (suc (suc (suc (suc (suc (suc (suc (suc (suc zero)))))))))) a b c d e f = refl
-plain-other (suc (suc (suc (suc (suc (suc (suc (suc (suc (suc (suc zero))))))))))) a b c d e f = absurd (f refl)
-plain-other (suc (suc (suc (suc (suc (suc (suc (suc (suc (suc (suc (suc k)))))))))))) a b c d e f = refl
-
-pub opening-other : (k : ℕ) → (k ≡ 6 → ⊥) → (k ≡ 7 → ⊥) → (k ≡ 8 → ⊥) → (k ≡ 9 → ⊥) → getD openings k [] ≡ []
-unfolding openings
-opening-other zero a b c d = refl
-opening-other (suc zero) a b c d = refl
-opening-other (suc (suc zero)) a b c d = refl
-opening-other (suc (suc (suc zero))) a b c d = refl
-opening-other (suc (suc (suc (suc zero)))) a b c d = refl
-opening-other (suc (suc (suc (suc (suc zero))))) a b c d = refl
-opening-other (suc (suc (suc (suc (suc (suc zero)))))) a b c d = absurd (a refl)
-opening-other (suc (suc (suc (suc (suc (suc (suc zero))))))) a b c d = absurd (b refl)
-opening-other (suc (suc (suc (suc (suc (suc (suc (suc zero)))))))) a b c d = absurd (c refl)
-opening-other (suc (suc (suc (suc (suc (suc (suc (suc (suc zero))))))))) a b c d = absurd (d refl)
-opening-other (suc (suc (suc (suc (suc (suc (suc (suc (suc (suc zero)))))))))) a b c d = refl
-opening-other (suc (suc (suc (suc (suc (suc (suc (suc (suc (suc (suc zero))))))))))) a b c d = refl
-opening-other (suc (suc (suc (suc (suc (suc (suc (suc (suc (suc (suc (suc k)))))))))))) a b c d = refl
-
 wrap-closing : (k : ℕ) → wraps k ≡ true → getD closings k [] ≡ text ">"
 unfolding closings
 wrap-closing k h = ⊎-elim (λ e. rw e) (λ e. rw e) (one-of 6 7 k h)

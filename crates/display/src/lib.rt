@@ -13,6 +13,7 @@ ghost use Rattle.display.specs.Writing.{Writes};
 ghost use Rattle.display.specs.Leaf.{Leaf};
 ghost use Rattle.display.specs.Joined.{separated, sig};
 ghost use Rattle.display.specs.Every.{every};
+ghost use Rattle.display.specs.Pieces.{oneOf};
 ghost use Rattle.display.specs.Signature.{showSignature, argTypes, argsOf, retOf};
 
 // The place where the next piece goes, or that a piece had no room.
@@ -74,6 +75,30 @@ pub fn put_separator(out: &mut [u8], at: Wrote, count: usize, separator: &[u8]) 
     }
 }
 
+// What stands between two of several pieces in one text.
+const BAR: u8 = b'|';
+
+// One of several pieces that stand in one text with a bar between two: the k-th, from 0 on, or the last where k is past it. One text costs the check
+// less than a text and a call in each of many branches.
+pub fn one_of(pieces: &[u8], k: usize) -> &[u8]
+    ensures { λ r. ⌜ now r ≡ oneOf (now (pieces .entry)) k ⌝ }
+{
+    let mut start = 0;
+    let mut end = 0;
+    let mut left = k;
+    while end < pieces.len() {
+        if pieces[end] == BAR {
+            if left == 0 {
+                return &pieces[start..end];
+            }
+            left -= 1;
+            start = end + 1;
+        }
+        end += 1;
+    }
+    &pieces[start..end]
+}
+
 // Numbers.
 
 // Writes one digit.
@@ -125,44 +150,22 @@ fn wraps(kind: u32) -> bool
 fn put_opening(out: &mut [u8], at: Wrote, kind: u32) -> Wrote
     ensures { λ r. ⌜ Writes (now (out .entry)) at (now (out .exit)) r (getD openings kind []) ⌝ }
 {
-    if kind == ptype::OPTION {
-        return put_at(out, at, b"Option<");
-    }
-    if kind == ptype::ARRAY {
-        return put_at(out, at, b"Array<");
-    }
-    if kind == ptype::RECORD {
-        return put_at(out, at, b"Record<");
-    }
-    if kind == ptype::FOREIGN {
-        return put_at(out, at, b"Foreign<");
-    }
-    put_at(out, at, b"")
+    put_at(
+        out,
+        at,
+        one_of(b"||||||Option<|Array<|Record<|Foreign<||", kind as usize),
+    )
 }
 
 // Writes the name of a type with nothing inside.
 fn put_plain(out: &mut [u8], at: Wrote, kind: u32) -> Wrote
     ensures { λ r. ⌜ Writes (now (out .entry)) at (now (out .exit)) r (getD plainNames kind []) ⌝ }
 {
-    if kind == 1 {
-        return put_at(out, at, b"Void");
-    }
-    if kind == 2 {
-        return put_at(out, at, b"Bool");
-    }
-    if kind == 3 {
-        return put_at(out, at, b"Int");
-    }
-    if kind == 4 {
-        return put_at(out, at, b"Double");
-    }
-    if kind == 5 {
-        return put_at(out, at, b"Str");
-    }
-    if kind == ptype::UNKNOWN {
-        return put_at(out, at, b"unknown");
-    }
-    put_at(out, at, b"")
+    put_at(
+        out,
+        at,
+        one_of(b"|Void|Bool|Int|Double|Str||||||unknown|", kind as usize),
+    )
 }
 
 // Writes a type that has no type inside. No word of the types buffer is read.

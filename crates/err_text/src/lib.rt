@@ -187,64 +187,23 @@ pub fn class_of(op: u32) -> usize
 pub fn put_operator(out: &mut [u8], at: Wrote, op: u32) -> Wrote
     ensures { λ r. ⌜ Writes (now (out .entry)) at (now (out .exit)) r (quoted op) ⌝ }
 {
-    if op > 8 {
-        return display::put_at(out, at, b"\"\"");
-    }
-    if op == 0 {
-        return display::put_at(out, at, b"\"+\"");
-    }
-    if op == 1 {
-        return display::put_at(out, at, b"\"-\"");
-    }
-    if op == 2 {
-        return display::put_at(out, at, b"\"*\"");
-    }
-    if op == 3 {
-        return display::put_at(out, at, b"\"/\"");
-    }
-    if op == 4 {
-        return display::put_at(out, at, b"\"%\"");
-    }
-    if op == 5 {
-        return display::put_at(out, at, b"\"==\"");
-    }
-    if op == 6 {
-        return display::put_at(out, at, b"\"!=\"");
-    }
-    if op == 7 {
-        return display::put_at(out, at, b"\"<\"");
-    }
-    display::put_at(out, at, b"\">\"")
+    let operators = b"\"+\"|\"-\"|\"*\"|\"/\"|\"%\"|\"==\"|\"!=\"|\"<\"|\">\"|\"\"";
+    display::put_at(out, at, display::one_of(operators, op as usize))
 }
 
 // Writes what an operator of a class wants, after `Unsupported type ..`.
 pub fn put_wanted(out: &mut [u8], at: Wrote, class: usize) -> Wrote
     ensures { λ r. ⌜ Writes (now (out .entry)) at (now (out .exit)) r (wanted class) ⌝ }
 {
-    if class == 0 {
-        return display::put_at(out, at, b", want Int or Double");
-    }
-    if class == 1 {
-        return display::put_at(out, at, b", want Int");
-    }
-    if class == 2 {
-        return display::put_at(out, at, b", want Int, Bool or Str");
-    }
-    if class == 3 {
-        return display::put_at(out, at, b", want Int or Double for both sides");
-    }
-    display::put_at(out, at, b"")
+    let all =
+        b", want Int or Double|, want Int|, want Int, Bool or Str|, want Int or Double for both sides|";
+    display::put_at(out, at, display::one_of(all, class))
 }
 
 // And after `Incompatible types ..`.
 pub fn put_wanted_both(out: &mut [u8], at: Wrote, class: usize) -> Wrote
     ensures { λ r. ⌜ Writes (now (out .entry)) at (now (out .exit)) r (wantedBoth class) ⌝ }
 {
-    if class == 1 {
-        return display::put_at(out, at, b", want both sides Int");
-    }
-    if class == 2 {
-        return display::put_at(out, at, b", want both sides Int, Bool or Str");
-    }
-    display::put_at(out, at, b"")
+    let all = b"|, want both sides Int|, want both sides Int, Bool or Str||";
+    display::put_at(out, at, display::one_of(all, class))
 }

@@ -1,14 +1,18 @@
--- `display::put_opening` meets its contract, kind by kind. Assumes nothing.
+-- `display::put_opening` meets its contract: all openings stand in one text, each at its kind. Assumes nothing.
+use mathlib.Core.Path.{sym}
+use Rattle.display.specs.Pieces.{barred, unbarred}
 use Rattle.display.specs.WritingLaws.{writes-as}
-use Rattle.display.proofs.ShownLaws.{opening-is, opening-other}
 use Rattle.ptype.specs.Show.{openings}
 use Rattle.tok.specs.Text.{text}
 use borrow.Author.Needs.{needs}
 use Rattle.display.proofs.put_opening.Statement.{statement}
 use Rattle.display.proofs.put_opening.Tie as tie
 
-slice-aggregate-put-at : tie.Need-slice-aggregate-put-at
-slice-aggregate-put-at c = search needs
+slice-aggregate-one-of : tie.Need-slice-aggregate-one-of
+slice-aggregate-one-of c = search needs
+
+one-of-requires : tie.Need-one-of-requires
+one-of-requires c κs = search needs
 
 put-at-requires : tie.Need-put-at-requires
 put-at-requires c κs = search needs
@@ -17,81 +21,8 @@ same-length : tie.Need-same-length
 same-length c = search needs
 
 returns : tie.Need-returns
-unfolding openings text
-returns c = writes-as (opening-is (c .before .before .before .before .before .if1 .taken)) (c .before .before .put-at .ensures)
-
-slice-aggregate-put-at-2 : tie.Need-slice-aggregate-put-at-2
-slice-aggregate-put-at-2 c = search needs
-
-put-at-requires-2 : tie.Need-put-at-requires-2
-put-at-requires-2 c κs = search needs
-
-same-length-2 : tie.Need-same-length-2
-same-length-2 c = search needs
-
-returns-2 : tie.Need-returns-2
-unfolding openings text
-returns-2 c = writes-as (opening-is (c .before .before .before .before .before .if2 .taken)) (c .before .before .put-at2 .ensures)
-
-slice-aggregate-put-at-3 : tie.Need-slice-aggregate-put-at-3
-slice-aggregate-put-at-3 c = search needs
-
-put-at-requires-3 : tie.Need-put-at-requires-3
-put-at-requires-3 c κs = search needs
-
-same-length-3 : tie.Need-same-length-3
-same-length-3 c = search needs
-
-returns-3 : tie.Need-returns-3
-unfolding openings text
-returns-3 c = writes-as (opening-is (c .before .before .before .before .before .if3 .taken)) (c .before .before .put-at3 .ensures)
-
-slice-aggregate-put-at-4 : tie.Need-slice-aggregate-put-at-4
-slice-aggregate-put-at-4 c = search needs
-
-put-at-requires-4 : tie.Need-put-at-requires-4
-put-at-requires-4 c κs = search needs
-
-same-length-4 : tie.Need-same-length-4
-same-length-4 c = search needs
-
-returns-4 : tie.Need-returns-4
-unfolding openings text
-returns-4 c = writes-as (opening-is (c .before .before .before .before .before .if4 .taken)) (c .before .before .put-at4 .ensures)
-
-slice-aggregate-put-at-5 : tie.Need-slice-aggregate-put-at-5
-slice-aggregate-put-at-5 c = search needs
-
-put-at-requires-5 : tie.Need-put-at-requires-5
-put-at-requires-5 c κs = search needs
-
-same-length-5 : tie.Need-same-length-5
-same-length-5 c = search needs
-
-returns-5 : tie.Need-returns-5
-returns-5 c = writes-as (opening-other _ (c .before .before .before .before .before .before .before .before .if1 .left) (c .before .before .before .before .before .before .before .if2 .left) (c .before .before .before .before .before .before .if3 .left) (c .before .before .before .before .before .if4 .left)) (c .before .before .put-at5 .ensures)
+unfolding barred unbarred openings text
+returns c = writes-as (sym (c .before .before .before .one-of .ensures)) (c .before .before .put-at .ensures)
 
 pub put-opening-spec : {M : Type 1} → statement M
-put-opening-spec =
-    tie.close
-    (tie.spec
-    slice-aggregate-put-at
-    put-at-requires
-    same-length
-    returns
-    slice-aggregate-put-at-2
-    put-at-requires-2
-    same-length-2
-    returns-2
-    slice-aggregate-put-at-3
-    put-at-requires-3
-    same-length-3
-    returns-3
-    slice-aggregate-put-at-4
-    put-at-requires-4
-    same-length-4
-    returns-4
-    slice-aggregate-put-at-5
-    put-at-requires-5
-    same-length-5
-    returns-5)
+put-opening-spec = tie.close (tie.spec slice-aggregate-one-of one-of-requires put-at-requires same-length returns)
