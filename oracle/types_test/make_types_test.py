@@ -12,19 +12,19 @@ then how many words are lent to what adds types, and how many were used before. 
 8 its length. How many pairs count is the program's only other state.
 
      0 PAIR  at w v      two words of the types
-     1 LIST  at w v      two words of the lists
-     2 COPY  part lent   a part of the lists to the front of so many words of the types; prints whether it fits
-     3 OPTION w used old, 4 ARRAY w used old, 5 OPEN n used old, 6 CLOSE w used old, 7 APPLY w used old
+     1 COPY  part lent   a part of the lists to the front of so many words of the types; prints whether it fits
+     2 OPTION w used old, 3 ARRAY w used old, 4 OPEN n used old, 5 CLOSE w used old, 6 APPLY w used old
                          add to the words lent: Option or Array of w, a Record of n fields (whose names and types PAIR puts), nothing but a look at the
                          depth of w, and w with types put for its slots. Prints the answer and whether it is the word old; nothing if that is 0
-     8 BIND  p a room    the slots of p to what stands there in a, in so many words for pairs; prints the answer
-     9 BOUND slot        prints what the slot is bound to
-    10 SHOW  form room w writes into so many bytes. form % 8: 0 the type w, 1 the number w, 2 the signature at the part w of the types, 3 the types of
+     7 BOUND slot        prints what the slot is bound to
+     8 SHOW  form room w writes into so many bytes. form % 8: 0 the type w, 1 the number w, 2 the signature at the part w of the types, 3 the types of
                          its arguments, 4 the types of the part w. form / 8, what is printed: 0 the text, or its sum if it is long, 1 the sum,
                          2 the length or ` full`, 3 the first 50 bytes of the buffer
-    11 DEPTH w           prints it
-    12 ASK   a b what    prints whether 0 Unknown stands in a, 1 a slot does, 2 a equals b, 3 the fields at a and b have the same word as type, 4 the types
+     9 DEPTH w           prints it
+    10 ASK   a b what    prints whether 0 Unknown stands in a, 1 a slot does, 2 a equals b, 3 the fields at a and b have the same word as type, 4 the types
                          of the part a of the types are shallow
+    11 LIST  at w v      two words of the lists
+    12 BIND  p a room    the slots of p to what stands there in a, in so many words for pairs; prints the answer
     13 COUNT n           how many pairs count
     14 PRINT             nothing more
 """
@@ -34,7 +34,7 @@ import subprocess
 import sys
 
 HERE = os.path.dirname(os.path.abspath(__file__))
-PAIR, LIST, COPY, OPTION, ARRAY, OPEN, CLOSE, APPLY, BIND, BOUND, SHOW, DEPTH, ASK, COUNT, PRINT = range(15)
+PAIR, COPY, OPTION, ARRAY, OPEN, CLOSE, APPLY, BOUND, SHOW, DEPTH, ASK, LIST, BIND, COUNT, PRINT = range(15)
 HAS_UNKNOWN, HAS_SLOT, SAME, KEPT, SHALLOW = range(5)
 TYPE, DECIMAL, SIGNATURE, ARGUMENTS, TYPES = range(5)
 TEXT, SUM, ANSWER, BUFFER = range(0, 32, 8)

@@ -537,23 +537,29 @@ fn run<'a>(
     print_all(diagnostics, messages, counts.diagnostics);
 }
 
-// Refusal 9: an empty array's diagnostic in buffers that just hold it, and in smaller ones.
-fn room(
-    what: &[u8],
-    n: u32,
-    diagnostics: &mut [u32],
-    messages: &mut [u8],
-    used: usize,
-    bytes: usize,
-) {
-    let counts = Counts {
-        diagnostics: used,
-        bytes,
-    };
-    let free = err_text::first_free(messages, counts);
-    let r = err_values::empty_array(diagnostics, &mut messages[free..], counts, 0);
-    print(what);
+// What a row of refusal 9 begins with. One literal with places in it, since a check pays for each.
+fn begin(at: usize, len: usize, n: u32) {
+    print(bytes_in(b"words bytes diagnostics limit ", at, len));
     print_word(n);
+}
+
+// Refusal 9: an empty array's diagnostic in buffers of so many words and bytes, after so many diagnostics and bytes.
+fn room(words: usize, bytes: usize, told: usize, used: usize) {
+    let mut diagnostics = [0u32; 2000];
+    let mut messages = [0u8; 70_000];
+    let last = least(words, 2000);
+    let end = least(bytes, 70_000);
+    let free = least(used, end);
+    let counts = Counts {
+        diagnostics: told,
+        bytes: used,
+    };
+    let r = err_values::empty_array(
+        &mut diagnostics[0..last],
+        &mut messages[free..end],
+        counts,
+        0,
+    );
     let Reported::Told(_) = r else {
         print(b"refused\n");
         return;
@@ -561,81 +567,51 @@ fn room(
     print(b"told\n");
 }
 
+// Buffers that just hold it, and smaller ones.
 fn room_lent() {
-    let mut messages = [0u8; 59];
-    let mut six = [0u32; 6];
-    room(b"words ", 6, &mut six, &mut messages, 0, 0);
-    let mut five = [0u32; 5];
-    room(b"words ", 5, &mut five, &mut messages, 0, 0);
-    room(b"bytes ", 59, &mut six, &mut messages, 0, 0);
-    let mut short = [0u8; 58];
-    room(b"bytes ", 58, &mut six, &mut short, 0, 0);
+    begin(0, 6, 6);
+    room(6, 59, 0, 0);
+    begin(0, 6, 5);
+    room(5, 59, 0, 0);
+    begin(6, 6, 59);
+    room(6, 59, 0, 0);
+    begin(6, 6, 58);
+    room(6, 58, 0, 0);
 }
 
+// The limits of document 01, in larger buffers.
 fn room_at_limits() {
-    let mut diagnostics = [0u32; 2000];
-    let mut messages = [0u8; 70_000];
-    room(
-        b"diagnostics ",
-        256,
-        &mut diagnostics,
-        &mut messages,
-        255,
-        0,
-    );
-    room(
-        b"diagnostics ",
-        257,
-        &mut diagnostics,
-        &mut messages,
-        256,
-        0,
-    );
-    room(
-        b"limit ",
-        65_536,
-        &mut diagnostics,
-        &mut messages,
-        0,
-        65_477,
-    );
-    room(
-        b"limit ",
-        65_537,
-        &mut diagnostics,
-        &mut messages,
-        0,
-        65_478,
-    );
+    begin(12, 12, 256);
+    room(2000, 70_000, 255, 0);
+    begin(12, 12, 257);
+    room(2000, 70_000, 256, 0);
+    begin(24, 6, 65_536);
+    room(2000, 70_000, 0, 65_477);
+    begin(24, 6, 65_537);
+    room(2000, 70_000, 0, 65_478);
 }
 
 fn parts(input: &[u8]) {
     let script = tok::wide(word(input, 0));
     let library = tok::wide(word(input, 4));
-    let types = 24 + script + library;
-    let words = types + 4 * tok::wide(word(input, 8));
-    let lists = words + 4 * tok::wide(word(input, 12));
-    let cases = lists + 4 * tok::wide(word(input, 16));
-    let mut t = [0u32; 128];
-    fill(&mut t, input, types);
-    let mut w = [0u32; 512];
-    fill(&mut w, input, words);
-    let mut l = [0u32; 64];
-    fill(&mut l, input, lists);
-    let mut c = [0u32; 1024];
-    fill(&mut c, input, cases);
+    let types = tok::wide(word(input, 8));
+    let words = tok::wide(word(input, 12));
+    let lists = tok::wide(word(input, 16));
+    let cases = tok::wide(word(input, 20));
+    let mut w = [0u32; 2048];
+    fill(&mut w, input, 24 + script + library);
     let mut diagnostics = [0u32; 1536];
     let mut messages = io::large_buffer();
     run(
         &mut diagnostics,
         &mut messages,
-        &t,
+        words_in(&w, 0, types),
         bytes_in(input, 24, script),
         bytes_in(input, 24 + script, library),
-        &w,
-        &l,
-        &c,
-        tok::wide(word(input, 20)) / 8,
+        words_in(&w, types, words),
+        words_in(&w, types + words, lists),
+        words_in(&w, types + words + lists, cases),
+        cases / 8,
     );
 }
 

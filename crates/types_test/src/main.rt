@@ -12,28 +12,28 @@ use slots::Found;
 ghost use mathlib.Core.Path.{_≡_};
 ghost use Prim.Native.Nat.{min};
 
-// Commands: the top four bits of a command's first word. 2 copies, 7 puts types for slots, 14 only prints.
+// Commands: the top four bits of a command's first word. 1 copies, 6 puts types for slots, 14 only prints.
 const PAIR: u32 = 0;
 
-const LIST: u32 = 1;
+const OPTION: u32 = 2;
 
-const OPTION: u32 = 3;
+const ARRAY: u32 = 3;
 
-const ARRAY: u32 = 4;
+const OPEN: u32 = 4;
 
-const OPEN: u32 = 5;
+const CLOSE: u32 = 5;
 
-const CLOSE: u32 = 6;
+const BOUND: u32 = 7;
 
-const BIND: u32 = 8;
+const SHOW: u32 = 8;
 
-const BOUND: u32 = 9;
+const DEPTH: u32 = 9;
 
-const SHOW: u32 = 10;
+const ASK: u32 = 10;
 
-const DEPTH: u32 = 11;
+const LIST: u32 = 11;
 
-const ASK: u32 = 12;
+const BIND: u32 = 12;
 
 const COUNT: u32 = 13;
 
@@ -263,20 +263,32 @@ fn answered<'a>(types: &[u32], script: &'a [u8], library: &'a [u8], r: Bind) -> 
     }
 }
 
-// Binds slots after the pairs that are there, in so many words.
-fn bind<'a>(
+// Commands that write into the lists: puts two words there, or binds slots after the pairs that are there, in so many words. How many pairs there are
+// then.
+fn relist<'a>(
     types: &[u32],
     lists: &mut [u32],
     script: &'a [u8],
     library: &'a [u8],
     count: usize,
+    kind: u32,
     a: u32,
     b: u32,
-    room: u32,
+    c: u32,
 ) -> usize {
-    let end = least(tok::wide(room), lists.len());
-    let r = slots::bind_slots(types, script, library, a, b, &mut lists[0..end], count);
-    answered(types, script, library, r)
+    if kind == LIST {
+        add::set_pair(lists, tok::wide(a), b, c);
+        return count;
+    }
+    if kind == BIND {
+        let end = least(tok::wide(c), lists.len());
+        let r = slots::bind_slots(types, script, library, a, b, &mut lists[0..end], count);
+        return answered(types, script, library, r);
+    }
+    if kind == COUNT {
+        return tok::wide(a);
+    }
+    count
 }
 
 // Adding.
@@ -353,24 +365,20 @@ fn grown<'a>(
     }
 }
 
-// Puts words into the buffers: two into the types or the lists, or a part of the lists to the front of so many types.
-fn put(types: &mut [u32], lists: &mut [u32], kind: u32, a: u32, b: u32, c: u32) {
+// Puts two words into the types, or a part of the lists to the front of so many.
+fn put(types: &mut [u32], lists: &[u32], kind: u32, a: u32, b: u32, c: u32) {
     if kind == PAIR {
         add::set_pair(types, tok::wide(a), b, c);
-        return;
-    }
-    if kind == LIST {
-        add::set_pair(lists, tok::wide(a), b, c);
         return;
     }
     let end = least(tok::wide(b), types.len());
     number(bit(add::copy_pool(&mut types[0..end], part(lists, a))));
 }
 
-// Does what a command says; how many pairs there are then.
+// Commands that leave the lists as they are.
 fn obey<'a>(
     types: &mut [u32],
-    lists: &mut [u32],
+    lists: &[u32],
     script: &'a [u8],
     library: &'a [u8],
     count: usize,
@@ -378,43 +386,45 @@ fn obey<'a>(
     a: u32,
     b: u32,
     c: u32,
-) -> usize {
+) {
     if kind < OPTION {
         put(types, lists, kind, a, b, c);
-        return count;
-    }
-    if kind < BIND {
+    } else if kind < BOUND {
         grown(types, lists, script, library, count, kind, a, b, c);
-        return count;
-    }
-    if kind == COUNT {
-        return tok::wide(a);
-    }
-    if kind == BIND {
-        return bind(types, lists, script, library, count, a, b, c);
-    }
-    if kind == BOUND {
+    } else if kind == BOUND {
         bound(types, lists, script, library, count, a);
-        return count;
+    } else {
+        tell(types, script, library, kind, a, b, c);
     }
-    tell(types, script, library, kind, a, b, c);
-    count
 }
 
+// Each command goes to both functions, so that neither is lent more than one buffer to write; one of them has nothing to do.
 fn run<'a>(script: &'a [u8], library: &'a [u8], commands: usize) {
     let mut types = [0u32; 8448];
     let mut lists = [0u32; 256];
     let mut count = 0;
     for _ in 0..commands {
         let c = commands::next_command();
+        let kind = tok::kind(c.op);
         say(script, library, c.op);
-        count = obey(
-            &mut types,
+        count = relist(
+            &types,
             &mut lists,
             script,
             library,
             count,
-            tok::kind(c.op),
+            kind,
+            c.a,
+            c.b,
+            c.c,
+        );
+        obey(
+            &mut types,
+            &lists,
+            script,
+            library,
+            count,
+            kind,
             c.a,
             c.b,
             c.c,

@@ -18,17 +18,26 @@ loop-holds c = search needs
 next-command-requires : tie.Need-next-command-requires Inv-loop μ-loop
 next-command-requires c κs = search needs
 
+kind-requires : tie.Need-kind-requires Inv-loop μ-loop
+kind-requires c κs = search needs
+
 say-requires : tie.Need-say-requires Inv-loop μ-loop
 say-requires c κs = search needs
+
+slice-aggregate-relist : tie.Need-slice-aggregate-relist Inv-loop μ-loop
+slice-aggregate-relist c = search needs
+
+slice-aggregate-relist-2 : tie.Need-slice-aggregate-relist-2 Inv-loop μ-loop
+slice-aggregate-relist-2 c = search needs
+
+relist-requires : tie.Need-relist-requires Inv-loop μ-loop
+relist-requires c κs = search needs
 
 slice-aggregate-obey : tie.Need-slice-aggregate-obey Inv-loop μ-loop
 slice-aggregate-obey c = search needs
 
 slice-aggregate-obey-2 : tie.Need-slice-aggregate-obey-2 Inv-loop μ-loop
 slice-aggregate-obey-2 c = search needs
-
-kind-requires : tie.Need-kind-requires Inv-loop μ-loop
-kind-requires c κs = search needs
 
 obey-requires : tie.Need-obey-requires Inv-loop μ-loop
 obey-requires c κs = search needs
@@ -53,10 +62,13 @@ run-spec =
     μ-loop
     loop-holds
     next-command-requires
+    kind-requires
     say-requires
+    slice-aggregate-relist
+    slice-aggregate-relist-2
+    relist-requires
     slice-aggregate-obey
     slice-aggregate-obey-2
-    kind-requires
     obey-requires
     add-counter
     loop-less
