@@ -80,7 +80,10 @@ add-to c = omega (arith, to-low (c .before .before .before .before .before .befo
 
 -- src/lib.rt:53:9
 add-k : tie.Need-add-k Inv-loop μ-loop
-add-k c = search needs
+add-k c =
+    let c1 = c .before .before .before .before .before .before .before .before .before .before .before .before in
+    let c2 = c1 .before .before .before .before .before .before in
+    omega (arith, c1 .loop-test .taken, c2 .good)
 
 -- src/lib.rt:44:5
 loop-less : tie.Need-loop-less Inv-loop μ-loop
