@@ -1,4 +1,4 @@
-/* The type checker as a C function: libshelfstork.a (rt staticlib shelfstork), x86-64 Linux.
+/* The type checker as a C function: libshelfstork.a ((cd crates/shelfstork && rt lib)), x86-64 Linux.
  *
  * Inputs and answers are the words of docs/01-scope.md. The function is pure: it reads its inputs, writes the six lent buffers and the answer,
  * keeps nothing, allocates nothing and may be called from several threads at once. It needs at most 192 KB of stack (196,608 bytes below the

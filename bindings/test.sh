@@ -1,8 +1,8 @@
 #!/bin/sh
-# Builds and runs the C example, the tests of the Rust crate and the stack test against libshelfstork.a: of SHELFSTORK_LIB, else of ../target/staticlib.
+# Builds and runs the C example, the tests of the Rust crate and the stack test against libshelfstork.a: of SHELFSTORK_LIB, else of ../crates/shelfstork/out.
 set -eu
 cd "$(dirname "$0")"
-SHELFSTORK_LIB=$(cd "${SHELFSTORK_LIB:-../target/staticlib}" && pwd)
+SHELFSTORK_LIB=$(cd "${SHELFSTORK_LIB:-../crates/shelfstork/out}" && pwd)
 export SHELFSTORK_LIB
 made=$(mktemp -d)
 trap 'rm -rf "$made"' EXIT

@@ -58,6 +58,8 @@ def table(root):
     wanted = {n for n in wanted if re.match(r"[A-Za-z]", n) and not re.match(r"^[A-Z]", n)}
     plain = {snake(n) for n in names | known if "-" not in n} | {"length", "take", "drop", "set", "get_or", "map", "min", "max", "append"}
     made = {}
+    # names of the kit's, which lemmas here share
+    wanted -= {"append-nil", "and-false", "or-false"}
     for n in sorted(wanted):
         parts = [snake(p) for p in n.split("-")]
         out = parts[0]

@@ -1,6 +1,6 @@
 /* Checks the script of docs/01-scope.md, `let a = 1`, and then one with a fault, and prints what was found.
  *
- *     cc -std=c99 -I.. example.c -L../../target/staticlib -lshelfstork -o example && ./example
+ *     cc -std=c99 -I.. example.c -L../../crates/shelfstork/out -lshelfstork -o example && ./example
  */
 #include <inttypes.h>
 #include <stdio.h>

@@ -1,4 +1,4 @@
-//! Links libshelfstork.a: of SHELFSTORK_LIB, else of the repository's target/staticlib.
+//! Links libshelfstork.a: of SHELFSTORK_LIB, else of the repository's crates/shelfstork/out.
 
 use std::{env, path::PathBuf};
 
@@ -7,13 +7,13 @@ fn main() {
     let dir = match env::var_os("SHELFSTORK_LIB") {
         Some(dir) => PathBuf::from(dir),
         None => {
-            PathBuf::from(env::var_os("CARGO_MANIFEST_DIR").unwrap()).join("../../target/staticlib")
+            PathBuf::from(env::var_os("CARGO_MANIFEST_DIR").unwrap()).join("../../crates/shelfstork/out")
         }
     };
     let archive = dir.join("libshelfstork.a");
     assert!(
         archive.exists(),
-        "no {}: run `rt staticlib shelfstork`, or set SHELFSTORK_LIB",
+        "no {}: run `(cd crates/shelfstork && rt lib)`, or set SHELFSTORK_LIB",
         archive.display()
     );
     println!("cargo:rerun-if-changed={}", archive.display());

@@ -86,7 +86,7 @@ def group_of(name):
 
 def main():
     p = argparse.ArgumentParser(description=__doc__, formatter_class=argparse.RawDescriptionHelpFormatter)
-    p.add_argument("--lib", default=os.environ.get("SHELFSTORK_LIB") or os.path.join(HERE, "..", "..", "target", "staticlib"))
+    p.add_argument("--lib", default=os.environ.get("SHELFSTORK_LIB") or os.path.join(HERE, "..", "..", "crates", "shelfstork", "out"))
     p.add_argument("--all", action="store_true", help="print every shape")
     o = p.parse_args()
     named = list(shapes())

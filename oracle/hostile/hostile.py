@@ -7,7 +7,7 @@
 
 Without --case and --file: the stored worst cases (worst.txt), then N cases drawn from the families (towers.py, lists.py, wide.py) and N damaged ones. Prints the slowest
 and ends with the findings: cases over 50 ms and over four times the Rust. Status 1 if there is a finding that waits for nothing.
-Needs what ../speed/speed.py needs: target/staticlib/libshelfstork.a (another folder: SHELFSTORK_LIB) and ../build.sh.
+Needs what ../speed/speed.py needs: crates/shelfstork/out/libshelfstork.a (another folder: SHELFSTORK_LIB) and ../build.sh.
 """
 import argparse
 import os

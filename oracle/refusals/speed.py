@@ -1,7 +1,7 @@
 #!/usr/bin/env python3
 """How long refusals 1 to 6 take: the compiled program of crates/refusals_test on one case, many times over (user time, less the empty case's).
 
-  speed.py [PROGRAM]    default: ../../target/bin/refusals_test
+  speed.py [PROGRAM]    default: ../../crates/refusals_test/out/refusals_test
 """
 import os
 import subprocess

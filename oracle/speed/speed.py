@@ -3,7 +3,7 @@
 
   speed.py [--runs N] [--each N] [--seed S] [--tools DIR]
 
-Needs target/staticlib/libshelfstork.a (rt staticlib shelfstork; another folder: SHELFSTORK_LIB) and ../build.sh. Builds the driver in
+Needs crates/shelfstork/out/libshelfstork.a ((cd crates/shelfstork && rt lib); another folder: SHELFSTORK_LIB) and ../build.sh. Builds the driver in
 ../build/speed. --runs: runs of each case, of which the median counts; --each: random cases of each size.
 """
 import argparse

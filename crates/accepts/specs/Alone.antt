@@ -1,7 +1,7 @@
 -- "any or all of this": inputs that pass refusals 1 to 6 extend themselves by no package and by no statement. So packages alone, and statements
 -- alone, are instances of `Larger`. Assumes nothing.
 use Rattle.std.specs.Prelude.{ℕ, ◌+◌, ◌≤◌, ◌≡◌, refl, List, [], ◌∷◌, ◌++◌, length, get_or, take, drop}
-use Rattle.std.proofs.Common.{arith, add-zero, sym, ap, ◌∙◌, append_assoc, append_nil, take-append-drop, length-take-le, drop-cons, drop-drop}
+use Rattle.std.proofs.Common.{arith, add-zero, sym, ap, ◌∙◌, append_assoc, append-nil, take-append-drop, length-take-le, drop-cons, drop-drop}
 use Rattle.std.proofs.Math.Option.{none}
 use Rattle.std.proofs.lemmas.List.{drop-append-le}
 use Rattle.library.specs.Package.{pool_of}
@@ -63,10 +63,10 @@ same-library i i' b e t l =
       pool = [];
       packages = [];
       count = 0;
-      longer_text = t ∙ sym (append_nil i.library_text);
+      longer_text = t ∙ sym (append-nil i.library_text);
       longer =
           l
-          ∙ rw (add-zero (get_or i.library 0 0), add-zero (get_or i.library 1 0), append_nil (pool_of i.library), append_nil (package_words i.library))
+          ∙ rw (add-zero (get_or i.library 0 0), add-zero (get_or i.library 1 0), append-nil (pool_of i.library), append-nil (package_words i.library))
           (library-parts i.library (omega (arith, fine.pool_within)));
     }
 
@@ -85,7 +85,7 @@ same-script i i' b e t l = record {
     roots = [];
     nodes = [];
     types = [];
-    longer_text = t ∙ sym (append_nil i.script);
+    longer_text = t ∙ sym (append-nil i.script);
     longer =
         l
         ∙ rw (
@@ -93,12 +93,12 @@ same-script i i' b e t l = record {
           add-zero (type_count i.image),
           add-zero (root_count i.image),
           add-zero (slot_count i.image),
-          append_nil (root_words i.image),
-          append_nil (node_records i.image),
-          append_nil (type_records i.image),
+          append-nil (root_words i.image),
+          append-nil (node_records i.image),
+          append-nil (type_records i.image),
         )
         (image-parts (passed i b e).image);
-    whole = ap node_records l ∙ sym (append_nil (node_records i.image));
+    whole = ap node_records l ∙ sym (append-nil (node_records i.image));
   };
   no_roots = refl;
 }

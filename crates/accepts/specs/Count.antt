@@ -1,6 +1,6 @@
 -- Sums over lists, and how often a number stands in one. Refusal 4's tests (ast: `twice`) say that none stands there twice. Assumes nothing.
 use Rattle.std.specs.Prelude.{ℕ, zero, suc, ◌+◌, ◌*◌, ◌≤◌, ◌<◌, ◌≡◌, refl, Bool, true, false, ◌||◌, cond, List, [], ◌∷◌, ◌++◌, map, eqb}
-use Rattle.std.proofs.Common.{zero-mul, arith, sym, ◌∙◌, true≢false, eq-eqb, ne_eqb}
+use Rattle.std.proofs.Common.{zero-mul, arith, sym, ◌∙◌, true≢false, eq-eqb, ne_eqb, subst}
 use Rattle.std.proofs.Math.Decide.{ℕ_discrete}
 pub use Rattle.facts.specs.Tests.{neither}
 use Rattle.ast.specs.Claims.{among, twice}
@@ -116,11 +116,15 @@ up_to-none f x (suc k) h =
     let o : one k x ≡ 0 = one-other k x (λ e. omega arith) in
     rw (o, zero-mul (f k)) (omega (arith, up_to-none f x k (omega arith)))
 
+up_to-here : (f : ℕ → ℕ) (k : ℕ) → up_to (λ p. one p k * f p) (suc k) ≡ f k
+unfolding up_to
+up_to-here f k = rw (one_same k) (omega (arith, up_to-none f k k (omega arith)))
+
 up_to-one : (f : ℕ → ℕ) (x k : ℕ) → x < k → up_to (λ p. one p x * f p) k ≡ f x
 unfolding up_to
 up_to-one f x zero h = absurd (omega arith)
 up_to-one f x (suc k) h = elim (ℕ_discrete k x) [
-  | yes q ↦ rw (← q, one_same k) (omega (arith, up_to-none f k k (omega arith)))
+  | yes q ↦ subst (λ y. up_to (λ p. one p y * f p) (suc k) ≡ f y) q (up_to-here f k)
   | no n ↦ rw (one-other k x n, zero-mul (f k)) (omega (arith, up_to-one f x k (omega arith)))
 ]
 

@@ -1,5 +1,7 @@
 // Adds types to the types buffer: Option, Array, Record, and the library's pool (ptype.rs: arena.alloc, arena.alloc_slice).
 // A buffer is lent whole, with how many of its words are used. A word past the end reads as 0, and none is stored there.
+#![tactic(auto)]
+
 ghost use Rattle.std.specs.Prelude.{◌≡◌, List, [], ◌∷◌, ℕ, ◌+◌, ◌*◌, ◌<◌, ◌^◌, min, leb, length, set, replicate};
 ghost use Rattle.tok.specs.Word.{word_of};
 ghost use Rattle.tok.specs.Text.{Texts};
@@ -14,7 +16,7 @@ ghost use Rattle.add.specs.ShallowBy.{ShallowFound, shallow_found, shallow_by, a
 use ptype::{ARRAY, OPTION, RECORD};
 
 // The new type's word and how many words are used with it; no room (7); a type 33 deep (8).
-#[derive(Drop)]
+#[derive(Clone, Copy)]
 pub enum Added {
     Put(u32, usize),
     Full,

@@ -1,4 +1,6 @@
 // Puts types for the slots of a type (ptype.rs: apply_slot_binding).
+#![tactic(auto)]
+
 ghost use Rattle.std.specs.Prelude.{◌≡◌, true, List, ℕ, ◌+◌, ◌*◌, ◌<◌, ◌≤◌, ◌^◌, length, take};
 ghost use Rattle.tok.specs.Word.{word_of};
 ghost use Rattle.tok.specs.Text.{Texts, texts_of, name_bytes};

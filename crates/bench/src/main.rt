@@ -1,4 +1,5 @@
 // The printing program (document 01, "Bench rows"): reads a case from standard input and prints its rows.
+#![tactic(auto)]
 
 // One byte more than an input may have, so that a longer one is seen to be too long.
 const LONGEST: usize = 65_537;

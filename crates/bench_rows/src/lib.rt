@@ -1,1 +1,2 @@
 // Definitions only.
+#![tactic(auto)]

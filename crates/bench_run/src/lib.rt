@@ -1,4 +1,5 @@
 // From the printing program's input to its rows (document 01, "Bench rows"): the four parts are read, the check runs on them, the rows are printed.
+#![tactic(auto)]
 ghost use Rattle.std.specs.Prelude.{◌≡◌};
 ghost use Rattle.refusals.specs.Inputs.{Inputs, Buffers};
 ghost use Rattle.refuse.specs.Answer.{inputs_of, buffers_of};

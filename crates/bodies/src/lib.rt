@@ -1,4 +1,6 @@
 // Node::Fn before its body and after it, as the function that visits the body calls them.
+#![tactic(auto)]
+
 ghost use Rattle.std.specs.Prelude.{◌≡◌, List, ℕ};
 ghost use Rattle.tok.specs.Text.{Texts, texts_of};
 ghost use Rattle.library.specs.Package.{Package};
@@ -15,7 +17,7 @@ use tok::{wide, word_at};
 use visit::{Gave, State, Visit};
 
 // The return type's word and the state in which the body begins; or the rule's answer, where the name was met already or a refusal came.
-#[derive(Drop)]
+#[derive(Clone, Copy)]
 pub enum Begun {
     Body(u32, State),
     Ended(Visit),

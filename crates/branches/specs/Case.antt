@@ -39,7 +39,7 @@ use Rattle.ready.specs.Passes.{Passes, ready-then, ready-step, visit_passes}
 use Rattle.ready.specs.After.{nodes-proper, node-gives, after-node, after-condition, node-answer}
 use Rattle.ready.specs.Parts.{node-visit}
 use Rattle.ready.specs.Unvisited.{came_ok, visit-apart}
-use Rattle.walking.specs.Contracts.{ctx_in, NodeVisited, ListVisit, ListVisited, case_body, case_rule, CaseVisit, CaseVisited}
+use Rattle.walking.specs.Visited.{ctx_in, NodeVisited, ListVisit, ListVisited, case_body, case_rule, CaseVisit, CaseVisited}
 use Rattle.walking.specs.Blocks.{block-visits}
 use Rattle.walking.specs.Stops.{halted_of}
 use Rattle.branches.specs.Branches.{body_answer}

@@ -36,7 +36,7 @@ use Rattle.ready.specs.Parts.{match-room, cases-turn, cases-room}
 use Rattle.ready.specs.Unvisited.{match-fresh, block-visits-apart}
 use Rattle.ready.specs.Asked.{match-cases, default_nodes}
 use Rattle.walking.specs.Kinds.{Is}
-use Rattle.walking.specs.Contracts.{ctx_in, NodeVisited, ClassVisit, nodes_at, ListVisit, ListVisited, case_body, case_rule, CaseVisit, CaseVisited}
+use Rattle.walking.specs.Visited.{ctx_in, NodeVisited, ClassVisit, nodes_at, ListVisit, ListVisited, case_body, case_rule, CaseVisit, CaseVisited}
 use Rattle.walking.specs.Blocks.{block-visits}
 use Rattle.branches.specs.Branches.{branch_at, branches_from, cases-few, end_more, branches-more, branches-still}
 use Rattle.branches.specs.Case.{case-apart, case-told, after-case}

@@ -25,7 +25,7 @@ use Rattle.accepts.specs.Fresh.{visited_from, Fresh, Apart, fresh-rest, apart-th
 use Rattle.onerun.specs.Claim.{Run, AnswerOk}
 use Rattle.onerun.specs.Claim as C
 use Rattle.ready.specs.Ready.{walk_run}
-use Rattle.walking.specs.Contracts.{ctx_in, nodes_at, case_rule}
+use Rattle.walking.specs.Visited.{ctx_in, nodes_at, case_rule}
 use Rattle.branches.specs.Branches.{answer_of, is_field, node_answer, body_answer, last-is}
 
 -- ── A Field, by its kind ──

@@ -1,5 +1,7 @@
 // Node::Match beside its visits (typecheck/lib.rs): a case's condition, what its branches answered, and the branches compared with the
 // default. The buffers are lent in one order: slots, types, diagnostics, messages; then the two texts, the image, the places of its records.
+#![tactic(auto)]
+
 ghost use Rattle.std.specs.Prelude.{◌≡◌, List, ℕ, ◌+◌, ◌≤◌};
 ghost use Rattle.tok.specs.Text.{Texts, texts_of};
 ghost use Rattle.library.specs.Package.{Package};

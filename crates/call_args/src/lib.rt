@@ -1,5 +1,7 @@
 // Typechecker::check_call_args, of a function without slots: argument count, each argument, the return type.
 // The buffers are lent in one order: slots, types, diagnostics, messages; then the two texts, the image and the places of its records.
+#![tactic(auto)]
+
 ghost use Rattle.std.specs.Prelude.{◌≡◌, false, List, ℕ};
 ghost use Rattle.tok.specs.Text.{Texts, texts_of};
 ghost use Rattle.ast.specs.Node.{tree_of, slot_of};

@@ -11,9 +11,9 @@ use Rattle.rules.specs.Calls.{provided_of}
 use Rattle.call_args.specs.Given.{given_from}
 use Rattle.call_types.specs.Gather.{words_in}
 
-append_nil : (l : List ℕ) → l ++ [] ≡ l
-append_nil [] = refl
-append_nil (x ∷ xs) = ap (λ l. x ∷ l) (append_nil xs)
+append-nil : (l : List ℕ) → l ++ [] ≡ l
+append-nil [] = refl
+append-nil (x ∷ xs) = ap (λ l. x ∷ l) (append-nil xs)
 
 module _ (slots image : List ℕ) (args count : ℕ) where
   -- i words are gathered, the others are owed
@@ -33,7 +33,7 @@ module _ (slots image : List ℕ) (args count : ℕ) where
     all-gathered l =
         let z : count - i ≡ 0 = omega arith in
         let e : i ≡ count = omega (arith, g.within) in
-        sym (g.so ∙ rw z (append_nil (take i provided)) ∙ ap (λ k. take k provided) e)
+        sym (g.so ∙ rw z (append-nil (take i provided)) ∙ ap (λ k. take k provided) e)
 
     pub more-gathered : i < count → count ≤ length provided → {number slot wide w : ℕ} → number ≡ get_or image (args + i) 0 → slot ≡ slot_of (tree_of image number) → wide ≡ slot → w ≡ get_or slots wide 0
         → Gathered (set provided i w) (i + 1)

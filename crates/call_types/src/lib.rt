@@ -1,4 +1,6 @@
 // The types of a call's arguments, once they are visited: the words of their slots, gathered into a lent part of scratch.
+#![tactic(auto)]
+
 ghost use Rattle.std.specs.Prelude.{◌≡◌, take};
 ghost use Rattle.call_args.specs.Given.{given_from};
 ghost use Rattle.call_types.specs.Gather.{words_in, Gatherable};

@@ -36,7 +36,7 @@ use Rattle.ready.specs.After.{after-node}
 use Rattle.ready.specs.Parts.{nodes-turn, call-room, call-words}
 use Rattle.ready.specs.Unvisited.{call-fresh, nodes-fresh, visit-apart}
 use Rattle.walking.specs.Kinds.{Is}
-use Rattle.walking.specs.Contracts.{ctx_in, NodeVisited, ClassVisit, nodes_at}
+use Rattle.walking.specs.Visited.{ctx_in, NodeVisited, ClassVisit, nodes_at}
 use Rattle.calls.specs.Callees.{callee_at, is_through_field, call_end, CallAt, FieldCall, call-parts}
 
 -- ── The arguments that are left ──

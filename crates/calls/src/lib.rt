@@ -1,6 +1,8 @@
 // Node::Call (typecheck/lib.rs, `node`), around the visits of its arguments: what its target says, and the call once all are visited.
 // The buffers are lent in one order: slots, functions, types, diagnostics, messages, scratch; then the two texts, the image, the library's
 // words, the places of the image's records.
+#![tactic(auto)]
+
 ghost use Rattle.std.specs.Prelude.{◌≡◌, Bool, ◌||◌, List, ℕ, ◌+◌, get_or};
 ghost use Rattle.tok.specs.Text.{Texts, texts_of};
 ghost use Rattle.library.specs.Package.{Package};

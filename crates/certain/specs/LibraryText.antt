@@ -5,7 +5,7 @@ use Rattle.std.specs.Prelude.{Bool, true, false, ◌&&◌, ◌||◌, ◌≡◌, 
 use Rattle.std.proofs.Math.Bool.{not, and-eq-true_iff}
 use Rattle.std.proofs.Math.Path.{refl, ap, ap₂}
 use Rattle.std.proofs.Common.{sym, ◌∙◌, arith, lt-ltb, le-ltb}
-use mathlib.Core.List.{List, [], ◌∷◌, ◌++◌, map, append_nil}
+use mathlib.Core.List.{List, [], ◌∷◌, ◌++◌, map, append-nil}
 use Rattle.std.proofs.Math.Decide.{dec_lt}
 use Rattle.std.proofs.Math.ListN.{get_or}
 use Rattle.std.proofs.Math.Dec.{ltb, eqb}
@@ -145,7 +145,7 @@ module _ (s l : List ℕ) (size : ℕ) (pool : List ℕ) where
 
     tree-same : (w : ℕ) → Good w → pool_ty alone w ≡ pool_ty beside w
     unfolding pool_ty
-    tree-same w g = rw (append_nil l) at (unfolded-longer (texts_of [] l) s [] pool (type-names fine (size + 1) w (good_type-true alone size w g)))
+    tree-same w g = rw (append-nil l) at (unfolded-longer (texts_of [] l) s [] pool (type-names fine (size + 1) w (good_type-true alone size w g)))
 
     signature-same : (flag w : ℕ) → good_signature_type alone flag w ≡ good_signature_type beside flag w
     unfolding good_signature_type no_slot

@@ -40,7 +40,7 @@ use Rattle.room_laws.specs.Room.{rooms, rows_all}
 use Rattle.places.specs.Places.{places_of}
 use Rattle.ready.specs.Ready.{Ready}
 use Rattle.ready.specs.Given.{start_state, ready-start}
-use Rattle.walking.specs.Contracts.{ctx_in, nodes_at, ListVisit, ListVisited}
+use Rattle.walking.specs.Visited.{ctx_in, nodes_at, ListVisit, ListVisited}
 use Rattle.start.specs.Begin.{beginning, first_state, Starts, walk_begins}
 use Rattle.ending.specs.Ended.{over_of, EndsWell, WalkEnds}
 

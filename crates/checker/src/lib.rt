@@ -1,5 +1,6 @@
 // Typechecker::check: the check as a whole, for all inputs (document 01, "The walk", "Answers that end the check").
 // The buffers are lent in one order: slots, functions, types, diagnostics, messages, scratch.
+#![tactic(auto)]
 ghost use Rattle.std.specs.Prelude.{◌≡◌, List, ℕ};
 ghost use Rattle.std.proofs.Math.Option.{none};
 ghost use Rattle.refusals.specs.Inputs.{Inputs, Buffers};
@@ -11,7 +12,7 @@ ghost use Rattle.ast.specs.Image.{node_count, root_count};
 ghost use Rattle.places.specs.Places.{places_of};
 ghost use Rattle.state.specs.World.{no_more};
 ghost use Rattle.visit.specs.Whole.{Lent, lent};
-ghost use Rattle.walking.specs.Contracts.{ListVisit, ListVisited};
+ghost use Rattle.walking.specs.Visited.{ListVisit, ListVisited};
 ghost use Rattle.ending.specs.Ended.{ended_of, checked_of, EndsAs, WalkEnds};
 
 use ending::Checked;

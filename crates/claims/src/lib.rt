@@ -1,4 +1,6 @@
 // Refusal 4: "a node claimed twice as part or root, or a slot owned twice". The marks stand in local arrays.
+#![tactic(auto)]
+
 ghost use Rattle.std.specs.Prelude.{◌≡◌, [], ◌∷◌, ◌+◌, ◌*◌, ◌^◌, ◌≤◌, ◌<◌, length};
 ghost use Rattle.reader.specs.Reading.{offending};
 ghost use Rattle.ast.specs.Image.{node_count, root_count};

@@ -1,1 +1,2 @@
 // Two of the promises, proved of every input; no code.
+#![tactic(auto)]

@@ -1,5 +1,7 @@
 // The commands by which a program is told its cases: four lists and the lengths of all that it lends, of each case only the difference to the
 // one before it. oracle/replay/README.md says what each command does. What is told past the end of a list is left out.
+#![tactic(auto)]
+
 ghost use Rattle.std.specs.Prelude.{◌≡◌, ℕ, ◌+◌, ◌%◌, ◌^◌, ◌<◌, ◌≤◌, min, List, length, take, slice_index, slice_set};
 ghost use Rattle.commands.specs.Words.{word_in, ByteAt, CommandIn, SomeCommand};
 ghost use Rattle.commands.specs.Changes.{whole, low_byte, filled, four_bytes, lists, patterned, fill_of, data_of, changed};
@@ -38,7 +40,7 @@ pub const CASES: usize = 13;
 
 // Reading commands.
 
-#[derive(Drop)]
+#[derive(Clone, Copy)]
 pub struct Command {
     pub op: u32,
     pub a: u32,

@@ -1,1 +1,2 @@
 // Theorems about what the check answers; no code.
+#![tactic(auto)]

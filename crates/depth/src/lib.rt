@@ -1,4 +1,6 @@
 // Refusal 5: "depth 65". The depths of the nodes stand in a local array.
+#![tactic(auto)]
+
 ghost use Rattle.std.specs.Prelude.{◌≡◌, ◌+◌, ◌*◌, ◌^◌, ◌≤◌, ◌<◌, max, length, get_or, set};
 ghost use Rattle.reader.specs.Reading.{offending};
 ghost use Rattle.ast.specs.Image.{node_count};

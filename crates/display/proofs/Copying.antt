@@ -8,7 +8,7 @@ use lib.ListN.{length, take, drop, get_or, set, take-append-drop, length-drop}
 use lib.Seq.{take_all, take-suc}
 use Rattle.display.specs.declared.Wrote.TheVariants.{All, Full}
 use Rattle.display.specs.Writing.{Writes}
-use Rattle.display.specs.WritingLaws.{◌and-then◌, writes_byte, writes-past}
+use Rattle.display.specs.WritingLaws.{◌and_then◌, writes_byte, writes-past}
 
 module _ {o out : List ℕ} (s : List ℕ) (i : ℕ) (sofar : Writes o (All 0) out (All i) (take i s)) where
   pub copy_byte : i < length out → i < length s → Writes o (All 0) (set out i (get_or s i 0)) (All (i + 1)) (take (i + 1) s)

@@ -3,7 +3,7 @@ use Prim.Native.Nat.{ℕ, zero, suc, ◌+◌, ◌*◌, ◌-◌, ◌<◌}
 use mathlib.Core.Path.{◌≡◌, refl, sym, ap, ◌∙◌}
 use mathlib.Core.Bool.{Bool, true, false, ◌||◌, true≢false}
 use mathlib.Core.Logic.{⊎_elim}
-use mathlib.Core.List.{List, [], ◌++◌, append_nil, append_assoc}
+use mathlib.Core.List.{List, [], ◌++◌, append-nil, append_assoc}
 use native.Mathlib.Omega.{arith}
 use lib.ListN.{get_or}
 use borrow.Author.Tests.{ne_eqb}
@@ -70,7 +70,7 @@ module _ (t : Texts) (w : ℕ) {k : ℕ} (ek : k ≡ kind_of w) where
 
   pub shown-slot : {name : List ℕ} → k ≡ 10 → name ≡ name_bytes t w → show (unfolded t [] 1 w) ≡ name
   unfolding show openings closings
-  shown-slot h e = rw (unfolded-named t [] w {deep = 1} {f = 0} refl ek (rw h), h, e, append_nil)
+  shown-slot h e = rw (unfolded-named t [] w {deep = 1} {f = 0} refl ek (rw h), h, e, append-nil)
 
   pub shown-plain : Leaf (kind_of w) → (k ≡ 9 → ⊥) → (k ≡ 10 → ⊥) → show (unfolded t [] 1 w) ≡ get_or plain_names k []
   unfolding show

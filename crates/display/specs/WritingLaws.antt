@@ -1,7 +1,7 @@
 -- Laws of writers: one text after another is their concatenation; a part that was lent comes back with what was written into it. Assumes nothing.
 use Rattle.std.specs.Prelude.{ℕ, ◌+◌, ◌-◌, ◌≤◌, ◌<◌, ◌≡◌, refl, Bool, true, false, leb, take, drop, set}
 use Rattle.std.proofs.Common.{sym, ap, ◌∙◌, zero-add, add-zero, add_assoc, arith, length-append, length-take, take_all, le-leb, leb-true, leb-false}
-use mathlib.Core.List.{List, [], ◌∷◌, ◌++◌, append_nil}
+use mathlib.Core.List.{List, [], ◌∷◌, ◌++◌, append-nil}
 use Rattle.std.proofs.Math.Nat.{min-eq_left}
 use Rattle.std.proofs.Math.ListN.{length, length-drop, drop_of_length-le}
 use Rattle.std.proofs.lemmas.Bool.{lt-leb}
@@ -44,9 +44,9 @@ place-then o (All n) s t =
     (λ h. rw (place-full o n s h, place_after) (simp (length-append, lt-leb (n + (length s + length t)) (length o) (omega arith))))
 
 -- The law of writers: a text written after another is both, one after the other. As `◌++◌` is, it is read from the left.
-infixl 65 ◌and-then◌
-pub ◌and-then◌ : {o o₁ o₂ : List ℕ} {at r₁ r₂ : Wrote} {s t : List ℕ} → Writes o at o₁ r₁ s → Writes o₁ r₁ o₂ r₂ t → Writes o at o₂ r₂ (s ++ t)
-◌and-then◌ {o} {o₁} {o₂} {at} {r₁} {r₂} {s} {t} p q = record { bytes = cc (bytes-then o at s t); answer = cc (place-then o at s t) }
+infixl 65 ◌and_then◌
+pub ◌and_then◌ : {o o₁ o₂ : List ℕ} {at r₁ r₂ : Wrote} {s t : List ℕ} → Writes o at o₁ r₁ s → Writes o₁ r₁ o₂ r₂ t → Writes o at o₂ r₂ (s ++ t)
+◌and_then◌ {o} {o₁} {o₂} {at} {r₁} {r₂} {s} {t} p q = record { bytes = cc (bytes-then o at s t); answer = cc (place-then o at s t) }
 
 -- the same text in other words
 pub writes_as : {o o' : List ℕ} {at r : Wrote} {s t : List ℕ} → s ≡ t → Writes o at o' r t → Writes o at o' r s
@@ -114,7 +114,7 @@ module _ (o : List ℕ) {l : List ℕ} {at r : Wrote} {n : ℕ} {s : List ℕ} (
 
   rest-bytes : put_back o n (length o) l ≡ buffer_after o at s
   unfolding write buffer_after
-  rest-bytes = rw (e, buffer_after, drop_of_length-le (drop n o) {i = length o - n} (simp length-drop (omega arith)), append_nil, p.bytes, all-of_it)
+  rest-bytes = rw (e, buffer_after, drop_of_length-le (drop n o) {i = length o - n} (simp length-drop (omega arith)), append-nil, p.bytes, all-of_it)
 
   rest-length : length (lent o n (length o)) ≡ length o - n
   rest-length = length-lent o n (length o) (omega arith)

@@ -1,4 +1,6 @@
 // Writing pieces, numbers, types and signatures into the rest of a message buffer (`format!`, `impl Display`).
+#![tactic(auto)]
+
 ghost use Rattle.std.specs.Prelude.{◌≡◌, [], ◌∷◌, ◌++◌, map, ◌+◌, ◌*◌, ◌^◌, ◌≤◌, ◌<◌, get_or};
 ghost use Rattle.tok.specs.Word.{kind_of};
 ghost use Rattle.tok.specs.Text.{Texts, texts_of};
@@ -14,7 +16,7 @@ ghost use Rattle.display.specs.Pieces.{one_of};
 ghost use Rattle.display.specs.Signature.{show_signature, arg_types, args_of, ret_of};
 
 // The place where the next piece goes, or that a piece had no room.
-#[derive(Drop)]
+#[derive(Clone, Copy)]
 pub enum Wrote {
     All(usize),
     Full,

@@ -1,5 +1,7 @@
 // How the check ends (document 01, "Answers that end the check"): what it answers, and what it leaves in the buffers. Nothing here visits a node.
 // The buffers are lent in one order: slots, functions, types, diagnostics, messages, scratch.
+#![tactic(auto)]
+
 ghost use Rattle.std.specs.Prelude.{◌≡◌, List, ℕ, ◌≤◌, length};
 ghost use Rattle.refusals.specs.Inputs.{Buffers};
 ghost use Rattle.refuse.specs.Answer.{buffers_of};
@@ -14,7 +16,7 @@ use refuse::Before;
 use visit::{State, Visit};
 
 // What the check answers: how many function words, type words, diagnostics and message bytes are used; or a refusal's number and place.
-#[derive(Drop)]
+#[derive(Clone, Copy)]
 pub enum Checked {
     Done {
         function_words: usize,

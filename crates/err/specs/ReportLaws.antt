@@ -14,7 +14,7 @@ use Rattle.ptype.specs.Add.{buffer, write, append}
 use Rattle.display.specs.declared.Wrote.{Wrote}
 use Rattle.display.specs.declared.Wrote.TheVariants.{All, Full}
 use Rattle.display.specs.Writing.{buffer_after, Writes}
-use Rattle.display.specs.WritingLaws.{◌and-then◌, writes-length, all_wrote, full_wrote, writes_nothing, writes-full}
+use Rattle.display.specs.WritingLaws.{◌and_then◌, writes-length, all_wrote, full_wrote, writes_nothing, writes-full}
 use Rattle.display.specs.WriteLaws.{write-one, write-append}
 use Rattle.err.specs.declared.Counts.{Counts}
 use Rattle.err.specs.declared.Reported.{Reported}

@@ -1,4 +1,6 @@
 // The diagnostics of a call's arguments (err.rs, `arg_mismatch`, `slot_bind_error`).
+#![tactic(auto)]
+
 ghost use Rattle.std.specs.Prelude.{ℕ};
 ghost use Rattle.tok.specs.Text.{Texts, texts_of, name_bytes};
 ghost use Rattle.ptype.specs.Ty.{Ty};

@@ -1,4 +1,6 @@
 // The diagnostics of calls (err.rs; typecheck/lib.rs, `resolve_call`, `resolve_pkg_call`, `check_call_args`).
+#![tactic(auto)]
+
 ghost use Rattle.std.specs.Prelude.{ℕ, map};
 ghost use Rattle.tok.specs.Text.{Texts, texts_of, name_bytes, text};
 ghost use Rattle.ptype.specs.Ty.{Ty};

@@ -1,4 +1,6 @@
 // The diagnostics of names, functions, matches and imports (typecheck/lib.rs).
+#![tactic(auto)]
+
 ghost use Rattle.std.specs.Prelude.{ℕ};
 ghost use Rattle.tok.specs.Text.{Texts, texts_of, name_bytes};
 ghost use Rattle.ptype.specs.Ty.{Ty};

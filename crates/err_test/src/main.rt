@@ -2,6 +2,8 @@
 // Input and expected output are made by oracle/err_test/make_err_test.py: the Rust's own answers to scripts that raise these diagnostics.
 // The input: six little-endian words, the lengths of the parts; then the script text, the library text, the words of the types buffer, of the
 // library's functions, of lists, and of the cases, eight to a case: the code and the parameters of its function.
+#![tactic(auto)]
+
 ghost use Rattle.std.specs.Prelude.{◌≡◌, ◌<◌};
 
 use err::{CallName, Counts, Reported};
@@ -38,7 +40,7 @@ fn words_in<'a>(s: &'a [u32], at: usize, len: usize) -> &'a [u32] {
 
 // Cases.
 
-#[derive(Drop)]
+#[derive(Clone, Copy)]
 struct Case {
     code: u32,
     a: u32,

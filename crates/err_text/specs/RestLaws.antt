@@ -1,7 +1,7 @@
 -- What is written into the rest of the message buffer is written in the whole buffer from the first free byte on. Assumes nothing.
 use Rattle.std.specs.Prelude.{ℕ, ◌+◌, ◌-◌, ◌≤◌, ◌<◌, ◌≡◌, refl, Bool, true, false, List, [], ◌∷◌, ◌++◌, leb, take, drop}
 use Rattle.std.proofs.Math.Path.{ap}
-use Rattle.std.proofs.Common.{◌∙◌, append_nil, zero-add, suc-add, add-zero, add_assoc, length-take, length-drop, take-append-drop, drop_of_length-le, take_all, leb-true, leb-false}
+use Rattle.std.proofs.Common.{◌∙◌, append-nil, zero-add, suc-add, add-zero, add_assoc, length-take, length-drop, take-append-drop, drop_of_length-le, take_all, leb-true, leb-false}
 use native.Mathlib.Omega.{arith}
 use Rattle.std.proofs.Math.ListN.{length, length-append}
 use Rattle.facts.specs.Tests.{by_order}
@@ -11,7 +11,7 @@ use Rattle.display.specs.declared.Wrote.{Wrote}
 use Rattle.display.specs.declared.Wrote.TheVariants.{All, Full}
 use Rattle.display.specs.Writing.{place_after, buffer_after, Writes}
 use Rattle.display.specs.WriteLaws.{write-past}
-use Rattle.display.specs.WritingLaws.{◌and-then◌, all_wrote, writes-past, place-room, place-full, lent, put_back}
+use Rattle.display.specs.WritingLaws.{◌and_then◌, all_wrote, writes-past, place-room, place-full, lent, put_back}
 use Rattle.err.specs.declared.Counts.{Counts}
 use Rattle.err.specs.declared.Reported.{Reported}
 use Rattle.err.specs.Message.{Diagnostic}
@@ -124,4 +124,4 @@ told_in_whole ms {d} {ds} {ds'} {l} {c} {r} {at} e p =
     let t : drop (length ms - at) (drop at ms) ≡ [] = drop_of_length-le (drop at ms) {i = length ms - at} (simp length-drop (omega arith)) in
     let w : take at ms ++ drop at ms ≡ ms = take-append-drop at ms in
     let n : length (take at ms) ≡ at = length-take at ms ∙ omega arith in
-    rw (t, append_nil) (rw (a, w) at (p.whole (take at ms) (rw (a, w, n) e)))
+    rw (t, append-nil) (rw (a, w) at (p.whole (take at ms) (rw (a, w, n) e)))

@@ -1,4 +1,6 @@
 // A diagnostic's record, and the pieces that several messages have (err.rs; typedefs.rs, `CallName`).
+#![tactic(auto)]
+
 ghost use Rattle.std.specs.Prelude.{◌≡◌, [], ◌∷◌, ◌+◌, ◌*◌, ◌≤◌, length};
 ghost use Rattle.tok.specs.Text.{Texts, texts_of, name_bytes};
 ghost use Rattle.ptype.specs.Add.{write};
@@ -89,7 +91,7 @@ pub fn report(
     message: Wrote,
     primary: Wrote,
 ) -> Reported
-    ensures record { diagnostics.new ≡ placed diagnostics.old counts code span (in_whole counts message) (in_whole counts primary) }
+    ensures six_words { diagnostics.new ≡ placed diagnostics.old counts code span (in_whole counts message) (in_whole counts primary) }
     ensures answer { result ≡ placed_answer diagnostics.old counts (in_whole counts message) (in_whole counts primary) }
 {
     let Wrote::All(m) = message else {

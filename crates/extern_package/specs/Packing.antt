@@ -102,5 +102,5 @@ first-room {image} {places} {scratch} {from} {end} {k} {at} f room long = by f.f
 -- as many words in scratch as in the image, and three for the package
 pub extern-size : {text image : List ℕ} {end at : ℕ} (k : ℕ) → FunctionsWords (counts_in text image) image end at k → extern_words (externs_from image at k) ≡ 3 + (end - at)
 unfolding extern_words externs_from
-extern-size zero (no_functions e) = omega arith
-extern-size {image = image} {at = at} (suc k) (function_words a b c rest) = omega (arith, extern-size k rest, functions-after rest, length-args image (at + 3) (word_at image (at + 2)))
+extern-size {text = text} {image = image} {end = end} {at = at} zero (no_functions e) = omega arith
+extern-size {text = text} {image = image} {end = end} {at = at} (suc k) (function_words a b c rest) = omega (arith, extern-size {text = text} {image = image} {end = end} {at = at + 3 + 2 * word_at image (at + 2)} k rest, functions-after rest, length-args image (at + 3) (word_at image (at + 2)))

@@ -1,5 +1,7 @@
 // Node::Extern: a package of its own, kept in scratch below the packages held (typecheck/lib.rs, register_extern).
 // The buffers are lent in one order: slots, types, scratch; then the image and the places of its records.
+#![tactic(auto)]
+
 ghost use Rattle.std.specs.Prelude.{◌≡◌, List, ℕ, ◌+◌, ◌*◌, ◌^◌, ◌≤◌, ◌<◌};
 ghost use Rattle.tok.specs.Text.{Texts};
 ghost use Rattle.library.specs.Package.{Package};

@@ -21,7 +21,7 @@ use Rattle.accepts.specs.OtherSlots.{owned, own-owned}
 use Rattle.accepts.specs.Fresh.{visited_from, Apart}
 use Rattle.onerun.specs.Claim.{Run, AnswerOk}
 use Rattle.onerun.specs.Claim as C
-use Rattle.walking.specs.Contracts.{values_at}
+use Rattle.walking.specs.Visited.{values_at}
 
 -- the type word of a value, of the word in its slot: Unknown where it has no type
 unfoldable pub value_of : (word : ℕ) → ℕ

@@ -37,7 +37,7 @@ use Rattle.ready.specs.Parts as R
 use Rattle.ready.specs.Parts.{values-turn}
 use Rattle.ready.specs.Unvisited.{came_ok, record_fresh, values-fresh, visit-apart}
 use Rattle.walking.specs.Kinds.{Is}
-use Rattle.walking.specs.Contracts.{ctx_in, NodeVisited, ClassVisit, values_at}
+use Rattle.walking.specs.Visited.{ctx_in, NodeVisited, ClassVisit, values_at}
 use Rattle.fields.specs.Read.{node_value, pairs_read, read_more, read-still, value-told}
 use Rattle.fields.specs.Parts.{record_of}
 

@@ -1,5 +1,7 @@
 // The type of a Record (typecheck/lib.rs, `node`: Node::Record) once its values are visited: room for all of its fields first, then the
 // pairs, then the measure and the node's slot. The values' types are read from their slots, so that nothing is kept while they are visited.
+#![tactic(auto)]
+
 ghost use Rattle.std.specs.Prelude.{◌≡◌, List, ℕ, ◌+◌, ◌≤◌, get_or};
 ghost use Rattle.tok.specs.Text.{Texts};
 ghost use Rattle.ptype.specs.Add.{write};

@@ -1,5 +1,7 @@
 // A function that is defined (typecheck/lib.rs, Node::Fn): whether its name was met, what comes before its body, and what comes after.
 // The buffers are lent in one order: slots, functions, types, diagnostics, messages, scratch; then the two texts, the image, its places.
+#![tactic(auto)]
+
 ghost use Rattle.std.specs.Prelude.{◌≡◌, List, ℕ, ◌+◌, ◌*◌, ◌^◌, ◌≤◌, ◌<◌, length};
 ghost use Rattle.tok.specs.Text.{Texts, texts_of};
 ghost use Rattle.ptype.specs.Add.{write};
@@ -25,7 +27,7 @@ use type_expr::type_from_type_expr;
 use visit::{Gave, State, Visit, Walked};
 
 // Whether the name is new, or was met: then what the rule answers.
-#[derive(Drop)]
+#[derive(Clone, Copy)]
 pub enum Met {
     New,
     Already(Visit),

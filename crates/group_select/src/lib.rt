@@ -1,6 +1,8 @@
 // A call of a package group of several, after its arguments are visited (typecheck/lib.rs, `resolve_pkg_call`; err.rs,
 // `specialisation_miss_error`). The types of the arguments are lent as words; the candidates are found one after the other, each time they
 // are asked for, so that no place of theirs is kept.
+#![tactic(auto)]
+
 ghost use Rattle.std.specs.Prelude.{◌≡◌, Bool, map, ℕ, ◌+◌, ◌≤◌, length};
 ghost use Rattle.tok.specs.Text.{Texts, texts_of, text};
 ghost use Rattle.ptype.specs.Ty.{Ty};

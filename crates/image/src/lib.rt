@@ -1,4 +1,6 @@
 // Reading an image: counts, roots, node records, type records, nothing after (document 01, "Words"; refusal 3).
+#![tactic(auto)]
+
 ghost use Rattle.std.specs.Prelude.{◌≡◌, ◌&&◌, List, [], ℕ, ◌%◌, ◌≤◌, length, leb, eqb};
 ghost use Rattle.tok.specs.Text.{texts_of};
 ghost use Rattle.tok.specs.Word.{kind_of};

@@ -1,1 +1,2 @@
 // Laws of reading an image: no code.
+#![tactic(auto)]

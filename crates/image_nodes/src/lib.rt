@@ -1,4 +1,6 @@
 // The node records of an image (document 01, "Words"): each kind's words, read forward.
+#![tactic(auto)]
+
 ghost use Rattle.std.specs.Prelude.{◌≡◌, ◌&&◌, ◌||◌, List, ℕ, ◌+◌, ◌*◌, ◌-◌, ◌%◌, get_or, leb, ltb, eqb};
 ghost use Rattle.tok.specs.Word.{kind_of};
 ghost use Rattle.reader.specs.Reading.{onward, gave, place_of};
@@ -13,7 +15,7 @@ use image_words::{between, less, names, numbers, pairs, stopped, token};
 use reader::Reading;
 
 // The counts of an image that its records go by.
-#[derive(Drop)]
+#[derive(Clone, Copy)]
 pub struct Sizes {
     pub nodes: usize,
     pub types: usize,
@@ -21,7 +23,7 @@ pub struct Sizes {
 }
 
 // Where a node record is read: the counts of the image, the node's number, kind and slot, and how many words follow the slot.
-#[derive(Drop)]
+#[derive(Clone, Copy)]
 pub struct Site {
     pub nodes: usize,
     pub types: usize,

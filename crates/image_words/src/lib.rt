@@ -1,4 +1,6 @@
 // Words of an image's records, read forward: names, numbers below others, lists of them (document 01, "Words").
+#![tactic(auto)]
+
 ghost use Rattle.std.specs.Prelude.{◌≡◌, ◌-◌};
 ghost use Rattle.utf8.specs.Rfc3629.{range};
 ghost use Rattle.tok.specs.Name.{good_name, in_script};

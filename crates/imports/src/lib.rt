@@ -1,5 +1,7 @@
 // Node::Import: packages of the library are held (typecheck/lib.rs).
 // The buffers are lent in one order: diagnostics, messages, scratch; then the two texts, and the words of the library.
+#![tactic(auto)]
+
 ghost use Rattle.std.specs.Prelude.{◌≡◌, List, ℕ, ◌+◌, ◌≤◌, ◌<◌};
 ghost use Rattle.tok.specs.Text.{Texts, texts_of};
 ghost use Rattle.library.specs.Package.{packages_of};

@@ -1,1 +1,2 @@
 // Theorems over the rules; no code.
+#![tactic(auto)]

@@ -22,7 +22,7 @@ use Rattle.visit.specs.Free.{Free, free-top}
 use Rattle.imports.specs.Holding.{import_rule, CanHoldAll}
 use Rattle.extern_package.specs.Packing.{extern_rule, ExternReady}
 use Rattle.walking.specs.Kinds.{Leaf, is-extern}
-use Rattle.walking.specs.Contracts.{NodeVisited}
+use Rattle.walking.specs.Visited.{NodeVisited}
 
 -- a node of an accepted image whose kind is such a one, room for what it adds, and an accepted library
 pub record LeafReady (T : Texts) (image places words : List ℕ) (n : ℕ) (st : State) (scratch : List ℕ) : Type 0 where

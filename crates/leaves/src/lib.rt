@@ -1,10 +1,12 @@
 // The nodes below which nothing is visited (typecheck/lib.rs, `node`): Atom, Ident, Import, Extern.
+#![tactic(auto)]
+
 ghost use Rattle.std.specs.Prelude.{◌≡◌, List, ℕ, ◌<◌};
 ghost use Rattle.tok.specs.Text.{Texts, texts_of};
 ghost use Rattle.tok.specs.Word.{word_of};
 ghost use Rattle.state.specs.World.{More};
 ghost use Rattle.visit.specs.Whole.{Lent, lent};
-ghost use Rattle.walking.specs.Contracts.{NodeVisited};
+ghost use Rattle.walking.specs.Visited.{NodeVisited};
 ghost use Rattle.leaves.specs.Leaves.{LeafReady};
 
 use tok::{kind, payload, word_at};

@@ -5,7 +5,7 @@ use Rattle.std.specs.Prelude.{◌≡◌, Bool, true, false, ◌&&◌, ◌||◌, 
 use Rattle.std.proofs.Math.Path.{refl, subst}
 use Rattle.std.proofs.Common.{sym, ◌∙◌, eqb-true, ne_eqb}
 use Rattle.std.proofs.Math.Bool.{and-eq-true_iff}
-use mathlib.Core.List.{List, [], ◌∷◌, ◌++◌, map, append_assoc, append_nil}
+use mathlib.Core.List.{List, [], ◌∷◌, ◌++◌, map, append_assoc, append-nil}
 use native.Mathlib.Omega.{arith}
 use Rattle.std.proofs.Math.Decide.{ℕ_discrete}
 use Rattle.std.proofs.Math.ListN.{get_or}
@@ -133,7 +133,7 @@ module _ (p : Pool) (words : List ℕ) where
       (function_records p k before (standing words at least))
   unfolding function_records functions_from functions_end Each GroupsFine
   functions-reads zero before at least w =
-      subst (λ fs. Reads words fs at (FunctionsShown p before []) (ok before (standing words at least))) (sym (append_nil before))
+      subst (λ fs. Reads words fs at (FunctionsShown p before []) (ok before (standing words at least))) (sym (append-nil before))
       (reads least (w refl) (record { fine = tt; groups = tt }))
   functions-reads (suc k) before at least w =
       let f : Function = function_at words at in

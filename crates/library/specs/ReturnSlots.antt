@@ -6,7 +6,7 @@ use Rattle.std.proofs.Common.{◌∙◌, true≢false, arith}
 use Rattle.std.proofs.Math.Logic.{inl, inr}
 use Rattle.std.proofs.Math.Bool.{true, false, and-eq-true_iff, or-true, and-true, and-false}
 use Rattle.std.proofs.lemmas.Bool.{false≢true}
-use mathlib.Core.List.{List, [], ◌∷◌, append_nil}
+use mathlib.Core.List.{List, [], ◌∷◌, append-nil}
 use Rattle.std.proofs.Math.Decide.{ℕ_discrete}
 use borrow.Author.Tests.{eq-eqb, ne_eqb, eqb-true, not-true}
 use Rattle.facts.specs.Tests.{neither}
@@ -141,7 +141,7 @@ module _ (t : Texts) (types : List ℕ) (fine : PoolFine (pool_in t types)) (roo
     ret-names d n =
         let h = among-is (ret ∷ []) n (goodRet, tt) in
         let s : is_slot t n ret ≡ false = rw (ne_eqb (kind_of ret) 10 d) refl in
-        ap (name_among n) (sym (append_nil _)) ∙ sym h ∙ rw s refl
+        ap (name_among n) (sym (append-nil _)) ∙ sym h ∙ rw s refl
 
     missed-slot : (i : ℕ) → missed i ≡ true → (kind_of (get_or types i 0) ≡ 10) × (name_among (name_bytes t (get_or types i 0)) (slot_names_of (pool_in t types) args) ≡ false)
     unfolding missing

@@ -5,7 +5,7 @@ use Rattle.std.specs.Prelude.{◌≡◌, cond, ◌&&◌, ◌||◌, set, eqb}
 use Rattle.std.proofs.Math.Path.{refl, sym, ap}
 use Rattle.std.proofs.Common.{◌∙◌, true≢false}
 use Rattle.std.proofs.Math.Logic.{inl, inr}
-use Rattle.std.proofs.Math.Bool.{Bool, true, false, or_assoc, or_false}
+use Rattle.std.proofs.Math.Bool.{Bool, true, false, or_assoc, or-false}
 use mathlib.Core.List.{List, [], ◌∷◌, ◌++◌}
 use native.Mathlib.Omega.{arith}
 use Rattle.std.proofs.Math.Decide.{ℕ_discrete}
@@ -174,7 +174,7 @@ module _ (p : Pool) (name : List ℕ) where
   unfolding is_slot slot_names name_among
   stands-named w h = elim (one_of 9 10 (kind_of w) h) [
     | inl e ↦ rw (pool_ty-named p w h, e) refl
-    | inr e ↦ rw (pool_ty-named p w h, e) (or_false (same_bytes name (name_bytes p.texts w)))
+    | inr e ↦ rw (pool_ty-named p w h, e) (or-false (same_bytes name (name_bytes p.texts w)))
   ]
 
   module _ (fine : PoolFine p) where
@@ -267,13 +267,11 @@ module _ (p : Pool) (name : List ℕ) where
     unfolding any_marked
     any_spread zero l marks room = refl
     any_spread (suc i) l marks room =
-        rw (
-          spread-suc i marks,
-          kept-spread i i (omega arith) (omega arith) (step i marks),
-          kept_step i i (omega arith) (omega arith) marks,
-          any_spread i (omega arith) (step i marks) (rw length-step (omega arith)),
-        )
-        (any_step i (omega arith) marks (omega arith))
+        ap (λ s. any_marked s slot_at (suc i)) (spread-suc i marks)
+        ∙ ap (λ b. eqb b 1 && slot_at i || any_marked (spread p.words i (step i marks)) slot_at i)
+        (kept-spread i i (omega arith) (omega arith) (step i marks) ∙ kept_step i i (omega arith) (omega arith) marks)
+        ∙ ap (λ b. eqb (get_or marks i 0) 1 && slot_at i || b) (any_spread i (omega arith) (step i marks) (rw length-step (omega arith)))
+        ∙ any_step i (omega arith) marks (omega arith)
 
     -- marking some types
     any_all : (ws marks : List ℕ) → Each (TypeWord p p.size) ws → p.size ≤ length marks
@@ -303,4 +301,4 @@ module _ (p : Pool) (name : List ℕ) where
   slots-reached fine ws marks h z room =
       ap (λ b. any_slot_of p.texts name ws || b) (any_spread fine p.size (omega arith) (mark_all p.words ws marks) (rw length-mark_all room))
       ∙ any_all fine ws marks h room
-      ∙ rw (any_none stands_at marks z p.size) (or_false _)
+      ∙ rw (any_none stands_at marks z p.size) (or-false _)

@@ -1,5 +1,7 @@
 // "A group of several in one package has flag 0": up to which function the rule is certain to hold in a package, found by its functions in the
 // order of their names. Functions from there on are asked one by one (crate library_read).
+#![tactic(auto)]
+
 ghost use Rattle.std.specs.Prelude.{◌≡◌};
 ghost use Rattle.tok.specs.Text.{Texts, texts_of};
 ghost use Rattle.library_groups.specs.Kept.{GroupsKept, FunctionsListed, ListedEnd, NoneSlotted, Lowest, FaultAt, FaultsFrom, FirstFault};

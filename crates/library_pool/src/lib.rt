@@ -1,4 +1,6 @@
 // The library's pool and its type words (document 01, "Words"): which are good, and reading the pool forward.
+#![tactic(auto)]
+
 ghost use Rattle.std.specs.Prelude.{◌≡◌, List, ℕ, ◌+◌, ◌*◌, ◌<◌, ◌^◌};
 ghost use Rattle.utf8.specs.Rfc3629.{range};
 ghost use Rattle.tok.specs.Word.{kind_of, payload_of};

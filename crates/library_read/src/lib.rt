@@ -1,5 +1,7 @@
 // Reading a library (document 01, "Words" and "Answers that end the check"): refusal 2 and its place. The pool is read first; what is
 // said of the packages holds where it was accepted and its slots are counted, `Ready`.
+#![tactic(auto)]
+
 ghost use Rattle.std.specs.Prelude.{◌≡◌, true, false, ◌&&◌, List, [], map, ℕ, ◌+◌, ◌*◌, length, get_or, take, drop};
 ghost use Rattle.tok.specs.Text.{Texts, texts_of};
 ghost use Rattle.tok.specs.Reader.{many};

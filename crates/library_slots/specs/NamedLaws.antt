@@ -2,7 +2,7 @@
 use Prim.Native.Nat.{ℕ, zero, suc, ◌+◌, ◌-◌, ◌*◌, ◌/◌, ◌%◌, ◌≤◌, ◌<◌}
 use Rattle.std.specs.Prelude.{◌≡◌, ◌⊎◌, Bool, ◌&&◌, ◌||◌, List, [], ◌∷◌, map, eqb, leb, ltb}
 use Rattle.std.proofs.Math.Path.{refl, sym, ap}
-use Rattle.std.proofs.Common.{subst, ◌∙◌, true≢false, append_nil}
+use Rattle.std.proofs.Common.{subst, ◌∙◌, true≢false, append-nil}
 use Rattle.std.proofs.Math.Logic.{inl, inr}
 use Rattle.std.proofs.Math.Bool.{true, false, and-eq-true_iff, or-true}
 use Rattle.std.proofs.lemmas.Bool.{false≢true}
@@ -139,7 +139,7 @@ module _ (t : Texts) (words types order : List ℕ) (n : ℕ) (listed : SlotsLis
 
   ret-is : (name : List ℕ) → among_marked t types (ret ∷ []) (reached_from types (ret ∷ [])) name ≡ name_among name (slot_names (pool_ty (pool_in t types) ret))
   unfolding slot_names_of Each
-  ret-is name = among-is (ret ∷ []) name (goodRet, tt) ∙ ap (name_among name) (append_nil _)
+  ret-is name = among-is (ret ∷ []) name (goodRet, tt) ∙ ap (name_among name) (append-nil _)
 
   abbrev arg_test : ℕ → Bool
   arg_test p = have p || in_pool (length types) (reached_from types args) p

@@ -1,6 +1,8 @@
 // The slots that stand in library types (document 01, "Words": "Slots stand only under flag 1; a slot of the return type stands in some
 // argument"), found by counts and marks on the pool: no type is unfolded, since a pool of records that each hold the last twice doubles
 // with every level.
+#![tactic(auto)]
+
 ghost use Rattle.std.specs.Prelude.{◌≡◌, cond, List, ℕ, ◌+◌, ◌*◌, ◌≤◌, ◌<◌, ◌^◌, min, length, get_or, set, eqb};
 ghost use Rattle.tok.specs.Text.{Texts, texts_of, name_bytes};
 ghost use Rattle.ptype.specs.Kinds.{wraps};

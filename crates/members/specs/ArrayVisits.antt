@@ -39,7 +39,7 @@ use Rattle.ready.specs.After.{after-node, member-gives}
 use Rattle.ready.specs.Parts.{nodes-turn}
 use Rattle.ready.specs.Unvisited.{array-fresh, nodes-fresh, visit-apart}
 use Rattle.walking.specs.Kinds.{Is}
-use Rattle.walking.specs.Contracts.{ctx_in, NodeVisited, ClassVisit, nodes_at}
+use Rattle.walking.specs.Visited.{ctx_in, NodeVisited, ClassVisit, nodes_at}
 use Rattle.members.specs.declared.Turn.{Turn}
 use Rattle.members.specs.declared.Turn.TheVariants as R
 use Rattle.members.specs.Turns.{turn_of, member_turn, turn_in, KeepsTurn, goes, ends, Turns, Ended, by_difference, by-refusal, ended_of, rest_of, members-turn}

@@ -1,5 +1,7 @@
 // An Array's members (typecheck/lib.rs, `node`: Node::Array), around their visits: each is compared with the first when it is visited, and
 // one that differs ends the visits.
+#![tactic(auto)]
+
 ghost use Rattle.std.specs.Prelude.{◌≡◌, List, ℕ, ◌+◌, ◌≤◌, get_or};
 ghost use Rattle.tok.specs.Text.{Texts, texts_of};
 ghost use Rattle.ast.specs.Node.{tree_of};
@@ -24,7 +26,7 @@ use visit::{State, Visit};
 
 // What a member after the first answers: whether one is poisoned so far, with the state then; that it differs, which was reported; or a
 // refusal's number and place.
-#[derive(Drop)]
+#[derive(Clone, Copy)]
 pub enum Turn {
     On(bool, State),
     Differs(State),

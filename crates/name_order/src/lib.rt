@@ -1,6 +1,8 @@
 // Places of words put in the order of the names that the words stand for, so that equal names stand side by side ("Compared byte by byte").
 // A place p is kept as 2 p, and as 2 p + 1 where a new name begins. That the order is right is not proved of the sort but looked up after it:
 // what is proved is that no place is lost, and that where `group_names` answers true the names are grouped.
+#![tactic(auto)]
+
 ghost use Rattle.std.specs.Prelude.{◌≡◌, true, ℕ, ◌+◌, ◌*◌, ◌<◌, ◌≤◌, ◌^◌, length, get_or, set};
 ghost use Rattle.tok.specs.Text.{Texts, texts_of, name_bytes};
 ghost use Rattle.name_order.specs.Bytes.{bytes_before};

@@ -1,4 +1,6 @@
 // Where the parts of a node stand in its record (document 01, "Words": "Rest of each").
+#![tactic(auto)]
+
 ghost use Rattle.std.specs.Prelude.{◌≡◌, ◌+◌};
 ghost use Rattle.ast.specs.Image.{word_at, record_length};
 ghost use Rattle.image_laws.specs.OutlineAt.{arguments_at};
@@ -8,7 +10,7 @@ use image_words::less;
 use tok::{kind, payload, wide, word_at};
 
 // Words of an image that hold parts: `count` of them, each `step` after the one before.
-#[derive(Drop)]
+#[derive(Clone, Copy)]
 pub struct Run {
     pub from: usize,
     pub count: usize,

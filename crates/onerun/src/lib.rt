@@ -1,1 +1,2 @@
 // Theorems over one run of the rules; no code.
+#![tactic(auto)]

@@ -23,7 +23,7 @@ use Rattle.ready.specs.After.{after-node}
 use Rattle.ready.specs.Parts.{node-visit, bin-room}
 use Rattle.ready.specs.Unvisited.{bin-fresh, visit-apart}
 use Rattle.walking.specs.Kinds.{Is}
-use Rattle.walking.specs.Contracts.{ctx_in, NodeVisited, ClassVisit}
+use Rattle.walking.specs.Visited.{ctx_in, NodeVisited, ClassVisit}
 use Rattle.operands.specs.Ends.{bin_end}
 
 module _ {T : Texts} {image places words : List ℕ} {n : ℕ} {st : State} {b : Lent} {at : ℕ} (pre : ClassVisit (Is 2) T image places words n st b) (ea : at ≡ get_or places n 0) where

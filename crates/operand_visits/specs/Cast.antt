@@ -32,7 +32,7 @@ use Rattle.ready.specs.Unvisited.{cast-fresh, type-apart}
 use Rattle.ready.specs.Asked.{cast-type}
 use Rattle.walking.specs.Kinds.{Is}
 use Rattle.walking.specs.Stops.{refused_of}
-use Rattle.walking.specs.Contracts.{ctx_in, NodeVisited, ClassVisit}
+use Rattle.walking.specs.Visited.{ctx_in, NodeVisited, ClassVisit}
 use Rattle.operands.specs.Ends.{cast_type, cast_end}
 use Rattle.operands.specs.Ready.{CastReady}
 

@@ -26,7 +26,7 @@ use Rattle.ready.specs.After.{after-node}
 use Rattle.ready.specs.Unvisited.{below-fresh}
 use Rattle.ready.specs.Asked.{let_bindable}
 use Rattle.walking.specs.Kinds.{OneOperand, is_field}
-use Rattle.walking.specs.Contracts.{ctx_in, NodeVisited, ClassVisit}
+use Rattle.walking.specs.Visited.{ctx_in, NodeVisited, ClassVisit}
 use Rattle.operands.specs.Ends.{operand_at, one_end, one_room}
 use Rattle.operands.specs.Ready.{OneReady}
 use Rattle.operands.specs.Parts.{at-unary, at_let, at_field, one_rule, one-unary, one_let, one_field, room-unary, room_let, room-field}

@@ -1,1 +1,2 @@
 // Theorems: the rules of one and two operands, put together of visits; no code.
+#![tactic(auto)]

@@ -1,5 +1,7 @@
 // Operators and casts (typecheck/lib.rs: `set_known`, `fuse`, the Unary arm, `cast`).
 // The buffers are lent in one order: slots, types, diagnostics, messages; then the two texts.
+#![tactic(auto)]
+
 ghost use Rattle.std.specs.Prelude.{◌≡◌, ◌&&◌, ◌||◌, List, ℕ, ◌<◌, eqb, leb, set};
 ghost use Rattle.tok.specs.Word.{word_of};
 ghost use Rattle.tok.specs.Text.{Texts, texts_of};

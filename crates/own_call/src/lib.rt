@@ -1,4 +1,6 @@
 // Typechecker::resolve_call, after the arguments are visited: a call of an own function.
+#![tactic(auto)]
+
 ghost use Rattle.std.specs.Prelude.{◌≡◌};
 ghost use Rattle.tok.specs.Text.{Texts, texts_of};
 ghost use Rattle.call_args.specs.Given.{given_from};

@@ -1,5 +1,7 @@
 // The arguments of a function that is defined: their types, slots and names in scope (typecheck/lib.rs, Node::Fn).
 // The buffers are lent in one order: slots, types, scratch; then the image and the places of its records.
+#![tactic(auto)]
+
 ghost use Rattle.std.specs.Prelude.{◌≡◌, List, ℕ, ◌+◌, ◌*◌, ◌≤◌, ◌<◌};
 ghost use Rattle.tok.specs.Text.{Texts};
 ghost use Rattle.library.specs.Package.{Package};

@@ -1,6 +1,8 @@
 // Typechecker::resolve_pkg_call, after the arguments are visited: a call of a package's function.
 // The buffers are lent in one order: slots, types, diagnostics, messages, scratch; then the two texts, the image with its places, and the
 // words of the library.
+#![tactic(auto)]
+
 ghost use Rattle.std.specs.Prelude.{◌≡◌, List, ℕ, ◌+◌, min, length, get_or};
 ghost use Rattle.tok.specs.Text.{Texts, texts_of, name_bytes};
 ghost use Rattle.library.specs.Package.{Package, group_of};

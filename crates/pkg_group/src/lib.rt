@@ -1,5 +1,7 @@
 // The candidates of a package's group, after the call's arguments are visited (typecheck/lib.rs, `resolve_pkg_call`).
 // The buffers are lent in one order: slots, types, diagnostics, messages; then the two texts, and the image with its places.
+#![tactic(auto)]
+
 ghost use Rattle.std.specs.Prelude.{◌≡◌, ℕ};
 ghost use Rattle.tok.specs.Text.{Texts, texts_of, name_bytes};
 ghost use Rattle.signatures.specs.Entries.{flag_words};
@@ -13,7 +15,7 @@ use signatures::Entry;
 use state::{Step, Used};
 
 // The candidates of a name: none, one without slots or with them, by the place of its argument count, or several.
-#[derive(Drop)]
+#[derive(Clone, Copy)]
 pub enum Candidates {
     Nothing,
     Plain(usize),

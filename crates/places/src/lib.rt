@@ -1,5 +1,7 @@
 // Where the records of an image stand (document 01, "Image"), and how many levels its types have, found in one pass and kept in an array:
 // node n's place at index n, type t's at index 2,048 + t, and its levels at index 2,560 + t.
+#![tactic(auto)]
+
 ghost use Rattle.std.specs.Prelude.{◌≡◌, ◌+◌, ◌-◌, ◌*◌, ◌/◌, ◌<◌, ◌^◌, max, get_or, set};
 ghost use Rattle.tok.specs.Word.{payload_of};
 ghost use Rattle.places.specs.Places.{clipped, place_after, Filled, most_in, levels_inside, levels_at, fill_levels, places_in};

@@ -1,5 +1,7 @@
 // Printing the rows of an input, part by part, so that a row may be longer than any buffer. What a part holds, and where the next begins, is
 // `rows_part`'s contract; no contract can say what the C library writes.
+#![tactic(auto)]
+
 ghost use Rattle.std.specs.Prelude.{◌≡◌, ◌^◌, ◌<◌};
 ghost use Rattle.tok.specs.Text.{texts_of};
 ghost use Rattle.rows_part.specs.Printing.{answer_of, part_of};
@@ -114,7 +116,7 @@ fn print_between(diagnostics: &[u32], messages: &[u8], begun: Begun, row: Row, n
 
 // What was handed to the C library: how many bytes of rows, as far as 64 bits count them, and whether these are all rows. Only a row of 2^62 bytes or
 // more is left off.
-#[derive(Drop)]
+#[derive(Clone, Copy)]
 pub struct Printed {
     pub bytes: usize,
     pub whole: bool,

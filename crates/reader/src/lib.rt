@@ -1,10 +1,12 @@
 // Reading words forward: each word is held to its field's rule, and the whole to 8,192 words.
+#![tactic(auto)]
+
 ghost use Rattle.std.specs.Prelude.{◌≡◌, ◌&&◌, ◌+◌, length, leb, ltb};
 ghost use Rattle.tok.specs.Reader.{most_words, owing, word, below, ends};
 ghost use Rattle.reader.specs.Reading.{beginning, place_of, next_word, onward, gave, offending, fault_in};
 
 // Where a reading stands: before the word `At.0` of a list that has `At.1` words at least; or at the first offending word, which ends it.
-#[derive(Drop)]
+#[derive(Clone, Copy)]
 pub enum Reading {
     At(usize, usize),
     Fault(usize),
@@ -113,7 +115,7 @@ pub fn ends(words: &[u32], from: Reading) -> Reading
 }
 
 // What reading a whole list comes to: it is accepted, or a word of it is the first to offend.
-#[derive(Drop)]
+#[derive(Clone, Copy)]
 pub enum Verdict {
     Accepted,
     Offends(usize),

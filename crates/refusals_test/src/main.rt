@@ -1,6 +1,7 @@
 // Runs refusals 1 to 6 on damaged inputs and on inputs at the limits of document 01, and prints each answer and how many are as expected.
 // Input and expected output are made by oracle/refusals/make_cases.py, whose answers are those of oracle/refusals/refusals.py, a second reading
 // of document 01. The input is a run of commands of four little-endian words: oracle/refusals/stream.py says what each does.
+#![tactic(auto)]
 use commands::{CASES, Command};
 use refuse::Before;
 
@@ -10,7 +11,7 @@ const AGREE: usize = 14;
 // Cases.
 
 // Document 01's number and place; number 0 where none of the six comes.
-#[derive(Drop)]
+#[derive(Clone, Copy)]
 struct Answer {
     number: usize,
     place: usize,

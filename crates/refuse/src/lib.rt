@@ -1,4 +1,6 @@
 // "Numbers 1 to 6 are tried in that order before the walk." No lent buffer is written.
+#![tactic(auto)]
+
 ghost use Rattle.std.specs.Prelude.{◌≡◌, List, ℕ, length};
 ghost use Rattle.std.proofs.Math.Option.{none};
 ghost use Rattle.tok.specs.Text.{texts_of};
@@ -12,7 +14,7 @@ ghost use Rattle.refuse.specs.Answer.{refusal_in, room_in, inputs_of, buffers_of
 use reader::Verdict;
 
 // What is found before the walk: nothing, or the first cause of document 01's table with its place.
-#[derive(Drop)]
+#[derive(Clone, Copy)]
 pub enum Before {
     Passed,
     Scratch,

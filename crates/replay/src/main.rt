@@ -1,4 +1,5 @@
 // Prints the rows of many stored cases, with primary messages and counts; what it must print is the Rust's output (oracle/replay/README.md).
+#![tactic(auto)]
 use libc::STDOUT_FILENO;
 
 // The longest case that is read: damaged ones may be longer than the bench takes.

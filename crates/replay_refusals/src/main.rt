@@ -1,6 +1,7 @@
 // Runs the whole check on stored cases, with lent buffers of many lengths, and prints each answer with a sum of what every lent buffer holds
 // afterwards: a refusal before the walk leaves them as they were, one in the walk leaves zeros, an answer changes only what it is to write.
 // oracle/replay/make_refusals.py makes input and expected output, and oracle/replay/README.md says their form.
+#![tactic(auto)]
 ghost use Rattle.std.specs.Prelude.{◌<◌};
 
 use commands::Command;

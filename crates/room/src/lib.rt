@@ -1,4 +1,6 @@
 // Refusal 6: "slots below V + 1, or functions below the sum of 3 + 2 × arguments over all Fn nodes".
+#![tactic(auto)]
+
 ghost use Rattle.std.specs.Prelude.{◌≡◌};
 ghost use Rattle.reader.specs.Reading.{offending};
 ghost use Rattle.ast.specs.Image.{node_count, slot_count};

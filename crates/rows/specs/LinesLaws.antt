@@ -2,7 +2,7 @@
 use Prim.Native.Nat.{ℕ, zero, suc, ◌+◌, ◌*◌}
 use Rattle.std.specs.Prelude.{◌≡◌, List, [], ◌∷◌, ◌++◌, get_or}
 use Rattle.std.proofs.Math.Path.{refl}
-use Rattle.std.proofs.Common.{sym, ap, ◌∙◌, append_nil, append_assoc, ne_eqb}
+use Rattle.std.proofs.Common.{sym, ap, ◌∙◌, append-nil, append_assoc, ne_eqb}
 use Rattle.tok.specs.Text.{Texts, text, name_bytes}
 use Rattle.ptype.specs.Words.{fields_from, ty_of}
 use Rattle.ptype.specs.Show.{gap, show, show_fields, decimal}
@@ -47,7 +47,7 @@ module _ (t : Texts) (types : List ℕ) (i w : ℕ) where
 
   pub slot_pieces : (w ≡ 0 → ⊥) → slot_row t types i w ≡ text "slot " ++ (decimal i ++ text " ") ++ show (ty_of t types w) ++ text "\n"
   unfolding slot_row line joined each_after
-  slot_pieces n = rw (ne_eqb w 0 n, slot-word) (simp (append_nil, append_assoc))
+  slot_pieces n = rw (ne_eqb w 0 n, slot-word) (simp (append-nil, append_assoc))
 
 -- ---- functions
 module _ (t : Texts) (types f : List ℕ) where
@@ -68,7 +68,7 @@ module _ (t : Texts) (types f : List ℕ) where
       fn_line t types f name at k ret
       ≡ text "fn " ++ n ++ text " (" ++ (show_fields (fields_from (ty_of t types) t f at k) ++ text ") -> ") ++ show (ty_of t types ret) ++ text "\n"
   unfolding fn_line line joined each_after
-  fn_pieces name at k ret e = rw (args-shown at k, e, fn-word, open_word, arrow_word) (simp (append_nil, append_assoc))
+  fn_pieces name at k ret e = rw (args-shown at k, e, fn-word, open_word, arrow_word) (simp (append-nil, append_assoc))
 
   -- the entry at a place
   pub fn_row_lem : (at k : ℕ) → fn_row t types f at k ≡ fn_line t types f (get_or f at 0) (at + 2) k (get_or f (at + 2 + 2 * k) 0)
@@ -81,16 +81,16 @@ pub diag_pieces :
     diag_line code start len message
     ≡ text "diag " ++ (decimal code ++ text " ") ++ (decimal start ++ text " ") ++ (decimal len ++ text " ") ++ message ++ text "\n"
 unfolding diag_line line joined each_after
-diag_pieces code start len message = rw diag_word (simp (append_nil, append_assoc))
+diag_pieces code start len message = rw diag_word (simp (append-nil, append_assoc))
 
 -- ---- the others
 pub end_pieces : (n : ℕ) → end_row n ≡ text "end " ++ decimal n ++ text "\n"
 unfolding end_row line joined each_after
-end_pieces n = rw end-word (simp (append_nil, append_assoc))
+end_pieces n = rw end-word (simp (append-nil, append_assoc))
 
 pub refused_pieces : (number place : ℕ) → refused_row number place ≡ text "refused " ++ (decimal number ++ text " ") ++ decimal place ++ text "\n"
 unfolding refused_row line joined each_after
-refused_pieces number place = rw refused-word (simp (append_nil, append_assoc))
+refused_pieces number place = rw refused-word (simp (append-nil, append_assoc))
 
 pub input_pieces : input_row ≡ text "input\n"
 unfolding input_row line joined each_after text

@@ -1,4 +1,6 @@
 // The rows that the printing program prints (document 01, "Bench rows"), one function for each kind, each through a window.
+#![tactic(auto)]
+
 ghost use Rattle.std.specs.Prelude.{◌≡◌, List, ◌++◌, ℕ, ◌+◌, ◌*◌, get_or};
 ghost use Rattle.tok.specs.Text.{Texts, texts_of, text};
 ghost use Rattle.ptype.specs.Show.{decimal};

@@ -1,6 +1,6 @@
 -- What is printed from the first row on is what document 01 says of the input. Assumes nothing.
 use Rattle.std.specs.Prelude.{ℕ, ◌≡◌, refl, Bool, true, false, List}
-use Rattle.std.proofs.Common.{append_nil}
+use Rattle.std.proofs.Common.{append-nil}
 use Rattle.refusals.specs.Inputs.{Buffers}
 use Rattle.rules.specs.Check.{check_of}
 use Rattle.rules.specs.Rows.{rows_of}

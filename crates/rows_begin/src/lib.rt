@@ -1,4 +1,6 @@
 // What the rows are printed from (document 01, "Bench rows"): the first of them and the counts, from what the check answered.
+#![tactic(auto)]
+
 ghost use Rattle.std.specs.Prelude.{◌≡◌, take};
 ghost use Rattle.rows_begin.specs.Beginning.{alone, narrowed, begun_of};
 
@@ -7,7 +9,7 @@ use rows_part::Row;
 
 // What the rows are printed from beside the buffers: the first of them, V, and how many function words, type words, diagnostics and message
 // bytes are used.
-#[derive(Drop)]
+#[derive(Clone, Copy)]
 pub struct Begun {
     pub first: Row,
     pub last: u32,

@@ -1,4 +1,6 @@
 // The printing program's input (document 01, "Bench rows"): four lengths and four parts, words little-endian.
+#![tactic(auto)]
+
 ghost use Rattle.std.specs.Prelude.{◌≡◌, ◌+◌, ◌*◌, ◌^◌, ◌<◌, min, length, take, drop, get_or};
 ghost use Rattle.ptype.specs.Add.{overwrite};
 ghost use Rattle.bench_rows.specs.Bench.{word_in, words_in, bytes_in, image_start, text_start, library_start, fits, inputs_in};

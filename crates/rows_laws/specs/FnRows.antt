@@ -1,7 +1,7 @@
 -- The rows of a functions buffer that holds entries of functions, in the order in which they were met: well formed where the functions'
 -- names and types are. By induction on the entries. Assumes nothing.
 use Prim.Native.Nat.{ℕ, zero, suc, ◌+◌, ◌*◌, ◌≤◌, ◌<◌}
-use Rattle.std.proofs.Common.{add-zero, sym, ap, ◌∙◌, append_assoc, append_nil, get_or-append-add, lt-ltb, le-ltb}
+use Rattle.std.proofs.Common.{add-zero, sym, ap, ◌∙◌, append_assoc, append-nil, get_or-append-add, lt-ltb, le-ltb}
 use native.Mathlib.Omega.{arith}
 use Rattle.std.specs.Prelude.{◌≡◌, true, List, [], ◌∷◌, ◌++◌, get_or}
 use Rattle.std.proofs.Math.Path.{refl}
@@ -87,7 +87,7 @@ module _ (t : Texts) (types : List ℕ) where
   entries_join {b = b} (one_more {f = f} {rest = rest} h hs) k = rw (append_assoc (entry f) rest b) (one_more h (entries_join hs k))
 
   one_entry : (f : Function) → FunctionWell f → Entries (entry f)
-  one_entry f h = rw (append_nil (entry f)) at (one_more {f = f} h no_entry)
+  one_entry f h = rw (append-nil (entry f)) at (one_more {f = f} h no_entry)
 
   own-entries : {fs : List Function} → All FunctionWell fs → Entries (words_of fs)
   unfolding words_of

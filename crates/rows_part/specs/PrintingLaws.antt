@@ -4,7 +4,7 @@ use Prim.Native.Nat.{ℕ, zero, suc, ◌+◌, ◌-◌, ◌*◌, ◌^◌, ◌≤�
 use Rattle.std.specs.Prelude.{◌≡◌, Bool, true, false, cond, get_or, take, drop, eqb, ltb}
 use Rattle.std.proofs.Math.Path.{refl}
 use Rattle.std.proofs.Common.{sym, ap, ◌∙◌, length-take, length-drop, take-append-drop, drop-cons, lt-ltb, le-ltb}
-use mathlib.Core.List.{List, [], ◌∷◌, ◌++◌, append_nil, append_assoc}
+use mathlib.Core.List.{List, [], ◌∷◌, ◌++◌, append-nil, append_assoc}
 use Rattle.std.proofs.Math.Numerals.{add-one}
 use Rattle.std.proofs.Math.Nat.{sub-zero}
 use native.Mathlib.Omega.{arith}
@@ -116,9 +116,9 @@ rest-next a (Slot i) =
     (ap (λ l. row_of a (Slot i) ++ (l ++ fns_from a 0)) (slots-none a.texts a.types a.slots a.last (i + 1) (rw (length-take (a.last + 1) a.slots) (omega arith)))))
 rest-next a (Fn at) = ap (λ l. row_of a (Fn at) ++ l) (sym (rest-fn a _))
 rest-next a (Diag k) = ap (λ l. row_of a (Diag k) ++ l) (sym (rest_diag a (k + 1)))
-rest-next a End = sym (append_nil _)
-rest-next a (Refused number place) = sym (append_nil _)
-rest-next a Input = sym (append_nil _)
+rest-next a End = sym (append-nil _)
+rest-next a (Refused number place) = sym (append-nil _)
+rest-next a Input = sym (append-nil _)
 rest-next a Done = refl
 
 -- ---- from the first row on

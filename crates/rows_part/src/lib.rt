@@ -1,4 +1,6 @@
 // The rows of an answer one after the other, part by part: what a printing loop calls.
+#![tactic(auto)]
+
 ghost use Rattle.std.specs.Prelude.{◌≡◌, ℕ};
 ghost use Rattle.tok.specs.Text.{texts_of};
 ghost use Rattle.rows_window.specs.Showing.{Shows};
@@ -9,7 +11,7 @@ use tok::{least, wide, word_at};
 
 // A row: a slot's by its number, a function's by the place of its entry, a diagnostic's by its number; the last of an answer; a refusal's with number
 // and place; that of an input that does not fit; and none, behind the last.
-#[derive(Drop)]
+#[derive(Clone, Copy)]
 pub enum Row {
     Slot(u32),
     Fn(u32),
@@ -21,7 +23,7 @@ pub enum Row {
 }
 
 // A part that was written: how many bytes, and where the next part begins.
-#[derive(Drop)]
+#[derive(Clone, Copy)]
 pub struct Part {
     pub bytes: usize,
     pub row: Row,

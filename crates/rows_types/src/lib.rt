@@ -1,4 +1,6 @@
 // `Display` of types and of arguments through a window (ptype.rs, typecheck/display.rs). Once the window is full, no part of a type is gone through.
+#![tactic(auto)]
+
 ghost use Rattle.std.specs.Prelude.{◌≡◌, [], ◌++◌, get_or};
 ghost use Rattle.tok.specs.Word.{kind_of};
 ghost use Rattle.tok.specs.Text.{Texts, texts_of, text};

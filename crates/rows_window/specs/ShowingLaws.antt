@@ -43,9 +43,9 @@ place-both k a o s t {m} {n} e f =
     f ∙ rw (z, e, both-shown k s t) (least-both a (s - k) (t - (k - s)) (o - a))
 
 -- The law of writers: a text written after another is both, one after the other. As `◌++◌` is, it is read from the left.
-infixl 65 ◌and-then◌
-pub ◌and-then◌ : {o o₁ o₂ : List ℕ} {w r₁ r₂ : Window} {s t : List ℕ} → Shows o w o₁ r₁ s → Shows o₁ r₁ o₂ r₂ t → Shows o w o₂ r₂ (s ++ t)
-◌and-then◌ {o} {o₁} {o₂} {w} {r₁} {r₂} {s} {t} p q =
+infixl 65 ◌and_then◌
+pub ◌and_then◌ : {o o₁ o₂ : List ℕ} {w r₁ r₂ : Window} {s t : List ℕ} → Shows o w o₁ r₁ s → Shows o₁ r₁ o₂ r₂ t → Shows o w o₂ r₂ (s ++ t)
+◌and_then◌ {o} {o₁} {o₂} {w} {r₁} {r₂} {s} {t} p q =
     let l : length o₁ ≡ length o = ap length p.bytes ∙ length-write o w.at (drop w.skip s) in
     let d : length (drop w.skip s) ≡ length s - w.skip = length-drop w.skip s in
     record {

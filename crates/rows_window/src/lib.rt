@@ -1,4 +1,6 @@
 // Writing a part of a text that may be longer than any buffer: a row's type can be, since types share their parts.
+#![tactic(auto)]
+
 ghost use Rattle.std.specs.Prelude.{◌≡◌, length};
 ghost use Rattle.ptype.specs.Show.{decimal};
 ghost use Rattle.rows_window.specs.Showing.{Shows, is_full, reached_of};
@@ -7,7 +9,7 @@ use display::Wrote;
 use tok::least;
 
 // How many bytes of the text are still passed over, and where the next byte goes.
-#[derive(Drop)]
+#[derive(Clone, Copy)]
 pub struct Window {
     pub skip: usize,
     pub at: usize,

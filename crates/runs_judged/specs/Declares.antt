@@ -210,9 +210,11 @@ module _ (c : Ctx) where
         brought p e q = by (find_held path sc.held) (subst (λ (o : Option Package). Finds (HeldRel c s.types) o (find_held path sc.held)) e (held_found c path d.held))
           where
             one : (o : Option Held) → Finds (HeldRel c s.types) (some p) o → Decl c type library (with_packages s (p ∷ s.packages)) (import_found c.texts library type o sc)
+            one none x' = elim x' [ ]
             one (some h) (each x) = record { held = C.and x d.held; own = d.own; lib = d.lib }
 
             by : (o : Option Held) → Finds (HeldRel c s.types) none o → Decl c type library (with_packages s (p ∷ s.packages)) (unless_held c.texts library type o path sc)
+            by (some _) x'' = elim x'' [ ]
             by none neither = one (find_held path library) (subst (λ (o : Option Package). Finds (HeldRel c s.types) o (find_held path library)) q (held_found c path d.lib))
 
         there : (p : Package) → find_package c.texts path s.packages ≡ some p → Decl c type library s (unless_held c.texts library type (find_held path sc.held) path sc)
@@ -220,6 +222,7 @@ module _ (c : Ctx) where
         there p e = by (find_held path sc.held) (subst (λ (o : Option Package). Finds (HeldRel c s.types) o (find_held path sc.held)) e (held_found c path d.held))
           where
             by : (o : Option Held) → Finds (HeldRel c s.types) (some p) o → Decl c type library s (unless_held c.texts library type o path sc)
+            by none x' = elim x' [ ]
             by (some h) (each x) = d
 
       h_import : (n path : ℕ) {s : World} → (Silent (silent c) s → Holds (silent c) s)

@@ -246,6 +246,7 @@ module _ (c : Ctx) where
           where
             by : (f : Signature) → CallFits c type slot (types c type given) (trees c type s f.params) (tree_in c s f.ret) → (q : Option Own)
                 → find_own (name_bytes c.texts name) sc.own ≡ q → Finds (OwnSig c s.types) (some f) q → Resolved
+            by f r none e x'' = elim x'' [ ]
             by f r (some o) e (each x) =
                 let none_left_lem = no-slots c.texts o.args in
                 J.of_own (tab ∙ ap of_own e)
@@ -274,6 +275,7 @@ module _ (c : Ctx) where
           where
             by : (p : Package) → ((o : ℕ) (gs : List Sig) → Both (SigRel c s.types) (group_of c.texts (name_in c name) p.functions) gs → FromGroup slot (types c type given) o gs)
                 → (q : Option Held) → find_held (name_bytes c.texts pkg) sc.held ≡ q → Finds (HeldRel c s.types) (some p) q → Resolved
+            by p r none e x'' = elim x'' [ ]
             by p r (some o) e (each x) =
                 let y = r o.origin (group_in (name_bytes c.texts name) o.functions) (group-found c (name_bytes c.texts name) x.functions) in
                 of_package (tab ∙ (ap (of_held (name_bytes c.texts name) (types c type given)) e ∙ y.is)) y.fits.filling y.fits.params y.fits.ret

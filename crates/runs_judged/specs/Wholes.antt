@@ -3,7 +3,7 @@ use Rattle.std.specs.Prelude.{ℕ, ◌+◌, ◌≤◌, ◌<◌, ◌≡◌, refl,
 use Rattle.std.proofs.Common.{arith, sym, ◌∙◌}
 use Rattle.std.proofs.Math.Decide.{ℕ_discrete}
 use Rattle.std.proofs.Math.Path.{ap, subst}
-use mathlib.Core.List.{List, [], ◌∷◌, ◌++◌, map, append_nil}
+use mathlib.Core.List.{List, [], ◌∷◌, ◌++◌, map, append-nil}
 use Rattle.std.proofs.Math.ListN.{get_or}
 use Rattle.tok.specs.Step.{Result, ok, Refusal, next}
 use Rattle.tok.specs.Text.{name_bytes}
@@ -51,7 +51,7 @@ provided-types c type done = refl
 provided-types c type (then x xs) = ap (λ (l : List Ty). type (slot_of x) ∷ l) (provided-types c type xs)
 
 pub ready_nil : {s : World} (xs : List Node) → Ready s xs → Ready s (xs ++ [])
-ready_nil {s} xs h = subst (Ready s) (sym (append_nil xs)) h
+ready_nil {s} xs h = subst (Ready s) (sym (append-nil xs)) h
 
 -- slots after an own slot are others
 pub args-above : (slot k : ℕ) (args : List Arg) → slot < k → ArgSlots (Free (last-slot slot)) k args

@@ -1,4 +1,6 @@
 // Names in scope, own functions and packages held: finding them (typecheck/lib.rs: `env_get`, `functions`, `packages`).
+#![tactic(auto)]
+
 ghost use Rattle.std.specs.Prelude.{◌≡◌, List, ℕ, ◌+◌, ◌*◌, ◌^◌, ◌<◌, ◌≤◌, length, get_or};
 ghost use Rattle.std.proofs.Math.Option.{some};
 ghost use Rattle.tok.specs.Text.{Texts, texts_of, name_bytes};
@@ -11,7 +13,7 @@ ghost use Rattle.scope.specs.Found.{binding_of, own_of, held_of};
 use tok::{kind, name_bytes, wide, word_at};
 
 // What a name is bound to: a type's word, a poisoned binding, or nothing.
-#[derive(Drop)]
+#[derive(Clone, Copy)]
 pub enum Binding {
     Bound(u32),
     Poisoned,
@@ -19,14 +21,14 @@ pub enum Binding {
 }
 
 // The place of an own function's argument count, or none.
-#[derive(Drop)]
+#[derive(Clone, Copy)]
 pub enum Own {
     At(usize),
     Nothing,
 }
 
 // The place of a package: in the library, or in scratch where an Extern's is kept; or none.
-#[derive(Drop)]
+#[derive(Clone, Copy)]
 pub enum Held {
     Library(usize),
     Extern(usize),

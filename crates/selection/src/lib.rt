@@ -1,5 +1,7 @@
 // A package group of several (typecheck/lib.rs, `resolve_pkg_call`; err.rs, `common_return`): the first candidate whose every argument type is
 // equal, else diagnostic 18 and what all candidates return. The candidates are the entries of a name among k entries from a place of `words`.
+#![tactic(auto)]
+
 ghost use Rattle.std.specs.Prelude.{◌≡◌, map, ℕ};
 ghost use Rattle.tok.specs.Text.{Texts, texts_of};
 ghost use Rattle.ptype.specs.Ty.{Ty};
@@ -11,7 +13,7 @@ use signatures::Entry;
 use state::{Step, Used};
 
 // The candidate that was taken: whether it has slots, and the place of its argument count; or none.
-#[derive(Drop)]
+#[derive(Clone, Copy)]
 pub enum Taken {
     At(bool, usize),
     Nothing,

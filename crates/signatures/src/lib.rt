@@ -1,5 +1,7 @@
 // Signatures by the place of their argument count: "argument count, name and type for each argument, return type" stand so in the functions
 // buffer, in an Extern's package and in the library. A place past the end of the words reads as 0.
+#![tactic(auto)]
+
 ghost use Rattle.std.specs.Prelude.{◌≡◌, Bool, ◌+◌, min, length, get_or};
 ghost use Rattle.tok.specs.Text.{Texts, texts_of};
 ghost use Rattle.library.specs.Package.{param};
@@ -92,7 +94,7 @@ fn entry_end(words: &[u32], flagged: bool, at: usize) -> usize
 
 // An entry of a name: whether it has slots, the place of its argument count, the place after it, and how many entries follow; or that there
 // is no more.
-#[derive(Drop)]
+#[derive(Clone, Copy)]
 pub enum Entry {
     One {
         slotted: bool,

@@ -1,5 +1,7 @@
 // Binds the slots of a parameter's type to an argument's type (ptype.rs: bind_slots, has_bound_slot).
 // Bindings stand in a lent part of scratch: pairs of words, a slot's and its type's. A count says how many of them there are.
+#![tactic(auto)]
+
 ghost use Rattle.std.specs.Prelude.{◌≡◌, List, ◌∷◌, ℕ, ◌+◌, ◌*◌, ◌<◌, ◌^◌};
 ghost use Rattle.tok.specs.Text.{Texts, texts_of, name_bytes};
 ghost use Rattle.ptype.specs.Kinds.{wraps};
@@ -15,7 +17,7 @@ use tok::{kind, least, payload, same_name, word_at};
 const VOID: u32 = 1;
 
 // The word of the type that a slot is bound to.
-#[derive(Drop)]
+#[derive(Clone, Copy)]
 pub enum Found {
     At(u32),
     Nothing,
@@ -23,7 +25,7 @@ pub enum Found {
 
 // How many pairs there are after a binding, and its error: another type than the slot is bound to (21), or Void (22); or that
 // the lent part is too short for the bindings.
-#[derive(Drop)]
+#[derive(Clone, Copy)]
 pub enum Bind {
     Done(usize),
     Conflict {

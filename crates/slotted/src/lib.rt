@@ -1,5 +1,7 @@
 // One argument of a call of a function with slots (typecheck/lib.rs, `check_call_args`, the body of its loop; ptype.rs). The bindings stand as
 // pairs in a lent part of scratch. The buffers are lent in one order: slots, types, diagnostics, messages, pairs; then the two texts.
+#![tactic(auto)]
+
 ghost use Rattle.std.specs.Prelude.{◌≡◌, true};
 ghost use Rattle.tok.specs.Text.{Texts, texts_of};
 ghost use Rattle.slots.specs.declared.Bind.TheVariants.{Done};
@@ -17,7 +19,7 @@ use state::{Used, Went};
 use tok::Span;
 
 // What an argument of a function with slots answers: how many pairs there are then, and what is used; or a refusal's number and place.
-#[derive(Drop)]
+#[derive(Clone, Copy)]
 pub enum Argued {
     On(usize, Used),
     Refused(u32, u32),

@@ -1,6 +1,8 @@
 // Typechecker::check_call_args, of a function with slots: argument count, each argument, the return type with its slots applied. The bindings
 // stand as pairs in a lent part of scratch. The buffers are lent in one order: slots, types, diagnostics, messages, pairs; then the two texts,
 // the image and the places of its records.
+#![tactic(auto)]
+
 ghost use Rattle.std.specs.Prelude.{true, List, ℕ};
 ghost use Rattle.tok.specs.Text.{Texts, texts_of};
 ghost use Rattle.err.specs.Message.{call_name};

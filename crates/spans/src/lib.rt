@@ -1,5 +1,7 @@
 // The spans of whole nodes and of type expressions (ast.rs: Ast::span, Ast::type_span, Ast::cover_spans).
 // Recursion by the number of the node: "A part's number is smaller than its owner's."
+#![tactic(auto)]
+
 ghost use Rattle.std.specs.Prelude.{◌≡◌, ◌+◌, ◌≤◌};
 ghost use Rattle.ast.specs.TypeExpr.{type_of};
 ghost use Rattle.ast.specs.Node.{tree_of, cases_end};

@@ -1,5 +1,7 @@
 // The walk up to its roots: slots emptied, the library's pool copied, its types measured (document 01, "Answers that end the check"; rules,
 // `walk_first`). Only slots and types are written; `words` are the library's.
+#![tactic(auto)]
+
 ghost use Rattle.std.specs.Prelude.{◌≡◌, [], ◌∷◌, ◌≤◌};
 ghost use Rattle.tok.specs.Text.{Texts};
 ghost use Rattle.library.specs.Package.{function_at, functions_from, packages_of};

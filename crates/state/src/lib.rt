@@ -1,15 +1,17 @@
 // What the walk carries beside the lent buffers, and what its steps answer.
+#![tactic(auto)]
+
 ghost use Rattle.std.specs.Prelude.{◌≡◌};
 ghost use Rattle.state.specs.Reporting.{told_of, poison_of};
 
 use err::{Counts, Reported};
 
 // What is used of what later requests add: nothing yet.
-#[derive(Drop)]
+#[derive(Clone, Copy)]
 pub struct Kept {}
 
 // How much of the types, of the diagnostics and of their messages is used.
-#[derive(Drop)]
+#[derive(Clone, Copy)]
 pub struct Used {
     pub types: usize,
     pub told: Counts,
@@ -18,7 +20,7 @@ pub struct Used {
 
 // What a rule answers: a value's slot, or that an error was reported already (typedefs.rs, `enum TcType`), with what is used then; or a
 // refusal's number and place.
-#[derive(Drop)]
+#[derive(Clone, Copy)]
 pub enum Step {
     Known(u32, Used),
     Poison(Used),
@@ -26,14 +28,14 @@ pub enum Step {
 }
 
 // What a step answers that only writes: what is used then; or a refusal's number and place.
-#[derive(Drop)]
+#[derive(Clone, Copy)]
 pub enum Went {
     On(Used),
     Refused(u32, u32),
 }
 
 // What a step answers that gives a type's word.
-#[derive(Drop)]
+#[derive(Clone, Copy)]
 pub enum Typed {
     Word(u32, Used),
     Refused(u32, u32),

@@ -37,8 +37,8 @@ use Rattle.stops.specs.GuardedCalls.{slotted_or_stop, argument_or_stop, argument
 use Rattle.stops.specs.Ready.{Any}
 use Rattle.stops.specs.Past.{run, past-unless, next-same, then_same, option-same, when-same, past-expect}
 
-or_false : {a b : Bool} → a ≡ false → b ≡ false → (a || b) ≡ false
-or_false p q = rw (p, q) refl
+or-false : {a b : Bool} → a ≡ false → b ≡ false → (a || b) ≡ false
+or-false p q = rw (p, q) refl
 
 module _ (c : Ctx) where
   -- ── `bind_slots` of a type that contains no Slot ──
@@ -62,16 +62,16 @@ module _ (c : Ctx) where
       pub meets-none : (t : Ty) {w : ℕ} → Typed (run c) (Unit {0}) b w → meets_slot b.words t w ≡ false
       meets-none (plain k) h = no-slot h
       meets-none (wrap k t) {w} h =
-          or_false (no-slot h) (pick (λ (x : Bool). x ≡ false) {t = wraps k && eqb (kind_of w) k} _ _
+          or-false (no-slot h) (pick (λ (x : Bool). x ≡ false) {t = wraps k && eqb (kind_of w) k} _ _
           (λ q. let s = both (wraps k) (eqb (kind_of w) k) q in meets-none t (inner-typed (run c) h (rw (eqb-true (kind_of w) k s.1) s.0))) (λ _. refl))
       meets-none (rec fs) {w} h =
-          or_false (no-slot h) (pick (λ (x : Bool). x ≡ false) {t = eqb (kind_of w) 8} _ _ (λ q. meet_none fs (fields-typed (run c) h (eqb-true (kind_of w) 8 q))) (λ _. refl))
+          or-false (no-slot h) (pick (λ (x : Bool). x ≡ false) {t = eqb (kind_of w) 8} _ _ (λ q. meet_none fs (fields-typed (run c) h (eqb-true (kind_of w) 8 q))) (λ _. refl))
       meets-none (named k n) h = no-slot h
 
       meet_none : (fs : Fields) {at left : ℕ} → FieldsTyped (run c) (Unit {0}) b at left → meets_slots b.words fs at left ≡ false
       meet_none no_field h = refl
       meet_none (field n t fs) {at} {left} h =
-          pick (λ (x : Bool). x ≡ false) {t = eqb left 0} _ _ (λ _. refl) (λ e. let x = first-typed (run c) h e in or_false (meets-none t x.type) (meet_none fs x.rest))
+          pick (λ (x : Bool). x ≡ false) {t = eqb left 0} _ _ (λ _. refl) (λ e. let x = first-typed (run c) h e in or-false (meets-none t x.type) (meet_none fs x.rest))
 
   -- ── One argument ──
 

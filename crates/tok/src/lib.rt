@@ -1,4 +1,6 @@
 // Words, names and tokens in the script text and the library text, and spans (lex/tok.rs, diagnostic.rs, ast.rs).
+#![tactic(auto)]
+
 ghost use Rattle.std.specs.Prelude.{◌≡◌, not, ◌≤◌, min, max, length, get_or};
 ghost use Rattle.tok.specs.LittleEndian.{little_endian, ByteAt};
 ghost use Rattle.tok.specs.Word.{kind_of, payload_of, name_length, name_start, name_bit};
@@ -324,7 +326,7 @@ pub fn good_name(bit: u32, text: &[u8], w: u32) -> bool
 // Spans.
 
 // A part of the script text: its first byte and how many there are.
-#[derive(Drop)]
+#[derive(Clone, Copy)]
 pub struct Span {
     pub start: usize,
     pub len: usize,

@@ -1,1 +1,2 @@
 // Theorems over the nodes and types of an accepted image as trees; no code.
+#![tactic(auto)]

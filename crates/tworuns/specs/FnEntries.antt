@@ -3,7 +3,7 @@
 use Rattle.std.specs.Prelude.{ℕ, suc, ◌+◌, ◌*◌, ◌≡◌}
 use Rattle.std.proofs.Common.{arith, ◌∙◌}
 use Rattle.std.proofs.Math.Path.{refl, sym, ap}
-use mathlib.Core.List.{List, [], ◌∷◌, ◌++◌, append_assoc, append_nil}
+use mathlib.Core.List.{List, [], ◌∷◌, ◌++◌, append_assoc, append-nil}
 use Rattle.std.proofs.Math.ListN.{length}
 use Rattle.tok.specs.Text.{Texts}
 use Rattle.tok.specs.Step.{Result, ok, Refusal}
@@ -39,7 +39,7 @@ module _ (t : Texts) (b : Buffer) where
 
   met-after : {o u : List Function} {ds : List FnHead} → Met t b o ds u → After o ds u
   unfolding forward
-  met-after {o} no_fn = record { new = []; whole = sym (append_nil (forward o)); each = no_function }
+  met-after {o} no_fn = record { new = []; whole = sym (append-nil (forward o)); each = no_function }
   met-after {o} (one_fn {f = f} h rest) =
       let x = met-after rest in
       record { new = f ∷ x.new; whole = x.whole ∙ append_assoc (forward o) (f ∷ []) x.new; each = one_function h x.each }

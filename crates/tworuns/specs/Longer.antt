@@ -6,7 +6,7 @@ use native.Mathlib.Omega.{arith}
 use Rattle.std.proofs.Math.Decide.{ℕ_discrete}
 use Rattle.std.proofs.Math.Path.{refl, sym, ap}
 use Rattle.std.proofs.Math.Option.{Option, none, some}
-use mathlib.Core.List.{List, [], append_nil}
+use mathlib.Core.List.{List, [], append-nil}
 use Rattle.std.proofs.Math.ListN.{length, take}
 use Rattle.std.proofs.Math.Seq.{take-length}
 use Rattle.tok.specs.Step.{Result, ok, Refusal}
@@ -119,7 +119,7 @@ module _ (i : Inputs) {b b' : Buffers} (long : Longer b b') where
     long_pool = omega arith;
     same_pool = take-length (pool_of i.library);
     more = [];
-    library = sym (append_nil (packages_of i.library));
+    library = sym (append-nil (packages_of i.library));
     library_names = a.names;
     others = pool_types (pool_of i.library);
     types = refl;

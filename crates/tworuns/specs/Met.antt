@@ -1,7 +1,7 @@
 -- Own functions and the Fns that are met: what is claimed of steps, as long as no diagnostic is raised. Definitions, and how steps follow each
 -- other. Assumes nothing.
 use Rattle.std.specs.Prelude.{ℕ, ◌≤◌, ◌<◌, ◌≡◌, List, [], ◌∷◌, ◌++◌}
-use Rattle.std.proofs.Common.{arith, subst, append_nil}
+use Rattle.std.proofs.Common.{arith, subst, append-nil}
 use Rattle.tok.specs.Text.{Texts}
 use Rattle.tok.specs.Step.{Result, ok, refused, Refusal, next}
 use Rattle.ptype.specs.Add.{Buffer}
@@ -121,7 +121,7 @@ module _ (t : Texts) where
 
   pub quiet-last : {A B : Type 0} {P : World → A → Type 0} {ds : List FnHead} {s : World} {x : Result World Refusal A} (f : A → Walk B) → Gives P ds s x → ((a : A) → InQuiet (f a))
       → Gives Nothing ds s (next x f)
-  quiet-last {ds = ds} f h k = of_equal (append_nil ds) (step f h (λ a u w p. quietly (k a u)))
+  quiet-last {ds = ds} f h k = of_equal (append-nil ds) (step f h (λ a u w p. quietly (k a u)))
 
   -- A diagnostic is raised.
   pub data Raises (s : World) {A : Type 0} : Result World Refusal A → Type 0 where

@@ -5,7 +5,7 @@ use Rattle.std.proofs.Common.{add-zero, sym, ◌∙◌, get_or-append-add, lt-lt
 use native.Mathlib.Omega.{arith}
 use Rattle.std.specs.Prelude.{◌≡◌, take}
 use Rattle.std.proofs.Math.Path.{refl, ap}
-use mathlib.Core.List.{List, [], ◌∷◌, ◌++◌, append_assoc, append_nil}
+use mathlib.Core.List.{List, [], ◌∷◌, ◌++◌, append_assoc, append-nil}
 use Rattle.std.proofs.Math.ListN.{get_or, length, length-append, get_or-append}
 use Rattle.tok.specs.Text.{Texts, name_bytes}
 use Rattle.ptype.specs.Words.{ty_of}
@@ -48,7 +48,7 @@ flat (f ∷ fs) = entry f ++ flat fs
 
 flat_snoc : (fs : List Function) (f : Function) → flat (fs ++ (f ∷ [])) ≡ flat fs ++ entry f
 unfolding flat
-flat_snoc [] f = append_nil (entry f)
+flat_snoc [] f = append-nil (entry f)
 flat_snoc (g ∷ fs) f = rw (flat_snoc fs f) (sym (append_assoc (entry g) (flat fs) (entry f)))
 
 flat-forward : (fs : List Function) → flat (forward fs) ≡ words_of fs
@@ -58,7 +58,7 @@ flat-forward (f ∷ fs) = rw (flat_snoc (forward fs) f, flat-forward fs)
 
 pub forward-append : (xs ys : List Function) → forward (xs ++ ys) ≡ forward ys ++ forward xs
 unfolding forward
-forward-append [] ys = sym (append_nil (forward ys))
+forward-append [] ys = sym (append-nil (forward ys))
 forward-append (x ∷ xs) ys = rw (forward-append xs ys) (append_assoc (forward ys) (forward xs) (x ∷ []))
 
 length_pairs : (ps : List Param) → length (pairs_of ps) ≡ 2 * length ps

@@ -1,1 +1,2 @@
 // Theorems over two runs of the rules; no code.
+#![tactic(auto)]

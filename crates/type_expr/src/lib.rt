@@ -1,5 +1,7 @@
 // Types built from the type expressions of an image (frontend/lib.rs: type_from_type_expr; ast.rs: Ast::type_token).
 // Recursion by the levels or by the number of the type: "A part's number is smaller than its owner's."
+#![tactic(auto)]
+
 ghost use Rattle.std.specs.Prelude.{◌≡◌, ℕ, ◌+◌, ◌<◌, ◌≤◌, ◌^◌};
 ghost use Rattle.tok.specs.Word.{word_of, payload_of};
 ghost use Rattle.tok.specs.Text.{Texts};

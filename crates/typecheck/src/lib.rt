@@ -2,12 +2,13 @@
 // number is smaller than its owner's". Each visits and hands over; what a rule does beside visiting is in the crates below.
 // The buffers are lent in one order: slots, functions, types, diagnostics, messages, scratch; then the two texts, the image, the library's
 // words, the places of the image's records, the state.
+#![tactic(auto)]
 ghost use Rattle.tok.specs.Text.{Texts, texts_of};
 ghost use Rattle.state.specs.World.{no_more};
 ghost use Rattle.visit.specs.Whole.{Lent, lent};
 ghost use Rattle.ready.specs.Ready.{NodeVisit};
 ghost use Rattle.walking.specs.Kinds.{Operand, OneOperand, Listed, Sequence, Is};
-ghost use Rattle.walking.specs.Contracts.{ClassVisit, ListVisit, CaseVisit, NodeVisited, ListVisited, CaseVisited};
+ghost use Rattle.walking.specs.Visited.{ClassVisit, ListVisit, CaseVisit, NodeVisited, ListVisited, CaseVisited};
 
 use bodies::Begun;
 use rules::Answer;

@@ -5,6 +5,7 @@
 // with the original's `Type`, oracle/src/bin/ptype_test.rs and then types_test.rs; they say what each row means.
 // One interpreter of few commands, and not a function for each row, since a check's cost goes with the calls that lend a buffer and with the locals
 // of their functions, structs and enums first. So its state is one number, and what is more stands in the buffers.
+#![tactic(auto)]
 ghost use Rattle.std.specs.Prelude.{◌≡◌};
 
 use add::Added;

@@ -1,5 +1,7 @@
 // Whether a byte string is well-formed UTF-8, by RFC 3629, section 4.
 // The functions `utf8_..` are named after the rules of its ABNF, and take octets.
+#![tactic(auto)]
+
 ghost use Rattle.std.specs.Prelude.{◌≡◌, ◌&&◌, ◌<◌, length, get_or};
 ghost use Rattle.utf8.specs.Rfc3629.{range, utf8_tail, utf8_1, utf8_2, utf8_3, utf8_4, well_formed};
 ghost use Rattle.utf8.specs.Properties.{ascii};

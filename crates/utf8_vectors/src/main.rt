@@ -5,10 +5,12 @@
 //     four AA      strings of four bytes: AA, and three bytes of `edge`
 //     NAME AA      the parts of a string of several characters that begin at AA, one for each end
 // COUNT is how many of the row's strings are well formed, and SUM a number that any single wrong answer changes.
+#![tactic(auto)]
+
 use libc::STDOUT_FILENO;
 
 // What the strings of a row came to.
-#[derive(Drop)]
+#[derive(Clone, Copy)]
 struct Tally {
     count: u64,
     sum: u64,

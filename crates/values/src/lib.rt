@@ -1,5 +1,7 @@
 // Fields, array members, match conditions and cases, let bindings and returns (typecheck/lib.rs, `node`).
 // The buffers are lent in one order: slots, types, diagnostics, messages; then the two texts.
+#![tactic(auto)]
+
 ghost use Rattle.std.specs.Prelude.{◌≡◌, List, ℕ, ◌+◌};
 ghost use Rattle.tok.specs.Word.{payload_of};
 ghost use Rattle.tok.specs.Text.{Texts, texts_of, name_bytes};
@@ -24,7 +26,7 @@ use state::{Step, Used, Went};
 use tok::{Span, kind, wide, word_at};
 
 // The type word of a record's field, if the record has it.
-#[derive(Drop)]
+#[derive(Clone, Copy)]
 pub enum Found {
     Type(u32),
     Nothing,
@@ -32,7 +34,7 @@ pub enum Found {
 
 // What an array's member after the first is: of the first's type; silent, where a value is poisoned or an Unknown stands in a type; or of
 // another type, which was reported. With what is used then; or a refusal's number and place.
-#[derive(Drop)]
+#[derive(Clone, Copy)]
 pub enum Compared {
     Alike(Used),
     Silent(Used),
@@ -41,7 +43,7 @@ pub enum Compared {
 }
 
 // What a let binds its name to: a type's word, or nothing. With what is used then; or a refusal's number and place.
-#[derive(Drop)]
+#[derive(Clone, Copy)]
 pub enum Binding {
     Bound(u32, Used),
     Nothing(Used),

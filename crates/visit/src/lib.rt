@@ -1,4 +1,6 @@
 // What the walk carries from node to node beside the lent buffers, and what visiting a node answers.
+#![tactic(auto)]
+
 ghost use Rattle.std.specs.Prelude.{◌≡◌};
 ghost use Rattle.visit.specs.Plain.{with_used, visit_of, walked_of};
 
@@ -6,7 +8,7 @@ use state::{Step, Used, Went};
 
 // How much of each buffer is used, and what scratch holds: the names in scope are `depth` from name number `base` on; the packages held
 // are `packages` from word `held` on; the functions buffer has `functions` entries.
-#[derive(Drop)]
+#[derive(Clone, Copy)]
 pub struct State {
     pub used: Used,
     pub base: usize,
@@ -17,7 +19,7 @@ pub struct State {
 }
 
 // What a rule answers: a value's slot, or that an error was reported already, with the state then; or a refusal's number and place.
-#[derive(Drop)]
+#[derive(Clone, Copy)]
 pub enum Visit {
     Known(u32, State),
     Poison(State),
@@ -25,14 +27,14 @@ pub enum Visit {
 }
 
 // What a step answers that only writes: the state then; or a refusal's number and place.
-#[derive(Drop)]
+#[derive(Clone, Copy)]
 pub enum Walked {
     On(State),
     Refused(u32, u32),
 }
 
 // What a step answers that gives a type's word.
-#[derive(Drop)]
+#[derive(Clone, Copy)]
 pub enum Gave {
     Word(u32, State),
     Refused(u32, u32),

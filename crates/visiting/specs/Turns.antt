@@ -1,7 +1,7 @@
 -- The rules of lists as a loop has them: one element is visited, and the rest of the list goes on with what is known so far. Definitions
 -- and laws, each by the rule's own equation. Assumes nothing.
 use Rattle.std.specs.Prelude.{ℕ, ◌≡◌, refl, Bool, true, false, ◌||◌, List, [], ◌∷◌, ◌++◌}
-use Rattle.std.proofs.Common.{sym, ◌∙◌, append_assoc, append_nil}
+use Rattle.std.proofs.Common.{sym, ◌∙◌, append_assoc, append-nil}
 use Rattle.std.proofs.Math.Path.{ap}
 use Rattle.tok.specs.Step.{Result, ok, refused, Refusal, next, ◌>>=◌, ◌>>◌, return}
 use Rattle.ast.specs.Node.{Node, Nodes, Cases, Values, done, then, no_case, case, no_value, value}
@@ -30,9 +30,9 @@ or_assoc : (p q r : Bool) → (p || (q || r)) ≡ ((p || q) || r)
 or_assoc true q r = refl
 or_assoc false q r = refl
 
-or_false : (p : Bool) → (p || false) ≡ p
-or_false true = refl
-or_false false = refl
+or-false : (p : Bool) → (p || false) ≡ p
+or-false true = refl
+or-false false = refl
 
 module _ {A : Type 0} (c : Ctx) (p : Bool) (k : Bool → Walk A) where
   pub visits-all : (xs : Nodes) (s : World) → next (visit_all c xs s) k ≡ visits_from c false xs k s
@@ -46,7 +46,7 @@ module _ {A : Type 0} (c : Ctx) (p : Bool) (k : Bool → Walk A) where
 
   pub visits-end : (s : World) → visits_from c p done k s ≡ k p s
   unfolding visit_all
-  visits-end s = ap (λ b. k b s) (or_false p)
+  visits-end s = ap (λ b. k b s) (or-false p)
 
 -- ── A match's cases ──
 
@@ -67,7 +67,7 @@ module _ {A : Type 0} (c : Ctx) (n : ℕ) (before : List Branch) (k : List Branc
 
   pub cases_end_lem : (s : World) → cases_from c n before no_case k s ≡ k before s
   unfolding cases
-  cases_end_lem s = ap (λ bs. k bs s) (append_nil before)
+  cases_end_lem s = ap (λ bs. k bs s) (append-nil before)
 
 -- ── A record's values ──
 
@@ -87,4 +87,4 @@ module _ {A : Type 0} (c : Ctx) (before : List ℕ) (k : List ℕ → Walk A) wh
 
   pub values-end : (s : World) → values_from c before no_value k s ≡ k before s
   unfolding values
-  values-end s = ap (λ ps. k ps s) (append_nil before)
+  values-end s = ap (λ ps. k ps s) (append-nil before)

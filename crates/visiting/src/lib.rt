@@ -1,4 +1,6 @@
 // What comes after a visit.
+#![tactic(auto)]
+
 ghost use Rattle.std.specs.Prelude.{◌≡◌, ◌+◌, ◌<◌, ◌^◌};
 ghost use Rattle.visiting.specs.Then.{after_of, came_of, left_of};
 ghost use Rattle.visiting.specs.Blocks.{inner_of};
@@ -7,7 +9,7 @@ use rules::Answer;
 use visit::{State, Visit};
 
 // An answer and the state after it, or that a refusal ends the walk.
-#[derive(Drop)]
+#[derive(Clone, Copy)]
 pub enum Onward {
     Goes(Answer, State),
     Stops,

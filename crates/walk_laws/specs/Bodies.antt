@@ -36,7 +36,7 @@ use Rattle.bodies.specs.declared.Begun.TheVariants as B
 use Rattle.bodies.specs.Bodies.{slot_at, name_at, return_at, count_at, args_at, fn_at, end_at, BeginReady, EndReady, begun_in, KeepsBegun, goes, ends, Begins}
 use Rattle.bodies.specs.BodyLaws.{body-stops, fn-visited}
 use Rattle.walking.specs.Kinds.{Is}
-use Rattle.walking.specs.Contracts.{ctx_in, nodes_at, ClassVisit, ListVisit, ListVisited, NodeVisited}
+use Rattle.walking.specs.Visited.{ctx_in, nodes_at, ClassVisit, ListVisit, ListVisited, NodeVisited}
 
 -- its body's nodes
 abbrev pub body_at : (image : List ℕ) → (at : ℕ) → Nodes

@@ -10,7 +10,7 @@ use Rattle.visit.specs.Whole.{Lent}
 use Rattle.ready.specs.Ready.{NodeVisit, node-ready}
 use Rattle.leaves.specs.Leaves.{LeafReady}
 use Rattle.walking.specs.Kinds.{is_leaf, has_operands, Leaf, Operand, OneOperand, Listed, Sequence, Is, is-listed, is_one, is_sequence_lem, is-array}
-use Rattle.walking.specs.Contracts.{ClassVisit}
+use Rattle.walking.specs.Visited.{ClassVisit}
 
 there : (image places : List ℕ) (n : ℕ) {at h k : ℕ} → at ≡ get_or places n 0 → h ≡ get_or image at 0 → k ≡ kind_of h → k ≡ kind_of (get_or image (get_or places n 0) 0)
 there image places n e eh ek = ek ∙ ap kind_of (eh ∙ ap (λ i. get_or image i 0) e)

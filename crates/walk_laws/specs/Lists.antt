@@ -24,7 +24,7 @@ use Rattle.ready.specs.Passes.{ready-less, ready-then}
 use Rattle.ready.specs.Parts.{node-visit, nodes-turn, nodes-room}
 use Rattle.ready.specs.Unvisited.{nodes-fresh, visit-apart}
 use Rattle.ready.specs.After.{after-node}
-use Rattle.walking.specs.Contracts.{ctx_in, nodes_at, ListVisit, ListVisited, NodeVisited}
+use Rattle.walking.specs.Visited.{ctx_in, nodes_at, ListVisit, ListVisited, NodeVisited}
 
 -- the list's rule, at its beginning
 abbrev pub listing : Texts → (image words : List ℕ) → (at k : ℕ) → State → Lent → Beginning

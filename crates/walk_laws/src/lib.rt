@@ -1,1 +1,2 @@
 // Laws only: what the functions that visit are put together of.
+#![tactic(auto)]

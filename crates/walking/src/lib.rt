@@ -1,4 +1,6 @@
 // A refusal passed on: the answer of one kind of step as that of another.
+#![tactic(auto)]
+
 ghost use Rattle.std.specs.Prelude.{◌≡◌};
 ghost use Rattle.walking.specs.Stops.{refused_of, halted_of};
 ghost use Rattle.walking.specs.Kinds.{is_leaf, has_one, has_operands};

@@ -1,4 +1,6 @@
 // Lent buffers set to zero (document 01: "all outputs and scratch zero to their ends", "Scratch is all zero").
+#![tactic(auto)]
+
 ghost use Rattle.std.specs.Prelude.{◌≡◌, set};
 ghost use Rattle.rules.specs.Check.{zeros, zeroed};
 ghost use Rattle.refusals.specs.Inputs.{Buffers};

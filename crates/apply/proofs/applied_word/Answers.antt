@@ -1,0 +1,40 @@
+-- `apply::applied_word` meets its contract: by the kind of the word. Assumes nothing.
+use mathlib.Core.Path.{sym, ◌∙◌}
+use native.Mathlib.Omega.{arith}
+use Rattle.tok.specs.Text.{texts_of}
+use Rattle.slots.specs.Bindings.{bindings_in}
+use Rattle.apply.proofs.SizeReturns.{wraps-low, record_least, none-word, slot-word, same_word, wrap-word, record_word}
+use Rattle.apply.proofs.applied_word.Goals as goal
+
+pub returns-then-depth-eq0 : goal.returns-then-depth-eq0
+returns-then-depth-eq0 c = none-word _ _ _ _ _ _ _ c.if-depth-eq0.true
+
+pub returns-then-k-eq-SLOT : goal.returns-then-k-eq-SLOT
+returns-then-k-eq-SLOT c = slot-word _ _ _ _ _ _ _ c.if-depth-eq0.false c.kind-k.ensures c.if-k-eq-SLOT.true c.slot_type.ensures
+
+pub returns-then-size-eq0 : goal.returns-then-size-eq0
+returns-then-size-eq0 c = same_word _ _ _ _ _ _ _ c.if-depth-eq0.false c.kind-k.ensures c.if-k-eq-SLOT.false c.if-size-eq0.true
+
+pub overflow_sub-end : goal.overflow_sub-end
+overflow_sub-end c = omega (arith, c.requires.1.0, c.if-size-eq0.false)
+
+pub compound_word-requires : goal.compound_word-requires
+compound_word-requires c = (wraps-low _ (sym c.wraps.ensures ∙ c.if-wraps.true), omega (arith, c.requires.1.1))
+
+pub returns-then-wraps : goal.returns-then-wraps
+returns-then-wraps c = wrap-word _ _ _ _ _ _ _ c.if-depth-eq0.false c.kind-k.ensures c.if-k-eq-SLOT.false c.if-size-eq0.false (sym c.wraps.ensures ∙ c.if-wraps.true) c.compound_word.ensures
+
+pub overflow_mul-field_count : goal.overflow_mul-field_count
+overflow_mul-field_count c = omega (arith, c.field_count.ensures)
+
+pub overflow_add-field_count : goal.overflow_add-field_count
+overflow_add-field_count c = omega (arith, c.field_count.ensures)
+
+pub overflow_sub-end-2 : goal.overflow_sub-end-2
+overflow_sub-end-2 c = omega (arith, c.requires.0, c.requires.1.0, c.field_count.ensures, record_least (texts_of c.args.script.now c.args.library.now) (bindings_in (texts_of c.args.script.now c.args.library.now) c.args.pairs.now c.args.count) c.args.old.now c.args.w c.args.depth c.if-depth-eq0.false c.kind-k.ensures (λ z. c.if-size-eq0.false (c.requires.0 ∙ z)) (sym c.wraps.ensures ∙ c.if-wraps.false))
+
+pub compound_word-requires-2 : goal.compound_word-requires-2
+compound_word-requires-2 c = (omega arith, omega (arith, c.requires.1.1))
+
+pub returns : goal.returns
+returns c = record_word _ _ _ _ _ _ _ c.if-depth-eq0.false c.kind-k.ensures c.if-k-eq-SLOT.false c.if-size-eq0.false (sym c.wraps.ensures ∙ c.if-wraps.false) c.field_count.ensures c.compound_word-2.ensures

@@ -1,0 +1,42 @@
+use native.Mathlib.Omega.{arith}
+use Rattle.apply.proofs.FieldReturns.{writing_all, writing_end, size_fits, size-ends, writing_next}
+use Rattle.apply.proofs.set_pairs.Goals as goal
+
+pub loop-left-init : goal.loop-left-init
+loop-left-init c = writing_all _ c.requires
+
+pub slice_bounds-word_at-end : goal.slice_bounds-word_at-end
+slice_bounds-word_at-end c = omega (arith, c.loop-left.invariant.long, c.loop-left.invariant.setting.lent)
+
+pub slice_bounds-field_type-end : goal.slice_bounds-field_type-end
+slice_bounds-field_type-end c = omega (arith, c.loop-left.invariant.long, c.loop-left.invariant.setting.lent)
+
+pub slice_bounds-applied_size-end : goal.slice_bounds-applied_size-end
+slice_bounds-applied_size-end c = omega (arith, c.loop-left.invariant.long, c.loop-left.invariant.setting.lent)
+
+pub applied_size-size-requires : goal.applied_size-size-requires
+applied_size-size-requires c = size_fits c.loop-left.invariant (λ z. omega arith) c.field_type-x.ensures
+
+pub overflow_add-end : goal.overflow_add-end
+overflow_add-end c = omega (arith, size-ends c.loop-left.invariant (λ z. omega arith) c.field_type-x.ensures c.applied_size-size.ensures)
+
+pub slice_bounds-applied_word-end : goal.slice_bounds-applied_word-end
+slice_bounds-applied_word-end c = omega (arith, c.loop-left.invariant.long, c.loop-left.invariant.setting.lent)
+
+pub applied_word-new-requires : goal.applied_word-new-requires
+applied_word-new-requires c = (c.applied_size-size.ensures, (omega arith, size-ends c.loop-left.invariant (λ z. omega arith) c.field_type-x.ensures c.applied_size-size.ensures))
+
+pub overflow_add-here : goal.overflow_add-here
+overflow_add-here c = omega (arith, c.loop-left.invariant.setting.reads)
+
+pub overflow_add-to : goal.overflow_add-to
+overflow_add-to c = omega (arith, c.loop-left.invariant.setting.writes)
+
+pub loop-left-preserved : goal.loop-left-preserved
+loop-left-preserved c = writing_next c.loop-left.invariant (λ z. omega arith) c.field_type-x.ensures c.applied_size-size.ensures c.word_at-name.ensures c.applied_word-new.ensures c.set_pair.ensures
+
+pub shape_of-types : goal.shape_of-types
+shape_of-types c = c.loop-left.invariant.long
+
+pub returns : goal.returns
+returns c = writing_end c.loop-left.invariant (omega arith)

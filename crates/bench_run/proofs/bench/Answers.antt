@@ -1,0 +1,6 @@
+-- `bench_run::bench` meets its contract: the rows that begin where `begin` says are the bench's. Assumes nothing.
+use Rattle.bench_run.proofs.Ways.{benched}
+use Rattle.bench_run.proofs.bench.Goals as goal
+
+pub returns : goal.returns
+returns c = benched _ c.begin-begun.ensures c.script.ensures c.library_text.ensures c.print_rows.ensures

@@ -1,0 +1,14 @@
+-- `branches::compare_branches` meets its contract. The loop's invariant: i branches are compared, the others follow; the measure is how many
+-- do. Assumes nothing.
+use Prim.Native.Nat.{◌-◌}
+use mathlib.Core.Path.{◌≡◌}
+use lib.ListN.{length}
+use Rattle.tok.specs.Text.{texts_of}
+use Rattle.branches.proofs.Compare.{Compared}
+use Rattle.branches.proofs.compare_branches.Given as goal
+
+abbrev pub invariant-loop-i : goal.invariant-loop-i
+invariant-loop-i l = Compared (texts_of l.script l.library) l.n l.default l.image l.places l.at l.count l.slots l.types l.initial.diagnostics l.initial.messages l.initial.here l.i l.place l.diagnostics l.messages l.here × (length l.diagnostics ≡ length l.initial.diagnostics) × (length l.messages ≡ length l.initial.messages)
+
+abbrev pub decreases-loop-i : goal.decreases-loop-i
+decreases-loop-i l = l.count - l.i

@@ -1,0 +1,26 @@
+-- `display::show_within` and `display::show_fields` meet their contracts. The depth falls from a type to the types inside it; a turn of the fields'
+-- loop writes one field of those that are owed. Assumes nothing.
+use lib.ListN.{length}
+use mathlib.Core.Path.{◌≡◌}
+use mathlib.Core.List.{◌++◌}
+use Rattle.tok.specs.Text.{Texts, texts_of, text}
+use Rattle.ptype.specs.Ty.{Fields}
+use Rattle.ptype.specs.Words.{fields_from, unfolded}
+use Rattle.ptype.specs.Show.{show_fields}
+use Rattle.display.specs.WritingLaws.{Owes}
+use Prim.Native.Nat.{ℕ, ◌+◌, ◌*◌, ◌^◌, ◌<◌}
+use Rattle.display.proofs.+show_fields_show_within.Given as goal
+
+abbrev pub decreases-show_fields : goal.decreases-show_fields
+decreases-show_fields l = 2 * l.depth + 1
+
+abbrev pub decreases-show_within : goal.decreases-show_within
+decreases-show_within l = 2 * l.depth
+
+abbrev pub invariant-show_fields-loop-left : goal.invariant-show_fields-loop-left
+invariant-show_fields-loop-left l = let T : Texts = texts_of l.script l.library in
+    let F : ℕ → ℕ → Fields = fields_from (unfolded T l.types l.depth) T l.words in
+    Owes l.initial.out l.initial.at (show_fields (F l.i-2 l.n) ++ l.after) l.out l.at (show_fields (F l.i l.left) ++ l.after) × (l.i + 2 * l.left < 2 ^ 40) × (length l.out ≡ length l.initial.out)
+
+abbrev pub decreases-show_fields-loop-left : goal.decreases-show_fields-loop-left
+decreases-show_fields-loop-left l = l.left

@@ -1,0 +1,9 @@
+-- `err_text::class_of` meets its contract: the table's entry, and 0 past its end. Assumes nothing.
+use Rattle.err_text.proofs.PieceLaws.{class_at, class_none}
+use Rattle.err_text.proofs.class_of.Goals as goal
+
+pub returns-then-i-lt9 : goal.returns-then-i-lt9
+returns-then-i-lt9 c = class_at c.wide-i.ensures
+
+pub returns-else-i-lt9 : goal.returns-else-i-lt9
+returns-else-i-lt9 c = class_none c.wide-i.ensures c.if-i-lt9.false

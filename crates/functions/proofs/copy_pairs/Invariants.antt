@@ -1,0 +1,14 @@
+-- `functions::copy_pairs` meets its contract. The loop's invariant: k pairs are copied. Assumes nothing.
+use Prim.Native.Nat.{◌-◌, ◌≤◌}
+use mathlib.Core.Path.{◌≡◌}
+use Rattle.ptype.specs.Add.{write}
+use Rattle.library.specs.Package.{params_from}
+use Rattle.rules.specs.Steps.{pairs_of}
+use Rattle.functions.specs.Entering.{CopyRoom}
+use Rattle.functions.proofs.copy_pairs.Given as goal
+
+abbrev pub invariant-loop-k : goal.invariant-loop-k
+invariant-loop-k l = CopyRoom l.initial.functions l.at l.from l.count × ((l.k ≤ l.count) × (l.functions ≡ write l.initial.functions l.at (pairs_of (params_from l.scratch l.from l.k))))
+
+abbrev pub decreases-loop-k : goal.decreases-loop-k
+decreases-loop-k l = l.count - l.k

@@ -1,0 +1,14 @@
+-- `image_nodes::functions` meets its contract: what the functions that are left lead to, all lead to (`Loops`). The measure is how many are left. Assumes nothing.
+use mathlib.Core.List.{List}
+use Rattle.reader.specs.declared.Reading.{Reading}
+use Rattle.ast.specs.Outline.{Outline}
+use Rattle.ast.specs.NodeRecords.{extern_functions}
+use Rattle.image_words.specs.Leads.{Leads}
+use Rattle.image_nodes.specs.Site.{here_of}
+use Rattle.image_nodes.proofs.functions.Given as goal
+
+abbrev pub invariant-loop-k : goal.invariant-loop-k
+invariant-loop-k l = (before : List Outline) (end : Reading) → Leads l.words l.to (extern_functions (here_of l.script before l.site) l.k l.room) end → Leads l.words l.initial.to (extern_functions (here_of l.script before l.site) l.count l.left) end
+
+abbrev pub decreases-loop-k : goal.decreases-loop-k
+decreases-loop-k l = l.k

@@ -1,0 +1,26 @@
+use Prim.Native.Nat.{◌-◌}
+use native.Mathlib.Omega.{arith}
+use Rattle.library_groups.proofs.PlaceWays.{placing_begin, placing_more, placing_done}
+use Rattle.library_groups.proofs.function_places.Goals as goal
+
+pub loop-k-init : goal.loop-k-init
+loop-k-init c = placing_begin
+
+pub shape_of-order-then-at-last : goal.shape_of-order-then-at-last
+shape_of-order-then-at-last c = c.loop-k.invariant.long
+
+pub returns-then-at-last : goal.returns-then-at-last
+returns-then-at-last c = placing_done c.loop-k.invariant
+
+pub enter-requires : goal.enter-requires
+enter-requires c = omega (arith, c.least-last.ensures)
+
+pub loop-k-preserved : goal.loop-k-preserved
+loop-k-preserved c =
+    placing_more c.loop-k.invariant (omega (arith, c.least-last.ensures)) (omega (arith, c.least-end.ensures)) c.enter.ensures c.function_end-at.ensures
+
+pub shape_of-order : goal.shape_of-order
+shape_of-order c = c.loop-k.invariant.long
+
+pub returns : goal.returns
+returns c = placing_done c.loop-k.invariant

@@ -1,0 +1,15 @@
+-- `library_groups::none_slotted` meets its contract. The loop's invariant: the first i have no slots. The measure is how many are left.
+-- Assumes nothing.
+use Prim.Native.Nat.{ℕ, ◌-◌, ◌<◌}
+use mathlib.Core.Path.{◌≡◌}
+use mathlib.Core.Bool.{false}
+use lib.ListN.{get_or}
+use Rattle.name_order.specs.Order.{place_in}
+use Rattle.library_groups.specs.Kept.{slotted}
+use Rattle.library_groups.proofs.none_slotted.Given as goal
+
+abbrev pub invariant-loop-i : goal.invariant-loop-i
+invariant-loop-i l = (j : ℕ) → j < l.i → slotted l.words (place_in (get_or l.order j 0)) ≡ false
+
+abbrev pub decreases-loop-i : goal.decreases-loop-i
+decreases-loop-i l = l.n - l.i

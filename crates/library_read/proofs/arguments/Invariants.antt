@@ -1,0 +1,16 @@
+-- `library_read::arguments` meets its contract. The loop's invariant, `ArgumentsRead`: the first i are read. The measure is how many are left.
+-- Assumes nothing.
+use Prim.Native.Nat.{◌-◌, ◌≤◌}
+use mathlib.Core.List.{List}
+use Prim.Native.Nat.{ℕ}
+use Rattle.tok.specs.Text.{texts_of}
+use Rattle.library.specs.Pool.{pool_in}
+use Rattle.library_read.specs.Ready.{Ready}
+use Rattle.library_read.proofs.RecordWays.{ArgumentsRead}
+use Rattle.library_read.proofs.arguments.Given as goal
+
+abbrev pub invariant-loop-i : goal.invariant-loop-i
+invariant-loop-i l = (l.i ≤ l.count) × ((script : List ℕ) → Ready (texts_of script l.library) l.pool l.sums → ArgumentsRead (pool_in (texts_of script l.library) l.pool) l.words l.flag l.initial.c l.c l.i)
+
+abbrev pub decreases-loop-i : goal.decreases-loop-i
+decreases-loop-i l = l.count - l.i

@@ -1,0 +1,25 @@
+-- `pkg_call::in_library` meets its contract: one function with slots, whose bindings stand in the lent tail of scratch, or a group.
+-- Assumes nothing.
+use borrow.Enum.Refused.{opened}
+use mathlib.Core.Path.{refl}
+use native.Mathlib.Omega.{arith}
+use Rattle.pkg_call.proofs.Ready.{not-slotted, group-ready, slotted-ready}
+use Rattle.pkg_call.proofs.Returns.{front-stays, library-calls, slotted-calls}
+use Rattle.pkg_call.proofs.in_library.Goals as goal
+
+pub in_group-requires : goal.in_group-requires
+in_group-requires c =
+    group-ready c.requires.ready refl c.find_candidates-found.ensures (not-slotted (opened c.in_default.in_default-own.keys2))
+
+pub returns-in_default : goal.returns-in_default
+returns-in_default c =
+    library-calls _ _ _ _ _ _ _ _ _ c.function_count-k.ensures c.first_entry-from.ensures _ _ _ _ _ _ c.in_group.ensures
+
+pub check_slotted-requires : goal.check_slotted-requires
+check_slotted-requires c =
+    slotted-ready c.requires _ c.function_count-k.ensures c.first_entry-from.ensures c.find_candidates-found.ensures c.in-Slotted.is
+
+pub returns : goal.returns
+returns c =
+    slotted-calls _ _ _ _ _ _ _ _ _ c.function_count-k.ensures c.first_entry-from.ensures
+    _ _ _ _ _ c.find_candidates-found.ensures c.in-Slotted.is c.check_slotted.ensures (front-stays _ _ (omega (arith, c.requires.ready.long)))

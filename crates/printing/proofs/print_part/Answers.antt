@@ -1,0 +1,12 @@
+-- `printing::print_part` meets its contract, by `write_part`'s. Assumes nothing.
+use Rattle.std.proofs.Common.{arith}
+use Rattle.printing.proofs.Ways.{part_room, whole_part}
+use Rattle.printing.proofs.print_part.Goals as goal
+
+-- src/lib.rt:77:11
+pub slice_bounds-print-end : goal.slice_bounds-print-end
+slice_bounds-print-end c = omega (arith, part_room _ _ _ (whole_part _ _ _ c.requires c.write_part-part.ensures.answer), c.write_part-part.auto)
+
+-- src/lib.rt:43:1
+pub returns : goal.returns
+returns c = whole_part _ _ _ c.requires c.write_part-part.ensures.answer

@@ -1,0 +1,23 @@
+-- `stands_in` and `stands_among` meet their contracts: each return is a law of `StandsReturns` or of marks, over what the calls gave.
+-- The depth falls; the loop's invariant is that the fields left decide. Assumes nothing.
+use mathlib.Core.Path.{◌≡◌}
+use lib.ListN.{length}
+use Rattle.tok.specs.Text.{Texts}
+use Rattle.ptype.specs.Words.{fields_from, fields_of, unfolded}
+use Rattle.ptype.specs.Stands.{stands_among}
+use Rattle.ptype.specs.Marks.{Free}
+use Prim.Native.Nat.{◌+◌, ◌*◌, ◌^◌, ◌<◌}
+use Rattle.ptype.proofs.+stands_among_stands_in.Given as goal
+
+abbrev pub decreases-stands_among : goal.decreases-stands_among
+decreases-stands_among l = 2 * l.depth + 1
+
+abbrev pub decreases-stands_in : goal.decreases-stands_in
+decreases-stands_in l = 2 * l.depth
+
+abbrev pub invariant-stands_among-loop-left : goal.invariant-stands_among-loop-left
+invariant-stands_among-loop-left l = ((t : Texts) → stands_among l.k (fields_of (unfolded t l.types l.depth) t l.types l.w) ≡ stands_among l.k (fields_from (unfolded t l.types l.depth) t l.types l.i l.left))
+    × (l.i + 2 * l.left < 2 ^ 40) × ((t : Texts) → Free (stands_among l.k) t l.types l.free) × (length l.free ≡ length l.initial.free)
+
+abbrev pub decreases-stands_among-loop-left : goal.decreases-stands_among-loop-left
+decreases-stands_among-loop-left l = l.left

@@ -1,0 +1,10 @@
+-- `rows::end_row` meets its contract: its pieces, one after the other. Assumes nothing.
+use Rattle.rows_window.specs.ShowingLaws.{◌and_then◌}
+use Rattle.tok.specs.Text.{text}
+use Rattle.rows_window.specs.ShowingLaws.{shows_as}
+use Rattle.rows.specs.LinesLaws.{end_pieces}
+use Rattle.rows.proofs.end_row.Goals as goal
+
+pub returns : goal.returns
+unfolding text
+returns c = shows_as (end_pieces _) (c.put-a.ensures and_then c.put_decimal-b.ensures and_then c.put.ensures)

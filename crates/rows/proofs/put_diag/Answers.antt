@@ -1,0 +1,10 @@
+-- `rows::put_diag` meets its contract: its pieces, one after the other. Assumes nothing.
+use Rattle.rows_window.specs.ShowingLaws.{◌and_then◌}
+use Rattle.tok.specs.Text.{text}
+use Rattle.rows_window.specs.ShowingLaws.{shows_as}
+use Rattle.rows.specs.LinesLaws.{diag_pieces}
+use Rattle.rows.proofs.put_diag.Goals as goal
+
+pub returns : goal.returns
+unfolding text
+returns c = shows_as (diag_pieces _ _ _ _) (c.put-a.ensures and_then c.put_number-b.ensures and_then c.put_number-c.ensures and_then c.put_number-d.ensures and_then c.put-e.ensures and_then c.put.ensures)

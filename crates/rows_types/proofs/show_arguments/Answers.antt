@@ -1,0 +1,7 @@
+-- `rows_types::show_arguments` meets its contract: the levels are those of `ty_of`. Assumes nothing.
+use Rattle.ptype.specs.Words.{ty_of}
+use Rattle.rows_types.proofs.show_arguments.Goals as goal
+
+pub returns : goal.returns
+unfolding ty_of
+returns c = c.show_fields.ensures

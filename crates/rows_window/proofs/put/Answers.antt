@@ -1,0 +1,6 @@
+-- `rows_window::put` meets its contract: what is behind the bytes passed over is written by `display`'s writer. Assumes nothing.
+use Rattle.rows_window.proofs.Pieces.{put_shows}
+use Rattle.rows_window.proofs.put.Goals as goal
+
+pub returns : goal.returns
+returns c = put_shows c.least-passed.ensures c.put_at-place.ensures c.reached.ensures

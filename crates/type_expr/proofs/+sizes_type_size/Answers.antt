@@ -1,0 +1,68 @@
+use mathlib.Core.Path.{refl, sym}
+use native.Mathlib.Nat.{zero-add}
+use native.Mathlib.Omega.{arith}
+use Rattle.ast.specs.TypeExpr.{type_of}
+use Rattle.type_expr.specs.SizeLaws.{sizes_none, sizes_first}
+use Rattle.type_expr.specs.TypesAt.{words-there, two-words, inner-ready, fields-ready, first-ready, rest-ready}
+use Rattle.type_expr.proofs.Returns.{size-atom, size-foreign, size_record, size-inner}
+use Rattle.type_expr.proofs.+sizes_type_size.Goals as goal
+
+pub sizes-loop-left-init : goal.sizes-loop-left-init
+sizes-loop-left-init t c = (c.requires.0, sym (zero-add _))
+
+pub sizes-overflow_add-here : goal.sizes-overflow_add-here
+sizes-overflow_add-here t c = omega (arith, c.loop-left.invariant.0.room)
+
+pub sizes-type_size-sum-requires : goal.sizes-type_size-sum-requires
+sizes-type_size-sum-requires t c = let p = first-ready c.loop-left.invariant.0 (λ z. omega arith) c.word_at.ensures in (omega (arith, c.decreases, p.under), (p.ready, omega (arith, c.requires.1, c.loop-left.invariant.1, sizes_first (type_of c.args.image.now) c.args.image.now c.loop-left.here c.loop-left.left (λ z. omega arith) c.word_at.ensures)))
+
+pub sizes-overflow_add-sum : goal.sizes-overflow_add-sum
+sizes-overflow_add-sum t c = omega (arith, c.requires.1, c.loop-left.invariant.1, c.type_size-sum.ensures, sizes_first (type_of c.args.image.now) c.args.image.now c.loop-left.here c.loop-left.left (λ z. omega arith) c.word_at.ensures)
+
+pub sizes-overflow_add-here-in-loop-left : goal.sizes-overflow_add-here-in-loop-left
+sizes-overflow_add-here-in-loop-left t c = omega (arith, c.loop-left.invariant.0.room)
+
+pub sizes-loop-left-preserved : goal.sizes-loop-left-preserved
+sizes-loop-left-preserved t c = (rest-ready c.loop-left.invariant.0 (λ z. omega arith), omega (arith, c.loop-left.invariant.1, c.type_size-sum.ensures, sizes_first (type_of c.args.image.now) c.args.image.now c.loop-left.here c.loop-left.left (λ z. omega arith) c.word_at.ensures))
+
+pub sizes-returns : goal.sizes-returns
+sizes-returns t c = omega (arith, c.loop-left.invariant.1, sizes_none (type_of c.args.image.now) c.args.image.now c.loop-left.here c.loop-left.left (omega arith))
+
+pub type_size-returns-then-k-eq-ATOM : goal.type_size-returns-then-k-eq-ATOM
+type_size-returns-then-k-eq-ATOM t c = sym (size-atom c.requires.0 c.type_place-at.ensures c.word_at-head.ensures c.kind-k.ensures c.if-k-eq-ATOM.true)
+
+pub type_size-returns-then-k-eq-FOREIGN : goal.type_size-returns-then-k-eq-FOREIGN
+type_size-returns-then-k-eq-FOREIGN t c = sym (size-foreign c.requires.0 c.type_place-at.ensures c.word_at-head.ensures c.kind-k.ensures c.if-k-eq-FOREIGN.true)
+
+pub type_size-overflow_sub-fields : goal.type_size-overflow_sub-fields
+type_size-overflow_sub-fields t c = two-words c.requires.0 c.type_place-at.ensures c.word_at-head.ensures c.kind-k.ensures c.payload.ensures
+
+pub type_size-overflow_add-at : goal.type_size-overflow_add-at
+type_size-overflow_add-at t c = omega (arith, words-there c.requires.0 c.type_place-at.ensures)
+
+pub type_size-sizes-requires : goal.type_size-sizes-requires
+type_size-sizes-requires t c = let f = fields-ready c.requires.0 c.type_place-at.ensures c.word_at-head.ensures c.kind-k.ensures c.payload.ensures c.if-k-eq-RECORD.true in (omega (arith, c.decreases), (f, omega (arith, c.requires.1, size_record c.requires.0 c.type_place-at.ensures c.word_at-head.ensures c.kind-k.ensures c.if-k-eq-RECORD.true c.payload.ensures refl)))
+
+pub type_size-overflow_mul-result : goal.type_size-overflow_mul-result
+type_size-overflow_mul-result t c = omega (arith, c.requires.1, size_record c.requires.0 c.type_place-at.ensures c.word_at-head.ensures c.kind-k.ensures c.if-k-eq-RECORD.true c.payload.ensures refl)
+
+pub type_size-overflow_add-result : goal.type_size-overflow_add-result
+type_size-overflow_add-result t c = omega (arith, c.requires.1, size_record c.requires.0 c.type_place-at.ensures c.word_at-head.ensures c.kind-k.ensures c.if-k-eq-RECORD.true c.payload.ensures refl)
+
+pub type_size-overflow_add-result-then-k-eq-RECORD : goal.type_size-overflow_add-result-then-k-eq-RECORD
+type_size-overflow_add-result-then-k-eq-RECORD t c = omega (arith, c.requires.1, c.sizes.ensures, size_record c.requires.0 c.type_place-at.ensures c.word_at-head.ensures c.kind-k.ensures c.if-k-eq-RECORD.true c.payload.ensures refl)
+
+pub type_size-returns-then-k-eq-RECORD : goal.type_size-returns-then-k-eq-RECORD
+type_size-returns-then-k-eq-RECORD t c = omega (arith, c.sizes.ensures, size_record c.requires.0 c.type_place-at.ensures c.word_at-head.ensures c.kind-k.ensures c.if-k-eq-RECORD.true c.payload.ensures refl)
+
+pub type_size-overflow_add-at-2 : goal.type_size-overflow_add-at-2
+type_size-overflow_add-at-2 t c = omega (arith, words-there c.requires.0 c.type_place-at.ensures)
+
+pub type_size-type_size-requires : goal.type_size-type_size-requires
+type_size-type_size-requires t c = let p = inner-ready c.requires.0 c.type_place-at.ensures c.word_at-head.ensures c.kind-k.ensures c.if-k-eq-ATOM.false c.if-k-eq-FOREIGN.false c.if-k-eq-RECORD.false c.word_at.ensures in (omega (arith, c.decreases, p.under), (p.ready, omega (arith, c.requires.1, size-inner c.requires.0 c.type_place-at.ensures c.word_at-head.ensures c.kind-k.ensures c.word_at.ensures c.if-k-eq-ATOM.false c.if-k-eq-FOREIGN.false c.if-k-eq-RECORD.false)))
+
+pub type_size-overflow_add-result-2 : goal.type_size-overflow_add-result-2
+type_size-overflow_add-result-2 t c = omega (arith, c.requires.1, c.type_size.ensures, size-inner c.requires.0 c.type_place-at.ensures c.word_at-head.ensures c.kind-k.ensures c.word_at.ensures c.if-k-eq-ATOM.false c.if-k-eq-FOREIGN.false c.if-k-eq-RECORD.false)
+
+pub type_size-returns : goal.type_size-returns
+type_size-returns t c = omega (arith, c.type_size.ensures, size-inner c.requires.0 c.type_place-at.ensures c.word_at-head.ensures c.kind-k.ensures c.word_at.ensures c.if-k-eq-ATOM.false c.if-k-eq-FOREIGN.false c.if-k-eq-RECORD.false)

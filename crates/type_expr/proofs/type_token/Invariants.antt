@@ -1,0 +1,12 @@
+-- `type_expr::type_token` meets its contract. The loop's invariant: the token is that of the type inside. The number of the type falls.
+-- Assumes nothing.
+use mathlib.Core.Path.{◌≡◌}
+use Rattle.ast.specs.TypeExpr.{type_of, type_token}
+use Rattle.type_expr.specs.Ready.{TypeReady}
+use Rattle.type_expr.proofs.type_token.Given as goal
+
+abbrev pub invariant-loop-here : goal.invariant-loop-here
+invariant-loop-here l = TypeReady l.image l.places l.here × (type_token (type_of l.image l.t) ≡ type_token (type_of l.image l.here))
+
+abbrev pub decreases-loop-here : goal.decreases-loop-here
+decreases-loop-here l = l.here
