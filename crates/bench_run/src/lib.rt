@@ -1,6 +1,7 @@
 // From the printing program's input to its rows (document 01, "Bench rows"): the four parts are read, the check runs on them, the rows are printed.
 #![tactic(auto)]
-ghost use Rattle.std.specs.Prelude.{◌≡◌};
+
+ghost use Rattle.std.specs.Prelude.{◌≡◌, IfOk};
 ghost use Rattle.refusals.specs.Inputs.{Inputs, Buffers};
 ghost use Rattle.refuse.specs.Answer.{inputs_of, buffers_of};
 ghost use Rattle.rows_begin.specs.Beginning.{Runs, Begins};
@@ -9,6 +10,7 @@ ghost use Rattle.printing.specs.Handed.{Benched};
 use printing::Printed;
 use rows_begin::Begun;
 use rows_part::Row;
+use std::io;
 
 // How long the list of an input's words can be: "in all up to 65,536 bytes".
 const MOST_WORDS: usize = 16_384;
@@ -83,10 +85,10 @@ fn begin(
     )
 }
 
-// The printing program: the check of the input's parts, and its rows. It answers what it handed to the C library, whose contract leaves open
+// The printing program: the check of the input's parts, and its rows. It answers what it handed to the system, whose contract leaves open
 // whether it writes it.
-pub fn bench(bytes: &[u8], full: bool) -> Printed
-    ensures { Benched bytes.now result }
+pub fn bench(rt: &impl Print, bytes: &[u8], full: bool) -> io::Result<Printed>
+    ensures { IfOk result (λ printed. Benched bytes.now printed) }
 {
     let mut slots = [0u32; 4_097];
     let mut functions = [0u32; 8_192];
@@ -104,6 +106,7 @@ pub fn bench(bytes: &[u8], full: bool) -> Printed
         &mut scratch,
     );
     printing::print_rows(
+        rt,
         rows_input::script(bytes),
         rows_input::library_text(bytes),
         &slots,

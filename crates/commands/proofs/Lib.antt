@@ -2,3 +2,4 @@
 pub mod Parts
 pub mod Changing
 pub mod Printing
+pub mod Powers

@@ -1,7 +1,8 @@
 -- How many bytes are printed: the ways out of the functions that print. Assumes nothing.
 use Rattle.std.proofs.Common.{◌≡◌, ℕ, ◌+◌, ◌-◌, ◌^◌, ◌<◌, ◌≤◌, Bool, true, false, leb, List, length, take, sym, refl, ◌∙◌, le_trans, arith, leb-false, leb-true}
 use native.Mathlib.Nat.{sub-zero, pow-le-pow_right}
-use Rattle.io.specs.Digits.{IsDigitCount}
+use lib.Seq.{length-take-le}
+use Rattle.commands.specs.Digits.{IsDigitCount}
 use Rattle.commands.specs.Printed.{NumberBytes, RefusedBytes}
 
 -- a 64-bit number has at most 20 digits
@@ -18,9 +19,9 @@ few-digits n k f h = by (leb k 20) refl
         absurd (omega arith)
 
 -- k digits were lent to be printed
-pub number-bytes : (n k : ℕ) (digits : List ℕ) {r : ℕ} → r ≡ length (take (k - 0) digits) → k ≡ length (take k digits) → IsDigitCount 10 1 n k → n < 2 ^ 64 → NumberBytes n r
+pub number-bytes : (n k : ℕ) (digits : List ℕ) {r : ℕ} → r ≡ length (take (k - 0) digits) → k ≤ length digits → IsDigitCount 10 1 n k → n < 2 ^ 64 → NumberBytes n r
 number-bytes n k digits {r} e l f h =
-    let same : r ≡ k = e ∙ (rw (sub-zero k) (sym l)) in
+    let same : r ≡ k = e ∙ rw (sub-zero k) (length-take-le k digits l) in
     record { fewest = rw same f; few = omega (arith, few-digits n k f h) }
 
 pub number_read : (n : ℕ) {m r : ℕ} → m ≡ n → NumberBytes m r → NumberBytes n r

@@ -1,6 +1,6 @@
--- How many bytes are handed to the C library: no contract can say what it does with them. Definitions.
+-- How many bytes are handed to the system: no contract can say what it does with them. Definitions.
 use Rattle.std.specs.Prelude.{◌≡◌, ℕ, ◌+◌, ◌≤◌}
-use Rattle.io.specs.Digits.{IsDigitCount}
+use Rattle.commands.specs.Digits.{IsDigitCount}
 
 -- of a number in decimal
 pub record NumberBytes (n r : ℕ) : Type 0 where

@@ -2,12 +2,16 @@
 // one before it. oracle/replay/README.md says what each command does. What is told past the end of a list is left out.
 #![tactic(auto)]
 
-ghost use Rattle.std.specs.Prelude.{◌≡◌, ℕ, ◌+◌, ◌%◌, ◌^◌, ◌<◌, ◌≤◌, min, List, length, take, slice_index, slice_set};
+mod digits;
+
+ghost use Rattle.std.specs.Prelude.{◌≡◌, ℕ, ◌+◌, ◌%◌, ◌^◌, ◌<◌, ◌≤◌, min, List, length, take, slice_index, slice_set, IfOk};
 ghost use Rattle.commands.specs.Words.{word_in, ByteAt, CommandIn, SomeCommand};
 ghost use Rattle.commands.specs.Changes.{whole, low_byte, filled, four_bytes, lists, patterned, fill_of, data_of, changed};
 ghost use Rattle.commands.specs.Printed.{NumberBytes, RefusedBytes};
 
-use libc::STDOUT_FILENO;
+use digits::decimal;
+use std::io;
+use std::io::Read;
 
 // Registers: the lengths of the four lists, then of the six lent buffers, ..
 pub const SCRIPT: usize = 0;
@@ -85,14 +89,30 @@ pub fn command_in(bytes: &[u8]) -> Command
     }
 }
 
-// The next command of the input; all zero past its end. Which bytes a read hands out, the C library's contract leaves open: what is said here is only
-// that the four words are those of sixteen bytes.
-pub fn next_command() -> Command
-    ensures { SomeCommand result.op result.a result.b result.c }
+// Reads until the buffer is full or the input ends, and answers how many bytes it put at the buffer's start.
+pub fn read_full(rt: &impl Input, bytes: &mut [u8]) -> io::Result<usize>
+    ensures { IfOk result (λ n. n ≤ length bytes.new) }
+{
+    let mut reader = rt.reader();
+    let mut done = 0;
+    while done < bytes.len() {
+        let n = reader.read(&mut bytes[done..])?;
+        if n == 0 {
+            break;
+        }
+        done += n;
+    }
+    Ok(done)
+}
+
+// The next command of the input; all zero past its end. Which bytes a read hands out, its contract leaves open: what is said here is only that the
+// four words are those of sixteen bytes.
+pub fn next_command(rt: &impl Input) -> io::Result<Command>
+    ensures { IfOk result (λ c. SomeCommand c.op c.a c.b c.c) }
 {
     let mut bytes = [0u8; 16];
-    io::read_full(0, &mut bytes);
-    command_in(&bytes)
+    read_full(rt, &mut bytes)?;
+    Ok(command_in(&bytes))
 }
 
 // Writing into lists.
@@ -308,41 +328,41 @@ pub fn change(
     }
 }
 
-// Printing. Each function hands bytes to the C library and answers how many: whether and where it writes them, its contract leaves open.
+// Printing. Each function hands bytes to the system and answers how many: where it writes them, no contract says.
 
-pub fn print(s: &[u8]) -> usize
-    ensures { result ≡ length s.now }
+pub fn print(rt: &impl Print, s: &[u8]) -> io::Result<usize>
+    ensures { IfOk result (λ n. n ≡ length s.now) }
 {
-    io::write_all(STDOUT_FILENO, s);
-    s.len()
+    rt.write_all(s)?;
+    Ok(s.len())
 }
 
 // A number in decimal.
-pub fn print_number(n: usize) -> usize
-    ensures { NumberBytes n result }
+pub fn print_number(rt: &impl Print, n: usize) -> io::Result<usize>
+    ensures { IfOk result (λ k. NumberBytes n k) }
 {
     let mut digits = [0u8; 20];
-    let k = io::decimal(n as u64, &mut digits);
-    print(&digits[0..k])
+    let k = decimal(n as u64, &mut digits);
+    print(rt, &digits[0..k])
 }
 
 // " refused ", number and place.
-pub fn print_refused(number: usize, place: usize) -> usize
-    ensures { RefusedBytes number place result }
+pub fn print_refused(rt: &impl Print, number: usize, place: usize) -> io::Result<usize>
+    ensures { IfOk result (λ n. RefusedBytes number place n) }
 {
-    let a = print(b" refused ");
-    let b = print_number(number);
-    let c = print(b" ");
-    let d = print_number(place);
-    a + b + c + d
+    let a = print(rt, b" refused ")?;
+    let b = print_number(rt, number)?;
+    let c = print(rt, b" ")?;
+    let d = print_number(rt, place)?;
+    Ok(a + b + c + d)
 }
 
 // A case's line begins with its number, from 0; the register that counts cases is one higher.
-pub fn begin_line(registers: &mut [u32]) -> usize
-    ensures number_bytes { NumberBytes (slice_index registers.old 13) result }
+pub fn begin_line(rt: &impl Print, registers: &mut [u32]) -> io::Result<usize>
+    ensures number_bytes { IfOk result (λ n. NumberBytes (slice_index registers.old 13) n) }
     ensures registers_after { registers.new ≡ slice_set registers.old 13 ((slice_index registers.old 13 + 1) % 2 ^ 32) }
 {
-    let n = print_number(register(registers, CASES));
+    let n = print_number(rt, register(registers, CASES));
     counted(registers, CASES);
     n
 }

@@ -7,8 +7,11 @@
 ghost use Rattle.std.specs.Prelude.{◌≡◌, ◌<◌};
 
 use err::{CallName, Counts, Reported};
-use libc::STDOUT_FILENO;
+use std::io;
 use tok::{Span, least, little_endian};
+
+// How much is read of the input, and how many bytes of messages are lent.
+const LARGE: usize = 65_536;
 
 // Reading the input.
 
@@ -434,54 +437,66 @@ fn written<'a>(
 
 // Printing.
 
-fn print(s: &[u8]) {
-    io::write_all(STDOUT_FILENO, s);
+fn print(rt: &impl Print, s: &[u8]) -> io::Result<()> {
+    rt.write_all(s)
 }
 
-fn print_word(w: u32) {
-    io::print_decimal(STDOUT_FILENO, tok::wide(w) as u64);
-    print(b" ");
+fn print_word(rt: &impl Print, w: u32) -> io::Result<()> {
+    rt.print(w)?;
+    print(rt, b" ")
 }
 
-fn print_diagnostic(diagnostics: &[u32], messages: &[u8], k: usize) {
+fn print_diagnostic(
+    rt: &impl Print,
+    diagnostics: &[u32],
+    messages: &[u8],
+    k: usize,
+) -> io::Result<()> {
     let at = 6 * (k % 65_536);
     let start = tok::wide(tok::word_at(diagnostics, at + 3));
     let len = tok::wide(tok::word_at(diagnostics, at + 4));
     let primary = tok::wide(tok::word_at(diagnostics, at + 5));
     let head = tok::word_at(diagnostics, at);
     if tok::kind(head) != 13 {
-        print(b"no diagnostic\n");
-        return;
+        return print(rt, b"no diagnostic\n");
     }
-    print(b"diag ");
-    print_word(head % 0x1000_0000);
-    print_word(tok::word_at(diagnostics, at + 1));
-    print_word(tok::word_at(diagnostics, at + 2));
-    print(bytes_in(messages, start, len));
-    print(b"\n");
+    print(rt, b"diag ")?;
+    print_word(rt, head % 0x1000_0000)?;
+    print_word(rt, tok::word_at(diagnostics, at + 1))?;
+    print_word(rt, tok::word_at(diagnostics, at + 2))?;
+    print(rt, bytes_in(messages, start, len))?;
+    print(rt, b"\n")?;
     if primary != 0 {
-        print(b"primary ");
-        print(bytes_in(messages, start + len, primary));
-        print(b"\n");
+        print(rt, b"primary ")?;
+        print(rt, bytes_in(messages, start + len, primary))?;
+        print(rt, b"\n")?;
     }
+    Ok(())
 }
 
-fn print_all(diagnostics: &[u32], messages: &[u8], count: usize) {
+fn print_all(
+    rt: &impl Print,
+    diagnostics: &[u32],
+    messages: &[u8],
+    count: usize,
+) -> io::Result<()> {
     for k in 0..count {
-        print_diagnostic(diagnostics, messages, k);
+        print_diagnostic(rt, diagnostics, messages, k)?;
     }
+    Ok(())
 }
 
 // The counts after a case; a case that is refused says so.
-fn after(r: Reported, counts: Counts) -> Counts {
+fn after(rt: &impl Print, r: Reported, counts: Counts) -> io::Result<Counts> {
     let Reported::Told(c) = r else {
-        print(b"refused 9\n");
-        return counts;
+        print(rt, b"refused 9\n")?;
+        return Ok(counts);
     };
-    c
+    Ok(c)
 }
 
 fn run<'a>(
+    rt: &impl Print,
     diagnostics: &mut [u32],
     messages: &mut [u8],
     types: &[u32],
@@ -491,7 +506,7 @@ fn run<'a>(
     lists: &[u32],
     cases: &[u32],
     count: usize,
-) {
+) -> io::Result<()> {
     let mut counts = Counts {
         diagnostics: 0,
         bytes: 0,
@@ -509,19 +524,19 @@ fn run<'a>(
             lists,
             c,
         );
-        counts = after(r, counts);
+        counts = after(rt, r, counts)?;
     }
-    print_all(diagnostics, messages, counts.diagnostics);
+    print_all(rt, diagnostics, messages, counts.diagnostics)
 }
 
 // What a row of refusal 9 begins with. One literal with places in it, since a check pays for each.
-fn begin(at: usize, len: usize, n: u32) {
-    print(bytes_in(b"words bytes diagnostics limit ", at, len));
-    print_word(n);
+fn begin(rt: &impl Print, at: usize, len: usize, n: u32) -> io::Result<()> {
+    print(rt, bytes_in(b"words bytes diagnostics limit ", at, len))?;
+    print_word(rt, n)
 }
 
 // Refusal 9: an empty array's diagnostic in buffers of so many words and bytes, after so many diagnostics and bytes.
-fn room(words: usize, bytes: usize, told: usize, used: usize) {
+fn room(rt: &impl Print, words: usize, bytes: usize, told: usize, used: usize) -> io::Result<()> {
     let mut diagnostics = [0u32; 2000];
     let mut messages = [0u8; 70_000];
     let last = least(words, 2000);
@@ -538,37 +553,36 @@ fn room(words: usize, bytes: usize, told: usize, used: usize) {
         0,
     );
     let Reported::Told(_) = r else {
-        print(b"refused\n");
-        return;
+        return print(rt, b"refused\n");
     };
-    print(b"told\n");
+    print(rt, b"told\n")
 }
 
 // Buffers that just hold it, and smaller ones.
-fn room_lent() {
-    begin(0, 6, 6);
-    room(6, 59, 0, 0);
-    begin(0, 6, 5);
-    room(5, 59, 0, 0);
-    begin(6, 6, 59);
-    room(6, 59, 0, 0);
-    begin(6, 6, 58);
-    room(6, 58, 0, 0);
+fn room_lent(rt: &impl Print) -> io::Result<()> {
+    begin(rt, 0, 6, 6)?;
+    room(rt, 6, 59, 0, 0)?;
+    begin(rt, 0, 6, 5)?;
+    room(rt, 5, 59, 0, 0)?;
+    begin(rt, 6, 6, 59)?;
+    room(rt, 6, 59, 0, 0)?;
+    begin(rt, 6, 6, 58)?;
+    room(rt, 6, 58, 0, 0)
 }
 
 // The limits of document 01, in larger buffers.
-fn room_at_limits() {
-    begin(12, 12, 256);
-    room(2000, 70_000, 255, 0);
-    begin(12, 12, 257);
-    room(2000, 70_000, 256, 0);
-    begin(24, 6, 65_536);
-    room(2000, 70_000, 0, 65_477);
-    begin(24, 6, 65_537);
-    room(2000, 70_000, 0, 65_478);
+fn room_at_limits(rt: &impl Print) -> io::Result<()> {
+    begin(rt, 12, 12, 256)?;
+    room(rt, 2000, 70_000, 255, 0)?;
+    begin(rt, 12, 12, 257)?;
+    room(rt, 2000, 70_000, 256, 0)?;
+    begin(rt, 24, 6, 65_536)?;
+    room(rt, 2000, 70_000, 0, 65_477)?;
+    begin(rt, 24, 6, 65_537)?;
+    room(rt, 2000, 70_000, 0, 65_478)
 }
 
-fn parts(input: &[u8]) {
+fn parts(rt: &impl Print, input: &[u8]) -> io::Result<()> {
     let script = tok::wide(little_endian(input, 0));
     let library = tok::wide(little_endian(input, 4));
     let types = tok::wide(little_endian(input, 8));
@@ -578,8 +592,9 @@ fn parts(input: &[u8]) {
     let mut w = [0u32; 2048];
     fill(&mut w, input, 24 + script + library);
     let mut diagnostics = [0u32; 1536];
-    let mut messages = io::large_buffer();
+    let mut messages = [0u8; LARGE];
     run(
+        rt,
         &mut diagnostics,
         &mut messages,
         words_in(&w, 0, types),
@@ -589,13 +604,13 @@ fn parts(input: &[u8]) {
         words_in(&w, types + words, lists),
         words_in(&w, types + words + lists, cases),
         cases / 8,
-    );
+    )
 }
 
-fn main() {
-    let mut input = io::large_buffer();
-    let n = io::read_full(0, &mut input);
-    parts(bytes_in(&input, 0, n));
-    room_lent();
-    room_at_limits();
+fn main(rt: HostRuntime) -> io::Result<()> {
+    let mut input = [0u8; LARGE];
+    let n = commands::read_full(&rt, &mut input)?;
+    parts(&rt, bytes_in(&input, 0, n))?;
+    room_lent(&rt)?;
+    room_at_limits(&rt)
 }

@@ -1,14 +1,10 @@
 -- The ways out of `is_done`, a turn of the loop, and the ways out of it. Assumes nothing.
-use Rattle.std.proofs.Common.{◌≡◌, ℕ, ◌+◌, ◌%◌, ◌^◌, ◌<◌, ◌≤◌, Bool, true, false, not, [], ◌∷◌, length, sym, refl, ap, ◌∙◌, ⊎_elim, true≢false, zero-add, arith}
-use types.Run.{OneOf}
-use denote.Enum.Declared.{tag_of}
-use borrow.Author.Tests.{eqb-false, not-true, not-false}
+use Rattle.std.proofs.Common.{◌≡◌, ℕ, ◌+◌, ◌%◌, ◌^◌, ◌<◌, ◌≤◌, Bool, true, false, ◌≢◌, length, sym, refl, ap, ◌∙◌, true≢false, zero-add, arith}
 use Rattle.rows_part.specs.declared.Row.{Row}
 use Rattle.rows_part.specs.declared.Row.TheVariants.{Slot, Fn, Diag, End, Refused, Input, Done}
 use Rattle.rows_part.specs.declared.Part.{Part}
 use Rattle.rows_part.specs.Printing.{Answer, row_of, rest_from, part_of, room_at}
 use Rattle.rows_part.specs.PrintingLaws.{part_bytes, room_whole}
-use Rattle.rows_part.specs.contracts.Row.{the_type}
 use Rattle.printing.specs.Loop.{is_done, left, turn_nearer, done-left}
 use Rattle.printing.specs.Handed.{Handed}
 
@@ -16,16 +12,7 @@ pub done-is : {row : Row} → row ≡ Done → true ≡ is_done row
 unfolding is_done
 done-is e = rw e
 
--- the tag of Done is none of the others
-done-not : OneOf (0 ∷ 1 ∷ 2 ∷ 3 ∷ 4 ∷ 5 ∷ []) 6 → ⊥
-done-not t =
-    ⊎_elim (λ z. eqb-false 6 0 refl z)
-    (λ t. ⊎_elim (λ z. eqb-false 6 1 refl z)
-    (λ t. ⊎_elim (λ z. eqb-false 6 2 refl z)
-    (λ t. ⊎_elim (λ z. eqb-false 6 3 refl z)
-    (λ t. ⊎_elim (λ z. eqb-false 6 4 refl z) (λ z. eqb-false 6 5 refl z) t) t) t) t) t
-
-pub more_rows : (row : Row) → OneOf (0 ∷ 1 ∷ 2 ∷ 3 ∷ 4 ∷ 5 ∷ []) (tag_of the_type row) → false ≡ is_done row
+pub more_rows : (row : Row) → row ≢ Done → false ≡ is_done row
 unfolding is_done
 more_rows (Slot i) t = refl
 more_rows (Fn at) t = refl
@@ -33,11 +20,11 @@ more_rows (Diag k) t = refl
 more_rows End t = refl
 more_rows (Refused number place) t = refl
 more_rows Input t = refl
-more_rows Done t = absurd (done-not t)
+more_rows Done t = absurd (t refl)
 
 -- a turn of the loop
-pub turn : (a : Answer) (row : Row) (skip : ℕ) {done : Bool} {p : Part} → done ≡ is_done row → not done ≡ true → p ≡ part_of 4096 a row skip → left a p.row p.skip < left a row skip
-turn a row skip {done} e h q = turn_nearer a row skip q (sym e ∙ not-true done h)
+pub turn : (a : Answer) (row : Row) (skip : ℕ) {done : Bool} {p : Part} → done ≡ is_done row → done ≡ false → p ≡ part_of 4096 a row skip → left a p.row p.skip < left a row skip
+turn a row skip e h q = turn_nearer a row skip q (sym e ∙ h)
 
 -- a part has no more bytes than the buffer
 pub part_room : (a : Answer) (row : Row) (skip : ℕ) {p : Part} → p ≡ part_of 4096 a row skip → p.bytes ≤ 4096
@@ -57,10 +44,10 @@ pub total-small : (n : ℕ) {total : ℕ} → total ≡ n % 2 ^ 64 → total % 2
 total-small n e = omega (arith, e)
 
 -- where no row is left
-pub handed-all : (a : Answer) (row first : Row) (skip : ℕ) {done : Bool} {total : ℕ} → done ≡ is_done row → not done ≡ false → total % 2 ^ 64 ≡ total
+pub handed-all : (a : Answer) (row first : Row) (skip : ℕ) {done : Bool} {total : ℕ} → done ≡ is_done row → done ≡ true → total % 2 ^ 64 ≡ total
     → (total + length (rest_from a row skip)) % 2 ^ 64 ≡ length (rest_from a first 0) % 2 ^ 64 → Handed a first (record { bytes = total; whole = true })
-handed-all a row first skip {done} e h l t =
-    let z = done-left a row skip (sym e ∙ not-false done h) in
+handed-all a row first skip e h l t =
+    let z = done-left a row skip (sym e ∙ h) in
     record { all = λ _. omega (arith, t, z, l); cut = λ q. absurd (true≢false q) }
 
 -- in a row that is too long

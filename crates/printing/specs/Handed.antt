@@ -1,4 +1,4 @@
--- What was handed to the C library to be printed: how many bytes of rows. What it does with them no contract can say. Definitions.
+-- What was handed to the system to be printed: how many bytes of rows. What it does with them no contract can say. Definitions.
 use Rattle.std.specs.Prelude.{◌≡◌, ℕ, ◌%◌, ◌^◌, ◌≤◌, true, false, List, length}
 use Rattle.refusals.specs.Inputs.{Buffers}
 use Rattle.bench_rows.specs.Bench.{lent, bench_of}

@@ -1,16 +1,16 @@
 // Printing the rows of an input, part by part, so that a row may be longer than any buffer. What a part holds, and where the next begins, is
-// `rows_part`'s contract; no contract can say what the C library writes.
+// `rows_part`'s contract; no contract can say what the system writes.
 #![tactic(auto)]
 
-ghost use Rattle.std.specs.Prelude.{◌≡◌, ◌^◌, ◌<◌};
+ghost use Rattle.std.specs.Prelude.{◌≡◌, ◌^◌, ◌<◌, IfOk};
 ghost use Rattle.tok.specs.Text.{texts_of};
 ghost use Rattle.rows_part.specs.Printing.{answer_of, part_of};
 ghost use Rattle.printing.specs.Loop.{is_done};
 ghost use Rattle.printing.specs.Handed.{Handed};
 
-use libc::STDOUT_FILENO;
 use rows_begin::Begun;
 use rows_part::{Part, Row};
+use std::io;
 use tok::{wide, word_at};
 
 // How much of a row is printed at the most: more than any machine prints, and so little that no place in a row is too large for a number.
@@ -26,22 +26,23 @@ fn is_done(row: Row) -> bool
     }
 }
 
-fn print(s: &[u8]) {
-    io::write_all(STDOUT_FILENO, s);
+fn print(rt: &impl Print, s: &[u8]) -> io::Result<()> {
+    rt.write_all(s)
 }
 
-fn print_number(n: usize) {
-    io::print_decimal(STDOUT_FILENO, n as u64);
+fn print_number(rt: &impl Print, n: usize) -> io::Result<()> {
+    rt.print(n)
 }
 
 // A blank and a number.
-fn print_count(n: usize) {
-    print(b" ");
-    print_number(n);
+fn print_count(rt: &impl Print, n: usize) -> io::Result<()> {
+    print(rt, b" ")?;
+    print_number(rt, n)
 }
 
 // Prints the part of a row behind its first bytes.
 fn print_part<'a>(
+    rt: &impl Print,
     script: &'a [u8],
     library: &'a [u8],
     slots: &[u32],
@@ -54,11 +55,11 @@ fn print_part<'a>(
     count: u32,
     row: Row,
     skip: usize,
-) -> Part
+) -> io::Result<Part>
     requires { skip < 2 ^ 63 }
-    ensures { result ≡ part_of 4096
+    ensures { IfOk result (λ part. part ≡ part_of 4096
         (answer_of (texts_of script.now library.now) slots.now types.now functions.now diagnostics.now messages.now last words count)
-        row skip }
+        row skip) }
 {
     let mut out = [0u8; 4_096];
     let part = rows_part::write_part(
@@ -77,44 +78,52 @@ fn print_part<'a>(
         skip,
     );
     let n = part.bytes;
-    print(&out[0..n]);
-    part
+    print(rt, &out[0..n])?;
+    Ok(part)
 }
 
 // Beside the rows of document 01, where they are compared with the Rust's: behind a diagnostic's row its primary message.
-fn print_primary(diagnostics: &[u32], messages: &[u8], k: u32) {
+fn print_primary(rt: &impl Print, diagnostics: &[u32], messages: &[u8], k: u32) -> io::Result<()> {
     let at = 6 * wide(k);
     let from = wide(word_at(diagnostics, at + 3)) + wide(word_at(diagnostics, at + 4));
     let size = wide(word_at(diagnostics, at + 5));
     if size == 0 {
-        return;
+        return Ok(());
     }
-    print(b"primary ");
-    print(rows_input::bytes_in(messages, from, size));
-    print(b"\n");
+    print(rt, b"primary ")?;
+    print(rt, rows_input::bytes_in(messages, from, size))?;
+    print(rt, b"\n")
 }
 
 // And before the last row the four counts.
-fn print_counts(begun: Begun) {
-    print(b"counts");
-    print_count(wide(begun.words));
-    print_count(begun.types);
-    print_count(wide(begun.count));
-    print_count(begun.bytes);
-    print(b"\n");
+fn print_counts(rt: &impl Print, begun: Begun) -> io::Result<()> {
+    print(rt, b"counts")?;
+    print_count(rt, wide(begun.words))?;
+    print_count(rt, begun.types)?;
+    print_count(rt, wide(begun.count))?;
+    print_count(rt, begun.bytes)?;
+    print(rt, b"\n")
 }
 
 // What is printed between a row and the next.
-fn print_between(diagnostics: &[u32], messages: &[u8], begun: Begun, row: Row, next: Row) {
+fn print_between(
+    rt: &impl Print,
+    diagnostics: &[u32],
+    messages: &[u8],
+    begun: Begun,
+    row: Row,
+    next: Row,
+) -> io::Result<()> {
     if let Row::Diag(k) = row {
-        print_primary(diagnostics, messages, k);
+        print_primary(rt, diagnostics, messages, k)?;
     }
     if let Row::End = next {
-        print_counts(begun);
+        print_counts(rt, begun)?;
     }
+    Ok(())
 }
 
-// What was handed to the C library: how many bytes of rows, as far as 64 bits count them, and whether these are all rows. Only a row of 2^62 bytes or
+// What was handed to the system: how many bytes of rows, as far as 64 bits count them, and whether these are all rows. Only a row of 2^62 bytes or
 // more is left off.
 #[derive(Clone, Copy)]
 pub struct Printed {
@@ -124,6 +133,7 @@ pub struct Printed {
 
 // Prints all rows; if `full`, with primary messages and counts between them, which are not counted.
 pub fn print_rows<'a>(
+    rt: &impl Print,
     script: &'a [u8],
     library: &'a [u8],
     slots: &[u32; 4_097],
@@ -133,11 +143,11 @@ pub fn print_rows<'a>(
     messages: &[u8; 65_536],
     begun: Begun,
     full: bool,
-) -> Printed
-    ensures { Handed
+) -> io::Result<Printed>
+    ensures { IfOk result (λ printed. Handed
         (answer_of (texts_of script.now library.now) slots.now types.now functions.now
         diagnostics.now messages.now begun.last begun.words begun.count)
-        begun.first result }
+        begun.first printed) }
 {
     let last = begun.last;
     let words = begun.words;
@@ -147,12 +157,13 @@ pub fn print_rows<'a>(
     let mut total = 0;
     while !is_done(row) {
         if skip >= MOST {
-            return Printed {
+            return Ok(Printed {
                 bytes: total,
                 whole: false,
-            };
+            });
         }
         let part = print_part(
+            rt,
             script,
             library,
             slots,
@@ -165,17 +176,17 @@ pub fn print_rows<'a>(
             count,
             row,
             skip,
-        );
+        )?;
         let next = part.row;
         skip = part.skip;
         total = std::num::wrapping_add_usize(total, part.bytes);
         if full && skip == 0 {
-            print_between(diagnostics, messages, begun, row, next);
+            print_between(rt, diagnostics, messages, begun, row, next)?;
         }
         row = next;
     }
-    Printed {
+    Ok(Printed {
         bytes: total,
         whole: true,
-    }
+    })
 }

@@ -2,8 +2,10 @@
 // Input and expected output are made by oracle/refusals/make_cases.py, whose answers are those of oracle/refusals/refusals.py, a second reading
 // of document 01. The input is a run of commands of four little-endian words: oracle/refusals/stream.py says what each does.
 #![tactic(auto)]
+
 use commands::{CASES, Command};
 use refuse::Before;
+use std::io;
 
 // The program's own register: how many cases were answered as expected.
 const AGREE: usize = 14;
@@ -57,27 +59,30 @@ fn found<'a>(
     ))
 }
 
-fn print_answer(number: usize, place: usize) {
+fn print_answer(rt: &impl Print, number: usize, place: usize) -> io::Result<()> {
     if number == 0 {
-        commands::print(b" accepted");
+        commands::print(rt, b" accepted")?;
     } else {
-        commands::print_refused(number, place);
+        commands::print_refused(rt, number, place)?;
     }
-    commands::print(b"\n");
+    commands::print(rt, b"\n")?;
+    Ok(())
 }
 
 // One case's answer is printed, and held to the expected one.
-fn told(registers: &mut [u32], got: Answer, c: Command) {
+fn told(rt: &impl Print, registers: &mut [u32], got: Answer, c: Command) -> io::Result<()> {
     let number = got.number;
     let place = got.place;
-    commands::begin_line(registers);
-    print_answer(number, place);
+    commands::begin_line(rt, registers)?;
+    print_answer(rt, number, place)?;
     if number == tok::wide(c.a) && place == tok::wide(c.b) {
         commands::counted(registers, AGREE);
     }
+    Ok(())
 }
 
 fn obey(
+    rt: &impl Print,
     script: &mut [u8],
     image: &mut [u32],
     text: &mut [u8],
@@ -86,16 +91,17 @@ fn obey(
     words: &[u32],
     bytes: &[u8],
     c: Command,
-) {
+) -> io::Result<()> {
     if c.op == 4 {
         let got = found(script, image, text, library, registers, words, bytes);
-        told(registers, got, c);
-        return;
+        return told(rt, registers, got, c);
     }
     commands::change(script, image, text, library, registers, c);
+    Ok(())
 }
 
 fn run(
+    rt: &(impl Input + Print),
     script: &mut [u8],
     image: &mut [u32],
     text: &mut [u8],
@@ -104,31 +110,25 @@ fn run(
     words: &[u32],
     bytes: &[u8],
     count: usize,
-) {
+) -> io::Result<()> {
     for _ in 0..count {
-        obey(
-            script,
-            image,
-            text,
-            library,
-            registers,
-            words,
-            bytes,
-            commands::next_command(),
-        );
+        let c = commands::next_command(rt)?;
+        obey(rt, script, image, text, library, registers, words, bytes, c)?;
     }
+    Ok(())
 }
 
-fn main() {
+fn main(rt: HostRuntime) -> io::Result<()> {
     let mut script = [0u8; 65_552];
     let mut image = [0u32; 8_208];
     let mut text = [0u8; 65_552];
     let mut library = [0u32; 8_208];
     let mut registers = [0u32; 16];
     let words = [0u32; 32_768];
-    let bytes = io::large_buffer();
-    let first = commands::next_command();
+    let bytes = [0u8; 65_536];
+    let first = commands::next_command(&rt)?;
     run(
+        &rt,
         &mut script,
         &mut image,
         &mut text,
@@ -137,9 +137,10 @@ fn main() {
         &words,
         &bytes,
         tok::wide(first.a),
-    );
-    commands::print_number(commands::register(&registers, AGREE));
-    commands::print(b" of ");
-    commands::print_number(commands::register(&registers, CASES));
-    commands::print(b" agree\n");
+    )?;
+    commands::print_number(&rt, commands::register(&registers, AGREE))?;
+    commands::print(&rt, b" of ")?;
+    commands::print_number(&rt, commands::register(&registers, CASES))?;
+    commands::print(&rt, b" agree\n")?;
+    Ok(())
 }

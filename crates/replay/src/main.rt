@@ -1,42 +1,45 @@
 // Prints the rows of many stored cases, with primary messages and counts; what it must print is the Rust's output (oracle/replay/README.md).
 #![tactic(auto)]
-use libc::STDOUT_FILENO;
+
+use std::io;
 
 // The longest case that is read: damaged ones may be longer than the bench takes.
 const LONGEST: usize = 131_072;
 
 // The next little-endian word of the input, 0 past its end.
-fn next_word() -> usize {
+fn next_word(rt: &impl Input) -> io::Result<usize> {
     let mut bytes = [0u8; 4];
-    io::read_full(0, &mut bytes);
+    commands::read_full(rt, &mut bytes)?;
     let command = commands::command_in(&bytes);
-    tok::wide(command.op)
+    Ok(tok::wide(command.op))
 }
 
 // Reads a case of so many bytes, none if it has no room.
-fn read_case(input: &mut [u8], length: usize) -> usize {
+fn read_case(rt: &impl Input, input: &mut [u8], length: usize) -> io::Result<usize> {
     if length > input.len() {
-        return 0;
+        return Ok(0);
     }
-    io::read_full(0, &mut input[0..length])
+    commands::read_full(rt, &mut input[0..length])
 }
 
 // Reads a case and prints its rows.
-fn one_case(length: usize) {
+fn one_case(rt: &(impl Input + Print), length: usize) -> io::Result<()> {
     let mut input = [0u8; LONGEST];
-    let n = read_case(&mut input, length);
-    bench_run::bench(rows_input::bytes_in(&input, 0, n), true);
+    let n = read_case(rt, &mut input, length)?;
+    bench_run::bench(rt, rows_input::bytes_in(&input, 0, n), true)?;
+    Ok(())
 }
 
-fn all_cases(count: usize) {
+fn all_cases(rt: &(impl Input + Print), count: usize) -> io::Result<()> {
     for i in 0..count {
         if i > 0 {
-            io::write_all(STDOUT_FILENO, b"--\n");
+            rt.write_all(b"--\n")?;
         }
-        one_case(next_word());
+        one_case(rt, next_word(rt)?)?;
     }
+    Ok(())
 }
 
-fn main() {
-    all_cases(next_word());
+fn main(rt: HostRuntime) -> io::Result<()> {
+    all_cases(&rt, next_word(&rt)?)
 }

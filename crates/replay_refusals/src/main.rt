@@ -2,11 +2,12 @@
 // afterwards: a refusal before the walk leaves them as they were, one in the walk leaves zeros, an answer changes only what it is to write.
 // oracle/replay/make_refusals.py makes input and expected output, and oracle/replay/README.md says their form.
 #![tactic(auto)]
+
 ghost use Rattle.std.specs.Prelude.{◌<◌};
 
 use commands::Command;
 use ending::Checked;
-use libc::STDOUT_FILENO;
+use std::io;
 
 // The program's own registers: the first element of each lent buffer before a case, and what each further one is higher.
 const VALUE: usize = 14;
@@ -41,34 +42,37 @@ fn sum_bytes(s: &[u8]) -> u64 {
 
 // Printing.
 
-fn print_count(n: usize) {
-    commands::print(b" ");
-    commands::print_number(n);
+fn print_count(rt: &impl Print, n: usize) -> io::Result<()> {
+    commands::print(rt, b" ")?;
+    commands::print_number(rt, n)?;
+    Ok(())
 }
 
-fn print_sum(sum: u64) {
-    commands::print(b" ");
-    io::print_decimal(STDOUT_FILENO, sum);
+fn print_sum(rt: &impl Print, sum: u64) -> io::Result<()> {
+    commands::print(rt, b" ")?;
+    rt.print(sum)
 }
 
 fn print_sums(
+    rt: &impl Print,
     slots: &[u32],
     functions: &[u32],
     types: &[u32],
     diagnostics: &[u32],
     messages: &[u8],
     scratch: &[u32],
-) {
-    print_sum(sum_words(slots));
-    print_sum(sum_words(functions));
-    print_sum(sum_words(types));
-    print_sum(sum_words(diagnostics));
-    print_sum(sum_bytes(messages));
-    print_sum(sum_words(scratch));
-    commands::print(b"\n");
+) -> io::Result<()> {
+    print_sum(rt, sum_words(slots))?;
+    print_sum(rt, sum_words(functions))?;
+    print_sum(rt, sum_words(types))?;
+    print_sum(rt, sum_words(diagnostics))?;
+    print_sum(rt, sum_bytes(messages))?;
+    print_sum(rt, sum_words(scratch))?;
+    commands::print(rt, b"\n")?;
+    Ok(())
 }
 
-fn print_answer(checked: Checked) {
+fn print_answer(rt: &impl Print, checked: Checked) -> io::Result<()> {
     match checked {
         Checked::Done {
             function_words,
@@ -76,16 +80,17 @@ fn print_answer(checked: Checked) {
             diagnostics,
             message_bytes,
         } => {
-            commands::print(b" answered");
-            print_count(function_words);
-            print_count(type_words);
-            print_count(diagnostics);
-            print_count(message_bytes);
+            commands::print(rt, b" answered")?;
+            print_count(rt, function_words)?;
+            print_count(rt, type_words)?;
+            print_count(rt, diagnostics)?;
+            print_count(rt, message_bytes)?;
         }
         Checked::Refused { number, place } => {
-            commands::print_refused(tok::wide(number), place);
+            commands::print_refused(rt, tok::wide(number), place)?;
         }
     }
+    Ok(())
 }
 
 // Cases.
@@ -117,6 +122,7 @@ fn fill_lent(
 
 // One case, with all that it is given and lent: its answer, and the sums of what is left.
 fn case<'a>(
+    rt: &impl Print,
     script: &'a [u8],
     image: &[u32],
     text: &'a [u8],
@@ -129,7 +135,7 @@ fn case<'a>(
     scratch: &mut [u32],
     value: u32,
     step: u32,
-) {
+) -> io::Result<()> {
     fill_lent(
         slots,
         functions,
@@ -140,7 +146,7 @@ fn case<'a>(
         value,
         step,
     );
-    print_answer(checker::check(
+    let checked = checker::check(
         script,
         image,
         text,
@@ -151,18 +157,20 @@ fn case<'a>(
         diagnostics,
         messages,
         scratch,
-    ));
-    print_sums(slots, functions, types, diagnostics, messages, scratch);
+    );
+    print_answer(rt, checked)?;
+    print_sums(rt, slots, functions, types, diagnostics, messages, scratch)
 }
 
 // The case that the registers tell: as much of the lists and of buffers of its own as they say.
 fn told_case<'a>(
+    rt: &impl Print,
     script: &'a [u8],
     image: &[u32],
     text: &'a [u8],
     library: &[u32],
     registers: &[u32],
-) {
+) -> io::Result<()> {
     let mut slots = [0u32; 4_112];
     let mut functions = [0u32; 8_208];
     let mut types = [0u32; 8_208];
@@ -176,6 +184,7 @@ fn told_case<'a>(
     let e = commands::lent(registers, commands::MESSAGES, messages.len());
     let f = commands::lent(registers, commands::SCRATCH, scratch.len());
     case(
+        rt,
         commands::bytes_of(script, registers, commands::SCRIPT),
         commands::words_of(image, registers, commands::IMAGE),
         commands::bytes_of(text, registers, commands::TEXT),
@@ -188,64 +197,62 @@ fn told_case<'a>(
         &mut scratch[0..f],
         tok::word_at(registers, VALUE),
         tok::word_at(registers, STEP),
-    );
+    )
 }
 
 fn obey(
+    rt: &impl Print,
     script: &mut [u8],
     image: &mut [u32],
     text: &mut [u8],
     library: &mut [u32],
     registers: &mut [u32],
     c: Command,
-) {
+) -> io::Result<()> {
     let op = c.op;
     if op == 4 {
-        commands::begin_line(registers);
-        told_case(script, image, text, library, registers);
-        return;
+        commands::begin_line(rt, registers)?;
+        return told_case(rt, script, image, text, library, registers);
     }
     if op == 5 {
         commands::put(registers, VALUE, c.a);
         commands::put(registers, STEP, c.b);
-        return;
+        return Ok(());
     }
     commands::change(script, image, text, library, registers, c);
+    Ok(())
 }
 
 fn run(
+    rt: &(impl Input + Print),
     script: &mut [u8],
     image: &mut [u32],
     text: &mut [u8],
     library: &mut [u32],
     registers: &mut [u32],
     count: usize,
-) {
+) -> io::Result<()> {
     for _ in 0..count {
-        obey(
-            script,
-            image,
-            text,
-            library,
-            registers,
-            commands::next_command(),
-        );
+        let c = commands::next_command(rt)?;
+        obey(rt, script, image, text, library, registers, c)?;
     }
+    Ok(())
 }
 
-fn main() {
+fn main(rt: HostRuntime) -> io::Result<()> {
     let mut script = [0u8; 65_552];
     let mut image = [0u32; 8_208];
     let mut text = [0u8; 65_552];
     let mut library = [0u32; 8_208];
     let mut registers = [0u32; 16];
-    let first = commands::next_command();
+    let first = commands::next_command(&rt)?;
     run(
+        &rt,
         &mut script,
         &mut image,
         &mut text,
         &mut library,
         &mut registers,
         tok::wide(first.a),
-    );
+    )
 }

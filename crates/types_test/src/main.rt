@@ -6,11 +6,13 @@
 // One interpreter of few commands, and not a function for each row, since a check's cost goes with the calls that lend a buffer and with the locals
 // of their functions, structs and enums first. So its state is one number, and what is more stands in the buffers.
 #![tactic(auto)]
+
 ghost use Rattle.std.specs.Prelude.{◌≡◌};
 
 use add::Added;
 use display::Wrote;
 use slots::{Bind, Found};
+use std::io;
 use tok::least;
 
 // Commands: the top four bits of a command's first word. 1 copies, 6 puts types for slots, 14 only prints.
@@ -88,21 +90,24 @@ fn sum(text: &[u8], n: usize) -> usize {
 
 // Printing.
 
-fn say<'a>(script: &'a [u8], library: &'a [u8], name: u32) {
-    commands::print(tok::name_bytes(script, library, name));
+fn say<'a>(rt: &impl Print, script: &'a [u8], library: &'a [u8], name: u32) -> io::Result<()> {
+    commands::print(rt, tok::name_bytes(script, library, name))?;
+    Ok(())
 }
 
 // A blank and a number.
-fn number(n: usize) {
-    commands::print(b" ");
-    commands::print_number(n);
+fn number(rt: &impl Print, n: usize) -> io::Result<()> {
+    commands::print(rt, b" ")?;
+    commands::print_number(rt, n)?;
+    Ok(())
 }
 
 // A blank and the first n bytes.
-fn front(text: &[u8], n: usize) {
-    commands::print(b" ");
+fn front(rt: &impl Print, text: &[u8], n: usize) -> io::Result<()> {
+    commands::print(rt, b" ")?;
     let end = least(n, text.len());
-    commands::print(&text[0..end]);
+    commands::print(rt, &text[0..end])?;
+    Ok(())
 }
 
 // How many bytes are told of: the first 50 of the buffer, or those written, or more than there are.
@@ -118,17 +123,24 @@ fn length(at: Wrote, how: u32) -> usize {
 
 // Bytes of the buffer, as told: the text itself up to 640 bytes; else its length, a number that any single wrong byte changes, and its front; or only
 // its length.
-fn told<'a>(out: &[u8; ROOM], script: &'a [u8], library: &'a [u8], n: usize, how: u32) {
+fn told<'a>(
+    rt: &impl Print,
+    out: &[u8; ROOM],
+    script: &'a [u8],
+    library: &'a [u8],
+    n: usize,
+    how: u32,
+) -> io::Result<()> {
     if n > ROOM {
-        say(script, library, FULL);
+        say(rt, script, library, FULL)
     } else if how == 2 {
-        number(n);
+        number(rt, n)
     } else if how == 1 || n > 640 {
-        number(n);
-        number(sum(out, n));
-        front(out, least(n, 64));
+        number(rt, n)?;
+        number(rt, sum(out, n))?;
+        front(rt, out, least(n, 64))
     } else {
-        front(out, n);
+        front(rt, out, n)
     }
 }
 
@@ -159,31 +171,46 @@ fn write<'a>(
 }
 
 // Writes into so many bytes of a buffer of dots, and tells of it.
-fn show<'a>(types: &[u32], script: &'a [u8], library: &'a [u8], form: u32, room: usize, w: u32) {
+fn show<'a>(
+    rt: &impl Print,
+    types: &[u32],
+    script: &'a [u8],
+    library: &'a [u8],
+    form: u32,
+    room: usize,
+    w: u32,
+) -> io::Result<()> {
     let mut out = [b'.'; ROOM];
     let end = least(room, ROOM);
     let at = write(&mut out[0..end], types, script, library, form % 8, w);
-    told(&out, script, library, length(at, form / 8), form / 8);
+    told(rt, &out, script, library, length(at, form / 8), form / 8)
 }
 
-fn text<'a>(types: &[u32], script: &'a [u8], library: &'a [u8], w: u32) {
-    show(types, script, library, 0, ROOM, w);
+fn text<'a>(
+    rt: &impl Print,
+    types: &[u32],
+    script: &'a [u8],
+    library: &'a [u8],
+    w: u32,
+) -> io::Result<()> {
+    show(rt, types, script, library, 0, ROOM, w)
 }
 
 // Commands that write nothing.
 
 // What a slot is bound to.
 fn bound<'a>(
+    rt: &impl Print,
     types: &[u32],
     lists: &[u32],
     script: &'a [u8],
     library: &'a [u8],
     count: usize,
     slot: u32,
-) {
+) -> io::Result<()> {
     match slots::bound_to(script, library, lists, count, slot) {
-        Found::At(w) => text(types, script, library, w),
-        Found::Nothing => say(script, library, UNBOUND),
+        Found::At(w) => text(rt, types, script, library, w),
+        Found::Nothing => say(rt, script, library, UNBOUND),
     }
 }
 
@@ -215,24 +242,40 @@ fn whether<'a>(
     shallow(types, part(types, a))
 }
 
-fn tell<'a>(types: &[u32], script: &'a [u8], library: &'a [u8], kind: u32, a: u32, b: u32, c: u32) {
+fn tell<'a>(
+    rt: &impl Print,
+    types: &[u32],
+    script: &'a [u8],
+    library: &'a [u8],
+    kind: u32,
+    a: u32,
+    b: u32,
+    c: u32,
+) -> io::Result<()> {
     if kind == SHOW {
-        show(types, script, library, a, tok::wide(b), c);
+        show(rt, types, script, library, a, tok::wide(b), c)?;
     } else if kind == DEPTH {
-        commands::print_number(ptype::depth(types, a));
+        commands::print_number(rt, ptype::depth(types, a))?;
     } else if kind == ASK {
-        commands::print_number(bit(whether(types, script, library, a, b, c)));
+        commands::print_number(rt, bit(whether(types, script, library, a, b, c)))?;
     }
+    Ok(())
 }
 
 // Binding.
 
 // What binding answered; how many pairs there are.
-fn answered<'a>(types: &[u32], script: &'a [u8], library: &'a [u8], r: Bind) -> usize {
+fn answered<'a>(
+    rt: &impl Print,
+    types: &[u32],
+    script: &'a [u8],
+    library: &'a [u8],
+    r: Bind,
+) -> io::Result<usize> {
     match r {
         Bind::Done(count) => {
-            say(script, library, DONE);
-            count
+            say(rt, script, library, DONE)?;
+            Ok(count)
         }
         Bind::Conflict {
             count,
@@ -240,20 +283,20 @@ fn answered<'a>(types: &[u32], script: &'a [u8], library: &'a [u8], r: Bind) -> 
             existing,
             new,
         } => {
-            say(script, library, CONFLICT);
-            text(types, script, library, slot);
-            text(types, script, library, existing);
-            text(types, script, library, new);
-            count
+            say(rt, script, library, CONFLICT)?;
+            text(rt, types, script, library, slot)?;
+            text(rt, types, script, library, existing)?;
+            text(rt, types, script, library, new)?;
+            Ok(count)
         }
         Bind::Void { count, slot } => {
-            say(script, library, VOID);
-            text(types, script, library, slot);
-            count
+            say(rt, script, library, VOID)?;
+            text(rt, types, script, library, slot)?;
+            Ok(count)
         }
         Bind::NoRoom => {
-            say(script, library, FULL);
-            0
+            say(rt, script, library, FULL)?;
+            Ok(0)
         }
     }
 }
@@ -261,6 +304,7 @@ fn answered<'a>(types: &[u32], script: &'a [u8], library: &'a [u8], r: Bind) -> 
 // Commands that write into the lists: puts two words there, or binds slots after the pairs that are there, in so many words. How many pairs there are
 // then.
 fn relist<'a>(
+    rt: &impl Print,
     types: &[u32],
     lists: &mut [u32],
     script: &'a [u8],
@@ -270,35 +314,43 @@ fn relist<'a>(
     a: u32,
     b: u32,
     c: u32,
-) -> usize {
+) -> io::Result<usize> {
     if kind == LIST {
         add::set_pair(lists, tok::wide(a), b, c);
-        return count;
+        return Ok(count);
     }
     if kind == BIND {
         let end = least(tok::wide(c), lists.len());
         let r = slots::bind_slots(types, script, library, a, b, &mut lists[0..end], count);
-        return answered(types, script, library, r);
+        return answered(rt, types, script, library, r);
     }
     if kind == COUNT {
-        return tok::wide(a);
+        return Ok(tok::wide(a));
     }
-    count
+    Ok(count)
 }
 
 // Adding.
 
 // What adding answered, where so many words were used before, and a word that it may be the same as.
-fn added<'a>(types: &[u32], script: &'a [u8], library: &'a [u8], r: Added, used: usize, old: u32) {
+fn added<'a>(
+    rt: &impl Print,
+    types: &[u32],
+    script: &'a [u8],
+    library: &'a [u8],
+    r: Added,
+    used: usize,
+    old: u32,
+) -> io::Result<()> {
     match r {
         Added::Put(w, u) => {
-            say(script, library, PUT);
-            number(more(u, used));
-            number(bit(w == old));
-            text(types, script, library, w);
+            say(rt, script, library, PUT)?;
+            number(rt, more(u, used))?;
+            number(rt, bit(w == old))?;
+            text(rt, types, script, library, w)
         }
-        Added::Full => say(script, library, FULL),
-        Added::TooDeep => say(script, library, DEEP),
+        Added::Full => say(rt, script, library, FULL),
+        Added::TooDeep => say(rt, script, library, DEEP),
     }
 }
 
@@ -333,6 +385,7 @@ fn grow<'a>(
 
 // Adds to the words that are lent, and tells of it where a word is given.
 fn grown<'a>(
+    rt: &impl Print,
     types: &mut [u32],
     lists: &[u32],
     script: &'a [u8],
@@ -342,7 +395,7 @@ fn grown<'a>(
     a: u32,
     b: u32,
     old: u32,
-) {
+) -> io::Result<()> {
     let end = least(tok::wide(tok::word_at(lists, LENT)), types.len());
     let r = grow(
         &mut types[0..end],
@@ -356,22 +409,32 @@ fn grown<'a>(
     );
     if old != 0 {
         let used = tok::wide(tok::word_at(lists, BEFORE));
-        added(types, script, library, r, used, old);
+        added(rt, types, script, library, r, used, old)?;
     }
+    Ok(())
 }
 
 // Puts two words into the types, or a part of the lists to the front of so many.
-fn put(types: &mut [u32], lists: &[u32], kind: u32, a: u32, b: u32, c: u32) {
+fn put(
+    rt: &impl Print,
+    types: &mut [u32],
+    lists: &[u32],
+    kind: u32,
+    a: u32,
+    b: u32,
+    c: u32,
+) -> io::Result<()> {
     if kind == PAIR {
         add::set_pair(types, tok::wide(a), b, c);
-        return;
+        return Ok(());
     }
     let end = least(tok::wide(b), types.len());
-    number(bit(add::copy_pool(&mut types[0..end], part(lists, a))));
+    number(rt, bit(add::copy_pool(&mut types[0..end], part(lists, a))))
 }
 
 // Commands that leave the lists as they are.
 fn obey<'a>(
+    rt: &impl Print,
     types: &mut [u32],
     lists: &[u32],
     script: &'a [u8],
@@ -381,41 +444,47 @@ fn obey<'a>(
     a: u32,
     b: u32,
     c: u32,
-) {
+) -> io::Result<()> {
     if kind < OPTION {
-        put(types, lists, kind, a, b, c);
+        put(rt, types, lists, kind, a, b, c)
     } else if kind < BOUND {
-        grown(types, lists, script, library, count, kind, a, b, c);
+        grown(rt, types, lists, script, library, count, kind, a, b, c)
     } else if kind == BOUND {
-        bound(types, lists, script, library, count, a);
+        bound(rt, types, lists, script, library, count, a)
     } else {
-        tell(types, script, library, kind, a, b, c);
+        tell(rt, types, script, library, kind, a, b, c)
     }
 }
 
 // Each command goes to both functions, so that neither is lent more than one buffer to write; one of them has nothing to do.
-fn run<'a>(script: &'a [u8], library: &'a [u8], commands: usize) {
+fn run<'a>(
+    rt: &(impl Input + Print),
+    script: &'a [u8],
+    library: &'a [u8],
+    commands: usize,
+) -> io::Result<()> {
     let mut types = [0u32; 8448];
     let mut lists = [0u32; 256];
     let mut count = 0;
     for _ in 0..commands {
-        let c = commands::next_command();
+        let c = commands::next_command(rt)?;
         let kind = tok::kind(c.op);
-        say(script, library, c.op);
+        say(rt, script, library, c.op)?;
         count = relist(
-            &types, &mut lists, script, library, count, kind, c.a, c.b, c.c,
-        );
+            rt, &types, &mut lists, script, library, count, kind, c.a, c.b, c.c,
+        )?;
         obey(
-            &mut types, &lists, script, library, count, kind, c.a, c.b, c.c,
-        );
+            rt, &mut types, &lists, script, library, count, kind, c.a, c.b, c.c,
+        )?;
     }
+    Ok(())
 }
 
-fn main() {
+fn main(rt: HostRuntime) -> io::Result<()> {
     let mut script = [0u8; 8192];
-    io::read_full(0, &mut script);
+    commands::read_full(&rt, &mut script)?;
     let mut library = [0u8; 512];
-    io::read_full(0, &mut library);
-    let first = commands::next_command();
-    run(&script, &library, tok::wide(first.a));
+    commands::read_full(&rt, &mut library)?;
+    let first = commands::next_command(&rt)?;
+    run(&rt, &script, &library, tok::wide(first.a))
 }

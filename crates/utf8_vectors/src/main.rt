@@ -7,7 +7,7 @@
 // COUNT is how many of the row's strings are well formed, and SUM a number that any single wrong answer changes.
 #![tactic(auto)]
 
-use libc::STDOUT_FILENO;
+use std::io;
 
 // What the strings of a row came to.
 #[derive(Clone, Copy)]
@@ -78,41 +78,40 @@ fn parts(text: &[u8], i: usize) -> Tally {
     t
 }
 
-fn row(name: &[u8], i: usize, t: Tally) {
-    io::write_all(STDOUT_FILENO, name);
-    io::write_all(STDOUT_FILENO, b" ");
-    io::print_hex(STDOUT_FILENO, i as u64, 2);
-    io::write_all(STDOUT_FILENO, b" ");
-    io::print_decimal(STDOUT_FILENO, t.count);
-    io::write_all(STDOUT_FILENO, b" ");
-    io::print_decimal(STDOUT_FILENO, t.sum);
-    io::write_all(STDOUT_FILENO, b"\n");
+fn row(rt: &impl Print, name: &[u8], i: usize, t: Tally) -> io::Result<()> {
+    let count = t.count;
+    let sum = t.sum;
+    rt.write_all(name)?;
+    println!(rt; " {i:02x} {count} {sum}")
 }
 
-fn first_bytes(name: &[u8], len: usize, count: usize) {
+fn first_bytes(rt: &impl Print, name: &[u8], len: usize, count: usize) -> io::Result<()> {
     for i in 0..256usize {
-        row(name, i, strings(len, count, byte(i)));
+        row(rt, name, i, strings(len, count, byte(i)))?;
     }
+    Ok(())
 }
 
-fn starts(name: &[u8], text: &[u8]) {
+fn starts(rt: &impl Print, name: &[u8], text: &[u8]) -> io::Result<()> {
     for i in 0..text.len() {
-        row(name, i, parts(text, i));
+        row(rt, name, i, parts(text, i))?;
     }
+    Ok(())
 }
 
-fn main() {
-    first_bytes(b"two", 2, 256);
-    first_bytes(b"three", 3, 625);
-    first_bytes(b"four", 4, 15625);
+fn main(rt: HostRuntime) -> io::Result<()> {
+    first_bytes(&rt, b"two", 2, 256)?;
+    first_bytes(&rt, b"three", 3, 625)?;
+    first_bytes(&rt, b"four", 4, 15625)?;
     // the examples of RFC 3629, section 7
-    starts(b"not-identical", b"\x41\xE2\x89\xA2\xCE\x91\x2E");
-    starts(b"hangugeo", b"\xED\x95\x9C\xEA\xB5\xAD\xEC\x96\xB4");
-    starts(b"nihongo", b"\xE6\x97\xA5\xE6\x9C\xAC\xE8\xAA\x9E");
-    starts(b"stump", b"\xEF\xBB\xBF\xF0\xA3\x8E\xB4");
+    starts(&rt, b"not-identical", b"\x41\xE2\x89\xA2\xCE\x91\x2E")?;
+    starts(&rt, b"hangugeo", b"\xED\x95\x9C\xEA\xB5\xAD\xEC\x96\xB4")?;
+    starts(&rt, b"nihongo", b"\xE6\x97\xA5\xE6\x9C\xAC\xE8\xAA\x9E")?;
+    starts(&rt, b"stump", b"\xEF\xBB\xBF\xF0\xA3\x8E\xB4")?;
     // the first and the last character of each length
     starts(
+        &rt,
         b"ends",
         b"\x00\x7F\xC2\x80\xDF\xBF\xE0\xA0\x80\xEF\xBF\xBF\xF0\x90\x80\x80\xF4\x8F\xBF\xBF",
-    );
+    )
 }

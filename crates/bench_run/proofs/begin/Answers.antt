@@ -4,10 +4,6 @@ use borrow.Author.Tests.{not-true, not-false}
 use Rattle.rows_begin.specs.RunLaws.{begins_input, begins-runs}
 use Rattle.bench_run.proofs.begin.Goals as goal
 
--- src/lib.rt:136:9
-pub returns-then-not-fits : goal.returns-then-not-fits
-returns-then-not-fits c = begins_input _ _ _ (sym c.fits2.ensures ∙ c.if-not-fits.true) c.row_alone.ensures refl
-
 -- src/lib.rt:124:1
 pub returns : goal.returns
-returns c = begins-runs _ _ _ (sym c.fits2.ensures ∙ c.if-not-fits.false) c.image.ensures c.library.ensures c.image_length-image_length.ensures c.library_length-library_length.ensures c.first_words.ensures c.first_words-2.ensures c.script.ensures c.library_text.ensures c.run.ensures
+returns c = begins-runs _ _ _ (sym c.fits.ensures ∙ c.if-not-fits.false) c.image.ensures c.library.ensures c.image_length-image_length.ensures c.library_length-library_length.ensures c.first_words.ensures c.first_words-2.ensures c.script.ensures c.library_text.ensures c.run.ensures

@@ -5,8 +5,8 @@ use Rattle.printing.proofs.print_part.Goals as goal
 
 -- src/lib.rt:77:11
 pub slice_bounds-print-end : goal.slice_bounds-print-end
-slice_bounds-print-end c = omega (arith, part_room _ _ _ (whole_part _ _ _ c.requires c.write_part-part.ensures.answer), c.write_part-part.auto)
+slice_bounds-print-end g c = omega (arith, part_room _ _ _ (whole_part _ _ _ c.requires c.write_part-part.ensures.answer), c.write_part-part.auto)
 
 -- src/lib.rt:43:1
 pub returns : goal.returns
-returns c = whole_part _ _ _ c.requires c.write_part-part.ensures.answer
+returns g c = whole_part _ _ _ c.requires c.write_part-part.ensures.answer

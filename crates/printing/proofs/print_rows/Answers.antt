@@ -4,30 +4,30 @@ use Rattle.printing.proofs.Ways.{turn, total_first, total-small, handed-all, han
 use Rattle.printing.proofs.print_rows.Goals as goal
 
 pub loop-begun-init : goal.loop-begun-init
-loop-begun-init c = (omega arith, total_first _, omega arith)
+loop-begun-init g c = (omega arith, total_first _, omega arith)
 
-pub print_part-part-requires : goal.print_part-part-requires
-print_part-part-requires c = omega (arith, c.if-skip-ge-MOST.false)
+pub print_part-requires : goal.print_part-requires
+print_part-requires g c = omega (arith, c.if-skip-ge-MOST.false)
 
-pub loop-begun-smaller-then-skip-eq0 : goal.loop-begun-smaller-then-skip-eq0
-loop-begun-smaller-then-skip-eq0 c =
-    turn _ _ _ c.is_done.ensures c.loop-begun-test.true c.print_part-part.ensures
+pub loop-begun-smaller-in_ok-print_between : goal.loop-begun-smaller-in_ok-print_between
+loop-begun-smaller-in_ok-print_between g c =
+    turn _ _ _ c.is_done.ensures c.loop-begun-test.true c.in_ok-part.ensures
 
-pub loop-begun-preserved-then-skip-eq0 : goal.loop-begun-preserved-then-skip-eq0
-loop-begun-preserved-then-skip-eq0 c =
-    (turn-within _ _ _ c.print_part-part.ensures c.loop-begun.invariant.0, turn-total _ _ _ _ c.print_part-part.ensures c.wrapping_add_usize-total.ensures c.loop-begun.invariant.1, total-small _ c.wrapping_add_usize-total.ensures)
+pub loop-begun-preserved-in_ok-print_between : goal.loop-begun-preserved-in_ok-print_between
+loop-begun-preserved-in_ok-print_between g c =
+    (turn-within _ _ _ c.in_ok-part.ensures c.loop-begun.invariant.0, turn-total _ _ _ _ c.in_ok-part.ensures c.wrapping_add_usize-total.ensures.value c.loop-begun.invariant.1, total-small _ c.wrapping_add_usize-total.ensures.value)
 
 pub loop-begun-smaller : goal.loop-begun-smaller
-loop-begun-smaller c =
-    turn _ _ _ c.is_done.ensures c.loop-begun-test.true c.print_part-part.ensures
+loop-begun-smaller g c =
+    turn _ _ _ c.is_done.ensures c.loop-begun-test.true c.in_ok-part.ensures
 
 pub loop-begun-preserved : goal.loop-begun-preserved
-loop-begun-preserved c =
-    (turn-within _ _ _ c.print_part-part.ensures c.loop-begun.invariant.0, turn-total _ _ _ _ c.print_part-part.ensures c.wrapping_add_usize-total.ensures c.loop-begun.invariant.1, total-small _ c.wrapping_add_usize-total.ensures)
+loop-begun-preserved g c =
+    (turn-within _ _ _ c.in_ok-part.ensures c.loop-begun.invariant.0, turn-total _ _ _ _ c.in_ok-part.ensures c.wrapping_add_usize-total.ensures.value c.loop-begun.invariant.1, total-small _ c.wrapping_add_usize-total.ensures.value)
 
 pub returns : goal.returns
-returns c =
+returns g c =
     handed-all _ _ _ _ c.is_done.ensures c.loop-begun-test.false c.loop-begun.invariant.2 c.loop-begun.invariant.1
 
 pub returns-then-skip-ge-MOST : goal.returns-then-skip-ge-MOST
-returns-then-skip-ge-MOST c = handed-cut _ _ _ _ c.if-skip-ge-MOST.true c.loop-begun.invariant.0
+returns-then-skip-ge-MOST g c = handed-cut _ _ _ _ c.if-skip-ge-MOST.true c.loop-begun.invariant.0
