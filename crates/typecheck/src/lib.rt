@@ -3,6 +3,7 @@
 // The buffers are lent in one order: slots, functions, types, diagnostics, messages, scratch; then the two texts, the image, the library's
 // words, the places of the image's records, the state.
 #![tactic(auto)]
+
 ghost use Rattle.tok.specs.Text.{Texts, texts_of};
 ghost use Rattle.state.specs.World.{no_more};
 ghost use Rattle.visit.specs.Whole.{Lent, lent};

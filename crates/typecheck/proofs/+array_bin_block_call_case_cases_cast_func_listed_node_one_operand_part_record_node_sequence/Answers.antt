@@ -126,18 +126,17 @@ case-overflow_add-at-2 t c =
     omega (arith, c.requires.inside)
 
 pub case-loop-left-init : goal.case-loop-left-init
-case-loop-left-init t c =
-    (
-      turn-begin
-          (body-visit c.requires c.word_at.ensures c.part-v.ensures (came_after c.part-v.result c.after.ensures c.in-Goes.is) (c.condition-went.ensures _ _ _ _ _ no_more) c.in-On.is (c.wide-left.ensures ∙ c.word_at-3.ensures))
-          c.word_at-2.ensures,
-      refl,
-      refl,
-      refl,
-      refl,
-      refl,
-      refl,
-    )
+case-loop-left-init t c = (
+  turn-begin
+      (body-visit c.requires c.word_at.ensures c.part-v.ensures (came_after c.part-v.result c.after.ensures c.in-Goes.is) (c.condition-went.ensures _ _ _ _ _ no_more) c.in-On.is (c.wide-left.ensures ∙ c.word_at-3.ensures))
+      c.word_at-2.ensures,
+  refl,
+  refl,
+  refl,
+  refl,
+  refl,
+  refl,
+)
 
 pub case-part-v-requires-in-loop-left : goal.case-part-v-requires-in-loop-left
 case-part-v-requires-in-loop-left t c =
@@ -187,16 +186,15 @@ case-loop-left-smaller t c =
     omega (arith, c.loop-left-test.true)
 
 pub case-loop-left-preserved : goal.case-loop-left-preserved
-case-loop-left-preserved t c =
-    (
-      turn-next c.loop-left.invariant.0 c.loop-left-test.true c.word_at-in-loop-left.ensures c.part-v-in-loop-left.ensures (came_after c.part-v-in-loop-left.result c.after-in-loop-left.ensures c.in-Goes-after.is),
-      c.part-v-in-loop-left.auto.slots ∙ c.loop-left.invariant.1,
-      c.part-v-in-loop-left.auto.functions ∙ c.loop-left.invariant.2,
-      c.part-v-in-loop-left.auto.types ∙ c.loop-left.invariant.3,
-      c.part-v-in-loop-left.auto.diagnostics ∙ c.loop-left.invariant.4,
-      c.part-v-in-loop-left.auto.messages ∙ c.loop-left.invariant.5,
-      c.part-v-in-loop-left.auto.scratch ∙ c.loop-left.invariant.6,
-    )
+case-loop-left-preserved t c = (
+  turn-next c.loop-left.invariant.0 c.loop-left-test.true c.word_at-in-loop-left.ensures c.part-v-in-loop-left.ensures (came_after c.part-v-in-loop-left.result c.after-in-loop-left.ensures c.in-Goes-after.is),
+  c.part-v-in-loop-left.auto.slots ∙ c.loop-left.invariant.1,
+  c.part-v-in-loop-left.auto.functions ∙ c.loop-left.invariant.2,
+  c.part-v-in-loop-left.auto.types ∙ c.loop-left.invariant.3,
+  c.part-v-in-loop-left.auto.diagnostics ∙ c.loop-left.invariant.4,
+  c.part-v-in-loop-left.auto.messages ∙ c.loop-left.invariant.5,
+  c.part-v-in-loop-left.auto.scratch ∙ c.loop-left.invariant.6,
+)
 
 pub case-shape_of-slots : goal.case-shape_of-slots
 case-shape_of-slots t c =
@@ -282,12 +280,11 @@ func-overflow_sub-long t c =
     body-inside c.requires c.node_place-at.ensures (c.payload-long.ensures ∙ ap payload_of c.word_at-in-Body.ensures) (c.wide-count.ensures ∙ c.word_at.ensures)
 
 pub func-block-v-requires : goal.func-block-v-requires
-func-block-v-requires t c =
-    (
-      omega (arith, c.decreases),
-      body-visit c.requires c.node_place-at.ensures (c.begin-begun.ensures _ _ _ no_more) c.in-Body.is (c.wide-count.ensures ∙ c.word_at.ensures)
-          (c.payload-long.ensures ∙ ap payload_of c.word_at-in-Body.ensures),
-    )
+func-block-v-requires t c = (
+  omega (arith, c.decreases),
+  body-visit c.requires c.node_place-at.ensures (c.begin-begun.ensures _ _ _ no_more) c.in-Body.is (c.wide-count.ensures ∙ c.word_at.ensures)
+      (c.payload-long.ensures ∙ ap payload_of c.word_at-in-Body.ensures),
+)
 
 pub func-shape_of-slots-in_default : goal.func-shape_of-slots-in_default
 func-shape_of-slots-in_default t c =
@@ -387,12 +384,11 @@ bin-overflow_add-at-2 t c =
     omega (arith, bin-low c.requires c.node_place-at.ensures)
 
 pub bin-part-right-requires : goal.bin-part-right-requires
-bin-part-right-requires t c =
-    (
-      omega (arith, c.decreases, right-under c.requires c.node_place-at.ensures c.word_at-2.ensures),
-      right-visit c.requires c.node_place-at.ensures c.word_at.ensures c.part-left.ensures (came_after c.part-left.result c.after.ensures c.in-Goes.is)
-          c.word_at-2.ensures,
-    )
+bin-part-right-requires t c = (
+  omega (arith, c.decreases, right-under c.requires c.node_place-at.ensures c.word_at-2.ensures),
+  right-visit c.requires c.node_place-at.ensures c.word_at.ensures c.part-left.ensures (came_after c.part-left.result c.after.ensures c.in-Goes.is)
+      c.word_at-2.ensures,
+)
 
 pub bin-shape_of-slots-in_default-after : goal.bin-shape_of-slots-in_default-after
 bin-shape_of-slots-in_default-after t c =
@@ -514,16 +510,15 @@ record_node-loop-i-smaller t c =
     omega (arith, c.loop-i-test.true)
 
 pub record_node-loop-i-preserved : goal.record_node-loop-i-preserved
-record_node-loop-i-preserved t c =
-    (
-      turn-next c.loop-i.invariant.0 c.loop-i-test.true c.word_at-in-loop-i.ensures c.part-v.ensures (came_after c.part-v.result c.after.ensures c.in-Goes.is),
-      c.part-v.auto.slots ∙ c.loop-i.invariant.1,
-      c.part-v.auto.functions ∙ c.loop-i.invariant.2,
-      c.part-v.auto.types ∙ c.loop-i.invariant.3,
-      c.part-v.auto.diagnostics ∙ c.loop-i.invariant.4,
-      c.part-v.auto.messages ∙ c.loop-i.invariant.5,
-      c.part-v.auto.scratch ∙ c.loop-i.invariant.6,
-    )
+record_node-loop-i-preserved t c = (
+  turn-next c.loop-i.invariant.0 c.loop-i-test.true c.word_at-in-loop-i.ensures c.part-v.ensures (came_after c.part-v.result c.after.ensures c.in-Goes.is),
+  c.part-v.auto.slots ∙ c.loop-i.invariant.1,
+  c.part-v.auto.functions ∙ c.loop-i.invariant.2,
+  c.part-v.auto.types ∙ c.loop-i.invariant.3,
+  c.part-v.auto.diagnostics ∙ c.loop-i.invariant.4,
+  c.part-v.auto.messages ∙ c.loop-i.invariant.5,
+  c.part-v.auto.scratch ∙ c.loop-i.invariant.6,
+)
 
 pub record_node-make-requires : goal.record_node-make-requires
 record_node-make-requires t c = c.loop-i.invariant.0.values
@@ -565,11 +560,10 @@ pub node-returns-then-has_operands : goal.node-returns-then-has_operands
 node-returns-then-has_operands t c = c.operand.ensures
 
 pub node-listed-requires : goal.node-listed-requires
-node-listed-requires t c =
-    (
-      omega (arith, c.decreases),
-      to-listed c.node_place.ensures c.word_at.ensures c.kind-k.ensures c.requires c.is_leaf.ensures c.if-is_leaf.false c.has_operands.ensures c.if-has_operands.false,
-    )
+node-listed-requires t c = (
+  omega (arith, c.decreases),
+  to-listed c.node_place.ensures c.word_at.ensures c.kind-k.ensures c.requires c.is_leaf.ensures c.if-is_leaf.false c.has_operands.ensures c.if-has_operands.false,
+)
 
 pub node-returns : goal.node-returns
 node-returns t c = c.listed.ensures
@@ -611,11 +605,10 @@ array-overflow_add-at t c =
 
 -- src/lib.rt:210:9
 pub array-part-v-requires : goal.array-part-v-requires
-array-part-v-requires t c =
-    (
-      omega (arith, c.decreases, first_under c.requires c.node_place-at.ensures c.word_at.ensures c.payload-count.ensures c.if-count-eq0.false c.word_at-2.ensures),
-      first-visit c.requires c.node_place-at.ensures c.word_at.ensures c.payload-count.ensures c.if-count-eq0.false c.word_at-2.ensures,
-    )
+array-part-v-requires t c = (
+  omega (arith, c.decreases, first_under c.requires c.node_place-at.ensures c.word_at.ensures c.payload-count.ensures c.if-count-eq0.false c.word_at-2.ensures),
+  first-visit c.requires c.node_place-at.ensures c.word_at.ensures c.payload-count.ensures c.if-count-eq0.false c.word_at-2.ensures,
+)
 
 -- src/lib.rt:226:9
 pub array-shape_of-slots-in_default : goal.array-shape_of-slots-in_default
@@ -664,14 +657,13 @@ array-overflow_add-at-in-loop-i-2 t c =
 
 -- src/lib.rt:233:13
 pub array-part-v-requires-in-loop-i : goal.array-part-v-requires-in-loop-i
-array-part-v-requires-in-loop-i t c =
-    (
-      omega (arith, c.decreases, member-under c.requires c.node_place-at.ensures c.word_at.ensures c.payload-count.ensures c.loop-i-test.true c.word_at-member.ensures),
-      member-visit
-          (c.loop-i.invariant.0.on _ _ (first-passed c.requires c.node_place-at.ensures c.word_at.ensures c.payload-count.ensures c.if-count-eq0.false c.word_at-2.ensures c.part-v.ensures (came_after c.part-v.result c.after.ensures c.in-Goes.is)))
-          (some_left c.loop-i-test.true) c.word_at-member.ensures
-          (member_below c.requires c.node_place-at.ensures c.word_at.ensures c.payload-count.ensures c.loop-i-test.true c.word_at-member.ensures),
-    )
+array-part-v-requires-in-loop-i t c = (
+  omega (arith, c.decreases, member-under c.requires c.node_place-at.ensures c.word_at.ensures c.payload-count.ensures c.loop-i-test.true c.word_at-member.ensures),
+  member-visit
+      (c.loop-i.invariant.0.on _ _ (first-passed c.requires c.node_place-at.ensures c.word_at.ensures c.payload-count.ensures c.if-count-eq0.false c.word_at-2.ensures c.part-v.ensures (came_after c.part-v.result c.after.ensures c.in-Goes.is)))
+      (some_left c.loop-i-test.true) c.word_at-member.ensures
+      (member_below c.requires c.node_place-at.ensures c.word_at.ensures c.payload-count.ensures c.loop-i-test.true c.word_at-member.ensures),
+)
 
 -- src/lib.rt:249:13
 pub array-shape_of-slots-in_default-after : goal.array-shape_of-slots-in_default-after
@@ -766,18 +758,17 @@ array-loop-i-smaller t c =
 
 -- src/lib.rt:231:5
 pub array-loop-i-preserved : goal.array-loop-i-preserved
-array-loop-i-preserved t c =
-    (
-      turned-next c.loop-i.invariant.0 c.loop-i-test.true c.word_at-member.ensures c.part-v-in-loop-i.ensures
-          (member_below c.requires c.node_place-at.ensures c.word_at.ensures c.payload-count.ensures c.loop-i-test.true c.word_at-member.ensures)
-          (came_after c.part-v-in-loop-i.result c.after-in-loop-i.ensures c.in-Goes-after.is) (c.member-turn.ensures _ _ _ _ _ no_more) c.in-On.is,
-      c.part-v-in-loop-i.auto.slots ∙ c.loop-i.invariant.1,
-      c.part-v-in-loop-i.auto.functions ∙ c.loop-i.invariant.2,
-      c.part-v-in-loop-i.auto.types ∙ c.loop-i.invariant.3,
-      c.member-turn.auto.diagnostics ∙ c.part-v-in-loop-i.auto.diagnostics ∙ c.loop-i.invariant.4,
-      c.member-turn.auto.messages ∙ c.part-v-in-loop-i.auto.messages ∙ c.loop-i.invariant.5,
-      c.part-v-in-loop-i.auto.scratch ∙ c.loop-i.invariant.6,
-    )
+array-loop-i-preserved t c = (
+  turned-next c.loop-i.invariant.0 c.loop-i-test.true c.word_at-member.ensures c.part-v-in-loop-i.ensures
+      (member_below c.requires c.node_place-at.ensures c.word_at.ensures c.payload-count.ensures c.loop-i-test.true c.word_at-member.ensures)
+      (came_after c.part-v-in-loop-i.result c.after-in-loop-i.ensures c.in-Goes-after.is) (c.member-turn.ensures _ _ _ _ _ no_more) c.in-On.is,
+  c.part-v-in-loop-i.auto.slots ∙ c.loop-i.invariant.1,
+  c.part-v-in-loop-i.auto.functions ∙ c.loop-i.invariant.2,
+  c.part-v-in-loop-i.auto.types ∙ c.loop-i.invariant.3,
+  c.member-turn.auto.diagnostics ∙ c.part-v-in-loop-i.auto.diagnostics ∙ c.loop-i.invariant.4,
+  c.member-turn.auto.messages ∙ c.part-v-in-loop-i.auto.messages ∙ c.loop-i.invariant.5,
+  c.part-v-in-loop-i.auto.scratch ∙ c.loop-i.invariant.6,
+)
 
 -- src/lib.rt:274:5
 pub array-end-requires : goal.array-end-requires
@@ -907,14 +898,13 @@ call-overflow_add-at-in-loop-i t c =
 
 -- src/lib.rt:77:13
 pub call-part-v-requires : goal.call-part-v-requires
-call-part-v-requires t c =
-    (
-      omega (arith, c.decreases, argument-under c.requires c.node_place-at.ensures c.word_at.ensures c.payload-count.ensures c.loop-i-test.true c.word_at-in-loop-i.ensures),
-      argument-visit
-          (c.loop-i.invariant.0.on _ _ (arguing_first c.requires c.node_place-at.ensures c.word_at.ensures c.payload-count.ensures (sym c.through_field.ensures ∙ c.if-through_field.false)))
-          (some_left c.loop-i-test.true) c.word_at-in-loop-i.ensures
-          (argument-below c.requires c.node_place-at.ensures c.word_at.ensures c.payload-count.ensures c.loop-i-test.true c.word_at-in-loop-i.ensures),
-    )
+call-part-v-requires t c = (
+  omega (arith, c.decreases, argument-under c.requires c.node_place-at.ensures c.word_at.ensures c.payload-count.ensures c.loop-i-test.true c.word_at-in-loop-i.ensures),
+  argument-visit
+      (c.loop-i.invariant.0.on _ _ (arguing_first c.requires c.node_place-at.ensures c.word_at.ensures c.payload-count.ensures (sym c.through_field.ensures ∙ c.if-through_field.false)))
+      (some_left c.loop-i-test.true) c.word_at-in-loop-i.ensures
+      (argument-below c.requires c.node_place-at.ensures c.word_at.ensures c.payload-count.ensures c.loop-i-test.true c.word_at-in-loop-i.ensures),
+)
 
 -- src/lib.rt:93:13
 pub call-shape_of-slots-in_default : goal.call-shape_of-slots-in_default
@@ -965,18 +955,17 @@ call-loop-i-smaller t c =
 
 -- src/lib.rt:76:5
 pub call-loop-i-preserved : goal.call-loop-i-preserved
-call-loop-i-preserved t c =
-    (
-      argued-next c.loop-i.invariant.0 c.loop-i-test.true c.word_at-in-loop-i.ensures c.part-v.ensures
-          (argument-below c.requires c.node_place-at.ensures c.word_at.ensures c.payload-count.ensures c.loop-i-test.true c.word_at-in-loop-i.ensures)
-          (came_after c.part-v.result c.after.ensures c.in-Goes.is) c.or_poison-poisoned.ensures,
-      c.part-v.auto.slots ∙ c.loop-i.invariant.1,
-      c.part-v.auto.functions ∙ c.loop-i.invariant.2,
-      c.part-v.auto.types ∙ c.loop-i.invariant.3,
-      c.part-v.auto.diagnostics ∙ c.loop-i.invariant.4,
-      c.part-v.auto.messages ∙ c.loop-i.invariant.5,
-      c.part-v.auto.scratch ∙ c.loop-i.invariant.6,
-    )
+call-loop-i-preserved t c = (
+  argued-next c.loop-i.invariant.0 c.loop-i-test.true c.word_at-in-loop-i.ensures c.part-v.ensures
+      (argument-below c.requires c.node_place-at.ensures c.word_at.ensures c.payload-count.ensures c.loop-i-test.true c.word_at-in-loop-i.ensures)
+      (came_after c.part-v.result c.after.ensures c.in-Goes.is) c.or_poison-poisoned.ensures,
+  c.part-v.auto.slots ∙ c.loop-i.invariant.1,
+  c.part-v.auto.functions ∙ c.loop-i.invariant.2,
+  c.part-v.auto.types ∙ c.loop-i.invariant.3,
+  c.part-v.auto.diagnostics ∙ c.loop-i.invariant.4,
+  c.part-v.auto.messages ∙ c.loop-i.invariant.5,
+  c.part-v.auto.scratch ∙ c.loop-i.invariant.6,
+)
 
 -- src/lib.rt:99:5
 pub call-resolve-requires : goal.call-resolve-requires
@@ -1024,11 +1013,10 @@ pub one-operand_of-value-requires : goal.one-operand_of-value-requires
 one-operand_of-value-requires t c = one-low c.requires c.node_place-at.ensures
 
 pub one-part-v-requires : goal.one-part-v-requires
-one-part-v-requires t c =
-    (
-      omega (arith, c.decreases, operand-under c.requires c.node_place-at.ensures c.operand_of-value.ensures),
-      operand-visit c.requires c.node_place-at.ensures c.operand_of-value.ensures,
-    )
+one-part-v-requires t c = (
+  omega (arith, c.decreases, operand-under c.requires c.node_place-at.ensures c.operand_of-value.ensures),
+  operand-visit c.requires c.node_place-at.ensures c.operand_of-value.ensures,
+)
 
 pub one-shape_of-slots-in_default : goal.one-shape_of-slots-in_default
 one-shape_of-slots-in_default t c = c.part-v.auto.slots
@@ -1133,16 +1121,15 @@ block-loop-left-smaller t c =
     omega (arith, c.loop-left-test.true)
 
 pub block-loop-left-preserved : goal.block-loop-left-preserved
-block-loop-left-preserved t c =
-    (
-      turn-next c.loop-left.invariant.0 c.loop-left-test.true c.word_at-in-loop-left.ensures c.part-v.ensures (came_after c.part-v.result c.after.ensures c.in-Goes.is),
-      c.part-v.auto.slots ∙ c.loop-left.invariant.1,
-      c.part-v.auto.functions ∙ c.loop-left.invariant.2,
-      c.part-v.auto.types ∙ c.loop-left.invariant.3,
-      c.part-v.auto.diagnostics ∙ c.loop-left.invariant.4,
-      c.part-v.auto.messages ∙ c.loop-left.invariant.5,
-      c.part-v.auto.scratch ∙ c.loop-left.invariant.6,
-    )
+block-loop-left-preserved t c = (
+  turn-next c.loop-left.invariant.0 c.loop-left-test.true c.word_at-in-loop-left.ensures c.part-v.ensures (came_after c.part-v.result c.after.ensures c.in-Goes.is),
+  c.part-v.auto.slots ∙ c.loop-left.invariant.1,
+  c.part-v.auto.functions ∙ c.loop-left.invariant.2,
+  c.part-v.auto.types ∙ c.loop-left.invariant.3,
+  c.part-v.auto.diagnostics ∙ c.loop-left.invariant.4,
+  c.part-v.auto.messages ∙ c.loop-left.invariant.5,
+  c.part-v.auto.scratch ∙ c.loop-left.invariant.6,
+)
 
 pub block-shape_of-slots : goal.block-shape_of-slots
 block-shape_of-slots t c = c.loop-left.invariant.1
@@ -1220,16 +1207,15 @@ cases-loop-i-smaller t c =
     omega (arith, c.loop-i-test.true)
 
 pub cases-loop-i-preserved : goal.cases-loop-i-preserved
-cases-loop-i-preserved t c =
-    (
-      turn-next c.loop-i.invariant.0 c.loop-i-test.true c.case-v.ensures (came_after c.case-v.result c.after.ensures c.in-Goes.is) c.case_end-place.ensures,
-      c.case-v.auto.slots ∙ c.loop-i.invariant.1,
-      c.case-v.auto.functions ∙ c.loop-i.invariant.2,
-      c.case-v.auto.types ∙ c.loop-i.invariant.3,
-      c.case-v.auto.diagnostics ∙ c.loop-i.invariant.4,
-      c.case-v.auto.messages ∙ c.loop-i.invariant.5,
-      c.case-v.auto.scratch ∙ c.loop-i.invariant.6,
-    )
+cases-loop-i-preserved t c = (
+  turn-next c.loop-i.invariant.0 c.loop-i-test.true c.case-v.ensures (came_after c.case-v.result c.after.ensures c.in-Goes.is) c.case_end-place.ensures,
+  c.case-v.auto.slots ∙ c.loop-i.invariant.1,
+  c.case-v.auto.functions ∙ c.loop-i.invariant.2,
+  c.case-v.auto.types ∙ c.loop-i.invariant.3,
+  c.case-v.auto.diagnostics ∙ c.loop-i.invariant.4,
+  c.case-v.auto.messages ∙ c.loop-i.invariant.5,
+  c.case-v.auto.scratch ∙ c.loop-i.invariant.6,
+)
 
 pub cases-overflow_add-next : goal.cases-overflow_add-next
 cases-overflow_add-next t c = omega (arith, default_inside c.loop-i.invariant.0 c.loop-i-test.false, record_inside c.loop-i.invariant.0 c.loop-i-test.false)
@@ -1241,25 +1227,23 @@ pub cases-overflow_sub-left : goal.cases-overflow_sub-left
 cases-overflow_sub-left t c = omega (arith, default_inside c.loop-i.invariant.0 c.loop-i-test.false, c.payload.ensures ∙ ap payload_of c.word_at-3.ensures)
 
 pub cases-loop-left-init : goal.cases-loop-left-init
-cases-loop-left-init t c =
-    (
-      L.turn-begin
-          (default_visit c.loop-i.invariant.0 c.loop-i-test.false (ap (λ x. c.node_place-at.result + x - (c.loop-i.place + 1)) (c.payload.ensures ∙ ap payload_of c.word_at-3.ensures)))
-          c.word_at-2.ensures,
-      refl,
-      refl,
-      refl,
-      refl,
-      refl,
-      refl,
-    )
+cases-loop-left-init t c = (
+  L.turn-begin
+      (default_visit c.loop-i.invariant.0 c.loop-i-test.false (ap (λ x. c.node_place-at.result + x - (c.loop-i.place + 1)) (c.payload.ensures ∙ ap payload_of c.word_at-3.ensures)))
+      c.word_at-2.ensures,
+  refl,
+  refl,
+  refl,
+  refl,
+  refl,
+  refl,
+)
 
 pub cases-part-v-requires : goal.cases-part-v-requires
-cases-part-v-requires t c =
-    (
-      omega (arith, c.decreases, L.part-under c.loop-left.invariant.0 c.loop-left-test.true c.word_at-in-loop-left.ensures),
-      L.turn-visit c.loop-left.invariant.0 c.loop-left-test.true c.word_at-in-loop-left.ensures,
-    )
+cases-part-v-requires t c = (
+  omega (arith, c.decreases, L.part-under c.loop-left.invariant.0 c.loop-left-test.true c.word_at-in-loop-left.ensures),
+  L.turn-visit c.loop-left.invariant.0 c.loop-left-test.true c.word_at-in-loop-left.ensures,
+)
 
 pub cases-shape_of-slots-in_default-after : goal.cases-shape_of-slots-in_default-after
 cases-shape_of-slots-in_default-after t c =
@@ -1304,16 +1288,15 @@ cases-loop-left-smaller t c =
     omega (arith, c.loop-left-test.true)
 
 pub cases-loop-left-preserved : goal.cases-loop-left-preserved
-cases-loop-left-preserved t c =
-    (
-      L.turn-next c.loop-left.invariant.0 c.loop-left-test.true c.word_at-in-loop-left.ensures c.part-v.ensures (came_after c.part-v.result c.after-in-loop-left.ensures c.in-Goes-after.is),
-      c.part-v.auto.slots ∙ c.loop-left.invariant.1,
-      c.part-v.auto.functions ∙ c.loop-left.invariant.2,
-      c.part-v.auto.types ∙ c.loop-left.invariant.3,
-      c.part-v.auto.diagnostics ∙ c.loop-left.invariant.4,
-      c.part-v.auto.messages ∙ c.loop-left.invariant.5,
-      c.part-v.auto.scratch ∙ c.loop-left.invariant.6,
-    )
+cases-loop-left-preserved t c = (
+  L.turn-next c.loop-left.invariant.0 c.loop-left-test.true c.word_at-in-loop-left.ensures c.part-v.ensures (came_after c.part-v.result c.after-in-loop-left.ensures c.in-Goes-after.is),
+  c.part-v.auto.slots ∙ c.loop-left.invariant.1,
+  c.part-v.auto.functions ∙ c.loop-left.invariant.2,
+  c.part-v.auto.types ∙ c.loop-left.invariant.3,
+  c.part-v.auto.diagnostics ∙ c.loop-left.invariant.4,
+  c.part-v.auto.messages ∙ c.loop-left.invariant.5,
+  c.part-v.auto.scratch ∙ c.loop-left.invariant.6,
+)
 
 pub cases-end-requires : goal.cases-end-requires
 cases-end-requires t c =
@@ -1365,11 +1348,10 @@ cast-overflow_add-at t c =
     omega (arith, cast-low c.requires c.node_place-at.ensures)
 
 pub cast-part-v-requires : goal.cast-part-v-requires
-cast-part-v-requires t c =
-    (
-      omega (arith, c.decreases, operand-under c.requires c.node_place-at.ensures c.word_at.ensures),
-      operand-visit c.requires c.node_place-at.ensures (c.cast_begin-made.ensures _ _ _ _ _ _ _ _ _ no_more) c.in-Word.is c.word_at.ensures,
-    )
+cast-part-v-requires t c = (
+  omega (arith, c.decreases, operand-under c.requires c.node_place-at.ensures c.word_at.ensures),
+  operand-visit c.requires c.node_place-at.ensures (c.cast_begin-made.ensures _ _ _ _ _ _ _ _ _ no_more) c.in-Word.is c.word_at.ensures,
+)
 
 pub cast-shape_of-slots-in_default-after : goal.cast-shape_of-slots-in_default-after
 cast-shape_of-slots-in_default-after t c = c.part-v.auto.slots

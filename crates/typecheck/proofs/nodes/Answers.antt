@@ -51,16 +51,15 @@ loop-left-smaller c =
     omega (arith, c.loop-left-test.true)
 
 pub loop-left-preserved : goal.loop-left-preserved
-loop-left-preserved c =
-    (
-      turn-next c.loop-left.invariant.0 c.loop-left-test.true c.word_at-in-loop-left.ensures c.node-v.ensures (came_after c.node-v.result c.after.ensures c.in-Goes.is),
-      c.node-v.auto.slots ∙ c.loop-left.invariant.1,
-      c.node-v.auto.functions ∙ c.loop-left.invariant.2,
-      c.node-v.auto.types ∙ c.loop-left.invariant.3,
-      c.node-v.auto.diagnostics ∙ c.loop-left.invariant.4,
-      c.node-v.auto.messages ∙ c.loop-left.invariant.5,
-      c.node-v.auto.scratch ∙ c.loop-left.invariant.6,
-    )
+loop-left-preserved c = (
+  turn-next c.loop-left.invariant.0 c.loop-left-test.true c.word_at-in-loop-left.ensures c.node-v.ensures (came_after c.node-v.result c.after.ensures c.in-Goes.is),
+  c.node-v.auto.slots ∙ c.loop-left.invariant.1,
+  c.node-v.auto.functions ∙ c.loop-left.invariant.2,
+  c.node-v.auto.types ∙ c.loop-left.invariant.3,
+  c.node-v.auto.diagnostics ∙ c.loop-left.invariant.4,
+  c.node-v.auto.messages ∙ c.loop-left.invariant.5,
+  c.node-v.auto.scratch ∙ c.loop-left.invariant.6,
+)
 
 pub shape_of-slots : goal.shape_of-slots
 shape_of-slots c = c.loop-left.invariant.1
