@@ -1,6 +1,7 @@
 // Typechecker::check: the check as a whole, for all inputs (document 01, "The walk", "Answers that end the check").
 // The buffers are lent in one order: slots, functions, types, diagnostics, messages, scratch.
 #![tactic(auto)]
+
 ghost use Rattle.std.specs.Prelude.{◌≡◌, List, ℕ};
 ghost use Rattle.std.proofs.Math.Option.{none};
 ghost use Rattle.refusals.specs.Inputs.{Inputs, Buffers};

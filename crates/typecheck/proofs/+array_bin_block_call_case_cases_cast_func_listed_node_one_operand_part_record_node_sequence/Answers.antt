@@ -1,42 +1,26 @@
 use borrow.Enum.Refused.{opened}
-use Rattle.typecheck.proofs.+array_bin_block_call_case_cases_cast_func_listed_node_one_operand_part_record_node_sequence.{}
-use native.Mathlib.Omega.{arith}
-use Rattle.walk_laws.specs.Dispatch.{to-call, to_record, to-array}
-use mathlib.Core.Path.{refl, sym, ap, ◌∙◌}
-use lib.ListN.{length}
-use Rattle.tok.specs.Text.{texts_of}
-use Rattle.state.specs.World.{no_more}
-use Rattle.visiting.specs.Then.{came_after, stopped-after, came_of}
-use Rattle.branches.specs.Case.{test-under, test-visit, test-stops, condition-stops, body-visit, case-ends}
-use Rattle.walk_laws.specs.Lists.{turn-begin, place_inside, part-under, turn-visit, turn-stops, turn-next, turn_end, leave_came, leave-stopped}
-use Prim.Native.Nat.{◌+◌}
-use mathlib.Core.Path.{ap, ◌∙◌}
-use Rattle.tok.specs.Word.{payload_of}
-use Rattle.visiting.specs.Then.{came_after, stopped-after}
-use Rattle.walk_laws.specs.Bodies.{fn-inside, body-inside, body_end, begin-ready, end-ready, body-visit, fn-ends, fn-stops, fn-done}
-use mathlib.Core.Path.{◌∙◌}
-use Rattle.operand_visits.specs.Bin.{bin-low, left-under, right-under, left-visit, left-stops, right-visit, right-stops, bin-ends}
-use Prim.Native.Nat.{◌-◌}
-use mathlib.Core.Path.{refl, ap, ◌∙◌}
-use Rattle.fields.specs.RecordVisits.{turn-begin, record_length_lem, value-under, value-visit, turn-stops, turn-next, record_made}
-use Rattle.walk_laws.specs.Dispatch.{to-leaf, to-operand, to-listed}
-use lib.ListN.{length}
-use mathlib.Core.Path.{refl, ◌∙◌}
-use Rattle.members.specs.ArrayVisits.{turned-start, turned-next, some_left, none_left_lem, member-under, member_below, member-there, member-visit, member-stopped, member-ended, array-ended, array-length, array-inside, array-low, array-empty, first_under, first-visit, first-stopped, first-passed}
-use Rattle.members.proofs.Tested.{turn-ended}
-use Prim.Native.Nat.{◌+◌, ◌-◌}
-use Rattle.walk_laws.specs.Dispatch.{to-bin, to-cast, to_one}
-use Rattle.walk_laws.specs.Dispatch.{to-fn, to-match, to_sequence}
-use mathlib.Core.Path.{refl, sym, ◌∙◌}
 use Rattle.calls.specs.CallVisits as CV
-use Rattle.calls.specs.CallVisits.{argued-start, argued-next, some_left, none_left_lem, arguments-ready, arguments-done, argument-visit, argument-stopped, call-low, call_length, call-inside, argument-under, argument-below, arguing_first, resolvable, field-call, call-field}
-use Rattle.typecheck.proofs.+array_bin_block_call_case_cases_cast_func_listed_node_one_operand_part_record_node_sequence.Proof.Shared.{call_at}
-use Rattle.operand_visits.specs.One.{one-low, operand-under, operand-visit, operand-stops, end-ready, one-ends}
-use Rattle.walk_laws.specs.Lists.{turn-begin, place_inside, part-under, turn-visit, turn-stops, turn-next, turn_end}
-use Rattle.branches.specs.Cases.{few, place-room, turn-begin, place_inside, turn-case, turn-stops, turn-next, default_inside, record_inside, default_visit, default_stops, match-ends, end-cases}
 use Rattle.walk_laws.specs.Lists as L
-use Rattle.operand_visits.specs.Cast.{cast-low, cast-ready, operand-under, type-stops, operand-visit, operand-stops, cast_ends}
 use Rattle.typecheck.proofs.+array_bin_block_call_case_cases_cast_func_listed_node_one_operand_part_record_node_sequence.Goals as goal
+use native.Mathlib.Omega.{arith}
+use Rattle.walk_laws.specs.Dispatch.{to-array, to-bin, to-call, to-cast, to-fn, to-leaf, to-listed, to-match, to-operand, to_one, to_record, to_sequence}
+use mathlib.Core.Path.{ap, refl, sym, ◌∙◌}
+use Prim.Native.Nat.{◌+◌, ◌-◌}
+use Rattle.branches.specs.Case.{body-visit as body-visit_case, case-ends, condition-stops, test-stops, test-under, test-visit}
+use Rattle.visiting.specs.Then.{came_after, came_of, stopped-after}
+use Rattle.state.specs.World.{no_more}
+use Rattle.walk_laws.specs.Lists.{leave-stopped, leave_came, part-under, place_inside as place_inside_lists, turn-begin as turn-begin_lists, turn-next as turn-next_lists, turn-stops as turn-stops_lists, turn-visit, turn_end}
+use Rattle.walk_laws.specs.Bodies.{begin-ready, body-inside, body-visit as body-visit_bodies, body_end, end-ready as end-ready_bodies, fn-done, fn-ends, fn-inside, fn-stops}
+use Rattle.tok.specs.Word.{payload_of}
+use Rattle.operand_visits.specs.Bin.{bin-ends, bin-low, left-stops, left-under, left-visit, right-stops, right-under, right-visit}
+use Rattle.fields.specs.RecordVisits.{record_length_lem, record_made, turn-begin as turn-begin_record_visits, turn-next as turn-next_record_visits, turn-stops as turn-stops_record_visits, value-under, value-visit}
+use Rattle.tok.specs.Text.{texts_of}
+use Rattle.members.specs.ArrayVisits.{array-empty, array-ended, array-inside, array-length, array-low, first-passed, first-stopped, first-visit, first_under, member-ended, member-stopped, member-there, member-under, member-visit, member_below, none_left_lem as none_left_lem_array_visits, some_left as some_left_array_visits, turned-next, turned-start}
+use Rattle.members.proofs.Tested.{turn-ended}
+use Rattle.calls.specs.CallVisits.{argued-next, argued-start, arguing_first, argument-below, argument-stopped, argument-under, argument-visit, arguments-done, arguments-ready, call-field, call-inside, call-low, call_length, field-call, none_left_lem as none_left_lem_call_visits, resolvable, some_left as some_left_call_visits}
+use Rattle.operand_visits.specs.One.{end-ready as end-ready_one, one-ends, one-low, operand-stops as operand-stops_one, operand-under as operand-under_one, operand-visit as operand-visit_one}
+use Rattle.branches.specs.Cases.{default_inside, default_stops, default_visit, end-cases, few, match-ends, place-room, place_inside as place_inside_cases, record_inside, turn-begin as turn-begin_cases, turn-case, turn-next as turn-next_cases, turn-stops as turn-stops_cases}
+use Rattle.operand_visits.specs.Cast.{cast-low, cast-ready, cast_ends, operand-stops as operand-stops_cast, operand-under as operand-under_cast, operand-visit as operand-visit_cast, type-stops}
 
 pub sequence-call-requires : goal.sequence-call-requires
 sequence-call-requires t c =
@@ -127,8 +111,8 @@ case-overflow_add-at-2 t c =
 
 pub case-loop-left-init : goal.case-loop-left-init
 case-loop-left-init t c = (
-  turn-begin
-      (body-visit c.requires c.word_at.ensures c.part-v.ensures (came_after c.part-v.result c.after.ensures c.in-Goes.is) (c.condition-went.ensures _ _ _ _ _ no_more) c.in-On.is (c.wide-left.ensures ∙ c.word_at-3.ensures))
+  turn-begin_lists
+      (body-visit_case c.requires c.word_at.ensures c.part-v.ensures (came_after c.part-v.result c.after.ensures c.in-Goes.is) (c.condition-went.ensures _ _ _ _ _ no_more) c.in-On.is (c.wide-left.ensures ∙ c.word_at-3.ensures))
       c.word_at-2.ensures,
   refl,
   refl,
@@ -170,12 +154,12 @@ pub case-returns-in_default-after : goal.case-returns-in_default-after
 case-returns-in_default-after t c =
     case-ends c.requires c.word_at.ensures c.part-v.ensures (came_after c.part-v.result c.after.ensures c.in-Goes.is) (c.condition-went.ensures _ _ _ _ _ no_more)
     c.in-On.is (c.wide-left.ensures ∙ c.word_at-3.ensures)
-    (turn-stops c.loop-left.invariant.0 c.loop-left-test.true c.word_at-in-loop-left.ensures c.part-v-in-loop-left.ensures (stopped-after c.part-v-in-loop-left.result c.after-in-loop-left.ensures c.in_default-after.is))
+    (turn-stops_lists c.loop-left.invariant.0 c.loop-left-test.true c.word_at-in-loop-left.ensures c.part-v-in-loop-left.ensures (stopped-after c.part-v-in-loop-left.result c.after-in-loop-left.ensures c.in_default-after.is))
     (leave-stopped _ (stopped-after c.part-v-in-loop-left.result c.after-in-loop-left.ensures c.in_default-after.is))
 
 pub case-overflow_add-place-in-loop-left : goal.case-overflow_add-place-in-loop-left
 case-overflow_add-place-in-loop-left t c =
-    omega (arith, place_inside c.loop-left.invariant.0)
+    omega (arith, place_inside_lists c.loop-left.invariant.0)
 
 pub case-overflow_sub-left : goal.case-overflow_sub-left
 case-overflow_sub-left t c =
@@ -187,7 +171,7 @@ case-loop-left-smaller t c =
 
 pub case-loop-left-preserved : goal.case-loop-left-preserved
 case-loop-left-preserved t c = (
-  turn-next c.loop-left.invariant.0 c.loop-left-test.true c.word_at-in-loop-left.ensures c.part-v-in-loop-left.ensures (came_after c.part-v-in-loop-left.result c.after-in-loop-left.ensures c.in-Goes-after.is),
+  turn-next_lists c.loop-left.invariant.0 c.loop-left-test.true c.word_at-in-loop-left.ensures c.part-v-in-loop-left.ensures (came_after c.part-v-in-loop-left.result c.after-in-loop-left.ensures c.in-Goes-after.is),
   c.part-v-in-loop-left.auto.slots ∙ c.loop-left.invariant.1,
   c.part-v-in-loop-left.auto.functions ∙ c.loop-left.invariant.2,
   c.part-v-in-loop-left.auto.types ∙ c.loop-left.invariant.3,
@@ -282,7 +266,7 @@ func-overflow_sub-long t c =
 pub func-block-v-requires : goal.func-block-v-requires
 func-block-v-requires t c = (
   omega (arith, c.decreases),
-  body-visit c.requires c.node_place-at.ensures (c.begin-begun.ensures _ _ _ no_more) c.in-Body.is (c.wide-count.ensures ∙ c.word_at.ensures)
+  body-visit_bodies c.requires c.node_place-at.ensures (c.begin-begun.ensures _ _ _ no_more) c.in-Body.is (c.wide-count.ensures ∙ c.word_at.ensures)
       (c.payload-long.ensures ∙ ap payload_of c.word_at-in-Body.ensures),
 )
 
@@ -317,7 +301,7 @@ func-returns-in_default t c =
 
 pub func-end-requires : goal.func-end-requires
 func-end-requires t c =
-    end-ready c.requires c.node_place-at.ensures
+    end-ready_bodies c.requires c.node_place-at.ensures
 
 pub func-shape_of-slots-in-Body : goal.func-shape_of-slots-in-Body
 func-shape_of-slots-in-Body t c =
@@ -458,7 +442,7 @@ record_node-overflow_sub-count t c =
 
 pub record_node-loop-i-init : goal.record_node-loop-i-init
 record_node-loop-i-init t c =
-    (turn-begin c.requires c.node_place-at.ensures c.word_at.ensures c.payload.ensures refl, refl, refl, refl, refl, refl, refl)
+    (turn-begin_record_visits c.requires c.node_place-at.ensures c.word_at.ensures c.payload.ensures refl, refl, refl, refl, refl, refl, refl)
 
 pub record_node-overflow_add-at : goal.record_node-overflow_add-at
 record_node-overflow_add-at t c = omega (arith, c.loop-i-test.true, c.loop-i.invariant.0.values.room)
@@ -499,7 +483,7 @@ record_node-shape_of-scratch-in_default t c =
 
 pub record_node-returns-in_default : goal.record_node-returns-in_default
 record_node-returns-in_default t c =
-    turn-stops c.loop-i.invariant.0 c.loop-i-test.true c.word_at-in-loop-i.ensures c.part-v.ensures (stopped-after c.part-v.result c.after.ensures c.in_default.is)
+    turn-stops_record_visits c.loop-i.invariant.0 c.loop-i-test.true c.word_at-in-loop-i.ensures c.part-v.ensures (stopped-after c.part-v.result c.after.ensures c.in_default.is)
 
 pub record_node-overflow_add-i : goal.record_node-overflow_add-i
 record_node-overflow_add-i t c =
@@ -511,7 +495,7 @@ record_node-loop-i-smaller t c =
 
 pub record_node-loop-i-preserved : goal.record_node-loop-i-preserved
 record_node-loop-i-preserved t c = (
-  turn-next c.loop-i.invariant.0 c.loop-i-test.true c.word_at-in-loop-i.ensures c.part-v.ensures (came_after c.part-v.result c.after.ensures c.in-Goes.is),
+  turn-next_record_visits c.loop-i.invariant.0 c.loop-i-test.true c.word_at-in-loop-i.ensures c.part-v.ensures (came_after c.part-v.result c.after.ensures c.in-Goes.is),
   c.part-v.auto.slots ∙ c.loop-i.invariant.1,
   c.part-v.auto.functions ∙ c.loop-i.invariant.2,
   c.part-v.auto.types ∙ c.loop-i.invariant.3,
@@ -661,7 +645,7 @@ array-part-v-requires-in-loop-i t c = (
   omega (arith, c.decreases, member-under c.requires c.node_place-at.ensures c.word_at.ensures c.payload-count.ensures c.loop-i-test.true c.word_at-member.ensures),
   member-visit
       (c.loop-i.invariant.0.on _ _ (first-passed c.requires c.node_place-at.ensures c.word_at.ensures c.payload-count.ensures c.if-count-eq0.false c.word_at-2.ensures c.part-v.ensures (came_after c.part-v.result c.after.ensures c.in-Goes.is)))
-      (some_left c.loop-i-test.true) c.word_at-member.ensures
+      (some_left_array_visits c.loop-i-test.true) c.word_at-member.ensures
       (member_below c.requires c.node_place-at.ensures c.word_at.ensures c.payload-count.ensures c.loop-i-test.true c.word_at-member.ensures),
 )
 
@@ -700,7 +684,7 @@ pub array-returns-in_default-after : goal.array-returns-in_default-after
 array-returns-in_default-after t c =
     member-stopped
     (c.loop-i.invariant.0.on _ _ (first-passed c.requires c.node_place-at.ensures c.word_at.ensures c.payload-count.ensures c.if-count-eq0.false c.word_at-2.ensures c.part-v.ensures (came_after c.part-v.result c.after.ensures c.in-Goes.is)))
-    (some_left c.loop-i-test.true) c.word_at-member.ensures c.part-v-in-loop-i.ensures (stopped-after c.part-v-in-loop-i.result c.after-in-loop-i.ensures c.in_default-after.is)
+    (some_left_array_visits c.loop-i-test.true) c.word_at-member.ensures c.part-v-in-loop-i.ensures (stopped-after c.part-v-in-loop-i.result c.after-in-loop-i.ensures c.in_default-after.is)
 
 -- src/lib.rt:251:13
 pub array-member-turn-requires : goal.array-member-turn-requires
@@ -742,7 +726,7 @@ pub array-returns-in_default-turn : goal.array-returns-in_default-turn
 array-returns-in_default-turn t c =
     member-ended
     (c.loop-i.invariant.0.on _ _ (first-passed c.requires c.node_place-at.ensures c.word_at.ensures c.payload-count.ensures c.if-count-eq0.false c.word_at-2.ensures c.part-v.ensures (came_after c.part-v.result c.after.ensures c.in-Goes.is)))
-    (some_left c.loop-i-test.true) c.word_at-member.ensures c.part-v-in-loop-i.ensures
+    (some_left_array_visits c.loop-i-test.true) c.word_at-member.ensures c.part-v-in-loop-i.ensures
     (member_below c.requires c.node_place-at.ensures c.word_at.ensures c.payload-count.ensures c.loop-i-test.true c.word_at-member.ensures)
     (came_after c.part-v-in-loop-i.result c.after-in-loop-i.ensures c.in-Goes-after.is) (c.member-turn.ensures _ _ _ _ _ no_more) (turn-ended c.member-turn.result (opened c.in_default-turn.in_default-turn-own.keys2)) c.ended.ensures
 
@@ -810,7 +794,7 @@ pub array-returns : goal.array-returns
 array-returns t c =
     array-ended
     (c.loop-i.invariant.0.on _ _ (first-passed c.requires c.node_place-at.ensures c.word_at.ensures c.payload-count.ensures c.if-count-eq0.false c.word_at-2.ensures c.part-v.ensures (came_after c.part-v.result c.after.ensures c.in-Goes.is)))
-    (none_left_lem c.loop-i-test.false) (c.end.ensures (texts_of c.args.script.now c.args.library.now) _ _ _ _ _ _ _ no_more)
+    (none_left_lem_array_visits c.loop-i-test.false) (c.end.ensures (texts_of c.args.script.now c.args.library.now) _ _ _ _ _ _ _ no_more)
 
 pub operand-bin-requires : goal.operand-bin-requires
 operand-bin-requires t c =
@@ -902,7 +886,7 @@ call-part-v-requires t c = (
   omega (arith, c.decreases, argument-under c.requires c.node_place-at.ensures c.word_at.ensures c.payload-count.ensures c.loop-i-test.true c.word_at-in-loop-i.ensures),
   argument-visit
       (c.loop-i.invariant.0.on _ _ (arguing_first c.requires c.node_place-at.ensures c.word_at.ensures c.payload-count.ensures (sym c.through_field.ensures ∙ c.if-through_field.false)))
-      (some_left c.loop-i-test.true) c.word_at-in-loop-i.ensures
+      (some_left_call_visits c.loop-i-test.true) c.word_at-in-loop-i.ensures
       (argument-below c.requires c.node_place-at.ensures c.word_at.ensures c.payload-count.ensures c.loop-i-test.true c.word_at-in-loop-i.ensures),
 )
 
@@ -941,7 +925,7 @@ pub call-returns-in_default : goal.call-returns-in_default
 call-returns-in_default t c =
     argument-stopped
     (c.loop-i.invariant.0.on _ _ (arguing_first c.requires c.node_place-at.ensures c.word_at.ensures c.payload-count.ensures (sym c.through_field.ensures ∙ c.if-through_field.false)))
-    (some_left c.loop-i-test.true) c.word_at-in-loop-i.ensures c.part-v.ensures (stopped-after c.part-v.result c.after.ensures c.in_default.is)
+    (some_left_call_visits c.loop-i-test.true) c.word_at-in-loop-i.ensures c.part-v.ensures (stopped-after c.part-v.result c.after.ensures c.in_default.is)
 
 -- src/lib.rt:97:9
 pub call-overflow_add-i : goal.call-overflow_add-i
@@ -971,7 +955,7 @@ call-loop-i-preserved t c = (
 pub call-resolve-requires : goal.call-resolve-requires
 call-resolve-requires t c =
     resolvable c.requires c.node_place-at.ensures c.word_at.ensures c.payload-count.ensures (sym c.through_field.ensures ∙ c.if-through_field.false)
-    (arguments-ready (c.loop-i.invariant.0.on _ _ (arguing_first c.requires c.node_place-at.ensures c.word_at.ensures c.payload-count.ensures (sym c.through_field.ensures ∙ c.if-through_field.false))) (none_left_lem c.loop-i-test.false))
+    (arguments-ready (c.loop-i.invariant.0.on _ _ (arguing_first c.requires c.node_place-at.ensures c.word_at.ensures c.payload-count.ensures (sym c.through_field.ensures ∙ c.if-through_field.false))) (none_left_lem_call_visits c.loop-i-test.false))
 
 -- src/lib.rt:50:1
 pub call-shape_of-slots : goal.call-shape_of-slots
@@ -1007,15 +991,15 @@ pub call-returns : goal.call-returns
 call-returns t c =
     arguments-done
     (c.loop-i.invariant.0.on _ _ (arguing_first c.requires c.node_place-at.ensures c.word_at.ensures c.payload-count.ensures (sym c.through_field.ensures ∙ c.if-through_field.false)))
-    (none_left_lem c.loop-i-test.false) (c.resolve.ensures _ _)
+    (none_left_lem_call_visits c.loop-i-test.false) (c.resolve.ensures _ _)
 
 pub one-operand_of-value-requires : goal.one-operand_of-value-requires
 one-operand_of-value-requires t c = one-low c.requires c.node_place-at.ensures
 
 pub one-part-v-requires : goal.one-part-v-requires
 one-part-v-requires t c = (
-  omega (arith, c.decreases, operand-under c.requires c.node_place-at.ensures c.operand_of-value.ensures),
-  operand-visit c.requires c.node_place-at.ensures c.operand_of-value.ensures,
+  omega (arith, c.decreases, operand-under_one c.requires c.node_place-at.ensures c.operand_of-value.ensures),
+  operand-visit_one c.requires c.node_place-at.ensures c.operand_of-value.ensures,
 )
 
 pub one-shape_of-slots-in_default : goal.one-shape_of-slots-in_default
@@ -1038,11 +1022,11 @@ one-shape_of-scratch-in_default t c = c.part-v.auto.scratch
 
 pub one-returns-in_default : goal.one-returns-in_default
 one-returns-in_default t c =
-    operand-stops c.requires c.node_place-at.ensures c.operand_of-value.ensures c.part-v.ensures (stopped-after c.part-v.result c.after.ensures c.in_default.is)
+    operand-stops_one c.requires c.node_place-at.ensures c.operand_of-value.ensures c.part-v.ensures (stopped-after c.part-v.result c.after.ensures c.in_default.is)
 
 pub one-one_end-requires : goal.one-one_end-requires
 one-one_end-requires t c =
-    end-ready c.requires c.node_place-at.ensures c.operand_of-value.ensures c.part-v.ensures (came_after c.part-v.result c.after.ensures c.in-Goes.is)
+    end-ready_one c.requires c.node_place-at.ensures c.operand_of-value.ensures c.part-v.ensures (came_after c.part-v.result c.after.ensures c.in-Goes.is)
 
 pub one-shape_of-slots : goal.one-shape_of-slots
 one-shape_of-slots t c =
@@ -1074,7 +1058,7 @@ one-returns t c =
     (c.one_end.ensures _ _ _ _ no_more)
 
 pub block-loop-left-init : goal.block-loop-left-init
-block-loop-left-init t c = (turn-begin c.requires c.word_at.ensures, refl, refl, refl, refl, refl, refl)
+block-loop-left-init t c = (turn-begin_lists c.requires c.word_at.ensures, refl, refl, refl, refl, refl, refl)
 
 pub block-part-v-requires : goal.block-part-v-requires
 block-part-v-requires t c =
@@ -1106,11 +1090,11 @@ block-shape_of-scratch-in_default t c =
 
 pub block-returns-in_default : goal.block-returns-in_default
 block-returns-in_default t c =
-    turn-stops c.loop-left.invariant.0 c.loop-left-test.true c.word_at-in-loop-left.ensures c.part-v.ensures (stopped-after c.part-v.result c.after.ensures c.in_default.is)
+    turn-stops_lists c.loop-left.invariant.0 c.loop-left-test.true c.word_at-in-loop-left.ensures c.part-v.ensures (stopped-after c.part-v.result c.after.ensures c.in_default.is)
 
 pub block-overflow_add-place : goal.block-overflow_add-place
 block-overflow_add-place t c =
-    omega (arith, place_inside c.loop-left.invariant.0)
+    omega (arith, place_inside_lists c.loop-left.invariant.0)
 
 pub block-overflow_sub-left : goal.block-overflow_sub-left
 block-overflow_sub-left t c =
@@ -1122,7 +1106,7 @@ block-loop-left-smaller t c =
 
 pub block-loop-left-preserved : goal.block-loop-left-preserved
 block-loop-left-preserved t c = (
-  turn-next c.loop-left.invariant.0 c.loop-left-test.true c.word_at-in-loop-left.ensures c.part-v.ensures (came_after c.part-v.result c.after.ensures c.in-Goes.is),
+  turn-next_lists c.loop-left.invariant.0 c.loop-left-test.true c.word_at-in-loop-left.ensures c.part-v.ensures (came_after c.part-v.result c.after.ensures c.in-Goes.is),
   c.part-v.auto.slots ∙ c.loop-left.invariant.1,
   c.part-v.auto.functions ∙ c.loop-left.invariant.2,
   c.part-v.auto.types ∙ c.loop-left.invariant.3,
@@ -1160,7 +1144,7 @@ cases-overflow_add-place t c = omega (arith, place-room c.requires c.node_place-
 
 pub cases-loop-i-init : goal.cases-loop-i-init
 cases-loop-i-init t c =
-    (turn-begin c.requires c.node_place-at.ensures (c.wide-count.ensures ∙ c.word_at.ensures), refl, refl, refl, refl, refl, refl)
+    (turn-begin_cases c.requires c.node_place-at.ensures (c.wide-count.ensures ∙ c.word_at.ensures), refl, refl, refl, refl, refl, refl)
 
 pub cases-case-v-requires : goal.cases-case-v-requires
 cases-case-v-requires t c =
@@ -1192,11 +1176,11 @@ cases-shape_of-scratch-in_default t c =
 
 pub cases-returns-in_default : goal.cases-returns-in_default
 cases-returns-in_default t c =
-    turn-stops c.loop-i.invariant.0 c.loop-i-test.true c.case-v.ensures (stopped-after c.case-v.result c.after.ensures c.in_default.is)
+    turn-stops_cases c.loop-i.invariant.0 c.loop-i-test.true c.case-v.ensures (stopped-after c.case-v.result c.after.ensures c.in_default.is)
 
 pub cases-case_end-place-requires : goal.cases-case_end-place-requires
 cases-case_end-place-requires t c =
-    omega (arith, place_inside c.loop-i.invariant.0 c.loop-i-test.true)
+    omega (arith, place_inside_cases c.loop-i.invariant.0 c.loop-i-test.true)
 
 pub cases-overflow_add-i : goal.cases-overflow_add-i
 cases-overflow_add-i t c =
@@ -1208,7 +1192,7 @@ cases-loop-i-smaller t c =
 
 pub cases-loop-i-preserved : goal.cases-loop-i-preserved
 cases-loop-i-preserved t c = (
-  turn-next c.loop-i.invariant.0 c.loop-i-test.true c.case-v.ensures (came_after c.case-v.result c.after.ensures c.in-Goes.is) c.case_end-place.ensures,
+  turn-next_cases c.loop-i.invariant.0 c.loop-i-test.true c.case-v.ensures (came_after c.case-v.result c.after.ensures c.in-Goes.is) c.case_end-place.ensures,
   c.case-v.auto.slots ∙ c.loop-i.invariant.1,
   c.case-v.auto.functions ∙ c.loop-i.invariant.2,
   c.case-v.auto.types ∙ c.loop-i.invariant.3,
@@ -1349,8 +1333,8 @@ cast-overflow_add-at t c =
 
 pub cast-part-v-requires : goal.cast-part-v-requires
 cast-part-v-requires t c = (
-  omega (arith, c.decreases, operand-under c.requires c.node_place-at.ensures c.word_at.ensures),
-  operand-visit c.requires c.node_place-at.ensures (c.cast_begin-made.ensures _ _ _ _ _ _ _ _ _ no_more) c.in-Word.is c.word_at.ensures,
+  omega (arith, c.decreases, operand-under_cast c.requires c.node_place-at.ensures c.word_at.ensures),
+  operand-visit_cast c.requires c.node_place-at.ensures (c.cast_begin-made.ensures _ _ _ _ _ _ _ _ _ no_more) c.in-Word.is c.word_at.ensures,
 )
 
 pub cast-shape_of-slots-in_default-after : goal.cast-shape_of-slots-in_default-after
@@ -1374,7 +1358,7 @@ cast-shape_of-scratch-in_default-after t c = c.part-v.auto.scratch
 
 pub cast-returns-in_default-after : goal.cast-returns-in_default-after
 cast-returns-in_default-after t c =
-    operand-stops c.requires c.node_place-at.ensures (c.cast_begin-made.ensures _ _ _ _ _ _ _ _ _ no_more) c.in-Word.is c.word_at.ensures c.part-v.ensures
+    operand-stops_cast c.requires c.node_place-at.ensures (c.cast_begin-made.ensures _ _ _ _ _ _ _ _ _ no_more) c.in-Word.is c.word_at.ensures c.part-v.ensures
     (stopped-after c.part-v.result c.after.ensures c.in_default-after.is)
 
 pub cast-cast_end-requires : goal.cast-cast_end-requires

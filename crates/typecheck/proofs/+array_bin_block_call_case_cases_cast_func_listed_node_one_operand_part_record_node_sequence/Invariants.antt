@@ -1,25 +1,17 @@
-use Rattle.typecheck.proofs.+array_bin_block_call_case_cases_cast_func_listed_node_one_operand_part_record_node_sequence.{}
 use Rattle.walking.specs.Measures as M
+use Rattle.walk_laws.specs.Lists as L
+use Rattle.typecheck.proofs.+array_bin_block_call_case_cases_cast_func_listed_node_one_operand_part_record_node_sequence.Given as goal
 use mathlib.Core.Path.{◌≡◌}
-use lib.ListN.{length}
+use Prim.Native.Nat.{◌+◌, ◌-◌}
+use lib.ListN.{get_or, length}
 use Rattle.tok.specs.Text.{texts_of}
 use Rattle.state.specs.World.{no_more}
 use Rattle.visit.specs.Whole.{lent}
-use Rattle.walk_laws.specs.Lists.{Turn}
-use Prim.Native.Nat.{◌+◌}
-use Prim.Native.Nat.{◌-◌}
-use mathlib.Core.Path.{◌≡◌}
-use Rattle.fields.specs.RecordVisits.{Turn}
-use lib.ListN.{get_or, length}
-use mathlib.Core.Path.{◌≡◌}
+use Rattle.walk_laws.specs.Lists.{Turn as ListsTurn}
+use Rattle.fields.specs.RecordVisits.{Turn as RecordVisitsTurn}
 use Rattle.members.specs.ArrayVisits.{Turned}
-use Prim.Native.Nat.{◌+◌, ◌-◌}
-use mathlib.Core.Path.{◌≡◌}
 use Rattle.calls.specs.CallVisits.{Argued}
-use Rattle.walk_laws.specs.Lists.{Turn}
-use Rattle.branches.specs.Cases.{Turn}
-use Rattle.walk_laws.specs.Lists as L
-use Rattle.typecheck.proofs.+array_bin_block_call_case_cases_cast_func_listed_node_one_operand_part_record_node_sequence.Given as goal
+use Rattle.branches.specs.Cases.{Turn as CasesTurn}
 
 abbrev pub decreases-array : goal.decreases-array
 decreases-array l = M.μ-rule l.n
@@ -69,7 +61,7 @@ decreases-sequence l = M.μ-list l.n
 -- A case of a Match: `typecheck::case` meets its contract, one law for each return (branches, `Case`). The loop over its body has the
 -- invariant of nodes one after the other (walk_laws, `Lists`); the measure is how many are left. Assumes nothing.
 abbrev pub invariant-case-loop-left : goal.invariant-case-loop-left
-invariant-case-loop-left l = Turn (texts_of l.script l.library) l.image l.places l.words l.n (l.at + 3) l.initial.left l.begun (lent l.initial.slots l.initial.functions l.initial.types l.initial.diagnostics l.initial.messages l.initial.scratch no_more)
+invariant-case-loop-left l = ListsTurn (texts_of l.script l.library) l.image l.places l.words l.n (l.at + 3) l.initial.left l.begun (lent l.initial.slots l.initial.functions l.initial.types l.initial.diagnostics l.initial.messages l.initial.scratch no_more)
     l.place l.left l.answer l.here (lent l.slots l.functions l.types l.diagnostics l.messages l.scratch no_more)
     × (length l.slots ≡ length l.initial.slots) × (length l.functions ≡ length l.initial.functions) × (length l.types ≡ length l.initial.types) × (length l.diagnostics ≡ length l.initial.diagnostics)
     × (length l.messages ≡ length l.initial.messages) × (length l.scratch ≡ length l.initial.scratch)
@@ -77,10 +69,10 @@ invariant-case-loop-left l = Turn (texts_of l.script l.library) l.image l.places
 abbrev pub decreases-case-loop-left : goal.decreases-case-loop-left
 decreases-case-loop-left l = l.left
 
--- Node::Record: `typecheck::record_node` meets its contract (fields, `RecordVisits`). The loop's invariant, `Turn`: i values are done, as their
+-- Node::Record: `typecheck::record_node` meets its contract (fields, `RecordVisits`). The loop's invariant, `ListsTurn`: i values are done, as their
 -- slots tell, and the others lead on to the whole rule; the measure is how many are left. Assumes nothing.
 abbrev pub invariant-record_node-loop-i : goal.invariant-record_node-loop-i
-invariant-record_node-loop-i l = Turn (texts_of l.script l.library) l.image l.places l.words l.n l.at l.count l.initial.here (lent l.initial.slots l.initial.functions l.initial.types l.initial.diagnostics l.initial.messages l.initial.scratch no_more)
+invariant-record_node-loop-i l = RecordVisitsTurn (texts_of l.script l.library) l.image l.places l.words l.n l.at l.count l.initial.here (lent l.initial.slots l.initial.functions l.initial.types l.initial.diagnostics l.initial.messages l.initial.scratch no_more)
     l.here l.i (lent l.slots l.functions l.types l.diagnostics l.messages l.scratch no_more)
     × (length l.slots ≡ length l.initial.slots) × (length l.functions ≡ length l.initial.functions) × (length l.types ≡ length l.initial.types) × (length l.diagnostics ≡ length l.initial.diagnostics)
     × (length l.messages ≡ length l.initial.messages) × (length l.scratch ≡ length l.initial.scratch)
@@ -113,7 +105,7 @@ decreases-call-loop-i l = l.count - l.i
 -- `typecheck::block` meets its contract. The loop's invariant, `Turn`: the nodes that are left lead on to the whole list; the measure is how
 -- many are left. Assumes nothing.
 abbrev pub invariant-block-loop-left : goal.invariant-block-loop-left
-invariant-block-loop-left l = Turn (texts_of l.script l.library) l.image l.places l.words l.owner l.at l.k l.initial.here (lent l.initial.slots l.initial.functions l.initial.types l.initial.diagnostics l.initial.messages l.initial.scratch no_more)
+invariant-block-loop-left l = ListsTurn (texts_of l.script l.library) l.image l.places l.words l.owner l.at l.k l.initial.here (lent l.initial.slots l.initial.functions l.initial.types l.initial.diagnostics l.initial.messages l.initial.scratch no_more)
     l.place l.left l.answer l.here (lent l.slots l.functions l.types l.diagnostics l.messages l.scratch no_more)
     × (length l.slots ≡ length l.initial.slots) × (length l.functions ≡ length l.initial.functions) × (length l.types ≡ length l.initial.types) × (length l.diagnostics ≡ length l.initial.diagnostics)
     × (length l.messages ≡ length l.initial.messages) × (length l.scratch ≡ length l.initial.scratch)
@@ -121,11 +113,11 @@ invariant-block-loop-left l = Turn (texts_of l.script l.library) l.image l.place
 abbrev pub decreases-block-loop-left : goal.decreases-block-loop-left
 decreases-block-loop-left l = l.left
 
--- Node::Match: `typecheck::cases` meets its contract (branches, `Cases`). The first loop's invariant, `Turn`: i cases are done, as their slots
+-- Node::Match: `typecheck::cases` meets its contract (branches, `Cases`). The first loop's invariant, `ListsTurn`: i cases are done, as their slots
 -- tell, and the others lead on to the whole rule. The second loop, over the default's body, has that of nodes one after the other
 -- (walk_laws, `Lists`). The measures are how many are left. Assumes nothing.
 abbrev pub invariant-cases-loop-i : goal.invariant-cases-loop-i
-invariant-cases-loop-i l = Turn (texts_of l.script l.library) l.image l.places l.words l.n l.at l.count l.initial.here (lent l.initial.slots l.initial.functions l.initial.types l.initial.diagnostics l.initial.messages l.initial.scratch no_more)
+invariant-cases-loop-i l = CasesTurn (texts_of l.script l.library) l.image l.places l.words l.n l.at l.count l.initial.here (lent l.initial.slots l.initial.functions l.initial.types l.initial.diagnostics l.initial.messages l.initial.scratch no_more)
     l.here l.place l.i (lent l.slots l.functions l.types l.diagnostics l.messages l.scratch no_more)
     × (length l.slots ≡ length l.initial.slots) × (length l.functions ≡ length l.initial.functions) × (length l.types ≡ length l.initial.types) × (length l.diagnostics ≡ length l.initial.diagnostics)
     × (length l.messages ≡ length l.initial.messages) × (length l.scratch ≡ length l.initial.scratch)
