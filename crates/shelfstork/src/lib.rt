@@ -1,5 +1,6 @@
 // The check as a static library's one function (bindings/shelfstork.h): the contract is `checker::check`'s own.
 #![tactic(auto)]
+
 ghost use Rattle.std.specs.Prelude.{◌≡◌};
 ghost use Rattle.refusals.specs.Inputs.{Inputs, Buffers};
 ghost use Rattle.refuse.specs.Answer.{inputs_of, buffers_of};
