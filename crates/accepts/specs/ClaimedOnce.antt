@@ -10,7 +10,7 @@ use Rattle.ast.specs.Outline.{Outline}
 use Rattle.ast.specs.Claims.{twice, slots_owned, claims_twice, claims_from, claims_fault}
 use Rattle.ast.specs.Room.{entry_words, function_words}
 use Rattle.image_laws.specs.OutlineAt.{outline_at, outlines_from, outlines_in}
-use Rattle.image_laws.specs.Places.{outlines-more}
+use Rattle.image_laws.proofs.Places.{outlines-more}
 use Rattle.accepts.specs.Count.{total, total-append, up_to, one, count, twice-count}
 
 -- how often a node stands among the parts of a node, and a slot among those that it owns

@@ -8,10 +8,10 @@ use Rattle.ast.specs.Image.{word_at, node_count, type_count, root_count, slot_co
 use Rattle.ast.specs.TypeExpr.{type_of}
 use Rattle.ast.specs.Node.{tree_of, first_roots, roots_of}
 use Rattle.tok.specs.Word.{payload_of}
-use Rattle.image_laws.specs.Places.{node-next, type-next, type-first}
-use Rattle.image_laws.specs.Accepted.{Accepted}
+use Rattle.image_laws.proofs.Places.{node-next, type-next, type-first}
+use Rattle.image_laws.proofs.Accepted.{Accepted}
 use Rattle.trees.specs.SameWords.{SameWords, Agree, nodes-same}
-use Rattle.trees.specs.TypeTrees.{type-same, type-step}
+use Rattle.trees.proofs.TypeTrees.{type-same, type-step}
 use Rattle.trees.specs.SameRecords.{node-same}
 use Rattle.trees.specs.Trees.{tree-step}
 use Rattle.refusals.specs.Inputs.{Inputs}

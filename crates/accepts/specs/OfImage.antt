@@ -13,7 +13,7 @@ use Rattle.ast.specs.Node.{Node, nodes_from, cases_from, cases_end, values_from,
 use Rattle.ast.specs.Claims.{slots_owned}
 use Rattle.ast.specs.Room.{entry_words}
 use Rattle.image_laws.specs.OutlineAt.{parts_from, case_parts, parts_by_kind, no_parts, parts_at, arguments_at, outline_at}
-use Rattle.image_laws.specs.Accepted.{Accepted}
+use Rattle.image_laws.proofs.Accepted.{Accepted}
 use Rattle.trees.specs.Trees.{tree-atom, tree-ident, tree-bin, tree-unary, tree_let, tree-fn, tree-match, tree-call, tree-field, tree-cast, tree_import, tree-extern, tree_record, tree-array}
 use Rattle.rules.specs.Visited.{number_of, arguments_of, slots_of}
 use Rattle.accepts.specs.Count.{total, count}

@@ -10,7 +10,7 @@ use Rattle.tok.specs.Name.{in_script}
 use Rattle.tok.proofs.NameLaws.{good_name-payload}
 use Rattle.ptype.specs.Kinds.{Plain, one_of}
 use Rattle.ptype.specs.Inside.{Lies}
-use Rattle.ptype.specs.GrowLaws.{accepted-lies}
+use Rattle.ptype.proofs.GrowLaws.{accepted-lies}
 use Rattle.ast.specs.Image.{word_at, node_count, type_count, root_count, slot_count, node_place, type_place, record_kind}
 use Rattle.ast.specs.TypeExpr.{type_fields_from, type_of, args_from}
 use Rattle.ast.specs.Node.{Node, Atom, Ident, Bin, Unary, Let, Fn, Match, Call, Field, Cast, Import, Extern, Record, Array, Absent, nodes_from, cases_from, values_from, words_from, externs_from, tree_of, first_roots, roots_of}
@@ -19,11 +19,11 @@ use Rattle.ast.specs.NodeRecords.{callable}
 use Rattle.image_laws.specs.OutlineAt.{outline_at}
 use Rattle.image_laws.specs.Many.{Each}
 use Rattle.image_laws.specs.RecordWords.{Named, Under, Pair, CasesWords, default_words, case_words, FunctionsWords, no_functions, function_words}
-use Rattle.image_laws.specs.NodesRead.{NodeRead, atom-words, ident-words, bin-words, unary-words, let_words, fn-words, match-words, call-words, field-words, cast-words, import_words, extern-words, record_words, array-words}
-use Rattle.image_laws.specs.TypeLaws.{type-atom-words, type-foreign-words, type-option-words, type-array-words, type_record_words}
-use Rattle.image_laws.specs.Accepted.{Accepted, counts_in}
+use Rattle.image_laws.proofs.NodesRead.{NodeRead, atom-words, ident-words, bin-words, unary-words, let_words, fn-words, match-words, call-words, field-words, cast-words, import_words, extern-words, record_words, array-words}
+use Rattle.image_laws.proofs.TypeLaws.{type-atom-words, type-foreign-words, type-option-words, type-array-words, type_record_words}
+use Rattle.image_laws.proofs.Accepted.{Accepted, counts_in}
 use Rattle.trees.specs.SameWords.{each_first, each-rest, cases_default}
-use Rattle.trees.specs.TypeTrees.{tree-type-atom, tree-type-foreign, tree-type-option, tree-type-array, tree-type_record}
+use Rattle.trees.proofs.TypeTrees.{tree-type-atom, tree-type-foreign, tree-type-option, tree-type-array, tree-type_record}
 use Rattle.trees.specs.Trees.{tree-atom, tree-ident, tree-bin, tree-unary, tree_let, tree-fn, tree-match, tree-call, tree-field, tree-cast, tree_import, tree-extern, tree_record, tree-array}
 use Rattle.rules.specs.Calls.{field_callee, callee_of}
 use Rattle.laws.specs.SlotsOf.{ArgSlots}

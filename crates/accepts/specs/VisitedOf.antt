@@ -9,8 +9,8 @@ use Rattle.ast.specs.Node.{Node, nodes_from, cases_from, values_from, tree_of, f
 use Rattle.ast.specs.Outline.{Counts}
 use Rattle.image_laws.specs.Many.{Each}
 use Rattle.image_laws.specs.RecordWords.{Under, Pair, CasesWords, default_words, case_words}
-use Rattle.image_laws.specs.NodesRead.{bin-words, unary-words, let_words, fn-words, match-words, call-words, field-words, cast-words, record_words, array-words}
-use Rattle.image_laws.specs.Accepted.{Accepted}
+use Rattle.image_laws.proofs.NodesRead.{bin-words, unary-words, let_words, fn-words, match-words, call-words, field-words, cast-words, record_words, array-words}
+use Rattle.image_laws.proofs.Accepted.{Accepted}
 use Rattle.trees.specs.SameWords.{each_first, each-rest, cases_default}
 use Rattle.trees.specs.Trees.{tree-atom, tree-ident, tree-bin, tree-unary, tree_let, tree-fn, tree-match, tree-call, tree-field, tree-cast, tree_import, tree-extern, tree_record, tree-array}
 use Rattle.rules.specs.Visited.{visited_below, visited_among, visited_in_cases, visited_in_values, visited_in}

@@ -12,7 +12,7 @@ use Rattle.tok.specs.Text.{Texts}
 use Rattle.ptype.specs.Ty.{depth_of}
 use Rattle.ptype.specs.Words.{ty_of}
 use Rattle.ptype.specs.Marks.{Depths}
-use Rattle.ptype.specs.MarkLaws.{no-marks}
+use Rattle.ptype.proofs.MarkLaws.{no-marks}
 use Rattle.ptype.specs.Gauge.{Gauged, gauged, gauge, Right}
 use Rattle.ptype.proofs.GaugeLaws.{type-right}
 use Rattle.add.specs.Parts.{shallow}

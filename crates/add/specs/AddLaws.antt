@@ -10,9 +10,9 @@ use Rattle.ptype.specs.Ty.{Ty, Fields, wrap, rec, depth_of}
 use Rattle.ptype.specs.Words.{ty_of, inner_word, field_count, fields_from}
 use Rattle.ptype.specs.Kinds.{wraps}
 use Rattle.ptype.specs.Inside.{Within, Refers, below}
-use Rattle.ptype.specs.InsideLaws.{throughout_wrap, throughout_record, refers-wrap, refers_record, within_more}
-use Rattle.ptype.specs.GrowLaws.{ty_of_grow, within_grow, agree-append}
-use Rattle.ptype.specs.DepthLaws.{ty_of-wrap, ty_of_record}
+use Rattle.ptype.proofs.InsideLaws.{throughout_wrap, throughout_record, refers-wrap, refers_record, within_more}
+use Rattle.ptype.proofs.GrowLaws.{ty_of_grow, within_grow, agree-append}
+use Rattle.ptype.proofs.DepthLaws.{ty_of-wrap, ty_of_record}
 use Rattle.ptype.specs.Add.{Buffer, type_room, append, add_type, add_wrap, add_record}
 use Rattle.add.specs.StepLaws.{when-ok}
 use Rattle.add.specs.WriteLaws.{get_d_write_in}

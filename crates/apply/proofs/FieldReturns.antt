@@ -13,7 +13,7 @@ use borrow.Author.Tests.{eqb-false}
 use Rattle.tok.specs.Word.{payload_of, word_of}
 use Rattle.tok.specs.Text.{Texts}
 use Rattle.tok.specs.Step.{Result, ok, refused, Step, Refusal, next, return}
-use Rattle.ptype.specs.UnfoldLaws.{one_less}
+use Rattle.ptype.proofs.UnfoldLaws.{one_less}
 use Rattle.ptype.specs.Add.{Buffer, buffer, write}
 use Rattle.ptype.specs.Slots.{Binding}
 use Rattle.add.specs.declared.Added.{Added}

@@ -18,8 +18,8 @@ use Rattle.tok.specs.Text.{Texts, name_bytes}
 use Rattle.tok.specs.Step.{Result, ok, refused, Step, Refusal, next, return}
 use Rattle.ptype.specs.Kinds.{wraps}
 use Rattle.ptype.specs.Words.{inner_word, field_count, unfolded}
-use Rattle.ptype.specs.UnfoldLaws.{one_less}
-use Rattle.ptype.specs.GrowLaws.{agree-append}
+use Rattle.ptype.proofs.UnfoldLaws.{one_less}
+use Rattle.ptype.proofs.GrowLaws.{agree-append}
 use Rattle.ptype.specs.Add.{Buffer, buffer, append, write, add_wrap}
 use Rattle.ptype.specs.Slots.{Binding, bound_to, bound_or, has_bound_slot}
 use Rattle.add.specs.declared.Added.{Added}

@@ -10,7 +10,7 @@ use Rattle.tok.specs.Word.{kind_of, payload_of, word_of}
 use Rattle.tok.specs.Text.{Texts, name_bytes}
 use Rattle.ptype.specs.Kinds.{wraps}
 use Rattle.ptype.specs.Words.{inner_word, field_count, unfolded}
-use Rattle.ptype.specs.UnfoldLaws.{one_less}
+use Rattle.ptype.proofs.UnfoldLaws.{one_less}
 use Rattle.ptype.specs.Slots.{Binding, bound_to, bound_or, has_bound_slot}
 use Rattle.apply.specs.Sizes.{sizes_of, size_inside, size_within, word_inside, word_before}
 use Rattle.apply.specs.SizeLaws.{size-wrap, size_record, size-rest, word-slot, word_same, word-wrap, word_record, size-free, size-inside, word-level}

@@ -14,10 +14,10 @@ use Rattle.tok.specs.Step.{Result, ok, Step, Refusal, next, return}
 use Rattle.ptype.specs.Ty.{Ty, Fields, plain, wrap, rec, named, no_field, field, depth_of, deepest}
 use Rattle.ptype.specs.Words.{ty_of, unfolded, inner_word, field_count, fields_from, fields_of}
 use Rattle.ptype.specs.Kinds.{wraps, names, one_of, shape, is_plain, is_wrap, is_record, is_named}
-use Rattle.ptype.specs.UnfoldLaws.{unfolded-plain, unfolded-named}
-use Rattle.ptype.specs.DepthLaws.{unfolded-enough, ty_of-wrap, ty_of_record}
+use Rattle.ptype.proofs.UnfoldLaws.{unfolded-plain, unfolded-named}
+use Rattle.ptype.proofs.DepthLaws.{unfolded-enough, ty_of-wrap, ty_of_record}
 use Rattle.ptype.specs.Inside.{Within, wrapped, in_field}
-use Rattle.ptype.specs.InsideLaws.{throughout_here, throughout_inside}
+use Rattle.ptype.proofs.InsideLaws.{throughout_here, throughout_inside}
 use Rattle.ptype.specs.Add.{Buffer, add_wrap, add_record}
 use Rattle.ptype.specs.Slots.{Binding, bound_to, bound_or, has_bound_slot}
 use Rattle.add.specs.Means.{Means, PairsMean, none, pair, Grown}

@@ -12,7 +12,7 @@ use Rattle.tok.specs.Step.{ok}
 use Rattle.ptype.specs.Ty.{Ty, same_ty, contains_slot, any_slot, depth_of, deepest}
 use Rattle.ptype.specs.Words.{ty_of, field_count, fields_from}
 use Rattle.ptype.specs.Inside.{Inside, wrapped, in_field}
-use Rattle.ptype.specs.InsideLaws.{throughout_inside}
+use Rattle.ptype.proofs.InsideLaws.{throughout_inside}
 use Rattle.ptype.specs.Add.{Buffer}
 use Rattle.ptype.specs.Slots.{Binding, bound_to, all_bound, bind_slots, apply_slot_binding}
 use Rattle.add.specs.Means.{Means}

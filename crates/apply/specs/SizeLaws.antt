@@ -15,7 +15,7 @@ use Rattle.tok.specs.Step.{Result, ok, Step, Refusal, refusal, next, return, giv
 use Rattle.ptype.specs.Ty.{depth_of, named}
 use Rattle.ptype.specs.Kinds.{wraps}
 use Rattle.ptype.specs.Words.{ty_of, inner_word, field_count, unfolded}
-use Rattle.ptype.specs.UnfoldLaws.{one_less, unfolded-named}
+use Rattle.ptype.proofs.UnfoldLaws.{one_less, unfolded-named}
 use Rattle.ptype.specs.Add.{Buffer, buffer, append, type_room, add_type, add_wrap, add_record, write}
 use Rattle.ptype.specs.Slots.{Binding, bound_to, bound_or, is_some, has_bound_slot}
 use Rattle.add.specs.Parts.{opened}

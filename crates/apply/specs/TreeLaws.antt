@@ -15,7 +15,7 @@ use Rattle.tok.specs.Step.{Result, ok, refused, Step, Refusal, next, return, whe
 use Rattle.ptype.specs.Ty.{Ty, Fields, plain, wrap, rec, named, depth_of}
 use Rattle.ptype.specs.Words.{ty_of, unfolded, inner_word, field_count, fields_of}
 use Rattle.ptype.specs.Kinds.{wraps, names, shape, is_plain, is_wrap, is_record, is_named}
-use Rattle.ptype.specs.InsideLaws.{throughout_here}
+use Rattle.ptype.proofs.InsideLaws.{throughout_here}
 use Rattle.ptype.specs.Add.{Buffer, buffer, add_wrap, add_record}
 use Rattle.ptype.specs.Slots.{Binding, bound_to, bound_or, is_some, has_bound_slot, any_bound_slot, apply_slot_binding, apply_fields}
 use Rattle.add.specs.Means.{Means, Grown}

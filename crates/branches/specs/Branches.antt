@@ -18,8 +18,8 @@ use Rattle.rules.specs.declared.Answer.TheVariants.{Known, Poison}
 use Rattle.rules.specs.Visited.{visited_among, visited_in_cases, slots_of}
 use Rattle.rules.specs.Rules.{Branch}
 use Rattle.accepts.specs.Count.{total, total-append, count}
-use Rattle.accepts.specs.OtherSlots.{owned}
-use Rattle.accepts.specs.Fresh.{visited_from, Apart, end-owned}
+use Rattle.accepts.proofs.OtherSlots.{owned}
+use Rattle.accepts.proofs.Fresh.{visited_from, Apart, end-owned}
 
 -- of the word in a node's slot, and whether the node reads a field
 unfoldable pub answer_of : (word : ℕ) → (field : Bool) → (slot : ℕ) → Answer

@@ -9,7 +9,7 @@ use Rattle.tok.specs.Text.{Texts}
 use Rattle.tok.specs.Step.{Result, ok, refused, Refusal, next, ◌>>◌}
 use Rattle.ast.specs.Image.{word_at, node_count, slot_count}
 use Rattle.ast.specs.Node.{Node, Nodes, tree_of}
-use Rattle.accepts.specs.Fresh.{visited_from, Fresh, Apart, fresh-first, fresh-rest, condition-apart}
+use Rattle.accepts.proofs.Fresh.{visited_from, Fresh, Apart, fresh-first, fresh-rest, condition-apart}
 use Rattle.onerun.specs.Claim.{AnswerOk}
 use Rattle.image_laws.specs.RecordWords.{Under}
 use Rattle.places.specs.NodesAt.{NodeReady}
@@ -18,9 +18,9 @@ use Rattle.rules.specs.World.{Ctx, World, Walk}
 use Rattle.rules.specs.Visited.{visited_among}
 use Rattle.rules.specs.Rules.{condition, node, block}
 use Rattle.onerun.specs.Logic.{Gives, g_next}
-use Rattle.onerun.specs.Functions.{BlockOk}
-use Rattle.onerun.specs.Rules.{g_condition}
-use Rattle.onerun.specs.Nodes.{g_block}
+use Rattle.onerun.proofs.Functions.{BlockOk}
+use Rattle.onerun.proofs.Rules.{g_condition}
+use Rattle.onerun.proofs.Nodes.{g_block}
 use Rattle.room_laws.specs.Room.{room, rooms, rows, rows_all}
 use Rattle.spans.specs.Ready.{NodesReady}
 use Rattle.visit.specs.declared.State.{State}

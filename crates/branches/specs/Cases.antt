@@ -17,8 +17,8 @@ use Rattle.rules.specs.Rules.{condition, Branch, matched, node, block}
 use Rattle.rules.specs.Visited.{visited_among, visited_in_cases, slots_of}
 use Rattle.accepts.specs.Count as N
 use Rattle.accepts.specs.Count.{total, total-append}
-use Rattle.accepts.specs.OtherSlots.{owned}
-use Rattle.accepts.specs.Fresh.{visited_from, Fresh, fresh-first, fresh-rest}
+use Rattle.accepts.proofs.OtherSlots.{owned}
+use Rattle.accepts.proofs.Fresh.{visited_from, Fresh, fresh-first, fresh-rest}
 use Rattle.room_laws.specs.Room.{room, rooms, case_rooms, rows, rows_all, case_rows}
 use Rattle.places.specs.NodesAt.{NodeReady, counts_of, record_room, node-match, words-match}
 use Rattle.spans.specs.Ready.{NodesReady, CasesReady, case-condition, case-room, case-body, case-rest}

@@ -12,7 +12,7 @@ use Rattle.ptype.specs.Words.{unknown_word}
 use Rattle.ast.specs.Image.{node_count, node_place, record_kind, word_at}
 use Rattle.ast.specs.Node.{Node, Nodes, tree_of, nodes_from, done, then, slot_of}
 use Rattle.places.specs.NodesAt.{NodeReady}
-use Rattle.image_laws.specs.Accepted.{Accepted}
+use Rattle.image_laws.proofs.Accepted.{Accepted}
 use Rattle.trees.specs.Trees.{tree-atom, tree-ident, tree-bin, tree-unary, tree_let, tree-fn, tree-match, tree-call, tree-field, tree-cast, tree_import, tree-extern, tree_record, tree-array}
 use Rattle.laws.specs.SlotsOf.{last_node}
 use Rattle.laws.specs.Told.{Reads, Tells, knows, poisons, unknown, refuses, tells-next}
@@ -21,7 +21,7 @@ use Rattle.rules.specs.declared.Answer.TheVariants.{Known, Poison}
 use Rattle.rules.specs.World.{Ctx, World, Walk}
 use Rattle.rules.specs.Rules.{condition, node, block}
 use Rattle.rules.specs.Visited.{visited_among}
-use Rattle.accepts.specs.Fresh.{visited_from, Fresh, Apart, fresh-rest, apart-then, node-apart, block_apart, condition-apart, block-tells}
+use Rattle.accepts.proofs.Fresh.{visited_from, Fresh, Apart, fresh-rest, apart-then, node-apart, block_apart, condition-apart, block-tells}
 use Rattle.onerun.specs.Claim.{Run, AnswerOk}
 use Rattle.onerun.specs.Claim as C
 use Rattle.ready.specs.Ready.{walk_run}

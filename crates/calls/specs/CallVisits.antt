@@ -15,10 +15,10 @@ use Rattle.rules.specs.World.{Ctx, Walk}
 use Rattle.rules.specs.Steps.{is_poison}
 use Rattle.rules.specs.Rules.{node, visit_all}
 use Rattle.rules.specs.Visited.{visited_among}
-use Rattle.accepts.specs.Fresh.{visited_from, Fresh, fresh-first, fresh-rest}
+use Rattle.accepts.proofs.Fresh.{visited_from, Fresh, fresh-first, fresh-rest}
 use Rattle.rules.specs.Calls.{Callee, no_callee, callee_of, provided_of, call}
 use Rattle.onerun.specs.Claim.{NameAt}
-use Rattle.onerun.specs.Functions.{Below}
+use Rattle.onerun.proofs.Functions.{Below}
 use Rattle.onerun.specs.Proper.{ProperCallee, Proper}
 use Rattle.places.specs.NodesAt.{NodeReady, counts_of, record_room, length-there, node_call, words-call}
 use Rattle.room_laws.specs.Room.{room, rooms, call_room, rows, rows_all}

@@ -6,5 +6,3 @@ pub mod ImageCertain
 pub mod LibraryCertain
 pub mod LibraryText
 pub mod Owed
-pub mod ImageOwed
-pub mod LibraryOwed

@@ -17,7 +17,7 @@ use Rattle.tok.specs.Reader.{Cursor, Read, take_word, word, many, start, fault_o
 use Rattle.reader.specs.Reading.{standing}
 use Rattle.reader.specs.Reads.{Within, Reads, reads, faults, reads_word}
 use Rattle.ptype.specs.Ty.{contains_slot}
-use Rattle.ptype.specs.GrowLaws.{unfolded-longer}
+use Rattle.ptype.proofs.GrowLaws.{unfolded-longer}
 use Rattle.library.specs.Pool.{Pool, pool_at, good_wrapped, good_record, good_named, good_type, name, fields, good_pool_word, pairs_after, pool_from}
 use Rattle.library.specs.Slots.{pool_ty, slot_names, no_slot, slot_names_of, all_among, return_stands}
 use Rattle.library.specs.Package.{Param, Function, function_at, function_end}

@@ -33,13 +33,14 @@ use Rattle.visit.specs.Free.{FreeRows}
 use Rattle.laws.specs.Keeps.{Keeps, stopped}
 use Rattle.tworuns.specs.Accepted.{fresh_start}
 use Rattle.tworuns.specs.Entries.{NotZero, Stays, walk-holds}
-use Rattle.accepts.specs.Passed.{passed}
-use Rattle.accepts.specs.Fresh.{Fresh}
-use Rattle.accepts.specs.FreshRoots.{roots-fresh}
+use Rattle.accepts.proofs.Passed.{passed}
+use Rattle.accepts.proofs.Fresh.{Fresh}
+use Rattle.accepts.proofs.FreshRoots.{roots-fresh}
 use Rattle.room_laws.specs.Room.{rooms, rows_all}
 use Rattle.places.specs.Places.{places_of}
 use Rattle.ready.specs.Ready.{Ready}
-use Rattle.ready.specs.Given.{start_state, ready-start}
+use Rattle.ready.specs.Given.{start_state}
+use Rattle.ready.proofs.Given.{ready-start}
 use Rattle.walking.specs.Visited.{ctx_in, nodes_at, ListVisit, ListVisited}
 use Rattle.start.specs.Begin.{beginning, first_state, Starts, walk_begins}
 use Rattle.ending.specs.Ended.{over_of, EndsWell, WalkEnds}

@@ -14,8 +14,8 @@ use Rattle.ast.specs.Image.{node_count}
 use Rattle.ast.specs.Outline.{Outline}
 use Rattle.ast.specs.Claims.{among, twice, count_from, slots_owned, claims_twice, claims_from, claims_fault}
 use Rattle.image_laws.specs.OutlineAt.{outline_at, outlines_from, outlines_in}
-use Rattle.image_laws.specs.PartsBelow.{Below, no-parts, part, each_below, parts_below, slots-below}
-use Rattle.image_laws.specs.Accepted.{Accepted}
+use Rattle.image_laws.proofs.PartsBelow.{Below, no-parts, part, each_below, parts_below, slots-below}
+use Rattle.image_laws.proofs.Accepted.{Accepted}
 use Rattle.node_parts.specs.Faults.{fault-same}
 use Rattle.claims.specs.Marks.{mark_all, marked, claims_marked, claims_by, claims_of, claims_in}
 

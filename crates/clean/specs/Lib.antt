@@ -3,7 +3,5 @@
 pub mod ProperTrees
 pub mod SlotNames
 pub mod LibraryTypes
-pub mod Walked
 pub mod Messages
-pub mod Clean
 pub mod Spans

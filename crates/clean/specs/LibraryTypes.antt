@@ -14,8 +14,8 @@ use Rattle.tok.proofs.NameLaws.{good_name-payload, name_bytes-well_formed}
 use Rattle.ptype.specs.Ty.{depth_of, deepest}
 use Rattle.ptype.specs.Words.{inner_word, field_count, fields_from, unfolded, ty_of}
 use Rattle.ptype.specs.Kinds.{shape, is_plain, is_wrap, is_record, is_named}
-use Rattle.ptype.specs.UnfoldLaws.{unfolded-plain, unfolded-wrap, unfolded_record, unfolded-named}
-use Rattle.ptype.specs.DepthLaws.{depth_positive}
+use Rattle.ptype.proofs.UnfoldLaws.{unfolded-plain, unfolded-wrap, unfolded_record, unfolded-named}
+use Rattle.ptype.proofs.DepthLaws.{depth_positive}
 use Rattle.ptype.specs.Inside.{wrapped, in_field}
 use Rattle.ptype.specs.Add.{Buffer, buffer}
 use Rattle.library.specs.Pool.{Pool}
@@ -35,11 +35,13 @@ use Rattle.tworuns.specs.Pool.{Begins, pool-same, every_front, every_back}
 use Rattle.tworuns.specs.Walk.{every-both, every_map}
 use Rattle.tworuns.specs.Accepted.{TypeOf, library_types}
 use Rattle.library_laws.specs.Types.{type-words, library-types}
-use Rattle.library_laws.specs.Slots.{Measured, SignatureTypes, signature-types}
-use Rattle.library_laws.specs.Room.{RoomFor, signatures_room}
+use Rattle.library_laws.specs.Slots.{Measured, SignatureTypes}
+use Rattle.library_laws.proofs.Slots.{signature-types}
+use Rattle.library_laws.specs.Room.{RoomFor}
+use Rattle.library_laws.proofs.Room.{signatures_room}
 use Rattle.onerun.specs.Claim.{Run, All, end, and, Both, NameAt, Fine, FineFields, Is, ParamOk, FunctionOk, PackageOk}
 use Rattle.onerun.specs.Claim as C
-use Rattle.onerun.specs.Walk.{Shallow}
+use Rattle.onerun.proofs.Walk.{Shallow}
 use Rattle.clean.specs.SlotNames.{names-slots, params-names}
 
 module _ (r : Run) (words : List ℕ) (accepted : library_fault r.ctx.texts words ≡ none) where

@@ -14,11 +14,11 @@ use Rattle.ast.specs.NodeRecords.{callable}
 use Rattle.image_laws.specs.OutlineAt.{outline_at}
 use Rattle.image_laws.specs.Many.{Each}
 use Rattle.image_laws.specs.RecordWords.{Named, Under, Pair, CasesWords, default_words, case_words, FunctionsWords, no_functions, function_words}
-use Rattle.image_laws.specs.NodesRead.{NodeRead, atom-words, ident-words, bin-words, unary-words, let_words, fn-words, match-words, call-words, field-words, cast-words, import_words, extern-words, record_words, array-words}
-use Rattle.image_laws.specs.TypeLaws.{type-atom-words, type-foreign-words, type-option-words, type-array-words, type_record_words}
-use Rattle.image_laws.specs.Accepted.{Accepted, counts_in}
+use Rattle.image_laws.proofs.NodesRead.{NodeRead, atom-words, ident-words, bin-words, unary-words, let_words, fn-words, match-words, call-words, field-words, cast-words, import_words, extern-words, record_words, array-words}
+use Rattle.image_laws.proofs.TypeLaws.{type-atom-words, type-foreign-words, type-option-words, type-array-words, type_record_words}
+use Rattle.image_laws.proofs.Accepted.{Accepted, counts_in}
 use Rattle.trees.specs.SameWords.{each_first, each-rest, cases_default}
-use Rattle.trees.specs.TypeTrees.{tree-type-atom, tree-type-foreign, tree-type-option, tree-type-array, tree-type_record}
+use Rattle.trees.proofs.TypeTrees.{tree-type-atom, tree-type-foreign, tree-type-option, tree-type-array, tree-type_record}
 use Rattle.trees.specs.Trees.{tree-atom, tree-ident, tree-bin, tree-unary, tree_let, tree-fn, tree-match, tree-call, tree-field, tree-cast, tree_import, tree-extern, tree_record, tree-array}
 use Rattle.rules.specs.Calls.{field_callee, callee_of}
 use Rattle.laws.specs.SlotsOf.{ArgSlots}

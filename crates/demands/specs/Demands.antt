@@ -12,10 +12,10 @@ use Rattle.refusals.specs.Refusals.{refusal_of}
 use Rattle.rules.specs.Check.{Ended, check_of}
 use Rattle.rules.specs.Visited.{visited_slots}
 use Rattle.rules.specs.Promises.{Every, Answered, TableHolds, Demand1, NamesReadWell, NamesWellFormed, VisitedOnce, EachVisitedOnce, message_of, primary_of, MessagesWellFormed, AnsweredClean, HasConcreteType, Clean, Longer, Alike, AnsweredLonger, MorePackages, MoreStatements, Kept, Larger, LargerWithoutStatements, entries_of, old_functions, FunctionsVisited, AgreesTo, RefusedAlike, with_image, ImagePlaceCertain, with_library, LibraryPlaceCertain, PackagesAlone, StatementsAlone, AddsNothing, NothingAdded}
-use Rattle.tworuns.specs.Larger.{ends}
-use Rattle.accepts.specs.Demands.{demand_1, names-well_formed, each-visited-once, answered-longer, functions-visited, larger, larger-without-statements, image-place_certain, library-place_certain, packages-alone, statements-alone, nothing-added}
-use Rattle.clean.specs.Clean.{clean}
-use Rattle.clean.specs.Messages.{messages-well_formed}
+use Rattle.tworuns.proofs.Larger.{ends}
+use Rattle.accepts.proofs.Demands.{demand_1, names-well_formed, each-visited-once, answered-longer, functions-visited, larger, larger-without-statements, image-place_certain, library-place_certain, packages-alone, statements-alone, nothing-added}
+use Rattle.clean.proofs.Clean.{clean}
+use Rattle.clean.proofs.Messages.{messages-well_formed}
 use Rattle.runs.specs.Machine.{Open}
 use Rattle.runs.specs.Stands.{root, AllStand}
 use Rattle.runs.specs.Promise.{Honest, RunsClean, PassedRunClean}

@@ -9,8 +9,8 @@ use Rattle.ast.specs.Image.{node_count}
 use Rattle.ast.specs.Outline.{Outline}
 use Rattle.ast.specs.Depth.{deepest, depth_from, depth_fault}
 use Rattle.image_laws.specs.OutlineAt.{outlines_in}
-use Rattle.image_laws.specs.Places.{outlines-length}
-use Rattle.image_laws.specs.Accepted.{Accepted}
+use Rattle.image_laws.proofs.Places.{outlines-length}
+use Rattle.image_laws.proofs.Accepted.{Accepted}
 use Rattle.node_parts.specs.Faults.{fault-same}
 use Rattle.depth.specs.Depths.{depth_by, depth_of, depth_in}
 

@@ -13,7 +13,7 @@ use Rattle.ptype.specs.Ty.{Ty, no_field}
 use Rattle.ptype.specs.Words.{inner_word, field_count, fields_from, unfolded, ty_of}
 use Rattle.ptype.specs.Show.{plain_names, openings, closings, gap, show, show_fields}
 use Rattle.ptype.specs.Kinds.{wraps, one_of, Plain, shape, is_plain, is_wrap, is_record, is_named}
-use Rattle.ptype.specs.UnfoldLaws.{one_less, unfolded-none, unfolded-plain, unfolded-wrap, unfolded_record, unfolded-named, fields-none, fields-more}
+use Rattle.ptype.proofs.UnfoldLaws.{one_less, unfolded-none, unfolded-plain, unfolded-wrap, unfolded_record, unfolded-named, fields-none, fields-more}
 use Rattle.display.specs.Leaf.{Leaf}
 use Rattle.display.specs.Signature.{show_signature, args_of, ret_of}
 use Rattle.display.specs.Joined.{separated}

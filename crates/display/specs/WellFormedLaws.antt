@@ -5,7 +5,7 @@ use Rattle.std.proofs.Common.{arith, ltb-true, le-leb}
 use Rattle.facts.specs.Tests.{both}
 use Rattle.utf8.specs.Rfc3629.{utf8_1, Octets, none, well_formed}
 use Rattle.utf8.specs.Properties.{ascii}
-use Rattle.utf8.specs.Laws.{ascii_octets, octets_of, well-of, ◌then◌}
+use Rattle.utf8.proofs.Laws.{ascii_octets, octets_of, well-of, ◌then◌}
 use Rattle.tok.specs.Text.{text}
 use Rattle.ptype.specs.Ty.{Ty, Fields, plain, wrap, rec, named, no_field, field}
 use Rattle.ptype.specs.Show.{plain_names, openings, closings, gap, show, show_fields, digits, decimal}

@@ -1,2 +1,3 @@
 -- What is left in the buffers.
 mod Left
+pub mod Ends

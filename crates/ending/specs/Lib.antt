@@ -1,4 +1,3 @@
 -- How the check ends.
 pub mod Ended
-pub mod Ends
 pub mod Numbers

@@ -16,7 +16,7 @@ use Rattle.err.specs.declared.Counts.{Counts}
 use Rattle.err.specs.declared.Reported.{Reported}
 use Rattle.err.specs.Message.{Diagnostic}
 use Rattle.err.specs.Report.{Reports, placed, placed_answer}
-use Rattle.err.specs.ReportLaws.{tells, writes_end}
+use Rattle.err.proofs.ReportLaws.{tells, writes_end}
 use Rattle.err_text.specs.Rest.{first_free, in_whole, ReportsIn}
 
 -- ---- a text in the rest, in the whole

@@ -10,7 +10,7 @@ use Rattle.library.specs.Package.{Package, Function}
 use Rattle.ast.specs.Image.{word_at}
 use Rattle.ast.specs.Node.{ExternFn, externs_from}
 use Rattle.image_laws.specs.RecordWords.{FunctionsWords, no_functions, function_words}
-use Rattle.image_laws.specs.Accepted.{counts_in}
+use Rattle.image_laws.proofs.Accepted.{counts_in}
 use Rattle.rules.specs.Rules.{extern_fn}
 use Rattle.state.specs.declared.Used.{Used}
 use Rattle.state.specs.declared.Went.{Went}

@@ -9,7 +9,7 @@ use Rattle.ast.specs.Image.{word_at, type_count}
 use Rattle.ast.specs.Node.{Node, Extern, ExternFn, externs_from}
 use Rattle.ast.specs.TypeExpr.{args_from}
 use Rattle.image_laws.specs.RecordWords.{FunctionsWords, no_functions, function_words}
-use Rattle.image_laws.specs.Accepted.{counts_in}
+use Rattle.image_laws.proofs.Accepted.{counts_in}
 use Rattle.places.specs.Readable.{Readable}
 use Rattle.rules.specs.declared.Answer.{Answer}
 use Rattle.rules.specs.World.{Ctx, World, Walk}

@@ -17,8 +17,8 @@ use Rattle.rules.specs.Steps.{ty}
 use Rattle.rules.specs.Rules.{value_type}
 use Rattle.rules.specs.Visited.{visited_below, visited_in_values, slots_of}
 use Rattle.accepts.specs.Count.{total-append, count}
-use Rattle.accepts.specs.OtherSlots.{owned, own-owned}
-use Rattle.accepts.specs.Fresh.{visited_from, Apart}
+use Rattle.accepts.proofs.OtherSlots.{owned, own-owned}
+use Rattle.accepts.proofs.Fresh.{visited_from, Apart}
 use Rattle.onerun.specs.Claim.{Run, AnswerOk}
 use Rattle.onerun.specs.Claim as C
 use Rattle.walking.specs.Visited.{values_at}

@@ -18,8 +18,8 @@ use Rattle.rules.specs.Rules.{value_type, node}
 use Rattle.rules.specs.Visited.{visited_in_values, slots_of}
 use Rattle.accepts.specs.Count as N
 use Rattle.accepts.specs.Count.{total, total-append}
-use Rattle.accepts.specs.OtherSlots.{owned}
-use Rattle.accepts.specs.Fresh.{visited_from, Fresh, fresh-first, fresh-rest, node-tells}
+use Rattle.accepts.proofs.OtherSlots.{owned}
+use Rattle.accepts.proofs.Fresh.{visited_from, Fresh, fresh-first, fresh-rest, node-tells}
 use Rattle.places.specs.NodesAt.{NodeReady, counts_of, record_room, length-there, node_record, words_record}
 use Rattle.spans.specs.Ready.{ValuesReady}
 use Rattle.room_laws.specs.Room.{room, rows, value_rooms, value_rows}

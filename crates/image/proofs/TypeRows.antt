@@ -15,7 +15,7 @@ use Rattle.reader.specs.declared.Reading.{Reading}
 use Rattle.reader.specs.Reading.{onward, gave}
 use Rattle.ast.specs.Outline.{Counts}
 use Rattle.ast.specs.TypeRecords.{type_atom, type_foreign, type_inner, type_field, type_record, type_kinds, type_kind, good_type_head, type_expression, type_expressions}
-use Rattle.image_laws.specs.RecordLaws.{pair_rule}
+use Rattle.image_laws.proofs.RecordLaws.{pair_rule}
 use Rattle.image_words.specs.Leads.{Leads, leads-word, leads-then, leads-return}
 
 -- what one word's reader ensures

@@ -3,12 +3,3 @@ pub mod Gives
 pub mod OutlineAt
 pub mod Many
 pub mod RecordWords
-pub mod RecordLaws
-pub mod ListLaws
-pub mod CaseLaws
-pub mod NodeLaws
-pub mod Places
-pub mod NodesRead
-pub mod PartsBelow
-pub mod TypeLaws
-pub mod Accepted

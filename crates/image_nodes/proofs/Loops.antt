@@ -10,7 +10,7 @@ use Rattle.tok.specs.Reader.{word, below, many}
 use Rattle.reader.specs.declared.Reading.{Reading}
 use Rattle.ast.specs.Outline.{Here, typed_name}
 use Rattle.ast.specs.NodeRecords.{cases, match, good_extern_count, extern_functions, good_function_count, extern}
-use Rattle.image_laws.specs.RecordLaws.{pair_rule}
+use Rattle.image_laws.proofs.RecordLaws.{pair_rule}
 use Rattle.image_words.specs.Leads.{Leads, leads-word, leads-then, leads-return}
 use Rattle.image_nodes.proofs.Rows.{Took, Token, Part, TypePart}
 

@@ -15,7 +15,7 @@ use Rattle.reader.specs.declared.Reading.{Reading}
 use Rattle.reader.specs.Reading.{onward, gave}
 use Rattle.ast.specs.Outline.{Outline, Here, typed_name}
 use Rattle.ast.specs.NodeRecords.{atom, ident, bin, unary, binding, good_arguments, fn, call, callable, no_node, field, cast, imports, named_part, record_node, array}
-use Rattle.image_laws.specs.RecordLaws.{pair_rule}
+use Rattle.image_laws.proofs.RecordLaws.{pair_rule}
 use Rattle.image_nodes.specs.Site.{Kept}
 use Rattle.image_words.specs.Leads.{Leads, leads-word, leads-then, leads-return}
 

@@ -6,7 +6,7 @@ ghost use Rattle.utf8.specs.Rfc3629.{range};
 ghost use Rattle.tok.specs.Name.{good_name, in_script};
 ghost use Rattle.tok.specs.Reader.{word, below, many};
 ghost use Rattle.reader.specs.Reading.{onward, gave, next_word};
-ghost use Rattle.image_laws.specs.RecordLaws.{pair_rule};
+ghost use Rattle.image_laws.proofs.RecordLaws.{pair_rule};
 ghost use Rattle.image_words.specs.Leads.{Leads, is_fault};
 ghost use Rattle.image_words.specs.Token.{good_token};
 

@@ -9,9 +9,9 @@ use Rattle.tok.specs.Text.{Texts, name_bytes}
 use Rattle.ptype.specs.Ty.{Ty, plain, wrap, rec, named}
 use Rattle.ptype.specs.Words.{inner_word, field_count, fields_from, fields_of, unfolded}
 use Rattle.ptype.specs.Kinds.{wraps, names, Plain, shape, is_plain, is_wrap, is_record, is_named}
-use Rattle.ptype.specs.UnfoldLaws.{unfolded-plain, unfolded-wrap, unfolded_record, unfolded-named}
+use Rattle.ptype.proofs.UnfoldLaws.{unfolded-plain, unfolded-wrap, unfolded_record, unfolded-named}
 use Rattle.ptype.specs.Inside.{Refers, Backward}
-use Rattle.ptype.specs.InsideLaws.{refers-flat}
+use Rattle.ptype.proofs.InsideLaws.{refers-flat}
 use Rattle.library.specs.Pool.{Pool, pool_word}
 use Rattle.library.specs.Slots.{pool_ty}
 use Rattle.library.specs.TypeWords.{TypeWord, good_type-true}

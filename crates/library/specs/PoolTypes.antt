@@ -9,8 +9,8 @@ use Rattle.tok.specs.Name.{in_library}
 use Rattle.tok.proofs.NameLaws.{good_name-payload}
 use Rattle.ptype.specs.Words.{unfolded}
 use Rattle.ptype.specs.Inside.{Inside, wrapped, in_field, below, level, Within, Agree, NamesLie, NamesIn}
-use Rattle.ptype.specs.InsideLaws.{backward_within}
-use Rattle.ptype.specs.GrowLaws.{unfolded_grow, unfolded-longer, accepted-lies}
+use Rattle.ptype.proofs.InsideLaws.{backward_within}
+use Rattle.ptype.proofs.GrowLaws.{unfolded_grow, unfolded-longer, accepted-lies}
 use Rattle.library.specs.Pool.{Pool}
 use Rattle.library.specs.TypeWords.{TypeWord, good_type-true}
 use Rattle.library.specs.PoolRead.{PoolFine}

@@ -17,7 +17,7 @@ use Rattle.tok.specs.Text.{name_bytes, same_bytes}
 use Rattle.ptype.specs.Words.{field_count, fields_from}
 use Rattle.ptype.specs.Kinds.{wraps, names, one_of, Plain, shape, is_plain, is_wrap, is_record, is_named}
 use Rattle.ptype.specs.Inside.{Refers}
-use Rattle.ptype.specs.InsideLaws.{refers-more}
+use Rattle.ptype.proofs.InsideLaws.{refers-more}
 use Rattle.library.specs.Pool.{Pool, pool_word}
 use Rattle.library.specs.Slots.{pool_ty, slot_names, slot_names_in, slot_names_of, name_among}
 use Rattle.library.specs.Each.{Each}

@@ -20,7 +20,7 @@ use Rattle.ptype.specs.Ty.{contains_slot, any_slot}
 use Rattle.ptype.specs.Words.{field_count, fields_from}
 use Rattle.ptype.specs.Kinds.{wraps, names, one_of, Plain, shape, is_plain, is_wrap, is_record, is_named}
 use Rattle.ptype.specs.Inside.{Refers}
-use Rattle.ptype.specs.InsideLaws.{refers-more}
+use Rattle.ptype.proofs.InsideLaws.{refers-more}
 use Rattle.library.specs.Pool.{Pool, pool_word, pool_in}
 use Rattle.library.specs.Slots.{pool_ty}
 use Rattle.library.specs.TypeWords.{TypeWord, good_type-true}

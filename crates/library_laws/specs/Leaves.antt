@@ -17,7 +17,7 @@ use Rattle.tok.specs.Name.{in_library}
 use Rattle.tok.proofs.NameLaws.{good_name-kind}
 use Rattle.ptype.specs.Words.{inner_word, field_count, fields_from, unfolded, ty_of}
 use Rattle.ptype.specs.Kinds.{wraps, names, one_of, shape, is_plain, is_wrap, is_record, is_named}
-use Rattle.ptype.specs.UnfoldLaws.{unfolded-none, unfolded-plain, unfolded-wrap, unfolded_record, unfolded-named}
+use Rattle.ptype.proofs.UnfoldLaws.{unfolded-none, unfolded-plain, unfolded-wrap, unfolded_record, unfolded-named}
 use Rattle.ptype.specs.Inside.{wrapped, in_field}
 use Rattle.library.specs.Pool.{Pool}
 use Rattle.library.specs.Slots.{slot_names, slot_names_in, name_among}

@@ -10,7 +10,7 @@ use Rattle.tok.specs.Name.{good_payload, in_library}
 use Rattle.tok.proofs.NameLaws.{good_name-payload, name_bytes-well_formed}
 use Rattle.ptype.specs.Kinds.{names}
 use Rattle.ptype.specs.Inside.{Lies}
-use Rattle.ptype.specs.GrowLaws.{accepted-lies}
+use Rattle.ptype.proofs.GrowLaws.{accepted-lies}
 use Rattle.library.specs.Pool.{Pool, pool_word}
 use Rattle.library.specs.Package.{Param, Function, Package, pool_of, packages_of}
 use Rattle.library.specs.LibraryFault.{library_fault}

@@ -20,12 +20,12 @@ use Rattle.rules.specs.World.{Walk}
 use Rattle.rules.specs.Steps.{on_option, poison}
 use Rattle.rules.specs.Rules.{node, array, members, array_of}
 use Rattle.rules.specs.Visited.{visited_among}
-use Rattle.accepts.specs.Fresh.{visited_from, Fresh, Apart, fresh-first, fresh-rest, member_apart}
+use Rattle.accepts.proofs.Fresh.{visited_from, Fresh, Apart, fresh-first, fresh-rest, member_apart}
 use Rattle.places.specs.NodesAt.{NodeReady, counts_of, record_room, length-there, node-array, words-array}
 use Rattle.room_laws.specs.Room.{room, rooms, rows, rows_all}
 use Rattle.onerun.specs.Claim.{AnswerOk}
 use Rattle.onerun.specs.Logic.{g_next, g_return}
-use Rattle.onerun.specs.Scope.{Any}
+use Rattle.onerun.proofs.Scope.{Any}
 use Rattle.visit.specs.declared.State.{State}
 use Rattle.visit.specs.declared.Visit.{Visit}
 use Rattle.visit.specs.declared.Visit.TheVariants as X

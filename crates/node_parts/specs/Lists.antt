@@ -5,7 +5,7 @@ use Rattle.std.proofs.Math.Decide.{dec_lt}
 use Rattle.std.proofs.Math.ListN.{get_or-eq_default}
 use Rattle.ast.specs.Image.{word_at, root_count, record_after, node_place, record_length}
 use Rattle.image_laws.specs.OutlineAt.{parts_from, case_parts, outline_at, outlines_from}
-use Rattle.image_laws.specs.Places.{node-next}
+use Rattle.image_laws.proofs.Places.{node-next}
 
 -- ── The numbers in a run of words ──
 

@@ -10,7 +10,7 @@ use Rattle.places.specs.NodesAt.{NodeReady, counts_of, record_room, node-bin, wo
 use Rattle.rules.specs.declared.Answer.{Answer}
 use Rattle.rules.specs.Rules.{node}
 use Rattle.room_laws.specs.Room.{room, rows}
-use Rattle.accepts.specs.Fresh.{visited_from, Fresh, fresh-first, fresh-rest}
+use Rattle.accepts.proofs.Fresh.{visited_from, Fresh, fresh-first, fresh-rest}
 use Rattle.visit.specs.declared.State.{State}
 use Rattle.visit.specs.declared.Visit.{Visit}
 use Rattle.visit.specs.Whole.{Lent}

@@ -12,7 +12,7 @@ use Rattle.places.specs.NodesAt.{NodeReady, counts_of, record_room, node-cast, w
 use Rattle.rules.specs.declared.Answer.{Answer}
 use Rattle.rules.specs.World.{Walk}
 use Rattle.rules.specs.Rules.{node}
-use Rattle.accepts.specs.Fresh.{visited_from, Fresh, fresh-rest}
+use Rattle.accepts.proofs.Fresh.{visited_from, Fresh, fresh-rest}
 use Rattle.room_laws.specs.Room.{room, rows}
 use Rattle.visit.specs.declared.State.{State}
 use Rattle.visit.specs.declared.Visit.{Visit}

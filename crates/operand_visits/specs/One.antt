@@ -12,7 +12,7 @@ use Rattle.rules.specs.declared.Answer.{Answer}
 use Rattle.rules.specs.World.{Ctx, World}
 use Rattle.rules.specs.Rules.{node}
 use Rattle.rules.specs.Visited.{visited_below}
-use Rattle.accepts.specs.Fresh.{visited_from}
+use Rattle.accepts.proofs.Fresh.{visited_from}
 use Rattle.room_laws.specs.Room.{room, rows}
 use Rattle.visit.specs.declared.State.{State}
 use Rattle.visit.specs.declared.Visit.{Visit}

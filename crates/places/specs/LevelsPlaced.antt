@@ -12,10 +12,10 @@ use Rattle.ast.specs.Image.{word_at, type_count, type_place, record_kind, record
 use Rattle.ast.specs.TypeExpr.{type_of, type_fields_from}
 use Rattle.image_laws.specs.Many.{Each}
 use Rattle.image_laws.specs.RecordWords.{Pair}
-use Rattle.image_laws.specs.TypeLaws.{type-option-words, type-array-words, type_record_words}
-use Rattle.image_laws.specs.Accepted.{Accepted}
+use Rattle.image_laws.proofs.TypeLaws.{type-option-words, type-array-words, type_record_words}
+use Rattle.image_laws.proofs.Accepted.{Accepted}
 use Rattle.trees.specs.SameWords.{each_first, each-rest}
-use Rattle.trees.specs.TypeTrees.{tree-type-atom, tree-type-foreign, tree-type-option, tree-type-array, tree-type_record}
+use Rattle.trees.proofs.TypeTrees.{tree-type-atom, tree-type-foreign, tree-type-option, tree-type-array, tree-type_record}
 use Rattle.places.specs.Levels.{levels_of, most_levels}
 use Rattle.places.specs.Places.{levels_in, most_in, levels_inside, levels_at, fill_levels}
 

@@ -9,7 +9,7 @@ use Rattle.std.proofs.Math.ListN.{length, length-set, length-replicate}
 use Rattle.std.proofs.Math.Seq.{get_or-set_same, get_or-set_other}
 use Rattle.ast.specs.Image.{node_count, type_count, root_count, record_length, record_after, node_place, type_place}
 use Rattle.ast.specs.TypeExpr.{type_of}
-use Rattle.image_laws.specs.Accepted.{Accepted}
+use Rattle.image_laws.proofs.Accepted.{Accepted}
 use Rattle.places.specs.Levels.{levels_of}
 use Rattle.places.specs.Places.{clipped, place_after, place_last, fill, fill_levels, no_places, places_of}
 use Rattle.places.specs.LevelsPlaced.{Levelled, levels-filled}

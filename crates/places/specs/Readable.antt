@@ -7,9 +7,9 @@ use Rattle.tok.specs.Text.{Texts}
 use Rattle.tok.specs.Word.{kind_of}
 use Rattle.ast.specs.Image.{node_count, type_count, node_place, type_place, record_kind, record_length}
 use Rattle.ast.specs.ImageFault.{image_fault}
-use Rattle.image_laws.specs.NodesRead.{NodeRead}
-use Rattle.image_laws.specs.TypeLaws.{TypeRead}
-use Rattle.image_laws.specs.Accepted.{Accepted, counts_in, accepted}
+use Rattle.image_laws.proofs.NodesRead.{NodeRead}
+use Rattle.image_laws.proofs.TypeLaws.{TypeRead}
+use Rattle.image_laws.proofs.Accepted.{Accepted, counts_in, accepted}
 use Rattle.places.specs.Places.{places_of}
 use Rattle.places.specs.Placed.{Placed, image-placed}
 

@@ -10,8 +10,8 @@ use Rattle.tok.specs.Text.{Texts, texts_of}
 use Rattle.ptype.specs.Ty.{depth_of, deepest}
 use Rattle.ptype.specs.Words.{inner_word, fields_of, unfolded}
 use Rattle.ptype.specs.Kinds.{wraps, shape, is_plain, is_wrap, is_record, is_named}
-use Rattle.ptype.specs.UnfoldLaws.{one_less, unfolded-none, unfolded-plain, unfolded-wrap, unfolded_record, unfolded-named}
-use Rattle.ptype.specs.DepthLaws.{depth-cut, deepest-cut}
+use Rattle.ptype.proofs.UnfoldLaws.{one_less, unfolded-none, unfolded-plain, unfolded-wrap, unfolded_record, unfolded-named}
+use Rattle.ptype.proofs.DepthLaws.{depth-cut, deepest-cut}
 
 -- k, i, q, n, r are what the calls gave, each with what its contract says of it
 module _ (t : Texts) (types : List ℕ) (w : ℕ) {deep : ℕ} where

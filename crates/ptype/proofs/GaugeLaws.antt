@@ -16,7 +16,7 @@ use Rattle.ptype.specs.Ty.{Ty, depth_of, deepest}
 use Rattle.ptype.specs.Words.{inner_word, field_count, fields_from, fields_of, unfolded, ty_of}
 use Rattle.ptype.specs.Kinds.{wraps}
 use Rattle.ptype.specs.Marks.{Depths}
-use Rattle.ptype.specs.MarkLaws.{hit, made, no-marks}
+use Rattle.ptype.proofs.MarkLaws.{hit, made, no-marks}
 use Rattle.ptype.specs.Gauge.{Gauged, gauged, deeper, noted, gauge_fields, gauge_list, gauge, Right}
 use Rattle.ptype.proofs.DepthReturns.{depth-none, depth-wrap, depth_record, depth-flat}
 use Rattle.ptype.proofs.GaugeReturns.{gauge-wrap, gauge_record, gauge-flat}

@@ -11,7 +11,7 @@ use borrow.Author.Tests.{lt-ltb, le-ltb, le-leb, lt-leb, eq-eqb, ne_eqb}
 use Rattle.tok.specs.Word.{kind_of, payload_of}
 use Rattle.ptype.specs.Words.{inner_word, field_count}
 use Rattle.ptype.specs.Kinds.{wraps}
-use Rattle.ptype.specs.UnfoldLaws.{one_less}
+use Rattle.ptype.proofs.UnfoldLaws.{one_less}
 use Rattle.ptype.specs.Gauge.{Gauged, gauged, deeper, noted, gauge_fields, gauge_list, gauge}
 
 -- k, i, q, n, r are what the calls gave, each with what its contract says of it

@@ -6,3 +6,9 @@ mod DepthReturns
 mod Examples
 pub mod GaugeReturns
 pub mod GaugeLaws
+pub mod DepthLaws
+pub mod GrowLaws
+pub mod InsideLaws
+pub mod MarkLaws
+pub mod SameLaws
+pub mod UnfoldLaws

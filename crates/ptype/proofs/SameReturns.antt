@@ -11,8 +11,8 @@ use Rattle.tok.specs.Text.{Texts, same_name}
 use Rattle.ptype.specs.Ty.{Ty, kind_of_ty, same_ty, same_fields}
 use Rattle.ptype.specs.Words.{inner_word, field_count, fields_from, fields_of, unfolded}
 use Rattle.ptype.specs.Kinds.{wraps, names, Plain}
-use Rattle.ptype.specs.UnfoldLaws.{one_less, unfolded-none, unfolded-plain, unfolded-wrap, unfolded_record, unfolded-named, kind-unfolded, fields-none, fields-more}
-use Rattle.ptype.specs.SameLaws.{ne_same_ty, eq_same_ty}
+use Rattle.ptype.proofs.UnfoldLaws.{one_less, unfolded-none, unfolded-plain, unfolded-wrap, unfolded_record, unfolded-named, kind-unfolded, fields-none, fields-more}
+use Rattle.ptype.proofs.SameLaws.{ne_same_ty, eq_same_ty}
 
 -- two lists of different lengths differ
 differ-length : (t : Texts) (types : List ℕ) (go : ℕ → Ty) (i j n m : ℕ) → (n ≡ m → ⊥) → same_fields (fields_from go t types i n) (fields_from go t types j m) ≡ false

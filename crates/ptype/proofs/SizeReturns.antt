@@ -14,7 +14,7 @@ use Rattle.ptype.specs.Ty.{Ty}
 use Rattle.ptype.specs.Words.{inner_word, field_count, fields_from, fields_of, unfolded}
 use Rattle.ptype.specs.Size.{size_of, size_of_all}
 use Rattle.ptype.specs.Kinds.{wraps, shape, is_plain, is_wrap, is_record, is_named}
-use Rattle.ptype.specs.UnfoldLaws.{one_less, unfolded-none, unfolded-plain, unfolded-wrap, unfolded_record, unfolded-named, fields-none, fields-more}
+use Rattle.ptype.proofs.UnfoldLaws.{one_less, unfolded-none, unfolded-plain, unfolded-wrap, unfolded_record, unfolded-named, fields-none, fields-more}
 
 -- k, i, q, n are what the calls gave, each with what its contract says of it; r is the result
 module _ (t : Texts) (types : List ℕ) (w room : ℕ) {deep : ℕ} where

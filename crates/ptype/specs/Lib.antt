@@ -10,9 +10,3 @@ pub mod Size
 pub mod Marks
 pub mod Gauge
 pub mod Inside
-pub mod SameLaws
-pub mod UnfoldLaws
-pub mod DepthLaws
-pub mod InsideLaws
-pub mod GrowLaws
-pub mod MarkLaws

@@ -22,13 +22,13 @@ use Rattle.onerun.specs.Claim.{end, NameAt, Good, AnswerOk}
 use Rattle.onerun.specs.Claim as C
 use Rattle.onerun.specs.Grows.{typed_grow}
 use Rattle.onerun.specs.Logic.{before, Gives, g_next, g_return}
-use Rattle.onerun.specs.Seen.{NodeOk}
-use Rattle.onerun.specs.Scope.{Any, holds-env, g_enter}
+use Rattle.onerun.proofs.Seen.{NodeOk}
+use Rattle.onerun.proofs.Scope.{Any, holds-env, g_enter}
 use Rattle.onerun.specs.Proper.{ProperType, ProperArgs, Proper, ProperAll}
-use Rattle.onerun.specs.Arguments.{params_grow}
-use Rattle.onerun.specs.Rules.{MemberOk, g_value, g_condition, g_member}
-use Rattle.onerun.specs.Functions.{Below, BlockOk, signature-ok, g_fn_arguments, g_type_from}
-use Rattle.onerun.specs.Nodes.{Visited, ArgumentsOk, g_node, g_block, g_last, g_all}
+use Rattle.onerun.proofs.Arguments.{params_grow}
+use Rattle.onerun.proofs.Rules.{MemberOk, g_value, g_condition, g_member}
+use Rattle.onerun.proofs.Functions.{Below, BlockOk, signature-ok, g_fn_arguments, g_type_from}
+use Rattle.onerun.proofs.Nodes.{Visited, ArgumentsOk, g_node, g_block, g_last, g_all}
 use Rattle.state.specs.Context.{ctx}
 use Rattle.state.specs.Store.{env_up}
 use Rattle.spans.specs.Ready.{NodesReady}

@@ -26,7 +26,7 @@ use Rattle.onerun.specs.Claim.{All, Both, Is, ParamOk, SignatureOk, FunctionOk, 
 use Rattle.onerun.specs.Claim as C
 use Rattle.onerun.specs.Grows.{is-tree}
 use Rattle.onerun.specs.Inner.{no_name}
-use Rattle.onerun.specs.Nodes.{proper-slot}
+use Rattle.onerun.proofs.Nodes.{proper-slot}
 use Rattle.state.specs.Store.{held_from}
 use Rattle.spans.specs.Ready.{NodesReady}
 use Rattle.slotted.specs.Meant.{Meant}

@@ -10,7 +10,7 @@ use Rattle.ast.specs.Node.{Node, Nodes, Cases, Values, ExternFn, Bin, Unary, Let
 use Rattle.visit.specs.declared.State.{State}
 use Rattle.visit.specs.Whole.{Lent}
 use Rattle.room_laws.specs.Room.{extern_words, room, rooms, case_rooms, value_rooms, call_room, rows, rows_all, case_rows, value_rows}
-use Rattle.accepts.specs.Fresh.{visited_from, Fresh}
+use Rattle.accepts.proofs.Fresh.{visited_from, Fresh}
 use Rattle.ready.specs.Ready.{Ready, NodeVisit}
 use Rattle.ready.specs.Passes.{ready-less}
 

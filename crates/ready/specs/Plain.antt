@@ -14,7 +14,7 @@ use Rattle.rules.specs.declared.Answer.{Answer}
 use Rattle.rules.specs.Steps.{type_from_expr}
 use Rattle.rules.specs.Rules.{Member, alike, silent, member}
 use Rattle.onerun.specs.Claim.{Good, AnswerOk}
-use Rattle.onerun.specs.Rules.{MemberOk}
+use Rattle.onerun.proofs.Rules.{MemberOk}
 use Rattle.state.specs.declared.Used.{Used}
 use Rattle.state.specs.Context.{ctx}
 use Rattle.state.specs.World.{More}

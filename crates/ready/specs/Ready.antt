@@ -11,11 +11,11 @@ use Rattle.library.specs.Accepted.{LibraryFine}
 use Rattle.ast.specs.Image.{node_count, type_count, slot_count}
 use Rattle.ast.specs.TypeExpr.{type_of}
 use Rattle.ast.specs.Node.{tree_of}
-use Rattle.accepts.specs.Fresh.{visited_from, Fresh}
+use Rattle.accepts.proofs.Fresh.{visited_from, Fresh}
 use Rattle.library_laws.specs.Bindings.{Held}
 use Rattle.library_laws.specs.Room.{most_pairs}
 use Rattle.onerun.specs.Claim.{Run, NameAt, Holds}
-use Rattle.onerun.specs.Functions.{Below}
+use Rattle.onerun.proofs.Functions.{Below}
 use Rattle.onerun.specs.Proper.{ProperType, Proper}
 use Rattle.state.specs.Context.{ctx}
 use Rattle.places.specs.Readable.{Readable}

@@ -13,8 +13,8 @@ use Rattle.rules.specs.Visited.{visited_below, visited_among, visited_in_cases, 
 use Rattle.laws.specs.SlotsOf.{ArgSlots}
 use Rattle.laws.specs.Keeps.{Keeps, in_next, in_return, in_type_from, in_fn_arguments, in_enter}
 use Rattle.laws.specs.Still.{Still, Any, Other, still_kept, still-enters}
-use Rattle.accepts.specs.OtherSlots.{fn-args}
-use Rattle.accepts.specs.Fresh.{visited_from, Fresh, Apart, fresh-below, none_is, rule-apart, type-from-apart, node-apart, block_apart, last_apart}
+use Rattle.accepts.proofs.OtherSlots.{fn-args}
+use Rattle.accepts.proofs.Fresh.{visited_from, Fresh, Apart, fresh-below, none_is, rule-apart, type-from-apart, node-apart, block_apart, last_apart}
 use Rattle.functions.specs.Defined.{fn_begin}
 use Rattle.visit.specs.declared.State.{State}
 use Rattle.visit.specs.declared.Visit.{Visit}

@@ -17,7 +17,7 @@ use Rattle.ast.specs.ImageFault.{image_read, image_fault}
 use Rattle.ast.specs.Image.{node_count, slot_count}
 use Rattle.ast.specs.Room.{function_words, room_fault}
 use Rattle.image_laws.specs.OutlineAt.{outlines_from, outlines_in}
-use Rattle.image_laws.specs.Accepted.{accepted, accepted-read, refused-read}
+use Rattle.image_laws.proofs.Accepted.{accepted, accepted-read, refused-read}
 use Rattle.claims.specs.Marks.{claims_in}
 use Rattle.claims.specs.MarkLaws.{claims-accepted}
 use Rattle.depth.specs.Depths.{depth_in}

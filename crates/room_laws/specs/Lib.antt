@@ -2,5 +2,3 @@
 -- record; the bounds for inputs that pass refusals 1 to 6.
 pub mod Room
 pub mod Sums
-pub mod Records
-pub mod Bounds

@@ -1,71 +1,19 @@
 -- The rows of a functions buffer that holds entries of functions, in the order in which they were met: well formed where the functions'
 -- names and types are. By induction on the entries. Assumes nothing.
-use Prim.Native.Nat.{ℕ, zero, suc, ◌+◌, ◌*◌, ◌≤◌, ◌<◌}
-use Rattle.std.proofs.Common.{add-zero, sym, ap, ◌∙◌, append_assoc, append-nil, get_or-append-add, lt-ltb, le-ltb}
-use native.Mathlib.Omega.{arith}
-use Rattle.std.specs.Prelude.{◌≡◌, true, List, [], ◌∷◌, ◌++◌, get_or}
-use Rattle.std.proofs.Math.Path.{refl}
-use Rattle.std.proofs.Math.ListN.{length, length-append, get_or-append}
-use Rattle.utf8.specs.Rfc3629.{well_formed, Octets, none}
-use Rattle.utf8.specs.Laws.{ascii_octets, octets_of, ◌then◌}
-use Rattle.tok.specs.Text.{Texts, text, name_bytes}
+use Prim.Native.Nat.{ℕ}
+use Rattle.std.specs.Prelude.{◌≡◌, true, List}
+use Rattle.utf8.specs.Rfc3629.{well_formed}
+use Rattle.tok.specs.Text.{Texts, name_bytes}
 use Rattle.ptype.specs.Words.{ty_of}
-use Rattle.ptype.specs.Show.{show}
-use Rattle.ptype.specs.Add.{write}
 use Rattle.display.specs.NamesWellFormed.{names_well_formed}
-use Rattle.display.specs.WellFormedLaws.{show_octets, Each, no_piece, piece, joined_octets}
 use Rattle.library.specs.Package.{Param, Function}
-use Rattle.rules.specs.Steps.{pairs_of, entry_of}
-use Rattle.rules.specs.Rows.{line, arg_rows, fn_row, fn_rows}
-use Rattle.tworuns.specs.Entries.{words_of}
-use Rattle.tworuns.specs.Written.{get_d_written}
-use Rattle.onerun.specs.Claim.{All, end, and}
-
--- "one blank between parts"
-pub line_octets : {ps : List (List ℕ)} → Each ps → Octets (line ps)
-unfolding line text
-line_octets ps = joined_octets (ascii_octets (text " ") refl) ps then ascii_octets (text "\n") refl
-
--- ── Words that stand in a buffer ──
-
-record Stands (words : List ℕ) (at : ℕ) (l : List ℕ) : Type 0 where
-  each : (i : ℕ) → i < length l → get_or words (at + i) 0 ≡ get_or l i 0
-
-module _ {words : List ℕ} {at : ℕ} where
-  first_word : {x : ℕ} {l : List ℕ} → Stands words at (x ∷ l) → get_or words at 0 ≡ x
-  first_word h = ap (λ (p : ℕ). get_or words p 0) (sym (add-zero at)) ∙ h.each 0 (omega arith)
-
-  second_word : {x y : ℕ} {l : List ℕ} → Stands words at (x ∷ y ∷ l) → get_or words (at + 1) 0 ≡ y
-  second_word h = h.each 1 (omega arith)
-
-  after_two : {x y : ℕ} {l : List ℕ} → Stands words at (x ∷ y ∷ l) → Stands words (at + 2) l
-  after_two h = record { each = λ i k. ap (λ (p : ℕ). get_or words p 0) (omega arith) ∙ h.each (suc (suc i)) (omega arith) }
-
-  front : (a b : List ℕ) → Stands words at (a ++ b) → Stands words at a
-  front a b h = record { each = λ i k. h.each i (omega (arith, length-append a b)) ∙ get_or-append a b 0 i k }
-
-  back : (a b : List ℕ) → Stands words at (a ++ b) → Stands words (at + length a) b
-  back a b h = record { each = λ i k. ap (λ (p : ℕ). get_or words p 0) (omega arith) ∙ (h.each (length a + i) (omega (arith, length-append a b)) ∙ get_or-append-add a b i 0) }
-
--- ── Entries ──
-
-abbrev entry : Function → List ℕ
-entry f = entry_of f.name f.sig.params f.sig.ret
-
-pairs-length : (ps : List Param) → length (pairs_of ps) ≡ 2 * length ps
-unfolding pairs_of
-pairs-length [] = refl
-pairs-length (p ∷ ps) = let e = pairs-length ps in omega arith
-
-entry_length_lem : (f : Function) → length (entry f) ≡ 3 + 2 * length f.sig.params
-unfolding entry_of
-entry_length_lem f = omega (arith, pairs-length f.sig.params, length-append (f.name ∷ length f.sig.params ∷ pairs_of f.sig.params) (f.sig.ret ∷ []))
+use Rattle.onerun.specs.Claim.{All}
 
 module _ (t : Texts) (types : List ℕ) where
-  abbrev NameWell : (word : ℕ) → Type 0
+  abbrev pub NameWell : (word : ℕ) → Type 0
   NameWell w = well_formed (name_bytes t w) ≡ true
 
-  abbrev TypeWell : (word : ℕ) → Type 0
+  abbrev pub TypeWell : (word : ℕ) → Type 0
   TypeWell w = names_well_formed (ty_of t types w) ≡ true
 
   pub record ParamWell (p : Param) : Type 0 where
@@ -76,83 +24,3 @@ module _ (t : Texts) (types : List ℕ) where
     pub name : NameWell f.name
     pub params : All ParamWell f.sig.params
     pub ret : TypeWell f.sig.ret
-
-  -- words that are entries of such functions, one after the other
-  data Entries : List ℕ → Type 0 where
-    no_entry : Entries []
-    one_more : {f : Function} {rest : List ℕ} → FunctionWell f → Entries rest → Entries (entry f ++ rest)
-
-  entries_join : {a b : List ℕ} → Entries a → Entries b → Entries (a ++ b)
-  entries_join no_entry k = k
-  entries_join {b = b} (one_more {f = f} {rest = rest} h hs) k = rw (append_assoc (entry f) rest b) (one_more h (entries_join hs k))
-
-  one_entry : (f : Function) → FunctionWell f → Entries (entry f)
-  one_entry f h = rw (append-nil (entry f)) at (one_more {f = f} h no_entry)
-
-  own-entries : {fs : List Function} → All FunctionWell fs → Entries (words_of fs)
-  unfolding words_of
-  own-entries end = no_entry
-  own-entries (and {a = f} h hs) = entries_join (own-entries hs) (one_entry f h)
-
-  -- ── Rows ──
-
-  module _ (words : List ℕ) where
-    arg_octets : (p : Param) → ParamWell p → {name word : ℕ} → name ≡ p.name → word ≡ p.type
-        → Octets (name_bytes t name ++ text ": " ++ show (ty_of t types word))
-    unfolding text
-    arg_octets p h e f =
-        rw (e, f) (octets_of (name_bytes t p.name) h.name then ascii_octets (text ": ") refl then show_octets (ty_of t types p.type) h.type)
-
-    args_octets : {ps : List Param} → All ParamWell ps → (at : ℕ) → Stands words at (pairs_of ps) → Each (arg_rows t types words at (length ps))
-    unfolding arg_rows pairs_of
-    args_octets end at s = no_piece
-    args_octets (and {a = p} h hs) at s = piece (arg_octets p h (first_word s) (second_word s)) (args_octets hs (at + 2) (after_two s))
-
-    row_octets : (f : Function) → FunctionWell f → (at : ℕ) → Stands words at (entry f) → Octets (fn_row t types words at (length f.sig.params))
-    unfolding fn_row entry_of text
-    row_octets f h at s =
-        let ps = f.sig.params in
-        let head = front (f.name ∷ length ps ∷ pairs_of ps) (f.sig.ret ∷ []) s in
-        let last = back (f.name ∷ length ps ∷ pairs_of ps) (f.sig.ret ∷ []) s in
-        let place : at + 2 + 2 * length ps ≡ at + length (f.name ∷ length ps ∷ pairs_of ps) = omega (arith, pairs-length ps) in
-        rw (first_word head, place, first_word last)
-        (line_octets
-        (piece (ascii_octets (text "fn") refl)
-        (piece (octets_of (name_bytes t f.name) h.name)
-        (piece (ascii_octets (text "(") refl then joined_octets (ascii_octets (text " ") refl) (args_octets h.params (at + 2) (after_two head)) then ascii_octets (text ")") refl)
-        (piece (ascii_octets (text "->") refl)
-        (piece (show_octets (ty_of t types f.sig.ret) h.ret) no_piece))))))
-
-    count-read : (f : Function) (at : ℕ) → Stands words at (entry f) → get_or words (at + 1) 0 ≡ length f.sig.params
-    unfolding entry_of
-    count-read f at s = second_word (front (f.name ∷ length f.sig.params ∷ pairs_of f.sig.params) (f.sig.ret ∷ []) s)
-
-    no_row : (used m at : ℕ) → used ≤ at → fn_rows t types words used (suc m) at ≡ []
-    unfolding fn_rows
-    no_row used m at l = rw (le-ltb at used l, fn_rows)
-
-    one-row : (used m at : ℕ) → at < used
-        → fn_rows t types words used (suc m) at ≡ fn_row t types words at (get_or words (at + 1) 0) ++ fn_rows t types words used m (at + 3 + 2 * get_or words (at + 1) 0)
-    unfolding fn_rows
-    one-row used m at l = rw (lt-ltb at used l, fn_rows)
-
-    rows_octets : {ws : List ℕ} → Entries ws → (used m at : ℕ) → Stands words at ws → used ≡ at + length ws → length ws ≤ m → Octets (fn_rows t types words used m at)
-    unfolding fn_rows
-    rows_octets no_entry used zero at s e l = none
-    rows_octets no_entry used (suc m) at s e l = rw (no_row used m at (omega arith)) none
-    rows_octets (one_more {f = f} {rest = rest} h hs) used zero at s e l = absurd (omega (arith, length-append (entry f) rest, entry_length_lem f))
-    rows_octets (one_more {f = f} {rest = rest} h hs) used (suc m) at s e l =
-        let n = entry_length_lem f in
-        let k = length-append (entry f) rest in
-        let this = front (entry f) rest s in
-        let place : at + length (entry f) ≡ at + 3 + 2 * length f.sig.params = omega arith in
-        let next : Stands words (at + 3 + 2 * length f.sig.params) rest = rw place at (back (entry f) rest s) in
-        rw (one-row used m at (omega arith), count-read f at this)
-        (row_octets f h at this then rows_octets hs used m (at + 3 + 2 * length f.sig.params) next (omega arith) (omega arith))
-
-  -- the rows of a functions buffer after a walk: its words are the entries of the own functions
-  pub own_octets : (before : List ℕ) {own : List Function} → All FunctionWell own → length (words_of own) ≤ length before
-      → Octets (fn_rows t types (write before 0 (words_of own)) (length (words_of own)) (length (words_of own)) 0)
-  own_octets before {own} h fits =
-      rows_octets (write before 0 (words_of own)) (own-entries h) (length (words_of own)) (length (words_of own)) 0
-      (record { each = λ i k. get_d_written before 0 (words_of own) (omega arith) i k }) (omega arith) (omega arith)

@@ -14,7 +14,7 @@ use Rattle.ptype.specs.Ty.{Ty}
 use Rattle.ptype.specs.Words.{field_count, fields_from, unfolded, ty_of}
 use Rattle.ptype.specs.Show.{plain_names, openings, closings, show, show_fields}
 use Rattle.ptype.specs.Kinds.{wraps, one_of, shape, is_plain, is_wrap, is_record, is_named}
-use Rattle.ptype.specs.UnfoldLaws.{unfolded-plain, unfolded-named}
+use Rattle.ptype.proofs.UnfoldLaws.{unfolded-plain, unfolded-named}
 use Rattle.display.specs.declared.Wrote.{Wrote}
 use Rattle.display.specs.declared.Wrote.TheVariants.{All, Full}
 use Rattle.display.specs.Writing.{Writes}

@@ -12,7 +12,7 @@ use Rattle.std.proofs.Math.ListN.{get_or}
 use Rattle.tok.specs.Step.{ok}
 use Rattle.tok.specs.Text.{Texts}
 use Rattle.ptype.specs.Ty.{Ty, same_ty, contains_slot}
-use Rattle.ptype.specs.SameLaws.{same_ty-true}
+use Rattle.ptype.proofs.SameLaws.{same_ty-true}
 use Rattle.ptype.specs.Slots.{Binding, bound_to, is_some}
 use Rattle.slots.specs.BindLaws.{Extends, same, extends-trans, extends-bound}
 use Rattle.slots.specs.Substitute.{Filling, filling_of, substitute}
@@ -26,8 +26,8 @@ use Rattle.onerun.specs.Claim.{All, end, and, slots_are, all_slots_are, Is, Good
 use Rattle.onerun.specs.Grows.{all_map, both-map, is_grow, is-tree, param_grow, signature_grow}
 use Rattle.onerun.specs.Logic.{Later, Silent, before, After, Gives, t_map, g_next, g_map, g_return, g_when}
 use Rattle.onerun.specs.Trees.{is_bound, never, never-free, free-slots}
-use Rattle.onerun.specs.Apply.{t_apply}
-use Rattle.onerun.specs.Arguments.{ParamsOk, first-param, rest-params, params_grow, Covers}
+use Rattle.onerun.proofs.Apply.{t_apply}
+use Rattle.onerun.proofs.Arguments.{ParamsOk, first-param, rest-params, params_grow, Covers}
 use Rattle.rules.specs.Functions.{type_meant}
 use Rattle.runs.specs.Declared.{Chosen}
 use Rattle.runs_laws.specs.Judged.{arg_types}

@@ -27,16 +27,16 @@ use Rattle.tworuns.specs.Means.{Grown, grown-trans}
 use Rattle.ast.specs.Claims.{count_from}
 use Rattle.accepts.specs.Count.{total, total-append, one, count}
 use Rattle.rules.specs.Visited.{slots_of, arguments_of}
-use Rattle.accepts.specs.Once.{own-slot}
-use Rattle.accepts.specs.OtherSlots.{owned}
+use Rattle.accepts.proofs.Once.{own-slot}
+use Rattle.accepts.proofs.OtherSlots.{owned}
 use Rattle.onerun.specs.Claim.{Run, NameAt, Is, Good, Recorded, Holds, AnswerOk, poison}
 use Rattle.onerun.specs.Claim as C
 use Rattle.onerun.specs.Grows.{is_grow, is-tree}
 use Rattle.onerun.specs.Logic.{Later, later, Silent, before, After, Gives, gives, stopped, GivesT, GivesL, g_next, g_map, g_on_types, g_on_log, g_set, Own}
-use Rattle.onerun.specs.Report.{g_report}
+use Rattle.onerun.proofs.Report.{g_report}
 use Rattle.onerun.specs.Proper.{Proper, ProperAll}
-use Rattle.onerun.specs.Functions.{Below}
-use Rattle.onerun.specs.Nodes.{g_node, g_block}
+use Rattle.onerun.proofs.Functions.{Below}
+use Rattle.onerun.proofs.Nodes.{g_node, g_block}
 use Rattle.stops.specs.Ready.{Fits, Ready, ready-own, ready-then, Leaves, Any, node_leaves, block_leaves}
 use Rattle.runs_laws.specs.Judged as J
 

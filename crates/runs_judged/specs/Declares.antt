@@ -10,7 +10,7 @@ use Rattle.tok.specs.Step.{ok, for_each, ◌>>=◌, return}
 use Rattle.tok.specs.Text.{name_bytes}
 use Rattle.ptype.specs.Ty.{Ty}
 use Rattle.ptype.specs.Add.{Buffer, append}
-use Rattle.ptype.specs.SameLaws.{same_ty-true}
+use Rattle.ptype.proofs.SameLaws.{same_ty-true}
 use Rattle.ast.specs.TypeExpr.{TypeExpr, Arg}
 use Rattle.ast.specs.Node.{ExternFn}
 use Rattle.library.specs.Package.{Param, param, signature, function, Package, find_package}
@@ -27,9 +27,9 @@ use Rattle.onerun.specs.Grows.{both-map, is_grow, param_grow}
 use Rattle.onerun.specs.Logic.{Silent, before, After, Gives, gives, g_next, g_return, g_when, g_option, g_set}
 use Rattle.onerun.specs.Find.{package_found}
 use Rattle.onerun.specs.Trees.{free-slots}
-use Rattle.onerun.specs.Scope.{g_hold, g_enter}
+use Rattle.onerun.proofs.Scope.{g_hold, g_enter}
 use Rattle.onerun.specs.Proper.{ProperType, ProperArgs, ProperExterns}
-use Rattle.onerun.specs.Functions.{Below}
+use Rattle.onerun.proofs.Functions.{Below}
 use Rattle.rules.specs.Functions.{type_meant}
 use Rattle.runs.specs.Declared.{Held, Scope, Chosen, extern_member, find_held, import_found, unless_held, imported}
 use Rattle.runs_laws.specs.Judged.{knows, args_known}

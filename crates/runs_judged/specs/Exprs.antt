@@ -16,9 +16,9 @@ use Rattle.onerun.specs.Claim.{Run, NameAt, Is}
 use Rattle.onerun.specs.Claim as C
 use Rattle.onerun.specs.Grows.{is_grow}
 use Rattle.onerun.specs.Logic.{GivesT, typed, t_next}
-use Rattle.onerun.specs.Types.{PairsAre, no_pairs, more-pairs, t_wrap, t_record}
+use Rattle.onerun.proofs.Types.{PairsAre, no_pairs, more-pairs, t_wrap, t_record}
 use Rattle.onerun.specs.Proper.{ProperType, ProperTypes}
-use Rattle.onerun.specs.Functions.{Below}
+use Rattle.onerun.proofs.Functions.{Below}
 use Rattle.rules.specs.Functions.{type_meant, fields_meant}
 
 -- a type expression has no slot

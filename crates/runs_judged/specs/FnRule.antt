@@ -19,17 +19,17 @@ use Rattle.laws.specs.SlotsOf.{ArgSlots}
 use Rattle.laws.specs.Keeps.{Keeps}
 use Rattle.laws.specs.Keeps as K
 use Rattle.laws.specs.Owns.{end_slot}
-use Rattle.accepts.specs.OtherSlots.{among-hold}
+use Rattle.accepts.proofs.OtherSlots.{among-hold}
 use Rattle.tworuns.specs.Means.{grown-trans}
 use Rattle.onerun.specs.Claim.{Is, NameAt}
 use Rattle.onerun.specs.Claim as C
 use Rattle.onerun.specs.Grows.{both-map, is_grow, is-tree, param_grow}
 use Rattle.onerun.specs.Logic.{Silent, before, Gives, g_next, g_return, g_when, g_option}
-use Rattle.onerun.specs.Scope.{alone, g_apart, g_enter}
-use Rattle.onerun.specs.Arguments.{params_grow}
+use Rattle.onerun.proofs.Scope.{alone, g_apart, g_enter}
+use Rattle.onerun.proofs.Arguments.{params_grow}
 use Rattle.onerun.specs.Proper.{ProperType, ProperArgs, ProperAll}
-use Rattle.onerun.specs.Functions.{Below, g_fn_arguments, signature-ok}
-use Rattle.onerun.specs.Nodes.{g_block}
+use Rattle.onerun.proofs.Functions.{Below, g_fn_arguments, signature-ok}
+use Rattle.onerun.proofs.Nodes.{g_block}
 use Rattle.stops.specs.Ready.{Ready, Free, Leaves, Any, leaves_kept, leaves_enters, ready-then, ready-left, ready-below, arguments-free}
 use Rattle.rules.specs.Functions.{type_meant}
 use Rattle.runs.specs.Declared.{Held, Own, Chosen, Scope, meeting, declare_all}

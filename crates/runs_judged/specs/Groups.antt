@@ -25,7 +25,7 @@ use Rattle.onerun.specs.Logic.{Silent, before, Gives, g_next, g_return, g_when, 
 use Rattle.onerun.specs.Trees.{never, never-free}
 use Rattle.onerun.specs.Find.{function-found, package_found}
 use Rattle.onerun.specs.Find as OF
-use Rattle.onerun.specs.Calls.{g_reads, reads-each}
+use Rattle.onerun.proofs.Calls.{g_reads, reads-each}
 use Rattle.rules.specs.Functions.{type_meant}
 use Rattle.runs.specs.Declared.{Sig, Held, Own, external, Target, Chosen, Scope, first_equal, from_group, of_own, of_held, find_held, find_own, group_in, target_of, target_at}
 use Rattle.runs_laws.specs.Judged.{CallOk, of_package}

@@ -11,7 +11,7 @@ use Rattle.tok.specs.declared.Span.{Span}
 use Rattle.ptype.specs.Ty.{Ty, Fields, rec, wrap, same_ty, bool_ty, array_ty, contains_slot}
 use Rattle.ptype.specs.Words.{ty_of}
 use Rattle.ptype.specs.Add.{Buffer, add_record}
-use Rattle.ptype.specs.SameLaws.{same_ty-true}
+use Rattle.ptype.proofs.SameLaws.{same_ty-true}
 use Rattle.ast.specs.Node.{Node, Nodes, Cases, Values, done, then, no_case, case, no_value, value}
 use Rattle.err.specs.Message.{match_cases}
 use Rattle.rules.specs.declared.Answer.{Answer}
@@ -25,15 +25,15 @@ use Rattle.laws.specs.Keeps.{Keeps}
 use Rattle.laws.specs.Keeps as K
 use Rattle.accepts.specs.Count.{total, total-append, count}
 use Rattle.rules.specs.Visited.{slots_of}
-use Rattle.accepts.specs.OtherSlots.{among-hold}
-use Rattle.accepts.specs.OtherSlots as O
+use Rattle.accepts.proofs.OtherSlots.{among-hold}
+use Rattle.accepts.proofs.OtherSlots as O
 use Rattle.onerun.specs.Claim.{All, end, and, Is, Good, Recorded, Holds, AnswerOk}
 use Rattle.onerun.specs.Claim as C
 use Rattle.onerun.specs.Grows.{all_map, is-tree, typed_free, typed-known}
 use Rattle.onerun.specs.Logic.{Silent, before, Gives, gives, stopped, GivesT, typed, stopped_t, g_next, g_map, g_return, g_when}
-use Rattle.onerun.specs.Scope.{g_framed, g_apart}
-use Rattle.onerun.specs.Rules.{BranchOk, branch-later}
-use Rattle.onerun.specs.Types.{PairsAre, PairsTyped, t_wrap, t_record}
+use Rattle.onerun.proofs.Scope.{g_framed, g_apart}
+use Rattle.onerun.proofs.Rules.{BranchOk, branch-later}
+use Rattle.onerun.proofs.Types.{PairsAre, PairsTyped, t_wrap, t_record}
 use Rattle.stops.specs.Ready.{Ready, Free, Leaves, Any, leaves_kept, leaves_enters}
 use Rattle.runs_judged.specs.Claim as H
 use Rattle.runs_judged.specs.Claim.{same-trans, same-world, same-slots, Keep, OwnAnswer, is_known, is_poison, no-poison, has-known, Fixed, fixed_back, Says, Tells, earlier, h_known, h_step, h_map, h_report, Built, h_on_types, h_set}

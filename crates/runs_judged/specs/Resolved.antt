@@ -12,8 +12,8 @@ use Rattle.rules.specs.Calls.{callee_of}
 use Rattle.rules.specs.Visited.{visited_below, visited_among, visited_in_cases, visited_in_values}
 use Rattle.accepts.specs.Count.{total, total-append, one_same, count}
 use Rattle.rules.specs.Visited.{slots_of}
-use Rattle.accepts.specs.Once.{own-slot}
-use Rattle.accepts.specs.OtherSlots.{owned}
+use Rattle.accepts.proofs.Once.{own-slot}
+use Rattle.accepts.proofs.OtherSlots.{owned}
 use Rattle.runs.specs.Declared.{Held, Target, Chosen, Scope, meeting, choosing, given_types, target_of, import_found, unless_held, imported, declare, declare_all, declare_cases, declare_values, target_at}
 
 -- how often the nodes of a list, and of two lists, own a slot

@@ -30,8 +30,8 @@ use Rattle.onerun.specs.Claim.{NameAt, Is, Good, Bound, poisoned, bound, Recorde
 use Rattle.onerun.specs.Claim as C
 use Rattle.onerun.specs.Grows.{is-tree}
 use Rattle.onerun.specs.Logic.{Silent, before, Gives, gives, g_next, g_return, g_when, g_option}
-use Rattle.onerun.specs.Scope.{g_insert}
-use Rattle.onerun.specs.Types.{low-good}
+use Rattle.onerun.proofs.Scope.{g_insert}
+use Rattle.onerun.proofs.Types.{low-good}
 use Rattle.onerun.specs.Find.{local_found, field_found}
 use Rattle.onerun.specs.Inner.{fields-typed}
 use Rattle.runs_laws.specs.Judged.{type_found, field_ty, BinOk, UnaryOk, CastOk, FieldOk}
@@ -39,7 +39,7 @@ use Rattle.runs_laws.specs.Values.{castable-to}
 use Rattle.rules.specs.Functions.{type_meant}
 use Rattle.runs.specs.Running.{cast_kind}
 use Rattle.onerun.specs.Proper.{ProperType}
-use Rattle.onerun.specs.Functions.{Below}
+use Rattle.onerun.proofs.Functions.{Below}
 use Rattle.runs_judged.specs.Exprs.{t_expr}
 use Rattle.runs_laws.specs.Judged as J
 use Rattle.runs_judged.specs.Claim.{silent, Same, OwnAnswer, is_known, is_poison, Fixed, Tells, earlier, h_map, h_report, h_poison, told-set, no-poison, Built, h_on_types, h_set, EnvRel, no_local, one_local}

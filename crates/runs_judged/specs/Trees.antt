@@ -22,11 +22,11 @@ use Rattle.onerun.specs.Claim.{All, end, and, Both, Is, Good, NameAt, bound, Rec
 use Rattle.onerun.specs.Claim as C
 use Rattle.onerun.specs.Grows.{all_map, is_grow, is-tree}
 use Rattle.onerun.specs.Logic.{Later, Silent, before, After, g_return, answer-later}
-use Rattle.onerun.specs.Types.{PairsAre, no_pairs, more-pairs, low-good}
+use Rattle.onerun.proofs.Types.{PairsAre, no_pairs, more-pairs, low-good}
 use Rattle.onerun.specs.Proper.{Proper, ProperAll, ProperCases, ProperValues}
-use Rattle.onerun.specs.Functions.{Below}
-use Rattle.onerun.specs.Rules.{branch-later}
-use Rattle.onerun.specs.Nodes.{g_cases, g_values}
+use Rattle.onerun.proofs.Functions.{Below}
+use Rattle.onerun.proofs.Rules.{branch-later}
+use Rattle.onerun.proofs.Nodes.{g_cases, g_values}
 use Rattle.stops.specs.Ready.{Leaves, Free, Any, leaves_kept, Fits, Ready, ready-left, ready-then, ready_assoc, ready-own, ready-fits}
 use Rattle.rules.specs.Functions.{type_meant}
 use Rattle.runs.specs.Declared.{Held, Target, Chosen, Scope, choosing, declare, declare_all, declare_cases, declare_values}

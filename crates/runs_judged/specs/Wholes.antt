@@ -22,16 +22,16 @@ use Rattle.rules.specs.Visited.{visited_below, visited_among}
 use Rattle.laws.specs.SlotsOf.{ArgSlots, SlotsOfAll, SlotsOf}
 use Rattle.accepts.specs.Count.{total, one-other}
 use Rattle.rules.specs.Visited.{arguments_of}
-use Rattle.accepts.specs.OtherSlots.{among-hold}
-use Rattle.onerun.specs.Arguments.{ProvidedOk}
+use Rattle.accepts.proofs.OtherSlots.{among-hold}
+use Rattle.onerun.proofs.Arguments.{ProvidedOk}
 use Rattle.onerun.specs.Claim.{All, end, and, Both, NameAt, FunctionOk, Holds}
 use Rattle.onerun.specs.Claim as C
 use Rattle.onerun.specs.Grows.{all_map}
 use Rattle.onerun.specs.Logic.{Silent, before}
-use Rattle.onerun.specs.Types.{void-good}
+use Rattle.onerun.proofs.Types.{void-good}
 use Rattle.onerun.specs.Proper.{ProperAll, ProperCallee, ProperExterns}
-use Rattle.onerun.specs.Functions.{Below}
-use Rattle.onerun.specs.Nodes.{g_all}
+use Rattle.onerun.proofs.Functions.{Below}
+use Rattle.onerun.proofs.Nodes.{g_all}
 use Rattle.stops.specs.Ready.{Ready, Free, ready-then}
 use Rattle.runs.specs.Declared.{Held, Chosen, Scope, extern_member, holding, imported, given_types, target_of, target_at, declare_all}
 use Rattle.runs_laws.specs.Judged.{CallOk, JudgedAll}

@@ -18,7 +18,7 @@ use Rattle.tok.specs.Text.{Texts, name_bytes}
 use Rattle.ptype.specs.Ty.{Ty}
 use Rattle.ptype.specs.Words.{inner_word, field_count, fields_from, fields_of, unfolded}
 use Rattle.ptype.specs.Kinds.{wraps, shape, is_plain, is_wrap, is_record, is_named}
-use Rattle.ptype.specs.UnfoldLaws.{one_less, unfolded-none, unfolded-plain, unfolded-wrap, unfolded_record, unfolded-named, fields-none, fields-more}
+use Rattle.ptype.proofs.UnfoldLaws.{one_less, unfolded-none, unfolded-plain, unfolded-wrap, unfolded_record, unfolded-named, fields-none, fields-more}
 use Rattle.ptype.specs.Slots.{Binding, Bound, all_bound, conflict, void_slot, and_then, bind_one, bind_slots, bind_fields}
 use Rattle.slots.specs.declared.Bind.{Bind}
 use Rattle.slots.specs.declared.Bind.TheVariants.{Done, Conflict, Void, NoRoom}

@@ -13,7 +13,7 @@ use Rattle.tok.specs.Text.{Texts, name_bytes}
 use Rattle.ptype.specs.Ty.{Ty}
 use Rattle.ptype.specs.Words.{inner_word, field_count, fields_from, unfolded}
 use Rattle.ptype.specs.Kinds.{wraps, shape, is_plain, is_wrap, is_record, is_named}
-use Rattle.ptype.specs.UnfoldLaws.{one_less, unfolded-none, unfolded-plain, unfolded-wrap, unfolded_record, unfolded-named, fields-none, fields-more}
+use Rattle.ptype.proofs.UnfoldLaws.{one_less, unfolded-none, unfolded-plain, unfolded-wrap, unfolded_record, unfolded-named, fields-none, fields-more}
 use Rattle.ptype.specs.Slots.{Binding, bound_to, is_some, has_bound_slot, any_bound_slot}
 use Rattle.slots.specs.declared.Found.{Found}
 use Rattle.slots.specs.declared.Found.TheVariants.{At, Nothing}

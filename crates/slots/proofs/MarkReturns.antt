@@ -11,7 +11,7 @@ use Rattle.tok.specs.Text.{Texts}
 use Rattle.ptype.specs.Ty.{Ty}
 use Rattle.ptype.specs.Words.{inner_word, field_count, fields_from, fields_of, unfolded}
 use Rattle.ptype.specs.Kinds.{shape, is_plain, is_wrap, is_record, is_named}
-use Rattle.ptype.specs.UnfoldLaws.{unfolded-plain, unfolded-wrap, unfolded_record, unfolded-named}
+use Rattle.ptype.proofs.UnfoldLaws.{unfolded-plain, unfolded-wrap, unfolded_record, unfolded-named}
 use Rattle.ptype.specs.Marks.{Free}
 use Rattle.ptype.specs.Slots.{Binding, has_bound_slot, any_bound_slot}
 

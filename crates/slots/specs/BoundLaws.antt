@@ -16,9 +16,9 @@ use Rattle.tok.proofs.TextLaws.{eq_same_bytes}
 use Rattle.ptype.specs.Ty.{Ty, Fields, plain, wrap, rec, named, no_field, field, same_ty, same_fields, contains_slot, depth_of, deepest}
 use Rattle.ptype.specs.Words.{inner_word, field_count, fields_from, ty_of}
 use Rattle.ptype.specs.Kinds.{shape, is_plain, is_wrap, is_record, is_named}
-use Rattle.ptype.specs.UnfoldLaws.{unfolded-plain, unfolded-wrap, unfolded_record, unfolded-named}
-use Rattle.ptype.specs.DepthLaws.{ty_of-wrap, ty_of_record}
-use Rattle.ptype.specs.SameLaws.{same_ty-true, eq_same_ty}
+use Rattle.ptype.proofs.UnfoldLaws.{unfolded-plain, unfolded-wrap, unfolded_record, unfolded-named}
+use Rattle.ptype.proofs.DepthLaws.{ty_of-wrap, ty_of_record}
+use Rattle.ptype.proofs.SameLaws.{same_ty-true, eq_same_ty}
 use Rattle.ptype.specs.Slots.{Binding, binding, bound_to, Bound, all_bound, conflict, void_slot, and_then, bind_found, bind_one, bind_slots, bind_fields}
 use Rattle.slots.specs.Bindings.{bindings_after}
 use Rattle.slots.specs.BindLaws.{Extends, same, extends-trans, extends-bound, bind_fields-extends, bound-here}

@@ -13,7 +13,7 @@ use Rattle.tok.specs.Text.{Texts, name_bytes, same_bytes}
 use Rattle.ptype.specs.Ty.{same_ty}
 use Rattle.ptype.specs.Words.{inner_word, field_count, fields_from, fields_of, unfolded, ty_of}
 use Rattle.ptype.specs.Kinds.{Shape, shape, is_plain, is_wrap, is_record, is_named}
-use Rattle.ptype.specs.UnfoldLaws.{unfolded-none, unfolded-plain, unfolded-wrap, unfolded_record, unfolded-named}
+use Rattle.ptype.proofs.UnfoldLaws.{unfolded-none, unfolded-plain, unfolded-wrap, unfolded_record, unfolded-named}
 use Rattle.ptype.specs.Inside.{field_type, Inside, wrapped, in_field}
 use Rattle.ptype.specs.Slots.{Binding, binding, bound_to, Bound, all_bound, conflict, void_slot, and_then, bind_found, bind_one, bind_slots, bind_fields}
 use Rattle.slots.specs.Bindings.{bindings_after}

@@ -14,7 +14,7 @@ use Rattle.ptype.specs.Ty.{Ty, contains_slot}
 use Rattle.ptype.specs.Words.{ty_of}
 use Rattle.ptype.specs.Add.{Buffer, buffer}
 use Rattle.ptype.specs.Slots.{Binding, Bound, all_bound, conflict, void_slot, bind_slots, apply_slot_binding}
-use Rattle.ptype.specs.GrowLaws.{ty_of_grow}
+use Rattle.ptype.proofs.GrowLaws.{ty_of_grow}
 use Rattle.add.specs.declared.Added.{Added}
 use Rattle.add.specs.declared.Added.TheVariants.{Put, Full, TooDeep}
 use Rattle.add.specs.Answer.{result_of}

@@ -6,7 +6,7 @@ use Rattle.ast.specs.Image.{word_at, type_count}
 use Rattle.ast.specs.Outline.{Counts}
 use Rattle.image_laws.specs.Many.{Each}
 use Rattle.image_laws.specs.RecordWords.{Under, Pair, CasesWords, case_words, FunctionsWords, function_words}
-use Rattle.image_laws.specs.Accepted.{counts_in}
+use Rattle.image_laws.proofs.Accepted.{counts_in}
 use Rattle.trees.specs.SameWords.{each_first, each-rest, cases-within, functions-within}
 use Rattle.places.specs.Readable.{Readable}
 use Rattle.places.specs.NodesAt.{NodeReady, PartReady, part-ready}

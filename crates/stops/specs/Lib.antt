@@ -7,7 +7,4 @@ pub mod Guarded
 pub mod Ready
 pub mod Past
 pub mod SameCalls
-pub mod Same
-pub mod NoStop
-pub mod Indices
 pub mod Examples

@@ -19,10 +19,10 @@ use Rattle.laws.specs.Keeps as K
 use Rattle.onerun.specs.Claim.{Run, All, end, and, NameAt, Recorded, Holds, AnswerOk}
 use Rattle.onerun.specs.Claim as C
 use Rattle.onerun.specs.Logic.{Silent, After, Gives, gives, stopped}
-use Rattle.onerun.specs.Scope.{alone, g_enter}
-use Rattle.onerun.specs.Arguments.{params_grow}
-use Rattle.onerun.specs.Rules.{BranchOk}
-use Rattle.onerun.specs.Functions.{Below, BlockOk, signature-ok, g_fn_arguments, g_type_from}
+use Rattle.onerun.proofs.Scope.{alone, g_enter}
+use Rattle.onerun.proofs.Arguments.{params_grow}
+use Rattle.onerun.proofs.Rules.{BranchOk}
+use Rattle.onerun.proofs.Functions.{Below, BlockOk, signature-ok, g_fn_arguments, g_type_from}
 use Rattle.onerun.specs.Proper.{ProperType, ProperTypes, ProperArgs, ProperExterns}
 use Rattle.stops.specs.Guards.{unless, expect, expect_of, expect_branches, unless_checked, lex_types, field_lex_types, arg_lex_types, extern_lex_types}
 use Rattle.stops.specs.Guarded.{answered}

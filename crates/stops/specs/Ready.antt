@@ -7,8 +7,8 @@ use mathlib.Core.List.{List, [], ◌∷◌, ◌++◌, append_assoc}
 use Rattle.ast.specs.Image.{node_count, node_place, record_kind}
 use Rattle.ast.specs.TypeExpr.{TypeExpr, Arg}
 use Rattle.ast.specs.Node.{Node, Nodes, Cases, Atom, Ident, Bin, Unary, Let, Fn, Match, Call, Field, Cast, Import, Extern, Record, Array, Absent, done, then, slot_of, tree_of}
-use Rattle.image_laws.specs.NodesRead.{atom-words, bin-words}
-use Rattle.image_laws.specs.Accepted.{Accepted}
+use Rattle.image_laws.proofs.NodesRead.{atom-words, bin-words}
+use Rattle.image_laws.proofs.Accepted.{Accepted}
 use Rattle.trees.specs.Trees.{tree-atom, tree-ident, tree-bin, tree-unary, tree_let, tree-fn, tree-match, tree-call, tree-field, tree-cast, tree_import, tree-extern, tree_record, tree-array}
 use Rattle.tok.specs.Step.{Step, Refusal}
 use Rattle.rules.specs.World.{Ctx, Log, World}
@@ -20,9 +20,9 @@ use Rattle.laws.specs.SlotsOf.{ArgSlots, SlotsOf, SlotsOfAll}
 use Rattle.laws.specs.Keeps.{Keeps, StepsKeep, Enters, logs-all}
 use Rattle.laws.specs.Keeps as K
 use Rattle.accepts.specs.Count.{total, total-append, one_same, count}
-use Rattle.accepts.specs.Once.{own-slot}
-use Rattle.accepts.specs.OtherSlots.{owned, among-hold}
-use Rattle.accepts.specs.OtherSlots as O
+use Rattle.accepts.proofs.Once.{own-slot}
+use Rattle.accepts.proofs.OtherSlots.{owned, among-hold}
+use Rattle.accepts.proofs.OtherSlots as O
 
 -- "0 Atom: token, type kind 2 to 5"; "Operators: 0 to 8"
 unfoldable pub Fits : Node → Type 0

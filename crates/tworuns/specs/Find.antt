@@ -6,7 +6,7 @@ use Rattle.std.proofs.lemmas.Bool.{eqb-false}
 use Rattle.tok.specs.Text.{Texts, name_bytes, same_bytes}
 use Rattle.ptype.specs.Ty.{Fields, no_field, field}
 use Rattle.ptype.specs.Add.{Buffer}
-use Rattle.ptype.specs.UnfoldLaws.{one_less}
+use Rattle.ptype.proofs.UnfoldLaws.{one_less}
 use Rattle.library.specs.Package.{Function, Package, find_package, find_function, group_of}
 use Rattle.rules.specs.World.{Local}
 use Rattle.rules.specs.Steps.{env_get}

@@ -8,8 +8,8 @@ use Rattle.ptype.specs.Ty.{Ty, Fields, plain, wrap, rec, named, no_field, field,
 use Rattle.ptype.specs.Words.{inner_word, field_count, fields_from, unfolded, ty_of}
 use Rattle.ptype.specs.Add.{Buffer}
 use Rattle.ptype.specs.Kinds.{wraps, names, Plain}
-use Rattle.ptype.specs.DepthLaws.{depth_positive}
-use Rattle.ptype.specs.UnfoldLaws.{unfolded-plain, unfolded-wrap, unfolded_record, unfolded-named}
+use Rattle.ptype.proofs.DepthLaws.{depth_positive}
+use Rattle.ptype.proofs.UnfoldLaws.{unfolded-plain, unfolded-wrap, unfolded_record, unfolded-named}
 
 -- In the first `used` words of a buffer, word w means the tree; the word 0 of an empty slot is a plain one.
 mutual

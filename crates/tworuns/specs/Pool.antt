@@ -13,11 +13,11 @@ use Rattle.ptype.specs.Ty.{depth_of, deepest}
 use Rattle.ptype.specs.Words.{inner_word, field_count, fields_from, unfolded, ty_of}
 use Rattle.ptype.specs.Add.{Buffer, buffer}
 use Rattle.ptype.specs.Kinds.{names, shape, is_plain, is_wrap, is_record, is_named}
-use Rattle.ptype.specs.UnfoldLaws.{unfolded-plain, unfolded-wrap, unfolded_record, unfolded-named}
-use Rattle.ptype.specs.DepthLaws.{depth_positive}
+use Rattle.ptype.proofs.UnfoldLaws.{unfolded-plain, unfolded-wrap, unfolded_record, unfolded-named}
+use Rattle.ptype.proofs.DepthLaws.{depth_positive}
 use Rattle.ptype.specs.Inside.{field_name, field_type, wrapped, in_field, Throughout, level, Refers, NamesLie}
-use Rattle.ptype.specs.InsideLaws.{throughout_map}
-use Rattle.ptype.specs.GrowLaws.{ty_of_grow}
+use Rattle.ptype.proofs.InsideLaws.{throughout_map}
+use Rattle.ptype.proofs.GrowLaws.{ty_of_grow}
 use Rattle.library.specs.Package.{Param, Function, Package}
 use Rattle.rules.specs.Names.{package_names, function_names, param_names, word_names}
 use Rattle.rules.specs.Walk.{param_types, function_types, package_types}

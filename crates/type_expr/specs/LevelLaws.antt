@@ -13,9 +13,9 @@ use Rattle.tok.specs.Step.{ok, Step, Refusal, next, return}
 use Rattle.ptype.specs.Ty.{Ty, Fields, plain, wrap, rec, named, no_field, field, depth_of, deepest}
 use Rattle.ptype.specs.Kinds.{wraps, Plain}
 use Rattle.ptype.specs.Words.{ty_of}
-use Rattle.ptype.specs.UnfoldLaws.{unfolded-plain, unfolded-named}
+use Rattle.ptype.proofs.UnfoldLaws.{unfolded-plain, unfolded-named}
 use Rattle.ptype.specs.Inside.{Within, below}
-use Rattle.ptype.specs.InsideLaws.{throughout_flat, refers-flat}
+use Rattle.ptype.proofs.InsideLaws.{throughout_flat, refers-flat}
 use Rattle.ptype.specs.Add.{Buffer, add_wrap, add_record}
 use Rattle.add.specs.Means.{Means, PairsMean, none, pair, Grown}
 use Rattle.add.specs.StepLaws.{next-ok, of-answer}

@@ -9,7 +9,7 @@ use Rattle.tok.specs.Text.{Texts}
 use Rattle.tok.specs.Step.{Result, ok, Step, Refusal, refusal, next, return, give, refuse, when}
 use Rattle.ptype.specs.Ty.{depth_of}
 use Rattle.ptype.specs.Words.{ty_of}
-use Rattle.ptype.specs.UnfoldLaws.{one_less}
+use Rattle.ptype.proofs.UnfoldLaws.{one_less}
 use Rattle.ptype.specs.Add.{Buffer, buffer, append, type_room, add_type, add_wrap, add_record, write}
 use Rattle.add.specs.Parts.{opened}
 use Rattle.add.specs.StepLaws.{next-ok, when-ok}

@@ -3,15 +3,15 @@ use Rattle.std.specs.Prelude.{ℕ, zero, suc, ◌+◌, ◌*◌, ◌-◌, ◌/◌
 use Rattle.std.proofs.Common.{sym, ap, ◌∙◌, arith}
 use Rattle.std.proofs.Math.Decide.{ℕ_discrete}
 use Rattle.tok.specs.Word.{kind_of, payload_of}
-use Rattle.ptype.specs.UnfoldLaws.{one_less}
+use Rattle.ptype.proofs.UnfoldLaws.{one_less}
 use Rattle.ast.specs.Image.{type_place, record_kind, record_length}
 use Rattle.ast.specs.TypeExpr.{type_of, AtomType, ForeignType, OptionType, ArrayType, RecordType, type_fields_from, read_atom_type, read_foreign_type, read_option_type, read_array_type, read_record_type}
 use Rattle.image_laws.specs.Many.{Each}
 use Rattle.image_laws.specs.RecordWords.{Pair, TypeAtomWords, TypeInnerWords, TypeRecordWords}
-use Rattle.image_laws.specs.TypeLaws.{type-atom-words, type-option-words, type-array-words, type_record_words}
-use Rattle.image_laws.specs.Accepted.{counts_in}
+use Rattle.image_laws.proofs.TypeLaws.{type-atom-words, type-option-words, type-array-words, type_record_words}
+use Rattle.image_laws.proofs.Accepted.{counts_in}
 use Rattle.trees.specs.SameWords.{each_first, each-rest}
-use Rattle.trees.specs.TypeTrees.{tree-type-atom, tree-type-foreign, tree-type-option, tree-type-array, tree-type_record}
+use Rattle.trees.proofs.TypeTrees.{tree-type-atom, tree-type-foreign, tree-type-option, tree-type-array, tree-type_record}
 use Rattle.places.specs.Readable.{type-there, type-read, type-kind}
 use Rattle.type_expr.specs.Ready.{TypeReady, PartReady, FieldsReady}
 

@@ -11,9 +11,9 @@ use lib.Seq.{take_all, drop-drop}
 use borrow.Author.Tests.{lt-ltb}
 use Rattle.utf8.specs.Rfc3629.{utf8_1, utf8_2, utf8_3, utf8_4, well_formed, one, two, three, four}
 use Rattle.utf8.specs.Front.{Front}
-use Rattle.utf8.specs.Laws.Tests.{in_2, tails_3, tails_4, in_tail}
-use Rattle.utf8.specs.Laws.{empty}
-use Rattle.utf8.specs.Laws.Decides.{goes_1, goes_2, goes_3, stops_4, front}
+use Rattle.utf8.proofs.Laws.Tests.{in_2, tails_3, tails_4, in_tail}
+use Rattle.utf8.proofs.Laws.{empty}
+use Rattle.utf8.proofs.Laws.Decides.{goes_1, goes_2, goes_3, stops_4, front}
 
 -- ---- on the octets of the string; where they are not there, 0 is read, which is no tail
 one_octet : (t : List ℕ) → 0 < length t → utf8_1 (get_or t 0 0) ≡ true → Front t 1

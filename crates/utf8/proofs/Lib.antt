@@ -1,3 +1,5 @@
 mod Rules
 mod Fronts
 mod Ascii
+pub mod Examples
+pub mod Laws

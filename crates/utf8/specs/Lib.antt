@@ -1,6 +1,4 @@
 pub mod Rfc3629
 pub mod Encoding
 pub mod Properties
-pub mod Examples
-pub mod Laws
 pub mod Front

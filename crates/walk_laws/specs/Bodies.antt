@@ -14,7 +14,7 @@ use Rattle.rules.specs.declared.Answer.TheVariants.{Known}
 use Rattle.rules.specs.World.{Walk}
 use Rattle.rules.specs.Rules.{block, node}
 use Rattle.rules.specs.Visited.{visited_below, visited_among}
-use Rattle.accepts.specs.Fresh.{Fresh, fresh-rest}
+use Rattle.accepts.proofs.Fresh.{Fresh, fresh-rest}
 use Rattle.room_laws.specs.Room.{room, rooms, rows, rows_all}
 use Rattle.parameters.specs.Arguments.{length-args}
 use Rattle.visit.specs.declared.State.{State}

@@ -11,7 +11,7 @@ use Rattle.rules.specs.declared.Answer.{Answer}
 use Rattle.rules.specs.declared.Answer.TheVariants.{Known, Poison}
 use Rattle.rules.specs.Rules.{last}
 use Rattle.rules.specs.Visited.{visited_among}
-use Rattle.accepts.specs.Fresh.{visited_from, Fresh, fresh-first, fresh-rest}
+use Rattle.accepts.proofs.Fresh.{visited_from, Fresh, fresh-first, fresh-rest}
 use Rattle.room_laws.specs.Room.{room, rooms, rows, rows_all}
 use Rattle.visit.specs.declared.State.{State}
 use Rattle.visit.specs.declared.Visit.{Visit}

@@ -13,7 +13,7 @@ use Rattle.rules.specs.declared.Answer.TheVariants.{Known}
 use Rattle.rules.specs.World.{Ctx, Walk}
 use Rattle.rules.specs.Rules.{node, block, last, condition}
 use Rattle.rules.specs.Visited.{visited_among}
-use Rattle.accepts.specs.Fresh.{visited_from, Fresh}
+use Rattle.accepts.proofs.Fresh.{visited_from, Fresh}
 use Rattle.state.specs.Context.{ctx}
 use Rattle.room_laws.specs.Room.{room, rooms, rows, rows_all}
 use Rattle.visit.specs.declared.State.{State}

@@ -1,6 +1,6 @@
 -- `checker::check` meets its contract: a refusal before the walk, or the walk. Assumes nothing.
 use borrow.Enum.Refused.{opened}
-use Rattle.ending.specs.Ends.{refused-before, passed-before}
+use Rattle.ending.proofs.Ends.{refused-before, passed-before}
 use Rattle.checker.proofs.check.Goals as goal
 
 pub returns-in_default : goal.returns-in_default

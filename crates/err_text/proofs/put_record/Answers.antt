@@ -1,7 +1,7 @@
 -- `err_text::put_record` meets its contract: six words, one after the other. Assumes nothing.
 use native.Mathlib.Omega.{arith}
 use lib.ListN.{length-set}
-use Rattle.err.specs.ReportLaws.{six-words}
+use Rattle.err.proofs.ReportLaws.{six-words}
 use Rattle.err_text.proofs.put_record.Goals as goal
 
 pub bounds-diagnostics-at-2 : goal.bounds-diagnostics-at-2

@@ -3,7 +3,7 @@ use mathlib.Core.Path.{ap}
 use mathlib.Core.Bool.{not}
 use Prim.Native.Nat.{◌+◌}
 use native.Mathlib.Omega.{arith}
-use Rattle.err.specs.ReportLaws.{fits-facts}
+use Rattle.err.proofs.ReportLaws.{fits-facts}
 use Rattle.err_text.proofs.RecordLaws.{no-message, no-primary, not-placed, is-placed, is_true}
 use Rattle.err_text.proofs.report.Goals as goal
 

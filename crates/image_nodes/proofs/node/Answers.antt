@@ -3,7 +3,7 @@ use Prim.Native.Nat.{◌-◌}
 use mathlib.Core.Path.{sym, ap, ◌∙◌}
 use Rattle.reader.specs.Reading.{gave}
 use Rattle.image_laws.specs.Gives.{gives-there}
-use Rattle.image_laws.specs.NodeLaws.{any_node}
+use Rattle.image_laws.proofs.NodeLaws.{any_node}
 use Rattle.image_words.specs.Leads.{owed}
 use Rattle.image_nodes.proofs.Heads.{node-leads}
 use Rattle.image_nodes.proofs.node.Goals as goal

@@ -1,7 +1,7 @@
 use mathlib.Core.Path.{refl, sym, ◌∙◌}
 use native.Mathlib.Omega.{arith}
 use Rattle.ptype.specs.Stands.{stands_among}
-use Rattle.ptype.specs.MarkLaws.{free-hit, free_more}
+use Rattle.ptype.proofs.MarkLaws.{free-hit, free_more}
 use Rattle.ptype.proofs.StandsReturns.{stands-none, stands-wrap, stands_record, stands_here, among-all, among_none, among_first, among-rest}
 use borrow.Author.Rules.{rules}
 use Rattle.ptype.proofs.+stands_among_stands_in.Goals as goal

@@ -1,6 +1,6 @@
 -- `record_contains` meets its contract: no marks at first. Assumes nothing.
 use Rattle.ptype.specs.Stands.{stands_among}
-use Rattle.ptype.specs.MarkLaws.{none_free}
+use Rattle.ptype.proofs.MarkLaws.{none_free}
 use Rattle.ptype.proofs.record_contains.Goals as goal
 
 pub stands_among-requires : goal.stands_among-requires

@@ -1,7 +1,7 @@
 use mathlib.Core.Path.{refl, sym, ◌∙◌}
 use native.Mathlib.Omega.{arith}
 use Rattle.ptype.specs.Slots.{any_bound_slot}
-use Rattle.ptype.specs.MarkLaws.{free_more}
+use Rattle.ptype.proofs.MarkLaws.{free_more}
 use Rattle.slots.proofs.HasReturns.{has-none, has-wrap, has_record, has-slot, has_rest, any_none, any_first, any_rest}
 use Rattle.slots.proofs.MarkReturns.{any_marked_lem, any_all}
 use Rattle.slots.proofs.+any_bound_slot_bound_slot_in.Goals as goal

@@ -1,7 +1,7 @@
 -- `record_has_bound` meets its contract: no marks at first. Assumes nothing.
 use Rattle.tok.specs.Text.{texts_of}
 use Rattle.ptype.specs.Slots.{any_bound_slot}
-use Rattle.ptype.specs.MarkLaws.{none_free}
+use Rattle.ptype.proofs.MarkLaws.{none_free}
 use Rattle.slots.specs.Bindings.{bindings_in}
 use Rattle.slots.proofs.record_has_bound.Goals as goal
 

@@ -2,7 +2,7 @@ use Prim.Native.Nat.{◌-◌}
 use mathlib.Core.Path.{refl, sym, ◌∙◌}
 use native.Mathlib.Omega.{arith}
 use Rattle.utf8.proofs.Fronts.{stops, goes_on, stays_within, at-end}
-use Rattle.utf8.specs.Laws.{ascii-well}
+use Rattle.utf8.proofs.Laws.{ascii-well}
 use Rattle.utf8.proofs.well_formed.Goals as goal
 
 pub returns-then-is_ascii : goal.returns-then-is_ascii

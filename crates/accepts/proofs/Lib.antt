@@ -1,0 +1,15 @@
+pub mod Passed
+pub mod Table
+pub mod VisitedParts
+pub mod AcceptedInputs
+pub mod Alone
+pub mod Certain
+pub mod Demands
+pub mod Extended
+pub mod NamesWell
+pub mod Once
+pub mod Fresh
+pub mod FreshRoots
+pub mod FunctionRoom
+pub mod OtherSlots
+pub mod LowSlots

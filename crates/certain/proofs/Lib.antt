@@ -1,0 +1,3 @@
+pub mod LibraryCertain
+pub mod ImageOwed
+pub mod LibraryOwed

@@ -1,0 +1,9 @@
+pub mod Accepted
+pub mod CaseLaws
+pub mod ListLaws
+pub mod NodeLaws
+pub mod NodesRead
+pub mod PartsBelow
+pub mod Places
+pub mod RecordLaws
+pub mod TypeLaws

@@ -1,0 +1,13 @@
+pub mod Report
+pub mod Types
+pub mod Apply
+pub mod Arguments
+pub mod Calls
+pub mod Functions
+pub mod Nodes
+pub mod Operators
+pub mod Rules
+pub mod Seen
+pub mod Select
+pub mod Walk
+pub mod Scope

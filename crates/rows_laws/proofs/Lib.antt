@@ -1,0 +1,2 @@
+pub mod FnRows
+pub mod Rows

@@ -1,0 +1,4 @@
+pub mod SameCalls
+pub mod Same
+pub mod NoStop
+pub mod Indices
