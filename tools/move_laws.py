@@ -49,6 +49,8 @@ MOVES = [
     # ToldWell__primary_outside, ToldWell__slot_of_no_argument, AtomKind__atom_of_kind_0
     ("onerun", "Report"),
     ("onerun", "Types"),
+    # visitedParts__target_visited
+    ("accepts", "OfImage"),
     # nodeOrStop__fn_without_frame
     ("stops", "Same"),
 

@@ -13,3 +13,4 @@ pub mod FreshRoots
 pub mod FunctionRoom
 pub mod OtherSlots
 pub mod LowSlots
+pub mod OfImage

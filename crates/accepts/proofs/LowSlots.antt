@@ -12,7 +12,7 @@ use Rattle.rules.specs.Visited.{visited_in, slots_of}
 use Rattle.rules.specs.Promises.{Every}
 use Rattle.laws.specs.SlotsOf.{SlotsOfAll}
 use Rattle.accepts.specs.Count.{total, one-other, count}
-use Rattle.accepts.specs.OfImage.{of_image, tree-number}
+use Rattle.accepts.proofs.OfImage.{of_image, tree-number}
 use Rattle.accepts.specs.VisitedOf.{visited-every}
 use Rattle.accepts.proofs.OtherSlots.{owned, among-hold}
 

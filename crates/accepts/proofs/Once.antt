@@ -22,7 +22,7 @@ use Rattle.accepts.proofs.Passed.{passed}
 use Rattle.accepts.specs.ClaimedOnce.{in_parts, in_owned, claimed_once, owned-once}
 use Rattle.accepts.specs.VisitedParts.{visited_parts}
 use Rattle.accepts.proofs.VisitedParts.{as_part, among_sum}
-use Rattle.accepts.specs.OfImage.{OfImage, of_image, nodes-numbers}
+use Rattle.accepts.proofs.OfImage.{OfImage, of_image, nodes-numbers}
 use Rattle.accepts.specs.VisitedOf.{visited-every}
 
 -- how often some nodes own a slot

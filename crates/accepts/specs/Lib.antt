@@ -3,7 +3,6 @@ pub mod Count
 pub mod Passed
 pub mod ClaimedOnce
 pub mod VisitedParts
-pub mod OfImage
 pub mod VisitedOf
 pub mod SoundTrees
 pub mod LongerImage

@@ -18,7 +18,7 @@ use Rattle.accepts.specs.Count.{total-map, total_le, count, once_le}
 use Rattle.accepts.specs.Passed.{Passed}
 use Rattle.accepts.specs.ClaimedOnce.{entries_sum}
 use Rattle.accepts.specs.VisitedParts.{entry_length}
-use Rattle.accepts.specs.OfImage.{tree-number}
+use Rattle.accepts.proofs.OfImage.{tree-number}
 use Rattle.accepts.specs.VisitedOf.{visited-every}
 use Rattle.accepts.proofs.Once.{visits, visited-once, visited_le}
 use Rattle.room_laws.specs.Room.{rooms, rows_all}

@@ -30,7 +30,7 @@ use Rattle.tworuns.specs.Walk.{over}
 use Rattle.tworuns.specs.Accepted.{TypeOf, library_types, fresh_start}
 use Rattle.library_laws.specs.Types.{library-types}
 use Rattle.accepts.specs.Count.{total, one-other, count}
-use Rattle.accepts.specs.OfImage.{of_image, tree-number}
+use Rattle.accepts.proofs.OfImage.{of_image, tree-number}
 use Rattle.accepts.specs.VisitedOf.{visited-every}
 use Rattle.accepts.proofs.Once.{slots-once}
 use Rattle.accepts.proofs.OtherSlots.{owned}

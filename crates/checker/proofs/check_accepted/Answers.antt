@@ -1,5 +1,5 @@
 -- `checker::check_accepted` meets its contract: the walk, and what is left in the buffers. Assumes nothing.
-use Rattle.ending.specs.Ends.{accepted-ends}
+use Rattle.ending.proofs.Ends.{accepted-ends}
 use Rattle.checker.proofs.check_accepted.Goals as goal
 
 pub returns : goal.returns
