@@ -1,3 +1,5 @@
+pub mod ProperTrees
+pub mod LibraryTypes
 pub mod Messages
 pub mod Walked
 pub mod Clean

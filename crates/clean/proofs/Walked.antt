@@ -16,8 +16,8 @@ use Rattle.accepts.specs.Passed.{Passed}
 use Rattle.onerun.specs.Claim.{Run, NameAt}
 use Rattle.onerun.specs.Proper.{ProperAll}
 use Rattle.onerun.proofs.Walk.{Ends, walk_ends}
-use Rattle.clean.specs.ProperTrees.{roots-proper}
-use Rattle.clean.specs.LibraryTypes.{library-ok}
+use Rattle.clean.proofs.ProperTrees.{roots-proper}
+use Rattle.clean.proofs.LibraryTypes.{library-ok}
 
 -- a good name of the script is well formed
 pub script-name : (t : Texts) (image : List ℕ) (at : ℕ) → Named t.script image at → well_formed (name_bytes t (word_at image at)) ≡ true

@@ -21,8 +21,8 @@ use Rattle.accepts.specs.Passed.{Passed}
 use Rattle.accepts.proofs.Passed.{passed}
 use Rattle.onerun.specs.Claim.{Holds, NameAt}
 use Rattle.onerun.proofs.Walk.{begun-holds}
-use Rattle.clean.specs.ProperTrees.{type-proper, tree-proper}
-use Rattle.clean.specs.LibraryTypes.{library-ok}
+use Rattle.clean.proofs.ProperTrees.{type-proper, tree-proper}
+use Rattle.clean.proofs.LibraryTypes.{library-ok}
 use Rattle.clean.proofs.Walked.{script-name}
 use Rattle.state.specs.declared.Used.{Used}
 use Rattle.state.specs.Context.{ctx}

@@ -41,7 +41,7 @@ use Rattle.onerun.specs.Claim.{All, end, and, Both, ParamOk, FunctionOk, Holds}
 use Rattle.onerun.specs.Claim as C
 use Rattle.onerun.specs.Grows.{is-tree, fine_names, typed-names}
 use Rattle.onerun.proofs.Walk as W
-use Rattle.clean.specs.ProperTrees.{roots-proper}
+use Rattle.clean.proofs.ProperTrees.{roots-proper}
 use Rattle.clean.proofs.Walked.{script-name, run, walked}
 use Rattle.rows_laws.specs.OwnNames.{own-named}
 use Rattle.rows_laws.specs.FnRows.{ParamWell, FunctionWell}

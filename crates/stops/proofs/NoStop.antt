@@ -40,8 +40,8 @@ use Rattle.accepts.proofs.Passed.{passed}
 use Rattle.onerun.specs.Claim.{NameAt}
 use Rattle.onerun.specs.Proper.{ProperAll}
 use Rattle.onerun.proofs.Walk.{Ends, ends, walk_ends}
-use Rattle.clean.specs.ProperTrees.{roots-proper}
-use Rattle.clean.specs.LibraryTypes.{library-ok}
+use Rattle.clean.proofs.ProperTrees.{roots-proper}
+use Rattle.clean.proofs.LibraryTypes.{library-ok}
 use Rattle.clean.proofs.Walked.{script-name}
 use Rattle.stops.specs.Guarded.{last_or_stop, walk_or_stop}
 use Rattle.stops.specs.Ready.{Fits, fits, Ready, ready-then, Leaves, Free, Any, leaves_kept}

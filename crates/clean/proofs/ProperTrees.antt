@@ -1,0 +1,183 @@
+-- Refusal 3: what is visited in an accepted image is proper: it owns slots below V, its names are names of the script text, its kinds are
+-- document 01's, and a call's target is an Ident or a Field. By induction on numbers. Assumes nothing but that the image is accepted.
+use Prim.Native.Nat.{ℕ, zero, suc, ◌+◌, ◌≤◌, ◌<◌}
+use native.Mathlib.Omega.{arith}
+use Rattle.std.specs.Prelude.{◌≡◌, refl, true, List}
+use Rattle.std.proofs.Math.Logic.{inl, inr}
+use Rattle.tok.specs.Text.{Texts}
+use Rattle.ptype.specs.Kinds.{one_of}
+use Rattle.ast.specs.Image.{word_at, node_count, type_count, root_count, slot_count, node_place, type_place, record_kind}
+use Rattle.ast.specs.TypeExpr.{type_fields_from, type_of, args_from}
+use Rattle.ast.specs.Node.{Node, Atom, Ident, Bin, Unary, Let, Fn, Match, Call, Field, Cast, Import, Extern, Record, Array, Absent, nodes_from, cases_from, values_from, words_from, externs_from, tree_of, first_roots, roots_of}
+use Rattle.ast.specs.Outline.{Counts}
+use Rattle.ast.specs.NodeRecords.{callable}
+use Rattle.image_laws.specs.OutlineAt.{outline_at}
+use Rattle.image_laws.specs.Many.{Each}
+use Rattle.image_laws.specs.RecordWords.{Named, Under, Pair, CasesWords, default_words, case_words, FunctionsWords, no_functions, function_words}
+use Rattle.image_laws.proofs.NodesRead.{NodeRead, atom-words, ident-words, bin-words, unary-words, let_words, fn-words, match-words, call-words, field-words, cast-words, import_words, extern-words, record_words, array-words}
+use Rattle.image_laws.proofs.TypeLaws.{type-atom-words, type-foreign-words, type-option-words, type-array-words, type_record_words}
+use Rattle.image_laws.proofs.Accepted.{Accepted, counts_in}
+use Rattle.trees.specs.SameWords.{each_first, each-rest, cases_default}
+use Rattle.trees.proofs.TypeTrees.{tree-type-atom, tree-type-foreign, tree-type-option, tree-type-array, tree-type_record}
+use Rattle.trees.specs.Trees.{tree-atom, tree-ident, tree-bin, tree-unary, tree_let, tree-fn, tree-match, tree-call, tree-field, tree-cast, tree_import, tree-extern, tree_record, tree-array}
+use Rattle.rules.specs.Calls.{field_callee, callee_of}
+use Rattle.laws.specs.SlotsOf.{ArgSlots}
+use Rattle.clean.specs.ProperTrees.{Low}
+use Rattle.onerun.specs.Proper.{ProperType, ProperTypes, ProperArgs, ProperExterns, ProperNames, ProperCallee, Proper, ProperAll, ProperCases, ProperValues}
+
+-- a call's target says what it says by its own names, and those of an Ident inside it
+module _ (P N : ℕ → Type 0) where
+  field_callee_lem : (name : ℕ) → N name → (x : Node) → Proper P N x → ProperCallee P N (field_callee name x)
+  unfolding Proper ProperCallee field_callee
+  field_callee_lem name h (Ident n slot p) s = (s.1, h)
+  field_callee_lem name h (Atom n slot token k) s = tt
+  field_callee_lem name h (Bin n slot token op l r) s = tt
+  field_callee_lem name h (Unary n slot token op r) s = tt
+  field_callee_lem name h (Let n slot x r) s = tt
+  field_callee_lem name h (Fn n slot x ret args body) s = tt
+  field_callee_lem name h (Match n slot cs token d) s = tt
+  field_callee_lem name h (Call n slot target args) s = tt
+  field_callee_lem name h (Field n slot target x) s = tt
+  field_callee_lem name h (Cast n slot token l t) s = tt
+  field_callee_lem name h (Import n slot token paths) s = tt
+  field_callee_lem name h (Extern n slot token x fs) s = tt
+  field_callee_lem name h (Record n slot token fs) s = tt
+  field_callee_lem name h (Array n slot token ms) s = tt
+  field_callee_lem name h (Absent n) s = tt
+
+  -- "target (Ident or Field)"
+  ident_callee : (x : Node) (n slot name : ℕ) → x ≡ Ident n slot name → Proper P N x → ProperCallee P N (callee_of x)
+  unfolding Proper ProperCallee callee_of
+  ident_callee x n slot name e h = rw e (rw e at h).1
+
+  target_callee : (x : Node) (n slot name : ℕ) (target : Node) → x ≡ Field n slot target name → Proper P N x → ProperCallee P N (callee_of x)
+  unfolding Proper ProperCallee callee_of
+  target_callee x n slot name target e h = let k = rw e at h in rw e (field_callee_lem name k.2 target k.1)
+
+module _ (t : Texts) {image : List ℕ} (a : Accepted t.script image) (N : ℕ → Type 0) (named : (at : ℕ) → Named t.script image at → N (word_at image at)) where
+  abbrev c : Counts
+  c = counts_in t.script image
+
+  name : {at : ℕ} → Named t.script image at → N (word_at image at)
+  name {at} n = named at n
+
+  -- ── Types ──
+
+  fields-proper : (bound : ℕ) → ((p : ℕ) → p < bound → ProperType (Low image) N (type_of image p)) → (k at : ℕ) → Each (Pair t.script bound image) 2 at k → ProperTypes (Low image) N (type_fields_from (type_of image) image at k)
+  unfolding ProperType type_fields_from
+  fields-proper bound go zero at e = tt
+  fields-proper bound go (suc k) at e =
+      let p = each_first (Pair t.script bound image) e in
+      (name p.name, go (word_at image (at + 1)) p.value.under, fields-proper bound go k (at + 2) (each-rest (Pair t.script bound image) e))
+
+  type-by : (n : ℕ) (l : n < type_count image) → ((p : ℕ) → p < n → ProperType (Low image) N (type_of image p)) → (k : ℕ) → record_kind image (type_place image n) ≡ k → ProperType (Low image) N (type_of image n)
+  unfolding ProperType
+  type-by n l go zero e = rw (tree-type-atom a n l e) (let w = type-atom-words (a.type n l) e in record { low = w.least; high = w.most })
+  type-by n l go (suc zero) e = rw (tree-type-foreign a n l e) (name (type-foreign-words (a.type n l) e).token)
+  type-by n l go (suc (suc zero)) e = rw (tree-type-option a n l e) (go _ (type-option-words (a.type n l) e).inner.under)
+  type-by n l go (suc (suc (suc zero))) e = rw (tree-type-array a n l e) (go _ (type-array-words (a.type n l) e).inner.under)
+  type-by n l go (suc (suc (suc (suc zero)))) e = rw (tree-type_record a n l e) (fields-proper n go _ _ (type_record_words (a.type n l) e).fields)
+  type-by n l go (suc (suc (suc (suc (suc k))))) e = absurd (let h = (a.type n l).words.kind in omega arith)
+
+  type-deep : (f n : ℕ) → n < f → n < type_count image → ProperType (Low image) N (type_of image n)
+  type-deep zero n h l = absurd (omega arith)
+  type-deep (suc f) n h l = type-by n l (λ p q. type-deep f p (omega arith) (omega arith)) (record_kind image (type_place image n)) refl
+
+  pub type-proper : (n : ℕ) → n < type_count image → ProperType (Low image) N (type_of image n)
+  type-proper n l = type-deep (type_count image) n l l
+
+  args-proper : (k at : ℕ) → Each (Pair t.script (type_count image) image) 2 at k → ProperArgs (Low image) N (args_from image at k)
+  unfolding ProperArgs args_from
+  args-proper zero at e = tt
+  args-proper (suc k) at e =
+      let p = each_first (Pair t.script (type_count image) image) e in
+      (name p.name, type-proper (word_at image (at + 1)) p.value.under, args-proper k (at + 2) (each-rest (Pair t.script (type_count image) image) e))
+
+  -- "slots (an Fn's argument slots too) below V"
+  args_low : (k at slot : ℕ) → slot + k ≤ slot_count image → ArgSlots (Low image) slot (args_from image at k)
+  unfolding ArgSlots args_from
+  args_low zero at slot l = tt
+  args_low (suc k) at slot l = (omega arith, args_low k (at + 2) (slot + 1) (omega arith))
+
+  externs_proper : {end at k : ℕ} → FunctionsWords c image end at k → ProperExterns (Low image) N (externs_from image at k)
+  unfolding ProperExterns externs_from
+  externs_proper (no_functions e) = tt
+  externs_proper (function_words {at = at} {k = k} m y args others) = (name m, args-proper (word_at image (at + 2)) (at + 3) args, type-proper (word_at image (at + 1)) y.under, externs_proper others)
+
+  names-proper : (k at : ℕ) → Each (Named t.script image) 1 at k → ProperNames (Low image) N (words_from image at k)
+  unfolding ProperNames words_from
+  names-proper zero at e = tt
+  names-proper (suc k) at e = (name (each_first (Named t.script image) e), names-proper k (at + 1) (each-rest (Named t.script image) e))
+
+  -- ── Nodes ──
+
+  module _ (n : ℕ) (go : (p : ℕ) → p < n → Proper (Low image) N (tree_of image p)) where
+    nodes-proper : (k at : ℕ) → Each (Under n image) 1 at k → ProperAll (Low image) N (nodes_from (tree_of image) image at k)
+    unfolding ProperAll nodes_from
+    nodes-proper zero at e = tt
+    nodes-proper (suc k) at e = (go (word_at image at) (each_first (Under n image) e).under, nodes-proper k (at + 1) (each-rest (Under n image) e))
+
+    values-proper : (k at : ℕ) → Each (Pair t.script n image) 2 at k → ProperValues (Low image) N (values_from (tree_of image) image at k)
+    unfolding ProperValues values_from
+    values-proper zero at e = tt
+    values-proper (suc k) at e =
+        let p = each_first (Pair t.script n image) e in
+        (name p.name, go (word_at image (at + 1)) p.value.under, values-proper k (at + 2) (each-rest (Pair t.script n image) e))
+
+    cases-proper : {end at k : ℕ} → CasesWords c image n end at k → ProperCases (Low image) N (cases_from (tree_of image) image at k)
+    unfolding ProperCases cases_from
+    cases-proper (default_words m l b) = tt
+    cases-proper (case_words {at = at} m q body others) = (go (word_at image (at + 1)) q.under, nodes-proper (word_at image (at + 2)) (at + 3) body, cases-proper others)
+
+    callee_proper : n < node_count image → {m : ℕ} → m < n → callable (outline_at image m) ≡ true → ProperCallee (Low image) N (callee_of (tree_of image m))
+    unfolding outline_at
+    callee_proper l {m} h c =
+        let q : m < node_count image = omega arith in
+        elim (one_of 1 8 (record_kind image (node_place image m)) c) [
+          | inl e ↦ ident_callee (Low image) N (tree_of image m) _ _ _ (tree-ident a m q e) (go m h)
+          | inr e ↦ target_callee (Low image) N (tree_of image m) _ _ _ _ (tree-field a m q e) (go m h)
+        ]
+
+    module _ (l : n < node_count image) where
+      r : NodeRead c image n
+      r = a.node n l
+
+      own : (Low image) (word_at image (node_place image n + 1))
+      own = r.words.slot.under
+
+      by_kind : (k : ℕ) → record_kind image (node_place image n) ≡ k → Proper (Low image) N (tree_of image n)
+      unfolding Proper
+      by_kind zero e = let w = atom-words r e in let k = w.least in rw (tree-atom a n l e) (own, record { low = omega arith; high = w.most })
+      by_kind (suc zero) e = rw (tree-ident a n l e) (own, name (ident-words r e).name)
+      by_kind (suc (suc zero)) e = let w = bin-words r e in rw (tree-bin a n l e) (own, go _ w.left.under, go _ w.right.under)
+      by_kind (suc (suc (suc zero))) e = rw (tree-unary a n l e) (own, go _ (unary-words r e).right.under)
+      by_kind (suc (suc (suc (suc zero)))) e = let w = let_words r e in rw (tree_let a n l e) (own, name w.name, go _ w.right.under)
+      by_kind (suc (suc (suc (suc (suc zero))))) e =
+          let w = fn-words r e in
+          let s = w.slots in
+          rw (tree-fn a n l e)
+          (own, name w.name, type-proper _ w.ret.under, args-proper _ _ w.args, args_low (word_at image (node_place image n + 4)) (node_place image n + 5) (word_at image (node_place image n + 1) + 1) (omega arith), nodes-proper _ _ w.body)
+      by_kind (suc (suc (suc (suc (suc (suc zero)))))) e = let w = match-words r e in rw (tree-match a n l e) (own, cases-proper w.cases, nodes-proper _ _ (cases_default w.cases))
+      by_kind (suc (suc (suc (suc (suc (suc (suc zero))))))) e =
+          let w = call-words r e in
+          rw (tree-call a n l e) (own, callee_proper l w.target.under w.callable, nodes-proper _ _ w.args)
+      by_kind (suc (suc (suc (suc (suc (suc (suc (suc zero)))))))) e = let w = field-words r e in rw (tree-field a n l e) (own, go _ w.target.under, name w.name)
+      by_kind (suc (suc (suc (suc (suc (suc (suc (suc (suc zero))))))))) e = let w = cast-words r e in rw (tree-cast a n l e) (own, go _ w.left.under, type-proper _ w.type.under)
+      by_kind (suc (suc (suc (suc (suc (suc (suc (suc (suc (suc zero)))))))))) e = rw (tree_import a n l e) (own, names-proper _ _ (import_words r e).paths)
+      by_kind (suc (suc (suc (suc (suc (suc (suc (suc (suc (suc (suc zero))))))))))) e = let w = extern-words r e in rw (tree-extern a n l e) (own, name w.name, externs_proper w.functions)
+      by_kind (suc (suc (suc (suc (suc (suc (suc (suc (suc (suc (suc (suc zero)))))))))))) e = rw (tree_record a n l e) (own, values-proper _ _ (record_words r e).values)
+      by_kind (suc (suc (suc (suc (suc (suc (suc (suc (suc (suc (suc (suc (suc zero))))))))))))) e = rw (tree-array a n l e) (own, nodes-proper _ _ (array-words r e).members)
+      by_kind (suc (suc (suc (suc (suc (suc (suc (suc (suc (suc (suc (suc (suc (suc k)))))))))))))) e = absurd (let h = r.words.kind in omega arith)
+
+  deep : (f n : ℕ) → n < f → n < node_count image → Proper (Low image) N (tree_of image n)
+  deep zero n h l = absurd (omega arith)
+  deep (suc f) n h l = by_kind n (λ p q. deep f p (omega arith) (omega arith)) l (record_kind image (node_place image n)) refl
+
+  -- THE LAW of a node
+  pub tree-proper : (n : ℕ) → n < node_count image → Proper (λ slot. slot < slot_count image) N (tree_of image n)
+  tree-proper n l = deep (node_count image) n l l
+
+  -- THE LAW
+  pub roots-proper : ProperAll (λ slot. slot < slot_count image) N (roots_of image)
+  unfolding roots_of first_roots
+  roots-proper = nodes-proper (node_count image) tree-proper (root_count image) 4 a.roots
