@@ -1,29 +1,23 @@
 -- Each return of the functions, over variables for what the calls gave. By rewriting with the tests. Assumes nothing.
-use mathlib.Core.Path.{◌≡◌, refl, sym, ◌∙◌}
-use mathlib.Core.List.{List, [], ◌∷◌}
+use mathlib.Core.Path.{◌≡◌, refl, ap, ◌∙◌}
+use mathlib.Core.List.{List, [], ◌∷◌, ◌++◌}
 use mathlib.Core.Bool.{Bool, true, false}
-use mathlib.Core.Logic.{⊎_elim}
-use Prim.Native.Nat.{ℕ, ◌+◌, ◌-◌, ◌*◌, ◌/◌, ◌<◌, ◌≤◌, min}
-use native.Mathlib.Nat.{zero-add}
-use native.Mathlib.Numerals.{add-one}
+use Prim.Native.Nat.{ℕ, ◌+◌, ◌*◌, ◌<◌, ◌≤◌, min}
 use native.Mathlib.Omega.{arith}
 use lib.Dec.{leb}
-use lib.ListN.{get_or, set, length, take}
-use lib.Seq.{set-set, set-get_or, take-suc, take_all, length-take-le}
-use types.Run.{OneOf}
-use denote.Enum.Declared.{tag_of}
-use borrow.Author.Tests.{le-leb, lt-leb, leb-true, leb-false, eqb-false}
-use Rattle.tok.specs.Word.{word_of, kind_of}
+use lib.ListN.{get_or, set, length, drop}
+use lib.Seq.{set-set, set-get_or}
+use borrow.Author.Tests.{le-leb, lt-leb}
+use Rattle.tok.specs.Word.{word_of}
 use Rattle.tok.specs.Text.{Texts}
 use Rattle.tok.specs.Step.{Step, Refusal, ok, refused, refusal, when, next}
-use Rattle.ptype.specs.Add.{Buffer, buffer, write, append, add_type, add_wrap}
+use Rattle.ptype.specs.Add.{Buffer, buffer, overwrite, write, append, add_type, add_wrap}
 use Rattle.add.specs.declared.Added.{Added}
 use Rattle.add.specs.declared.Added.TheVariants.{Put, Full, TooDeep}
 use Rattle.add.specs.Answer.{result_of, Adds}
 use Rattle.add.specs.Parts.{opened, shallow, measured}
-use Rattle.add.specs.Pool.{is_type, copy_pool, Copies}
-use Rattle.add.specs.WriteLaws.{write_nil, write-one, write-append}
-use Rattle.add.specs.contracts.Added.{the_type}
+use Rattle.add.specs.Pool.{copy_pool, Copies}
+use Rattle.add.specs.WriteLaws.{write-one}
 
 -- an answer with a word; one that refuses, and leaves the words as they were
 adds-put : {step : Texts → ℕ → Step Buffer Refusal ℕ} {old : List ℕ} {used w u : ℕ} {new : List ℕ}
@@ -56,22 +50,6 @@ module _ (l : List ℕ) (used kind inner : ℕ) {room : ℕ} (hr : room ≡ min 
     unfolding when
     wrap-deep e = rw (set-set, set-get_or) (adds-deep (λ t n. wrap-is t n ∙ rw e))
 
--- whether a Record has room
-module _ (room used fields : ℕ) where
-  pub fits-none : room ≤ used → false ≡ leb (used + (1 + 2 * fields)) room
-  fits-none h = sym (lt-leb (used + (1 + 2 * fields)) room (omega arith))
-
-  pub fits_by : used < room → leb fields ((room - used - 1) / 2) ≡ leb (used + (1 + 2 * fields)) room
-  fits_by h = by (leb fields ((room - used - 1) / 2)) refl
-    where
-      by : (q : Bool) → leb fields ((room - used - 1) / 2) ≡ q → q ≡ leb (used + (1 + 2 * fields)) room
-      by true e =
-          let l = leb-true fields ((room - used - 1) / 2) e in
-          sym (le-leb (used + (1 + 2 * fields)) room (omega arith))
-      by false e =
-          let l = leb-false fields ((room - used - 1) / 2) e in
-          sym (lt-leb (used + (1 + 2 * fields)) room (omega arith))
-
 module _ (l : List ℕ) (used fields : ℕ) {room : ℕ} {q : Bool} (hr : room ≡ min (length l) 8192) (hq : q ≡ leb (used + (1 + 2 * fields)) room) where
   pub open_full : q ≡ false → Adds (λ t n. opened n fields) l used Full l
   unfolding opened when
@@ -83,12 +61,6 @@ module _ (l : List ℕ) (used fields : ℕ) {room : ℕ} {q : Bool} (hr : room �
       let z : used + (1 + 2 * fields) ≡ used + 1 + 2 * fields = omega arith in
       adds-put (λ t n. rw (← hr, ← hq, e, write-one, ← hw, z))
 
--- there is a word for the count, and the words are as few as can be used
-pub fits-here : (room used fields : ℕ) {q : Bool} → q ≡ leb (used + (1 + 2 * fields)) room → q ≡ true → used + 1 + 2 * fields ≤ room
-fits-here room used fields h e =
-    let l = leb-true (used + (1 + 2 * fields)) room (sym h ∙ e) in
-    omega arith
-
 module _ (l : List ℕ) {a : Added} {w u : ℕ} {q : Bool} (e : a ≡ Put w u) (hq : (t : Texts) → q ≡ shallow t l w) (t : Texts) (n : ℕ) where
   pub close_put : q ≡ true → next (result_of n a l) (measured t n) ≡ result_of n (Put w u) l
   unfolding measured when
@@ -98,21 +70,16 @@ module _ (l : List ℕ) {a : Added} {w u : ℕ} {q : Bool} (e : a ≡ Put w u) (
   unfolding measured when
   close_deep p = rw (e, ← hq t, p)
 
--- an answer whose tag is not that of Put is a refusal, which stays
-pub close_refused : (l : List ℕ) (a : Added) (t : Texts) (n : ℕ) → OneOf (1 ∷ 2 ∷ []) (tag_of the_type a) → next (result_of n a l) (measured t n) ≡ result_of n a l
-close_refused l (Put w u) t n h = absurd (⊎_elim (λ z. eqb-false 0 1 refl z) (λ z. eqb-false 0 2 refl z) h)
-close_refused l Full t n h = refl
-close_refused l TooDeep t n h = refl
+-- what is written over a list that is long enough stands before the rest of it
+over-front : (old new : List ℕ) → length new ≤ length old → overwrite old new ≡ new ++ drop (length new) old
+unfolding overwrite
+over-front [] [] h = refl
+over-front [] (y ∷ ys) h = absurd (omega arith)
+over-front (x ∷ xs) [] h = refl
+over-front (x ∷ xs) (y ∷ ys) h = ap (λ l. y ∷ l) (over-front xs ys (omega arith))
 
--- the turns of copying
+-- copying
 module _ (pool old : List ℕ) where
-  pub copy_none : old ≡ write old 0 (take 0 pool)
-  copy_none = sym (write_nil old 0)
-
-  pub copy_more : (i : ℕ) → i < length pool → set (write old 0 (take i pool)) i (get_or pool i 0) ≡ write old 0 (take (i + 1) pool)
-  copy_more i h =
-      rw (add-one, take-suc pool i 0 h, write-append old 0 (take i pool) (get_or pool i 0 ∷ []), length-take-le i pool (omega arith), zero-add, write-one)
-
   module _ {room : ℕ} (hr : room ≡ min (length old) 8192) where
     pub copy_full : room < length pool → Copies pool old false old
     unfolding copy_pool when
@@ -121,17 +88,9 @@ module _ (pool old : List ℕ) where
         is : (n used : ℕ) → copy_pool n pool (buffer old used) ≡ refused (refusal 7 n)
         is n used = rw (lt-leb (length pool) (min (length old) 8192) (omega arith))
 
-    pub copy_all : {i : ℕ} → length pool ≤ room → length pool ≤ i → Copies pool old true (write old 0 (take i pool))
-    unfolding copy_pool when
-    copy_all {i} h p = rw (take_all i pool p) (record { result = is; words = λ n used. rw (is n used) })
+    pub copy_all : length pool ≤ room → Copies pool old true (pool ++ drop (length pool) old)
+    unfolding copy_pool when write
+    copy_all h = rw (← over-front old pool (omega arith)) (record { result = is; words = λ n used. rw (is n used) })
       where
         is : (n used : ℕ) → copy_pool n pool (buffer old used) ≡ ok tt (buffer (write old 0 pool) (length pool))
         is n used = rw (le-leb (length pool) (min (length old) 8192) (omega arith))
-
--- a word of the pool
-module _ (w : ℕ) {k : ℕ} (hk : k ≡ kind_of w) where
-  pub type-low : k < 1 → false ≡ is_type w
-  type-low h = rw (lt-leb 1 (kind_of w) (omega arith))
-
-  pub type-by : 1 ≤ k → leb k 11 ≡ is_type w
-  type-by h = rw (le-leb 1 (kind_of w) (omega arith), hk)

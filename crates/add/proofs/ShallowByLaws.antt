@@ -2,8 +2,7 @@
 use Prim.Native.Nat.{ℕ, suc, ◌+◌, ◌≤◌, ◌<◌}
 use mathlib.Core.Path.{◌≡◌, refl, sym, ap, subst, ◌∙◌}
 use mathlib.Core.Bool.{Bool, true, false, cond, ◌&&◌}
-use mathlib.Core.List.{List, [], ◌∷◌, ◌++◌, append-nil}
-use native.Mathlib.Omega.{arith}
+use mathlib.Core.List.{List, [], ◌∷◌}
 use native.Mathlib.Numerals.{add-one}
 use lib.Dec.{leb}
 use lib.ListN.{length, get_or, drop, replicate, drop_of_length-le}
@@ -20,12 +19,6 @@ use Rattle.add.specs.Pool.{is_type, pool_types, all_shallow}
 use Rattle.add.specs.ShallowBy.{ShallowFound, shallow_found, shallow_by, if_shallow, all_shallow_by, RightAnswer}
 
 -- ── As the code has it ──
-
--- all is cleared once as many zeros stand in front as there are marks
-pub cleared : (old : List ℕ) (n : ℕ) {new : List ℕ} → n ≤ length old → length old ≤ n → new ≡ replicate n 0 ++ drop n old → new ≡ replicate (length old) 0
-cleared old n a b e =
-    let q : n ≡ length old = omega arith in
-    e ∙ ap (λ k. replicate k 0 ++ drop k old) q ∙ ap (λ r. replicate (length old) 0 ++ r) (drop_of_length-le old {i = length old} (omega arith)) ∙ append-nil (replicate (length old) 0)
 
 module _ (types : List ℕ) where
   pub one-asked : (w : ℕ) (known : List ℕ) {d : ℕ} {known' : List ℕ} → gauge types 33 w known ≡ gauged d known' → shallow_by types w known ≡ shallow_found (leb d 32) known'

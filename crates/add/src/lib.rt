@@ -27,14 +27,11 @@ pub enum Added {
 fn type_room(types: &[u32]) -> usize
     ensures { result ≡ min (length types.now) 8192 }
 {
-    if types.len() < 8192 {
-        types.len()
-    } else {
-        8192
-    }
+    types.len().min(8192)
 }
 
-fn word_of(kind: u32, at: usize) -> u32
+// The word of a type of a kind that stands at an index.
+pub fn word_of(kind: u32, at: usize) -> u32
     requires { (kind < 16) × (at < 2 ^ 28) }
     ensures { result ≡ word_of kind at }
 {
@@ -62,17 +59,18 @@ fn add_wrap(types: &mut [u32], used: usize, kind: u32, inner: u32) -> Added
     requires { kind < 16 }
     ensures { Adds (λ t n. add_wrap t n kind inner) types.old used result types.new }
 {
-    if used >= type_room(&types[..]) {
+    if used >= type_room(types) {
         return Added::Full;
     }
     let old = types[used];
     types[used] = inner;
     let word = word_of(kind, used);
-    if is_shallow(&types[..], word) {
-        return Added::Put(word, used + 1);
+    if is_shallow(types, word) {
+        Added::Put(word, used + 1)
+    } else {
+        types[used] = old;
+        Added::TooDeep
     }
-    types[used] = old;
-    Added::TooDeep
 }
 
 // Adds an Option of the type `inner`.
@@ -93,22 +91,19 @@ pub fn add_array(types: &mut [u32], used: usize, inner: u32) -> Added
 fn record_fits(room: usize, used: usize, fields: usize) -> bool
     ensures { result ≡ leb (used + (1 + 2 * fields)) room }
 {
-    if used >= room {
-        return false;
-    }
-    fields <= (room - used - 1) / 2
+    used < room && fields <= (room - used - 1) / 2
 }
 
 // Adds a Record of so many fields: room for all of it, and the count. Its pairs are set after that, and then it is closed.
 pub fn open_record(types: &mut [u32], used: usize, fields: usize) -> Added
     ensures { Adds (λ t n. opened n fields) types.old used result types.new }
 {
-    let room = type_room(&types[..]);
-    if record_fits(room, used, fields) {
+    if record_fits(type_room(types), used, fields) {
         types[used] = fields as u32;
-        return Added::Put(word_of(RECORD, used), used + 1 + 2 * fields);
+        Added::Put(word_of(RECORD, used), used + 1 + 2 * fields)
+    } else {
+        Added::Full
     }
-    Added::Full
 }
 
 // Sets a field's name and type, from their place on.
@@ -125,27 +120,21 @@ pub fn set_pair(types: &mut [u32], at: usize, name: u32, ty: u32)
 pub fn close_record(types: &[u32], opened: Added) -> Added
     ensures { (t : Texts) (n : ℕ) → next (result_of n opened types.now) (measured t n) ≡ result_of n result types.now }
 {
-    let Added::Put(word, _) = opened else {
-        return opened;
-    };
-    if !is_shallow(types, word) {
-        return Added::TooDeep;
+    match opened {
+        Added::Put(word, _) if !is_shallow(types, word) => Added::TooDeep,
+        _ => opened,
     }
-    opened
 }
 
 // Copies the pool to the front of the buffer, and says whether there was room (7).
 pub fn copy_pool(types: &mut [u32], pool: &[u32]) -> bool
     ensures { Copies pool.now types.old result types.new }
 {
-    if pool.len() > type_room(&types[..]) {
+    let n = pool.len();
+    if n > type_room(types) {
         return false;
     }
-    let mut at = 0;
-    while at < pool.len() {
-        types[at] = pool[at];
-        at += 1;
-    }
+    types[..n].copy_from_slice(pool);
     true
 }
 
@@ -153,11 +142,7 @@ pub fn copy_pool(types: &mut [u32], pool: &[u32]) -> bool
 fn is_type(w: u32) -> bool
     ensures { result ≡ is_type w }
 {
-    let k = tok::kind(w);
-    if k < 1 {
-        return false;
-    }
-    k <= 11
+    matches!(tok::kind(w), 1..=11)
 }
 
 // Whether a type is at most 32 deep by the depths that are marked of field lists (`ptype::depth_known`): where the marks are right, that is so, and
@@ -173,22 +158,7 @@ pub fn is_shallow_known(types: &[u32], w: u32, known: &mut [u8]) -> bool
 fn word_is_shallow(types: &[u32], w: u32, known: &mut [u8]) -> bool
     ensures { all_shallow_by types.now (w ∷ []) known.old ≡ shallow_found result known.new }
 {
-    if !is_type(w) {
-        return true;
-    }
-    is_shallow_known(types, w, known)
-}
-
-// No mark.
-fn clear(known: &mut [u8])
-    ensures { known.new ≡ replicate (length known.old) 0 }
-{
-    let n = known.len();
-    let mut next = 0;
-    while next < n {
-        known[next] = 0;
-        next += 1;
-    }
+    !is_type(w) || is_shallow_known(types, w, known)
 }
 
 // Whether every type of the pool is at most 32 deep. A word refers to smaller indices, so that what it holds is marked when its turn comes.
@@ -198,13 +168,11 @@ pub fn pool_is_shallow(types: &[u32], pool: &[u32], known: &mut [u8]) -> bool
         (all_shallow_by T P (replicate (length known.old) 0) ≡ shallow_found result known.new)
         × ((t : Texts) → result ≡ all_shallow t T (pool_types P)) × Depths T known.new }
 {
-    clear(known);
-    let mut i = 0;
-    while i < pool.len() {
-        if !word_is_shallow(types, pool[i], known) {
+    known.fill(0);
+    for w in pool {
+        if !word_is_shallow(types, *w, known) {
             return false;
         }
-        i += 1;
     }
     true
 }

@@ -3,14 +3,15 @@
 use mathlib.Core.Path.{◌≡◌, refl, sym, ap, ◌∙◌}
 use mathlib.Core.Logic.{⊎_elim}
 use mathlib.Core.List.{List, [], ◌∷◌}
-use Prim.Native.Nat.{ℕ, zero, suc, ◌+◌, ◌-◌, ◌*◌, ◌≤◌, ◌<◌, ◌^◌}
+use Prim.Native.Nat.{ℕ, ◌+◌, ◌-◌, ◌*◌, ◌≤◌, ◌<◌, ◌^◌}
+use native.Mathlib.Nat.{zero-add}
 use native.Mathlib.Omega.{arith}
 use lib.ListN.{get_or, length, take}
 use lib.Seq.{take-take}
 use types.Run.{OneOf}
 use denote.Enum.Declared.{tag_of}
 use borrow.Author.Tests.{eqb-false}
-use Rattle.tok.specs.Word.{payload_of, word_of}
+use Rattle.tok.specs.Word.{payload_of}
 use Rattle.tok.specs.Text.{Texts}
 use Rattle.tok.specs.Step.{Result, ok, refused, Step, Refusal, next, return}
 use Rattle.ptype.proofs.UnfoldLaws.{one_less}
@@ -27,7 +28,7 @@ use Rattle.apply.specs.TreeLaws.{within_grows}
 use Rattle.apply.specs.Sizes.{sizes_of, size_within, word_before, pairs_after}
 use Rattle.apply.specs.SizeLaws.{OpenedAt, opened-at, AllSized, pairs-sized, within-sized}
 use Rattle.apply.specs.Setting.{Setting}
-use Rattle.apply.proofs.Returns.{refusal-stays, front-write, seen-is}
+use Rattle.apply.proofs.Returns.{refusal-stays, front-write}
 
 -- In the loop: the steps of all fields are those of the fields that are left, with pairs put before theirs.
 pub record Goes (whole rest : Result Buffer Refusal (List ℕ)) : Type 0 where
@@ -132,18 +133,15 @@ pub record Applying (T : Texts) (bs : List Binding) (deep base : ℕ) (l₀ : Li
   pub past : base ≤ u
   pub reads : here + 2 * left < 2 ^ 40
 
-pub applying_all : (T : Texts) (bs : List Binding) (deep base : ℕ) (l : List ℕ) (used at fields : ℕ) → base ≤ used → at + 2 * fields < 2 ^ 40 → Applying T bs deep base l used at fields l used at fields
-applying_all T bs deep base l used at fields p r = record { goes = λ n. goes-all _; front = refl; long = refl; past = p; reads = r }
+pub applying_all : (T : Texts) (bs : List Binding) (deep base : ℕ) (l : List ℕ) (used at fields : ℕ) {here left : ℕ} → here ≡ at → left ≡ fields → base ≤ used → at + 2 * fields < 2 ^ 40
+    → Applying T bs deep base l used at fields l used here left
+applying_all T bs deep base l used at fields eh el p r = rw (eh, el) record { goes = λ n. goes-all _; front = refl; long = refl; past = p; reads = r }
 
 module _ {T : Texts} {bs : List Binding} {deep base : ℕ} {l₀ : List ℕ} {used at fields : ℕ} {l : List ℕ} {u here left : ℕ} (h : Applying T bs deep base l₀ used at fields l u here left) where
-  -- the part that is read is what it was
-  seen-old : take (base - 0) l ≡ take base l₀
-  seen-old = seen-is base l ∙ h.front
-
-  module _ (d : left ≡ 0 → ⊥) {x : ℕ} (ex : x ≡ get_or (take (base - 0) l) (here + 1) 0) (a : Added) (l₁ : List ℕ)
+  module _ (d : left ≡ 0 → ⊥) {x : ℕ} (ex : x ≡ get_or (take base l) (here + 1) 0) (a : Added) (l₁ : List ℕ)
       (g : (n : ℕ) → apply_within T n bs (only (take base l)) deep x (buffer l u) ≡ result_of n a l₁) where
     word-old : x ≡ get_or (take base l₀) (here + 1) 0
-    word-old = rw seen-old at ex
+    word-old = rw h.front at ex
 
     step-old : (n : ℕ) → apply_within T n bs (only (take base l₀)) deep x (buffer l u) ≡ result_of n a l₁
     step-old n = rw h.front at (g n)
@@ -151,10 +149,10 @@ module _ {T : Texts} {bs : List Binding} {deep base : ℕ} {l₀ : List ℕ} {us
     pub applying_stop : OneOf (1 ∷ 2 ∷ []) (tag_of the_type a) → (n : ℕ) → record_from n fields 0 (steps T n bs (take base l₀) deep at fields) (buffer l₀ used) ≡ result_of n a l₁
     applying_stop o n = goes-stop T n bs (take base l₀) deep here l u (h.goes n) d word-old a l₁ (step-old n) at fields used l₀ refl o
 
-    pub applying_next : {new v : ℕ} → a ≡ Put new v → length l₁ ≡ length l → Applying T bs deep base l₀ used at fields l₁ v (here + 2) (left - 1)
-    applying_next e k =
+    pub applying_next : {new v here' left' : ℕ} → here' ≡ here + 2 → left' ≡ left - 1 → a ≡ Put new v → length l₁ ≡ length l → Applying T bs deep base l₀ used at fields l₁ v here' left'
+    applying_next eh el e k =
         let f = front_kept T 0 bs (take base l₀) deep base l u x a l₁ h.past (step-old 0) e in
-        record {
+        rw (eh, el) record {
           goes = λ n. goes-next T n bs (take base l₀) deep here l u (h.goes n) d word-old a l₁ (step-old n) e;
           front = f.0 ∙ h.front;
           long = k ∙ h.long;
@@ -180,6 +178,9 @@ module _ {T : Texts} {bs : List Binding} {deep base : ℕ} {l₀ : List ℕ} {us
 
 -- How many words fields add: the first, and the others.
 module _ (size : ℕ → ℕ) (old : List ℕ) (here left : ℕ) where
+  pub sizes_all : (here' left' : ℕ) → here' ≡ here → left' ≡ left → sizes_of size old here left ≡ 0 + sizes_of size old here' left'
+  sizes_all here' left' eh el = rw (eh, el) (sym (zero-add _))
+
   pub sizes_none : left ≡ 0 → sizes_of size old here left ≡ 0
   unfolding sizes_of
   sizes_none z = rw z
@@ -187,6 +188,10 @@ module _ (size : ℕ → ℕ) (old : List ℕ) (here left : ℕ) where
   pub sizes_first : {x : ℕ} → (left ≡ 0 → ⊥) → x ≡ get_or old (here + 1) 0 → sizes_of size old here left ≡ size x + sizes_of size old (here + 2) (left - 1)
   unfolding sizes_of
   sizes_first d e = ap (sizes_of size old here) (one_less d) ∙ rw e
+
+  pub sizes_next : {x : ℕ} (here' left' : ℕ) → here' ≡ here + 2 → left' ≡ left - 1 → (left ≡ 0 → ⊥) → x ≡ get_or old (here + 1) 0
+      → sizes_of size old here left ≡ size x + sizes_of size old here' left'
+  sizes_next here' left' eh el d e = rw (eh, el) (sizes_first d e)
 
 -- ── The loop that sets the pairs ──
 
@@ -211,38 +216,35 @@ pub record Writing (T : Texts) (bs : List Binding) (deep base : ℕ) (l₀ : Lis
   pub setting : Setting T bs (take base l₀) deep end here left to base (length l₀)
   pub is : write l₀ place (pairs_after T bs (take base l₀) deep used at fields) ≡ write l to (pairs_after T bs (take base l₀) deep end here left)
 
-pub writing_all : {T : Texts} {bs : List Binding} {deep base : ℕ} (l : List ℕ) {used at fields place : ℕ} → Setting T bs (take base l) deep used at fields place base (length l)
-    → Writing T bs deep base l used at fields place l used at fields place
-writing_all l s = record { front = refl; long = refl; setting = s; is = refl }
+pub writing_all : {T : Texts} {bs : List Binding} {deep base : ℕ} (l : List ℕ) {used at fields place here left to : ℕ} → here ≡ at → left ≡ fields → to ≡ place → Setting T bs (take base l) deep used at fields place base (length l)
+    → Writing T bs deep base l used at fields place l used here left to
+writing_all l eh el et s = rw (eh, el, et) record { front = refl; long = refl; setting = s; is = refl }
 
 module _ {T : Texts} {bs : List Binding} {deep base : ℕ} {l₀ : List ℕ} {used at fields place : ℕ} {l : List ℕ} {end here left to : ℕ} (h : Writing T bs deep base l₀ used at fields place l end here left to) where
   pub writing_end : left ≡ 0 → l ≡ write l₀ place (pairs_after T bs (take base l₀) deep used at fields)
   writing_end z = sym (h.is ∙ pairs_end T bs (take base l₀) deep l here end to z)
 
-  read-old : take (base - 0) l ≡ take base l₀
-  read-old = seen-is base l ∙ h.front
-
-  module _ (d : left ≡ 0 → ⊥) {x : ℕ} (ex : x ≡ get_or (take (base - 0) l) (here + 1) 0) where
+  module _ (d : left ≡ 0 → ⊥) {x : ℕ} (ex : x ≡ get_or (take base l) (here + 1) 0) where
     type-old : x ≡ get_or (take base l₀) (here + 1) 0
-    type-old = rw read-old at ex
+    type-old = rw h.front at ex
 
     first : sizes_of (size_within T bs (take base l₀) deep) (take base l₀) here left
         ≡ size_within T bs (take base l₀) deep x + sizes_of (size_within T bs (take base l₀) deep) (take base l₀) (here + 2) (left - 1)
     first = sizes_first (size_within T bs (take base l₀) deep) (take base l₀) here left d type-old
 
-    pub size_fits : size_within T bs (take (base - 0) l) deep x ≤ 8192
-    size_fits = rw read-old (omega (arith, first, h.setting.fits))
+    pub size_fits : size_within T bs (take base l) deep x ≤ 8192
+    size_fits = rw h.front (omega (arith, first, h.setting.fits))
 
-    module _ {size : ℕ} (es : size ≡ size_within T bs (take (base - 0) l) deep x) where
+    module _ {size : ℕ} (es : size ≡ size_within T bs (take base l) deep x) where
       size-old : size ≡ size_within T bs (take base l₀) deep x
-      size-old = rw read-old at es
+      size-old = rw h.front at es
 
       pub size-ends : end + size ≤ 8192
       size-ends = omega (arith, first, size-old, h.setting.fits)
 
-      pub writing_next : {name w : ℕ} {l' : List ℕ} → name ≡ get_or (take (base - 0) l) here 0 → w ≡ word_before T bs (take (base - 0) l) deep (end + size) size x
-          → l' ≡ write l to (name ∷ w ∷ []) → Writing T bs deep base l₀ used at fields place l' (end + size) (here + 2) (left - 1) (to + 2)
-      writing_next {name} {w} en ew e = record {
+      pub writing_next : {name w here' left' to' : ℕ} {l' : List ℕ} → here' ≡ here + 2 → left' ≡ left - 1 → to' ≡ to + 2 → name ≡ get_or (take base l) here 0 → w ≡ word_before T bs (take base l) deep (end + size) size x
+          → l' ≡ write l to (name ∷ w ∷ []) → Writing T bs deep base l₀ used at fields place l' (end + size) here' left' to'
+      writing_next {name} {w} eh el et en ew e = rw (eh, el, et) record {
         front = rw e (front-write base to l (name ∷ w ∷ []) h.setting.past) ∙ h.front;
         long = rw e (length-write l to (name ∷ w ∷ [])) ∙ h.long;
         setting = record {
@@ -252,5 +254,5 @@ module _ {T : Texts} {bs : List Binding} {deep base : ℕ} {l₀ : List ℕ} {us
           past = omega (arith, h.setting.past);
           lent = h.setting.lent;
         };
-        is = h.is ∙ pairs_next T bs (take base l₀) deep l here end to d (rw read-old at en) type-old size-old (rw read-old at ew) e;
+        is = h.is ∙ pairs_next T bs (take base l₀) deep l here end to d (rw h.front at en) type-old size-old (rw h.front at ew) e;
       }

@@ -1,5 +1,6 @@
 -- Each return of `slot_type`, `add_wrap` and `apply_within`, over variables for what the calls gave: by the kind of the word.
 -- By unfolding the definitions, and the laws of a Record added in parts. Assumes nothing.
+use Rattle.std.specs.Prelude.{Option as Found, Some, None, unwrap_or}
 use mathlib.Core.Path.{◌≡◌, refl, sym, ap, ◌∙◌}
 use mathlib.Core.Logic.{⊎_elim}
 use mathlib.Core.Bool.{Bool, true, false}
@@ -15,7 +16,7 @@ use denote.Enum.Declared.{tag_of}
 use borrow.Author.Tests.{ne_eqb, eqb-true, eqb-false, leb-true, leb-false}
 use Rattle.tok.specs.Word.{kind_of, payload_of}
 use Rattle.tok.specs.Text.{Texts, name_bytes}
-use Rattle.tok.specs.Step.{Result, ok, refused, Step, Refusal, next, return}
+use Rattle.tok.specs.Step.{Result, ok, Step, Refusal, next, return}
 use Rattle.ptype.specs.Kinds.{wraps}
 use Rattle.ptype.specs.Words.{inner_word, field_count, unfolded}
 use Rattle.ptype.proofs.UnfoldLaws.{one_less}
@@ -29,8 +30,6 @@ use Rattle.add.specs.Parts.{measured, record_from}
 use Rattle.add.specs.StepLaws.{next-ok}
 use Rattle.add.specs.PartsLaws.{record_steps}
 use Rattle.add.specs.contracts.Added.{the_type}
-use Rattle.slots.specs.declared.Found.{Found}
-use Rattle.slots.specs.declared.Found.TheVariants.{At, Nothing}
 use Rattle.slots.specs.Bindings.{found_of}
 use Rattle.apply.specs.Apply.{apply_pairs, apply_inside, apply_within, apply_word, only}
 use Rattle.apply.specs.StepLaws.{inside-slot, inside-wrap, inside_record, inside-rest, within-free, within-inside}
@@ -41,14 +40,10 @@ pub array_kind : (k : ℕ) → (k ≡ 6 → ⊥) → wraps k ≡ true → k ≡ 
 array_kind k d h = eqb-true k 7 (rw (ne_eqb k 6 d) at h)
 
 -- what a slot stands for
-module _ (slot : ℕ) (f : Found) {o : Option ℕ} (h : found_of f ≡ o) where
-  pub slot-bound : {w : ℕ} → f ≡ At w → w ≡ bound_or slot o
-  unfolding bound_or
-  slot-bound e = rw (← h, e)
-
-  pub slot-free : f ≡ Nothing → slot ≡ bound_or slot o
-  unfolding bound_or
-  slot-free e = rw (← h, e)
+pub slot_or : (slot : ℕ) (f : Found ℕ) {o : Option ℕ} {r : ℕ} → found_of f ≡ o → r ≡ unwrap_or f slot → r ≡ bound_or slot o
+unfolding bound_or
+slot_or slot (Some w) e q = q ∙ ap (bound_or slot) e
+slot_or slot None e q = q ∙ ap (bound_or slot) e
 
 -- a refusal stays, whatever the buffer holds
 pub refusal-stays : (n : ℕ) (r : Added) (l : List ℕ) (f : ℕ → Step Buffer Refusal ℕ) → OneOf (1 ∷ 2 ∷ []) (tag_of the_type r) → next (result_of n r l) f ≡ result_of n r l
@@ -76,12 +71,6 @@ take-write l at new = sym (agree-append (buffer l at) new).front
 
 pub front-write : (base at : ℕ) (l new : List ℕ) → base ≤ at → take base (write l at new) ≡ take base l
 front-write base at l new h = sym (take-take base at (write l at new) h) ∙ ap (take base) (take-write l at new) ∙ take-take base at l h
-
--- the part that is lent to read from
-pub seen-is : (base : ℕ) (l : List ℕ) → take (base - 0) l ≡ take base l
-seen-is base l =
-    let e : base - 0 ≡ base = omega arith in
-    ap (λ m. take m l) e
 
 -- as many words as are used, or as there are
 take-least : (used : ℕ) (l : List ℕ) → take (min used (length l)) l ≡ take used l

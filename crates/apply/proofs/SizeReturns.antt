@@ -1,9 +1,9 @@
 -- Each return of `applied_size` and `applied_word`, over variables for what the calls gave: by the kind of the word. By the laws of one level
 -- of sizes. Assumes nothing.
-use mathlib.Core.Path.{◌≡◌, refl, sym, ap, ◌∙◌}
+use mathlib.Core.Path.{◌≡◌, refl, sym, ◌∙◌}
 use mathlib.Core.Bool.{Bool, true, false}
 use mathlib.Core.List.{List}
-use Prim.Native.Nat.{ℕ, zero, suc, ◌+◌, ◌-◌, ◌*◌, ◌≤◌, ◌<◌}
+use Prim.Native.Nat.{ℕ, ◌+◌, ◌-◌, ◌*◌, ◌≤◌, ◌<◌}
 use native.Mathlib.Omega.{arith}
 use native.Mathlib.Decide.{ℕ_discrete}
 use Rattle.tok.specs.Word.{kind_of, payload_of, word_of}
@@ -12,7 +12,7 @@ use Rattle.ptype.specs.Kinds.{wraps}
 use Rattle.ptype.specs.Words.{inner_word, field_count, unfolded}
 use Rattle.ptype.proofs.UnfoldLaws.{one_less}
 use Rattle.ptype.specs.Slots.{Binding, bound_to, bound_or, has_bound_slot}
-use Rattle.apply.specs.Sizes.{sizes_of, size_inside, size_within, word_inside, word_before}
+use Rattle.apply.specs.Sizes.{sizes_of, size_within, word_before}
 use Rattle.apply.specs.SizeLaws.{size-wrap, size_record, size-rest, word-slot, word_same, word-wrap, word_record, size-free, size-inside, word-level}
 use Rattle.apply.proofs.Returns.{array_kind}
 

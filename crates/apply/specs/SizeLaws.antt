@@ -1,21 +1,21 @@
 -- Where types are put for slots, as many words are added as `size_within` says, and the word given is that of `word_before`. By induction on
 -- the depth. Assumes nothing.
-use Rattle.std.specs.Prelude.{◌≡◌, Bool, List, [], ◌∷◌, leb, eqb}
+use Rattle.std.specs.Prelude.{◌≡◌, Bool, List, [], ◌∷◌, leb}
 use Rattle.std.proofs.Math.Path.{refl, sym, ap}
-use Rattle.std.proofs.Common.{◌∙◌, true≢false, arith, add-zero}
+use Rattle.std.proofs.Common.{◌∙◌, true≢false, arith}
 use Rattle.std.proofs.Math.Bool.{true, false}
 use Rattle.std.proofs.Math.Option.{Option, none, some}
 use Prim.Native.Nat.{ℕ, zero, suc, ◌+◌, ◌-◌, ◌*◌, ◌/◌, ◌≤◌, min}
 use Rattle.std.proofs.Math.Decide.{ℕ_discrete}
 use Rattle.std.proofs.Math.ListN.{length, get_or}
-use borrow.Author.Tests.{leb-true, eq-eqb, ne_eqb}
+use borrow.Author.Tests.{leb-true, ne_eqb}
 use Rattle.tok.specs.Word.{kind_of, payload_of, word_of}
 use Rattle.tok.specs.Text.{Texts, name_bytes}
-use Rattle.tok.specs.Step.{Result, ok, Step, Refusal, refusal, next, return, give, refuse, when}
+use Rattle.tok.specs.Step.{ok, Step, Refusal, refusal, next, return, give, refuse, when}
 use Rattle.ptype.specs.Ty.{depth_of, named}
 use Rattle.ptype.specs.Kinds.{wraps}
 use Rattle.ptype.specs.Words.{ty_of, inner_word, field_count, unfolded}
-use Rattle.ptype.proofs.UnfoldLaws.{one_less, unfolded-named}
+use Rattle.ptype.proofs.UnfoldLaws.{unfolded-named}
 use Rattle.ptype.specs.Add.{Buffer, buffer, append, type_room, add_type, add_wrap, add_record, write}
 use Rattle.ptype.specs.Slots.{Binding, bound_to, bound_or, is_some, has_bound_slot}
 use Rattle.add.specs.Parts.{opened}

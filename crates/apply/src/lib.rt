@@ -2,8 +2,7 @@
 #![tactic(auto)]
 
 ghost use Rattle.std.specs.Prelude.{◌≡◌, true, List, ℕ, ◌+◌, ◌*◌, ◌<◌, ◌≤◌, ◌^◌, length, take};
-ghost use Rattle.tok.specs.Word.{word_of};
-ghost use Rattle.tok.specs.Text.{Texts, texts_of, name_bytes};
+ghost use Rattle.tok.specs.Text.{Texts, name_bytes};
 ghost use Rattle.ptype.specs.Kinds.{wraps};
 ghost use Rattle.ptype.specs.Add.{buffer, add_wrap, write};
 ghost use Rattle.ptype.specs.Slots.{Binding, bound_to, bound_or};
@@ -14,47 +13,43 @@ ghost use Rattle.apply.specs.Apply.{apply_pairs, apply_within, apply_word, only}
 ghost use Rattle.apply.specs.Sizes.{sizes_of, size_within, word_before, pairs_after};
 ghost use Rattle.apply.specs.Setting.{Setting};
 
-use add::Added;
+use add::{Added, word_of};
 use ptype::{OPTION, RECORD, SLOT, field_count, field_type, inner};
-use slots::{Found, wraps};
-use tok::{kind, least, payload, word_at};
+use slots::wraps;
+use tok::{Texts, kind, payload, word_at};
 
 // Puts types for the slots of the type w, as the pairs bind them. Only compound types that contain a bound slot are added anew.
 // Where it is refused, the rules leave open what the buffer holds ("Reading the promises", 1): the check sets all of it to zero.
-pub fn apply_slot_binding<'a>(
+pub fn apply_slot_binding(
     types: &mut [u32],
     used: usize,
-    script: &'a [u8],
-    library: &'a [u8],
+    texts: &Texts,
     pairs: &[u32],
     count: usize,
     w: u32,
 ) -> Added
-    ensures { let T : Texts = texts_of script.now library.now in
-        ((n : ℕ) → apply_word T n (bindings_in T pairs.now count) w (buffer types.old used) ≡ result_of n result types.new) }
+    ensures { ((n : ℕ) → apply_word texts.now n (bindings_in texts.now pairs.now count) w (buffer types.old used) ≡ result_of n result types.new) }
 {
-    let base = least(used, types.len());
-    apply_within(types, base, used, script, library, pairs, count, w, 33)
+    let base = used.min(types.len());
+    apply_within(types, base, used, texts, pairs, count, w, 33)
 }
 
 // The same, as deep as `depth` says. The type is read from the first `base` words, which stay as they are.
 #[cycle(apply_fields_apply_within)]
-fn apply_within<'a>(
+fn apply_within(
     types: &mut [u32],
     base: usize,
     used: usize,
-    script: &'a [u8],
-    library: &'a [u8],
+    texts: &Texts,
     pairs: &[u32],
     count: usize,
     w: u32,
     depth: usize,
 ) -> Added
     requires { (base ≤ used) × (base ≤ length types.old) }
-    ensures { let T : Texts = texts_of script.now library.now in
-        let bs : List Binding = bindings_in T pairs.now count in
+    ensures { let bs : List Binding = bindings_in texts.now pairs.now count in
         let old : List ℕ = take base types.old in
-        ((n : ℕ) → apply_within T n bs (only old) depth w (buffer types.old used) ≡ result_of n result types.new) }
+        ((n : ℕ) → apply_within texts.now n bs (only old) depth w (buffer types.old used) ≡ result_of n result types.new) }
 {
     if depth == 0 {
         return Added::Put(w, used);
@@ -62,39 +57,36 @@ fn apply_within<'a>(
     let below = depth - 1;
     let k = kind(w);
     if k == SLOT {
-        return Added::Put(slot_type(script, library, pairs, count, w), used);
+        return Added::Put(slot_type(texts, pairs, count, w), used);
     }
-    if !slots::has_bound_slot_within(&types[0..base], script, library, pairs, count, w, depth) {
+    if !slots::has_bound_slot_within(&types[..base], texts, pairs, count, w, depth) {
         return Added::Put(w, used);
     }
     if wraps(k) {
-        let x = inner(&types[0..base], w);
-        let r = apply_within(types, base, used, script, library, pairs, count, x, below);
+        let x = inner(&types[..base], w);
+        let r = apply_within(types, base, used, texts, pairs, count, x, below);
         let Added::Put(new, u) = r else {
             return r;
         };
-        return add_wrap(types, u, k, new);
-    }
-    if k == RECORD {
-        let n = field_count(&types[0..base], w);
+        add_wrap(types, u, k, new)
+    } else if k == RECORD {
+        let n = field_count(&types[..base], w);
         let at = payload(w) + 1;
-        let r = apply_fields(
-            types, base, used, script, library, pairs, count, at, n, below,
-        );
-        return add::close_record(&types[..], r);
+        let r = apply_fields(types, base, used, texts, pairs, count, at, n, below);
+        add::close_record(types, r)
+    } else {
+        Added::Put(w, used)
     }
-    Added::Put(w, used)
 }
 
 // Adds the Record of the fields from index `at` on: first types are put for the slots of all fields, then the Record is opened, and then
 // its pairs are set. They are not kept until then, since the words used say what each of them is.
 #[cycle(apply_fields_apply_within)]
-fn apply_fields<'a>(
+fn apply_fields(
     types: &mut [u32],
     base: usize,
     used: usize,
-    script: &'a [u8],
-    library: &'a [u8],
+    texts: &Texts,
     pairs: &[u32],
     count: usize,
     at: usize,
@@ -102,23 +94,19 @@ fn apply_fields<'a>(
     depth: usize,
 ) -> Added
     requires { ((base ≤ used) × (base ≤ length types.old)) × (at + 2 * fields < 2 ^ 40) }
-    ensures { let T : Texts = texts_of script.now library.now in
+    ensures { let T : Texts = texts.now in
         let bs : List Binding = bindings_in T pairs.now count in
         let old : List ℕ = take base types.old in
         ((n : ℕ) → record_from n fields 0 (apply_pairs (apply_within T n bs (only old) depth) (only old) at fields) (buffer types.old used) ≡ result_of n result types.new) }
 {
     let mut u = used;
-    let mut here = at;
-    let mut left = fields;
-    while left > 0 {
-        let x = field_type(&types[0..base], here);
-        let a = apply_within(types, base, u, script, library, pairs, count, x, depth);
+    for i in 0..fields {
+        let x = field_type(&types[..base], at + 2 * i);
+        let a = apply_within(types, base, u, texts, pairs, count, x, depth);
         let Added::Put(_, more) = a else {
             return a;
         };
         u = more;
-        here += 2;
-        left -= 1;
     }
     let r = add::open_record(types, u, fields);
     let Added::Put(record, _) = r else {
@@ -126,18 +114,17 @@ fn apply_fields<'a>(
     };
     let place = payload(record) + 1;
     set_pairs(
-        types, base, used, script, library, pairs, count, at, fields, depth, place,
+        types, base, used, texts, pairs, count, at, fields, depth, place,
     );
     r
 }
 
 // Sets the pairs of fields whose types were put after `used` words, from `place` on.
-fn set_pairs<'a>(
+fn set_pairs(
     types: &mut [u32],
     base: usize,
     used: usize,
-    script: &'a [u8],
-    library: &'a [u8],
+    texts: &Texts,
     pairs: &[u32],
     count: usize,
     at: usize,
@@ -145,47 +132,29 @@ fn set_pairs<'a>(
     depth: usize,
     place: usize,
 )
-    requires { let T : Texts = texts_of script.now library.now in
-        let bs : List Binding = bindings_in T pairs.now count in
+    requires { let bs : List Binding = bindings_in texts.now pairs.now count in
         let old : List ℕ = take base types.old in
-        Setting T bs old depth used at fields place base (length types.old) }
-    ensures { let T : Texts = texts_of script.now library.now in
-        let bs : List Binding = bindings_in T pairs.now count in
+        Setting texts.now bs old depth used at fields place base (length types.old) }
+    ensures { let bs : List Binding = bindings_in texts.now pairs.now count in
         let old : List ℕ = take base types.old in
-        types.new ≡ write types.old place (pairs_after T bs old depth used at fields) }
+        types.new ≡ write types.old place (pairs_after texts.now bs old depth used at fields) }
 {
     let mut end = used;
-    let mut here = at;
-    let mut left = fields;
-    let mut to = place;
-    while left > 0 {
-        let name = word_at(&types[0..base], here);
-        let x = field_type(&types[0..base], here);
-        let size = applied_size(&types[0..base], script, library, pairs, count, x, depth);
+    for i in 0..fields {
+        let here = at + 2 * i;
+        let name = word_at(&types[..base], here);
+        let x = field_type(&types[..base], here);
+        let size = applied_size(&types[..base], texts, pairs, count, x, depth);
         end += size;
-        let new = applied_word(
-            &types[0..base],
-            script,
-            library,
-            pairs,
-            count,
-            x,
-            depth,
-            end,
-            size,
-        );
-        add::set_pair(types, to, name, new);
-        here += 2;
-        left -= 1;
-        to += 2;
+        let new = applied_word(&types[..base], texts, pairs, count, x, depth, end, size);
+        add::set_pair(types, place + 2 * i, name, new);
     }
 }
 
 // The word that was put for w, when `end` words were used, of which the last `size` were added for it.
-fn applied_word<'a>(
+fn applied_word(
     old: &[u32],
-    script: &'a [u8],
-    library: &'a [u8],
+    texts: &Texts,
     pairs: &[u32],
     count: usize,
     w: u32,
@@ -193,126 +162,84 @@ fn applied_word<'a>(
     end: usize,
     size: usize,
 ) -> u32
-    requires { let T : Texts = texts_of script.now library.now in
-        (size ≡ size_within T (bindings_in T pairs.now count) old.now depth w) × ((size ≤ end) × (end ≤ 8192)) }
-    ensures { let T : Texts = texts_of script.now library.now in
-        result ≡ word_before T (bindings_in T pairs.now count) old.now depth end size w }
+    requires { (size ≡ size_within texts.now (bindings_in texts.now pairs.now count) old.now depth w) × ((size ≤ end) × (end ≤ 8192)) }
+    ensures { result ≡ word_before texts.now (bindings_in texts.now pairs.now count) old.now depth end size w }
 {
     if depth == 0 {
         return w;
     }
     let k = kind(w);
     if k == SLOT {
-        return slot_type(script, library, pairs, count, w);
+        slot_type(texts, pairs, count, w)
+    } else if size == 0 {
+        w
+    } else if wraps(k) {
+        word_of(k, end - 1)
+    } else {
+        word_of(RECORD, end - (1 + 2 * field_count(old, w)))
     }
-    if size == 0 {
-        return w;
-    }
-    if wraps(k) {
-        return compound_word(k, end - 1);
-    }
-    compound_word(RECORD, end - (1 + 2 * field_count(old, w)))
-}
-
-// The word of a type that stands at an index.
-fn compound_word(kind: u32, at: usize) -> u32
-    requires { (kind < 16) × (at ≤ 8192) }
-    ensures { result ≡ word_of kind at }
-{
-    kind * 0x1000_0000 + (at as u32)
 }
 
 // How many words putting types for the slots of w added. It is asked only where that was just done: the new types have at most 32 levels
 // and fit the buffer, and each field met is two words of it, so it takes no more steps than there are words, for each level at most once.
 #[cycle(applied_size_applied_sizes)]
-fn applied_size<'a>(
+fn applied_size(
     old: &[u32],
-    script: &'a [u8],
-    library: &'a [u8],
+    texts: &Texts,
     pairs: &[u32],
     count: usize,
     w: u32,
     depth: usize,
 ) -> usize
-    requires { let T : Texts = texts_of script.now library.now in
-        size_within T (bindings_in T pairs.now count) old.now depth w ≤ 8192 }
-    ensures { let T : Texts = texts_of script.now library.now in
-        result ≡ size_within T (bindings_in T pairs.now count) old.now depth w }
+    requires { size_within texts.now (bindings_in texts.now pairs.now count) old.now depth w ≤ 8192 }
+    ensures { result ≡ size_within texts.now (bindings_in texts.now pairs.now count) old.now depth w }
 {
     if depth == 0 {
         return 0;
     }
     let k = kind(w);
     if wraps(k) {
-        if !slots::has_bound_slot_within(old, script, library, pairs, count, w, depth) {
+        if !slots::has_bound_slot_within(old, texts, pairs, count, w, depth) {
             return 0;
         }
-        return applied_size(old, script, library, pairs, count, inner(old, w), depth - 1) + 1;
+        applied_size(old, texts, pairs, count, inner(old, w), depth - 1) + 1
+    } else if k == RECORD {
+        if !slots::has_bound_slot_within(old, texts, pairs, count, w, depth) {
+            return 0;
+        }
+        let n = field_count(old, w);
+        applied_sizes(old, texts, pairs, count, payload(w) + 1, n, depth - 1) + (1 + 2 * n)
+    } else {
+        0
     }
-    if k != RECORD {
-        return 0;
-    }
-    if !slots::has_bound_slot_within(old, script, library, pairs, count, w, depth) {
-        return 0;
-    }
-    let n = field_count(old, w);
-    applied_sizes(
-        old,
-        script,
-        library,
-        pairs,
-        count,
-        payload(w) + 1,
-        n,
-        depth - 1,
-    ) + (1 + 2 * n)
 }
 
 // How many words were added for the fields from index `at` on.
 #[cycle(applied_size_applied_sizes)]
-fn applied_sizes<'a>(
+fn applied_sizes(
     old: &[u32],
-    script: &'a [u8],
-    library: &'a [u8],
+    texts: &Texts,
     pairs: &[u32],
     count: usize,
     at: usize,
     fields: usize,
     depth: usize,
 ) -> usize
-    requires { let T : Texts = texts_of script.now library.now in
-        (at + 2 * fields < 2 ^ 40) × (sizes_of (size_within T (bindings_in T pairs.now count) old.now depth) old.now at fields ≤ 8192) }
-    ensures { let T : Texts = texts_of script.now library.now in
-        result ≡ sizes_of (size_within T (bindings_in T pairs.now count) old.now depth) old.now at fields }
+    requires { (at + 2 * fields < 2 ^ 40) × (sizes_of (size_within texts.now (bindings_in texts.now pairs.now count) old.now depth) old.now at fields ≤ 8192) }
+    ensures { result ≡ sizes_of (size_within texts.now (bindings_in texts.now pairs.now count) old.now depth) old.now at fields }
 {
     let mut sum: usize = 0;
-    let mut here = at;
-    let mut left = fields;
-    while left > 0 {
-        sum += applied_size(
-            old,
-            script,
-            library,
-            pairs,
-            count,
-            field_type(old, here),
-            depth,
-        );
-        here += 2;
-        left -= 1;
+    for i in 0..fields {
+        sum += applied_size(old, texts, pairs, count, field_type(old, at + 2 * i), depth);
     }
     sum
 }
 
 // The type that a slot is bound to, or the slot itself.
-fn slot_type<'a>(script: &'a [u8], library: &'a [u8], pairs: &[u32], count: usize, slot: u32) -> u32
-    ensures { let T : Texts = texts_of script.now library.now in
-        result ≡ bound_or slot (bound_to (name_bytes T slot) (bindings_in T pairs.now count)) }
+fn slot_type(texts: &Texts, pairs: &[u32], count: usize, slot: u32) -> u32
+    ensures { result ≡ bound_or slot (bound_to (name_bytes texts.now slot) (bindings_in texts.now pairs.now count)) }
 {
-    let Found::At(ty) = slots::bound_to(script, library, pairs, count, slot) else {
-        return slot;
-    };
-    ty
+    slots::bound_to(texts, pairs, count, slot).unwrap_or(slot)
 }
 
 // Adds an Option or an Array, by the kind.
@@ -321,7 +248,8 @@ fn add_wrap(types: &mut [u32], used: usize, k: u32, inner: u32) -> Added
     ensures { Adds (λ t n. add_wrap t n k inner) types.old used result types.new }
 {
     if k == OPTION {
-        return add::add_option(types, used, inner);
+        add::add_option(types, used, inner)
+    } else {
+        add::add_array(types, used, inner)
     }
-    add::add_array(types, used, inner)
 }

@@ -1,4 +1,5 @@
 -- The steps of one argument, one law for each way out of the code. Assumes nothing.
+use Rattle.std.specs.Prelude.{Option}
 use Prim.Native.Nat.{ℕ}
 use mathlib.Core.Path.{◌≡◌, refl, sym, ap, ◌∙◌}
 use mathlib.Core.Bool.{Bool, true, false}
@@ -12,7 +13,6 @@ use Rattle.tok.specs.declared.Span.{Span}
 use Rattle.ptype.specs.Ty.{Ty, same_ty, contains_unknown}
 use Rattle.ptype.specs.Words.{ty_of}
 use Rattle.ptype.specs.Slots.{Binding}
-use Rattle.err.specs.declared.Reported.{Reported}
 use Rattle.err.specs.Message.{arg_mismatch}
 use Rattle.err.specs.Report.{Reports}
 use Rattle.library.specs.Package.{param}
@@ -25,6 +25,7 @@ use Rattle.state.specs.Context.{ctx}
 use Rattle.state.specs.World.{Rest, world, gone, Goes}
 use Rattle.state.specs.Reporting.{told_of, reports_step}
 use Rattle.arguments.specs.Argument.{given, unchecked, left, Compares, Leaves}
+use Rattle.err.specs.declared.Counts.{Counts}
 
 -- ── What is left unchecked ──
 
@@ -42,7 +43,7 @@ module _ (texts : Texts) (n : ℕ) (call_name : List ℕ) (name : ℕ) (span : S
   unfolding compared when gone
   alike e y = record { goes = λ library void s type slot. record { step = λ rest. rw (sym e ∙ y) refl } }
 
-  pub differ : {q : Bool} {d' m' : List ℕ} {r : Reported} {went : Went} → q ≡ same_ty expected provided → q ≡ false
+  pub differ : {q : Bool} {d' m' : List ℕ} {r : Option Counts} {went : Went} → q ≡ same_ty expected provided → q ≡ false
       → Reports (arg_mismatch span call_name (name_bytes texts name) expected provided) d m u.told d' m' r → went ≡ told_of n u r
       → Compares texts n call_name name span expected provided t d m u d' m' went
   unfolding compared when

@@ -3,7 +3,7 @@
 #![tactic(auto)]
 
 ghost use Rattle.std.specs.Prelude.{◌≡◌, false, ℕ};
-ghost use Rattle.tok.specs.Text.{Texts, texts_of};
+ghost use Rattle.tok.specs.Text.{Texts};
 ghost use Rattle.ptype.specs.Ty.{Ty};
 ghost use Rattle.ptype.specs.Words.{ty_of};
 ghost use Rattle.err.specs.Message.{call_name};
@@ -13,7 +13,7 @@ ghost use Rattle.arguments.specs.Argument.{given, unchecked, Compares, Leaves};
 
 use err::CallName;
 use state::{Used, Went};
-use tok::Span;
+use tok::{Span, Texts};
 
 // Whether an argument is left unchecked: it has no type, or Unknown stands in it.
 pub fn is_unchecked(types: &[u32], w: u32) -> bool
@@ -26,12 +26,11 @@ pub fn is_unchecked(types: &[u32], w: u32) -> bool
 }
 
 // The expected type against the provided one: 20 where they differ.
-pub fn compared<'a>(
+pub fn compared(
     types: &[u32],
     diagnostics: &mut [u32],
     messages: &mut [u8],
-    script: &'a [u8],
-    library: &'a [u8],
+    texts: &Texts,
     used: Used,
     n: u32,
     callee: CallName,
@@ -40,11 +39,11 @@ pub fn compared<'a>(
     expected: u32,
     provided: u32,
 ) -> Went
-    ensures { let T : Texts = texts_of script.now library.now in let U : ℕ → Ty = ty_of T types.now in
-        Compares T n (call_name T callee) name span (U expected) (U provided) types.now diagnostics.old messages.old used diagnostics.new
+    ensures { let U : ℕ → Ty = ty_of texts.now types.now in
+        Compares texts.now n (call_name texts.now callee) name span (U expected) (U provided) types.now diagnostics.old messages.old used diagnostics.new
         messages.new result }
 {
-    if ptype::same_type(types, script, library, expected, provided) {
+    if ptype::same_type(types, texts, expected, provided) {
         return Went::On(used);
     }
     let free = err_text::first_free(messages, used.told);
@@ -53,8 +52,7 @@ pub fn compared<'a>(
         &mut messages[free..],
         used.told,
         types,
-        script,
-        library,
+        texts,
         span,
         callee,
         name,
@@ -65,13 +63,12 @@ pub fn compared<'a>(
 }
 
 // An argument of a function without slots. It binds nothing.
-pub fn plain_argument<'a>(
+pub fn plain_argument(
     slots: &[u32],
     types: &[u32],
     diagnostics: &mut [u32],
     messages: &mut [u8],
-    script: &'a [u8],
-    library: &'a [u8],
+    texts: &Texts,
     used: Used,
     n: u32,
     callee: CallName,
@@ -80,8 +77,7 @@ pub fn plain_argument<'a>(
     slot: u32,
     span: Span,
 ) -> Went
-    ensures { let T : Texts = texts_of script.now library.now in
-        Leaves T (λ c. argument c n (call_name T callee) false (param name expected) (given slot span)) slots.now types.now diagnostics.old
+    ensures { Leaves texts.now (λ c. argument c n (call_name texts.now callee) false (param name expected) (given slot span)) slots.now types.now diagnostics.old
         messages.old used diagnostics.new messages.new result }
 {
     let w = tok::word_at(slots, tok::wide(slot));
@@ -92,8 +88,7 @@ pub fn plain_argument<'a>(
         types,
         diagnostics,
         messages,
-        script,
-        library,
+        texts,
         used,
         n,
         callee,

@@ -11,6 +11,7 @@ use printing::Printed;
 use rows_begin::Begun;
 use rows_part::Row;
 use std::io;
+use tok::Texts;
 
 // How long the list of an input's words can be: "in all up to 65,536 bytes".
 const MOST_WORDS: usize = 16_384;
@@ -105,10 +106,13 @@ pub fn bench(rt: &impl Print, bytes: &[u8], full: bool) -> io::Result<Printed>
         &mut messages,
         &mut scratch,
     );
+    let texts = Texts {
+        script: rows_input::script(bytes),
+        library: rows_input::library_text(bytes),
+    };
     printing::print_rows(
         rt,
-        rows_input::script(bytes),
-        rows_input::library_text(bytes),
+        &texts,
         &slots,
         &types,
         &functions,

@@ -2,7 +2,6 @@
 #![tactic(auto)]
 
 ghost use Rattle.std.specs.Prelude.{◌≡◌, List, ℕ};
-ghost use Rattle.tok.specs.Text.{Texts, texts_of};
 ghost use Rattle.library.specs.Package.{Package};
 ghost use Rattle.state.specs.Context.{ctx};
 ghost use Rattle.state.specs.World.{More};
@@ -13,7 +12,7 @@ ghost use Rattle.bodies.specs.Bodies.{BeginReady, EndReady, Begins, end_at, gave
 
 use functions::Met;
 use rules::Answer;
-use tok::{wide, word_at};
+use tok::{Texts, wide, word_at};
 use visit::{Gave, State, Visit};
 
 // The return type's word and the state in which the body begins; or the rule's answer, where the name was met already or a refusal came.
@@ -38,15 +37,14 @@ fn made(gave: Gave) -> Begun
 }
 
 // Up to the body, of the Fn whose record stands at a word of the image.
-pub fn begin<'a>(
+pub fn begin(
     slots: &mut [u32],
     functions: &mut [u32],
     types: &mut [u32],
     diagnostics: &mut [u32],
     messages: &mut [u8],
     scratch: &mut [u32],
-    script: &'a [u8],
-    library: &'a [u8],
+    texts: &Texts,
     image: &[u32],
     places: &[u16],
     at: usize,
@@ -54,23 +52,13 @@ pub fn begin<'a>(
     n: u32,
 ) -> Begun
     requires { BeginReady image.now places.now at st functions.old scratch.old }
-    ensures { let T : Texts = texts_of script.now library.now in
-        ((ls : List Package) (v : ℕ) (words : List ℕ) (o : More) →
+    ensures { ((ls : List Package) (v : ℕ) (words : List ℕ) (o : More) →
         let b : Lent = lent slots.old functions.old types.old diagnostics.old messages.old scratch.old o in
         let b' : Lent = lent slots.new functions.new types.new diagnostics.new messages.new scratch.new o in
-        Begins (ctx T ls v) image.now at n words st b b' result) }
+        Begins (ctx texts.now ls v) image.now at n words st b b' result) }
 {
     let name = word_at(image, at + 2);
-    let met = functions::unless_defined(
-        &functions[..],
-        diagnostics,
-        messages,
-        script,
-        library,
-        st,
-        n,
-        name,
-    );
+    let met = functions::unless_defined(&functions[..], diagnostics, messages, texts, st, n, name);
     match met {
         Met::Already(v) => {
             return Begun::Ended(v);
@@ -97,13 +85,12 @@ pub fn begin<'a>(
 }
 
 // After the body, which answered `computed` and ended in the state `inside`, with the names in scope that were there before it.
-pub fn end<'a>(
+pub fn end(
     slots: &mut [u32],
     types: &[u32],
     diagnostics: &mut [u32],
     messages: &mut [u8],
-    script: &'a [u8],
-    library: &'a [u8],
+    texts: &Texts,
     image: &[u32],
     places: &[u16],
     at: usize,
@@ -114,11 +101,10 @@ pub fn end<'a>(
     computed: Answer,
 ) -> Visit
     requires { EndReady image.now places.now at }
-    ensures { let T : Texts = texts_of script.now library.now in
-        ((ls : List Package) (v : ℕ) (words f e : List ℕ) (o : More) →
+    ensures { ((ls : List Package) (v : ℕ) (words f e : List ℕ) (o : More) →
         let b : Lent = lent slots.old f types.now diagnostics.old messages.old e o in
         let b' : Lent = lent slots.new f types.now diagnostics.new messages.new e o in
-        Visits (end_at (ctx T ls v) image.now at n ret computed) 0 0 words (left_of inside before) b b' result) }
+        Visits (end_at (ctx texts.now ls v) image.now at n ret computed) 0 0 words (left_of inside before) b b' result) }
 {
     let used = inside.used;
     let step = functions::fn_end(
@@ -126,8 +112,7 @@ pub fn end<'a>(
         types,
         diagnostics,
         messages,
-        script,
-        library,
+        texts,
         image,
         places,
         used,

@@ -3,7 +3,6 @@
 #![tactic(auto)]
 
 ghost use Rattle.std.specs.Prelude.{◌≡◌, List, ℕ, ◌+◌, ◌≤◌};
-ghost use Rattle.tok.specs.Text.{Texts, texts_of};
 ghost use Rattle.library.specs.Package.{Package};
 ghost use Rattle.ast.specs.Image.{word_at};
 ghost use Rattle.places.specs.NodesAt.{NodeReady};
@@ -19,31 +18,29 @@ ghost use Rattle.branches.specs.Branches.{is_field, node_answer, body_answer, br
 use call_args::slot_of;
 use rules::Answer;
 use state::{Used, Went};
-use tok::{wide, word_at};
+use tok::{Texts, wide, word_at};
 use visit::{State, Visit, Walked};
 
 // The kind of a node that reads a field.
 const FIELD: u32 = 8;
 
 // The condition of the case at word `at`, of what it answered: 23 where it is not Bool.
-pub fn condition<'a>(
+pub fn condition(
     slots: &[u32],
     types: &[u32],
     diagnostics: &mut [u32],
     messages: &mut [u8],
-    script: &'a [u8],
-    library: &'a [u8],
+    texts: &Texts,
     image: &[u32],
     at: usize,
     st: State,
     n: u32,
     answer: Answer,
 ) -> Walked
-    ensures { let T : Texts = texts_of script.now library.now in
-        ((ls : List Package) (v : ℕ) (words f e : List ℕ) (o : More) →
+    ensures { ((ls : List Package) (v : ℕ) (words f e : List ℕ) (o : More) →
         let b : Lent = lent slots.now f types.now diagnostics.old messages.old e o in
         let b' : Lent = lent slots.now f types.now diagnostics.new messages.new e o in
-        Walks (condition (ctx T ls v) n (word_at image.now at) answer) 0 0 words st b b' result) }
+        Walks (condition (ctx texts.now ls v) n (word_at image.now at) answer) 0 0 words st b b' result) }
 {
     let used = st.used;
     let token = word_at(image, at);
@@ -52,8 +49,7 @@ pub fn condition<'a>(
         types,
         diagnostics,
         messages,
-        script,
-        library,
+        texts,
         used,
         n,
         token,
@@ -117,13 +113,12 @@ fn body_answer(
 }
 
 // The branches of the Match n, whose cases stand from word `at` on, against the default's slot, in order: 24 for each that differs.
-fn compare_branches<'a>(
+fn compare_branches(
     slots: &[u32],
     types: &[u32],
     diagnostics: &mut [u32],
     messages: &mut [u8],
-    script: &'a [u8],
-    library: &'a [u8],
+    texts: &Texts,
     image: &[u32],
     places: &[u16],
     at: usize,
@@ -133,8 +128,7 @@ fn compare_branches<'a>(
     default: u32,
 ) -> Went
     requires { CasesReady image.now places.now n at count }
-    ensures { let T : Texts = texts_of script.now library.now in
-        ((ls : List Package) (v : ℕ) → Goes (compare_branches (ctx T ls v) n default (branches_from image.now slots.now at count)) slots.now
+    ensures { ((ls : List Package) (v : ℕ) → Goes (compare_branches (ctx texts.now ls v) n default (branches_from image.now slots.now at count)) slots.now
         types.now diagnostics.old messages.old used slots.now types.now diagnostics.new messages.new result) }
 {
     let mut here = used;
@@ -148,8 +142,7 @@ fn compare_branches<'a>(
             types,
             diagnostics,
             messages,
-            script,
-            library,
+            texts,
             here,
             n,
             default,
@@ -167,13 +160,12 @@ fn compare_branches<'a>(
 }
 
 // The end of the Match n, whose record stands at `at`, of what the default's body answered: "self.alias(*id, first_type)".
-pub fn end<'a>(
+pub fn end(
     slots: &mut [u32],
     types: &[u32],
     diagnostics: &mut [u32],
     messages: &mut [u8],
-    script: &'a [u8],
-    library: &'a [u8],
+    texts: &Texts,
     image: &[u32],
     places: &[u16],
     at: usize,
@@ -182,11 +174,11 @@ pub fn end<'a>(
     default: Answer,
 ) -> Visit
     requires { CasesReady image.now places.now n (at + 3) (word_at image.now (at + 2)) }
-    ensures { let T : Texts = texts_of script.now library.now in let I : List ℕ = image.now in
+    ensures { let I : List ℕ = image.now in
         ((ls : List Package) (v : ℕ) (words f e : List ℕ) (o : More) →
         let b : Lent = lent slots.old f types.now diagnostics.old messages.old e o in
         let b' : Lent = lent slots.new f types.now diagnostics.new messages.new e o in
-        Visits (matched (ctx T ls v) n (word_at I (at + 1)) (branches_from I slots.old (at + 3) (word_at I (at + 2))) default) 0 0 words st b b' result) }
+        Visits (matched (ctx texts.now ls v) n (word_at I (at + 1)) (branches_from I slots.old (at + 3) (word_at I (at + 2))) default) 0 0 words st b b' result) }
 {
     let Answer::Known(slot) = default else {
         return Visit::Poison(st);
@@ -198,8 +190,7 @@ pub fn end<'a>(
         types,
         diagnostics,
         messages,
-        script,
-        library,
+        texts,
         image,
         places,
         at + 3,

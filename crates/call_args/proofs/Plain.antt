@@ -1,4 +1,5 @@
 -- A call of a function without slots, one law for each way out of the code. Assumes nothing.
+use Rattle.std.specs.Prelude.{Option}
 use Prim.Native.Nat.{ℕ, zero, suc, ◌+◌, ◌-◌, ◌≤◌, ◌<◌}
 use mathlib.Core.Path.{◌≡◌, refl, sym, ap, ◌∙◌}
 use mathlib.Core.Bool.{Bool, true, false}
@@ -18,7 +19,6 @@ use Rattle.tok.specs.declared.Span.{Span}
 use Rattle.ptype.specs.Slots.{Binding}
 use Rattle.ast.specs.Node.{nodes_from, tree_of, slot_of}
 use Rattle.ast.specs.Span.{span_of}
-use Rattle.err.specs.declared.Reported.{Reported}
 use Rattle.err.specs.Message.{argument_count}
 use Rattle.err.specs.Report.{Reports}
 use Rattle.library.specs.Package.{Param, param, Package}
@@ -37,6 +37,7 @@ use Rattle.state.specs.World.{Rest, world, gone, stepped, Steps}
 use Rattle.state.specs.Reporting.{told_of, reports_step}
 use Rattle.arguments.specs.Argument.{given, left, Leaves}
 use Rattle.call_args.specs.Given.{given_from, KnownAfter}
+use Rattle.err.specs.declared.Counts.{Counts}
 
 -- ── Each argument ──
 
@@ -126,7 +127,7 @@ then-known c n slot words at rest s t d m (W.Refused number place) = refl
 module _ (texts : Texts) (n slot token : ℕ) (call_name words : List ℕ) (at : ℕ) (image : List ℕ) (args count : ℕ) (s t d m : List ℕ) (u : Used) {required ret : ℕ}
     (en : (f : Bool) → required ≡ length (signature_at words at f).params) (er : (f : Bool) → ret ≡ (signature_at words at f).ret) {d' m' : List ℕ} {went : Went} {s' : List ℕ} {r : Step}
     (k : (t d m : List ℕ) → KnownAfter went slot ret s t d m s' r) where
-  pub miscounted : {x : Reported} → (count ≡ required → ⊥) → Reports (argument_count token call_name required count) d m u.told d' m' x → went ≡ told_of n u x
+  pub miscounted : {x : Option Counts} → (count ≡ required → ⊥) → Reports (argument_count token call_name required count) d m u.told d' m' x → went ≡ told_of n u x
       → (library : List Package) (void : ℕ) → Steps (check_call_args (ctx texts library void) n slot token call_name (signature_at words at false) (given_from image args count)) s t d m u s' t d' m' r
   unfolding check_call_args signature_at when
   miscounted differ p w library void = record {

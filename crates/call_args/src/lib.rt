@@ -3,7 +3,6 @@
 #![tactic(auto)]
 
 ghost use Rattle.std.specs.Prelude.{◌≡◌, false, List, ℕ};
-ghost use Rattle.tok.specs.Text.{Texts, texts_of};
 ghost use Rattle.ast.specs.Node.{tree_of, slot_of};
 ghost use Rattle.err.specs.Message.{call_name};
 ghost use Rattle.library.specs.Package.{Package};
@@ -18,6 +17,7 @@ ghost use Rattle.call_args.specs.Given.{given_from, KnownAfter, CallReady};
 
 use err::CallName;
 use state::{Step, Used, Went};
+use tok::Texts;
 
 // The slot of a node.
 pub fn slot_of(image: &[u32], places: &[u16], n: u32) -> u32
@@ -28,13 +28,12 @@ pub fn slot_of(image: &[u32], places: &[u16], n: u32) -> u32
 }
 
 // Each argument, in order.
-fn plain_arguments<'a>(
+fn plain_arguments(
     slots: &[u32],
     types: &[u32],
     diagnostics: &mut [u32],
     messages: &mut [u8],
-    script: &'a [u8],
-    library: &'a [u8],
+    texts: &Texts,
     image: &[u32],
     places: &[u16],
     used: Used,
@@ -46,8 +45,7 @@ fn plain_arguments<'a>(
     count: usize,
 ) -> Went
     requires { CallReady image.now places.now n args count words.now at }
-    ensures { let T : Texts = texts_of script.now library.now in
-        Leaves T (λ c. arguments c n (call_name T callee) false (signature_at words.now at false).params (given_from image.now args count)) slots.now
+    ensures { Leaves texts.now (λ c. arguments c n (call_name texts.now callee) false (signature_at words.now at false).params (given_from image.now args count)) slots.now
         types.now diagnostics.old messages.old used diagnostics.new messages.new result }
 {
     let mut now = used;
@@ -59,8 +57,7 @@ fn plain_arguments<'a>(
             types,
             diagnostics,
             messages,
-            script,
-            library,
+            texts,
             now,
             n,
             callee,
@@ -94,13 +91,12 @@ fn known_after(slots: &mut [u32], went: Went, slot: u32, word: u32) -> Step
 
 // Typechecker::check_call_args, of a function without slots whose signature stands at a place of `words`. Another number of arguments is 19,
 // yet the return type is known.
-pub fn check_plain<'a>(
+pub fn check_plain(
     slots: &mut [u32],
     types: &[u32],
     diagnostics: &mut [u32],
     messages: &mut [u8],
-    script: &'a [u8],
-    library: &'a [u8],
+    texts: &Texts,
     image: &[u32],
     places: &[u16],
     used: Used,
@@ -114,9 +110,8 @@ pub fn check_plain<'a>(
     count: usize,
 ) -> Step
     requires { NodesReady image.now places.now n args count }
-    ensures { let T : Texts = texts_of script.now library.now in
-        ((ls : List Package) (v : ℕ) → Steps
-        (check_call_args (ctx T ls v) n slot token (call_name T callee) (signature_at words.now at false) (given_from image.now args count)) slots.old
+    ensures { ((ls : List Package) (v : ℕ) → Steps
+        (check_call_args (ctx texts.now ls v) n slot token (call_name texts.now callee) (signature_at words.now at false) (given_from image.now args count)) slots.old
         types.now diagnostics.old messages.old used slots.new types.now diagnostics.new messages.new result) }
 {
     let required = signatures::argument_count(words, at);
@@ -127,8 +122,7 @@ pub fn check_plain<'a>(
             diagnostics,
             &mut messages[free..],
             used.told,
-            script,
-            library,
+            texts,
             token,
             callee,
             required,
@@ -141,8 +135,7 @@ pub fn check_plain<'a>(
         types,
         diagnostics,
         messages,
-        script,
-        library,
+        texts,
         image,
         places,
         used,

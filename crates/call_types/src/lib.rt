@@ -17,11 +17,9 @@ pub fn gather_types(
     requires { Gatherable image.now places.now args count provided.old }
     ensures { take count provided.new ≡ words_in slots.now (given_from image.now args count) }
 {
-    let mut i = 0;
-    while i < count {
+    for i in 0..count {
         let number = tok::word_at(image, args + i);
         let slot = call_args::slot_of(image, places, number);
-        provided[i] = tok::word_at(slots, tok::wide(slot));
-        i += 1;
+        provided[i] = tok::word_at(slots, slot as usize);
     }
 }

@@ -1,4 +1,5 @@
 -- Each return of the functions, from what the callees answered. By rewriting. Assumes nothing.
+use Rattle.std.specs.Prelude.{Option}
 use Prim.Native.Nat.{ℕ, ◌+◌, ◌≤◌}
 use native.Mathlib.Omega.{arith}
 use native.Mathlib.Decide.{ℕ_discrete}
@@ -11,7 +12,6 @@ use borrow.Author.Tests.{eq-eqb, ne_eqb}
 use Rattle.tok.specs.Text.{Texts}
 use Rattle.tok.specs.Word.{kind_of}
 use Rattle.library.specs.Package.{Package}
-use Rattle.err.specs.declared.Reported.{Reported}
 use Rattle.err.specs.Message.{call_through_field}
 use Rattle.err.specs.Report.{Reports}
 use Rattle.places.specs.NodesAt.{record_room}
@@ -32,6 +32,7 @@ use Rattle.visit.specs.Whole.{lent, rest_of}
 use Rattle.visit.specs.Within.{Visits}
 use Rattle.visit.specs.Plain.{visit_of, steps-visits}
 use Rattle.calls.specs.Callees.{callee_at, is_through_field, CallAt, FieldCall, target-low, callee_own, callee_package, callee_field}
+use Rattle.err.specs.declared.Counts.{Counts}
 
 -- ── Is an argument poisoned? ──
 
@@ -94,7 +95,7 @@ field-name {image} {places} {at} c {t} {p} et ep = by (ℕ_discrete (kind_of (ge
     by (no d) = inside d (ℕ_discrete kind_in 1)
 
 pub field_told : {image places : List ℕ} {at : ℕ} (n : ℕ) (st : State) → FieldCall image places at → {t p name : ℕ} → t ≡ get_or image (at + 2) 0 → p ≡ get_or places t 0 → name ≡ get_or image (p + 3) 0
-    → {d m d' m' : List ℕ} {x : Reported} {r : Step} {v : Visit} → Reports (call_through_field name) d m st.used.told d' m' x → r ≡ poison_of n st.used x → v ≡ visit_of st r
+    → {d m d' m' : List ℕ} {x : Option Counts} {r : Step} {v : Visit} → Reports (call_through_field name) d m st.used.told d' m' x → r ≡ poison_of n st.used x → v ≡ visit_of st r
     → (c : Ctx) (slot : ℕ) (given : List Provided) (visits : Walk Bool) (words s f t e : List ℕ) (o : More)
     → Visits (call c n slot (callee_at image at) given visits) 0 0 words st (lent s f t d m e o) (lent s f t d' m' e o) v
 unfolding call

@@ -4,7 +4,6 @@
 #![tactic(auto)]
 
 ghost use Rattle.std.specs.Prelude.{◌≡◌, Bool, ◌||◌, List, ℕ, ◌+◌, get_or};
-ghost use Rattle.tok.specs.Text.{Texts, texts_of};
 ghost use Rattle.library.specs.Package.{Package};
 ghost use Rattle.rules.specs.World.{Ctx, Walk};
 ghost use Rattle.rules.specs.Steps.{is_poison};
@@ -20,7 +19,7 @@ ghost use Rattle.calls.specs.CallVisits.{Resolvable};
 
 use places::node_place;
 use rules::Answer;
-use tok::{kind, word_at};
+use tok::{Texts, kind, word_at};
 use visit::{State, Visit};
 
 // The kind of an Ident.
@@ -78,14 +77,13 @@ pub fn or_poison(poisoned: bool, answer: Answer) -> bool
 }
 
 // A call of an own function, whose arguments are visited.
-fn resolve_own<'a>(
+fn resolve_own(
     slots: &mut [u32],
     functions: &[u32],
     types: &[u32],
     diagnostics: &mut [u32],
     messages: &mut [u8],
-    script: &'a [u8],
-    library: &'a [u8],
+    texts: &Texts,
     image: &[u32],
     places: &[u16],
     st: State,
@@ -96,11 +94,10 @@ fn resolve_own<'a>(
     count: usize,
 ) -> Visit
     requires { OwnReady functions.now st.functions image.now places.now n args count }
-    ensures { let T : Texts = texts_of script.now library.now in
-        ((ls : List Package) (v : ℕ) (words e : List ℕ) (o : More) →
+    ensures { ((ls : List Package) (v : ℕ) (words e : List ℕ) (o : More) →
         let b : Lent = lent slots.old functions.now types.now diagnostics.old messages.old e o in
         let b' : Lent = lent slots.new functions.now types.now diagnostics.new messages.new e o in
-        Visits (resolve_call (ctx T ls v) n slot name (given_from image.now args count)) 0 0 words st b b' result) }
+        Visits (resolve_call (ctx texts.now ls v) n slot name (given_from image.now args count)) 0 0 words st b b' result) }
 {
     let used = st.used;
     let step = own_call::resolve_call(
@@ -110,8 +107,7 @@ fn resolve_own<'a>(
         messages,
         functions,
         st.functions,
-        script,
-        library,
+        texts,
         image,
         places,
         used,
@@ -125,15 +121,14 @@ fn resolve_own<'a>(
 }
 
 // The call at word `at`, whose `count` arguments are visited: of an own function, or of a package's.
-pub fn resolve<'a>(
+pub fn resolve(
     slots: &mut [u32],
     functions: &[u32],
     types: &mut [u32],
     diagnostics: &mut [u32],
     messages: &mut [u8],
     scratch: &mut [u32],
-    script: &'a [u8],
-    library: &'a [u8],
+    texts: &Texts,
     image: &[u32],
     words: &[u32],
     places: &[u16],
@@ -143,13 +138,11 @@ pub fn resolve<'a>(
     n: u32,
     poisoned: bool,
 ) -> Visit
-    requires { let T : Texts = texts_of script.now library.now in
-        Resolvable T image.now places.now words.now n at count st (lent slots.old functions.now types.old diagnostics.old messages.old scratch.old no_more) }
-    ensures { let T : Texts = texts_of script.now library.now in
-        let b : Lent = lent slots.old functions.now types.old diagnostics.old messages.old scratch.old no_more in
+    requires { Resolvable texts.now image.now places.now words.now n at count st (lent slots.old functions.now types.old diagnostics.old messages.old scratch.old no_more) }
+    ensures { let b : Lent = lent slots.old functions.now types.old diagnostics.old messages.old scratch.old no_more in
         ((ls : List Package) (v : ℕ) →
         let b' : Lent = lent slots.new functions.now types.new diagnostics.new messages.new scratch.new no_more in
-        Visits (call_end (ctx T ls v) n (get_or image.now (at + 1) 0) (callee_at image.now at) (given_from image.now (at + 3) count) poisoned) count 0
+        Visits (call_end (ctx texts.now ls v) n (get_or image.now (at + 1) 0) (callee_at image.now at) (given_from image.now (at + 3) count) poisoned) count 0
         words.now st b b' result) }
 {
     let slot = word_at(image, at + 1);
@@ -162,8 +155,7 @@ pub fn resolve<'a>(
             &types[..],
             diagnostics,
             messages,
-            script,
-            library,
+            texts,
             image,
             places,
             st,
@@ -183,8 +175,7 @@ pub fn resolve<'a>(
         diagnostics,
         messages,
         scratch,
-        script,
-        library,
+        texts,
         image,
         places,
         words,

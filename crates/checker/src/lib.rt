@@ -17,7 +17,7 @@ ghost use Rattle.walking.specs.Visited.{ListVisit, ListVisited};
 ghost use Rattle.ending.specs.Ended.{ended_of, checked_of, EndsAs, WalkEnds};
 
 use ending::Checked;
-use refuse::Before;
+use tok::Texts;
 use visit::{State, Visit, Walked};
 
 // The roots, in order. The places of the image's records are found here, once, and lent to all visits; the library is measured before, so
@@ -47,6 +47,10 @@ fn visit_roots<'a>(
     places::record_places(&mut places, image);
     let nodes = tok::word_at(image, 0);
     let roots = tok::wide(tok::word_at(image, 2));
+    let texts = Texts {
+        script,
+        library: text,
+    };
     typecheck::nodes(
         slots,
         functions,
@@ -54,8 +58,7 @@ fn visit_roots<'a>(
         diagnostics,
         messages,
         scratch,
-        script,
-        text,
+        &texts,
         image,
         library,
         &places[..],
@@ -172,7 +175,7 @@ pub fn check<'a>(
         let after : Buffers = buffers_of slots.new functions.new types.new diagnostics.new messages.new scratch.new in
         (check_of i before ≡ ended_of result after) × (result ≡ checked_of (check_of i before)) }
 {
-    let before = refuse::refuse(
+    match refuse::refuse(
         script,
         image,
         text,
@@ -183,20 +186,19 @@ pub fn check<'a>(
         &diagnostics[..],
         &messages[..],
         &scratch[..],
-    );
-    let Before::Passed = before else {
-        return ending::refused_before(before);
-    };
-    check_accepted(
-        slots,
-        functions,
-        types,
-        diagnostics,
-        messages,
-        scratch,
-        script,
-        text,
-        image,
-        library,
-    )
+    ) {
+        Err(cause) => ending::refused_before(cause),
+        Ok(()) => check_accepted(
+            slots,
+            functions,
+            types,
+            diagnostics,
+            messages,
+            scratch,
+            script,
+            text,
+            image,
+            library,
+        ),
+    }
 }

@@ -92,9 +92,10 @@ module _ {words : List ℕ} {step from count : ℕ} {before marks : List ℕ} {i
     pub run-stop : b ≡ true → Marking before (parts_from words step from count) marks' true
     run-stop t = h.rest marks' true (rw (parts_next words step i left l, ← e) (stop m _ t))
 
-    pub run_more : step ≤ 2 → b ≡ false → ToMark words step from count before marks' (i + step) (left - 1)
-    run_more s f =
-        record {
+    pub run_more : {later : ℕ} → left ≡ later + 1 → step ≤ 2 → b ≡ false → ToMark words step from count before marks' (i + step) later
+    run_more {later} e₁ s f =
+        let one : later ≡ left - 1 = omega arith in
+        rw one record {
           long = m.long ∙ h.long;
           place = let p = h.place in omega arith;
           rest = λ after r k. h.rest after r (rw (parts_next words step i left l, ← e) (more m f k));
@@ -128,9 +129,10 @@ module _ {from count : ℕ} {before marks : List ℕ} {x left : ℕ} (h : CountT
     pub count-stop : b ≡ true → Marking before (count_from from count) marks' true
     count-stop t = h.rest marks' true (rw (count_next x left l) (stop m _ t))
 
-    pub count-more : b ≡ false → CountToMark from count before marks' (x + 1) (left - 1)
-    count-more f =
-        record {
+    pub count-more : {later : ℕ} → left ≡ later + 1 → b ≡ false → CountToMark from count before marks' (x + 1) later
+    count-more {later} e f =
+        let one : later ≡ left - 1 = omega arith in
+        rw one record {
           long = m.long ∙ h.long;
           place = let p = h.place in omega arith;
           rest = λ after r k. h.rest after r (rw (count_next x left l) (more m f k));
@@ -159,9 +161,10 @@ module _ {words : List ℕ} {end from count : ℕ} {before marks : List ℕ} {at
       pub body-stop : b₂ ≡ true → Marking before (case_parts words end from count) marks₂ true
       body-stop t = h.rest marks₂ true (rw (cases_next words end at k l, ← ec, ← en) (more m₁ f₁ (stop m₂ _ t)))
 
-      pub case-more : n < 2 ^ 32 → b₂ ≡ false → CasesToMark words end from count before marks₂ (at + 3 + n) (k - 1)
-      case-more s f₂ =
-          record {
+      pub case-more : {later : ℕ} → k ≡ later + 1 → n < 2 ^ 32 → b₂ ≡ false → CasesToMark words end from count before marks₂ (at + 3 + n) later
+      case-more {later} e s f₂ =
+          let one : later ≡ k - 1 = omega arith in
+          rw one record {
             long = m₂.long ∙ m₁.long ∙ h.long;
             left = cases_step h.left l en s;
             rest = λ after r m. h.rest after r (rw (cases_next words end at k l, ← ec, ← en) (more m₁ f₁ (more m₂ f₂ m)));

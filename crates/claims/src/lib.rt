@@ -9,8 +9,8 @@ ghost use Rattle.image_laws.specs.OutlineAt.{parts_from, case_parts, parts_at, o
 ghost use Rattle.claims.specs.Marks.{claims_by, claims_in, Marking, Claiming};
 
 use node_parts::Run;
-use reader::Verdict;
-use tok::{wide, word_at};
+use reader::Fault;
+use tok::word_at;
 
 // "6 Match"
 const MATCH: u32 = 6;
@@ -36,15 +36,12 @@ fn mark_run(words: &[u32], run: Run, marks: &mut [u8]) -> bool
     requires { (run.step ≤ 2) × (run.from + 2 * run.count < 2 ^ 63) }
     ensures { Marking marks.old (parts_from words.now run.step run.from run.count) marks.new result }
 {
-    let step = run.step;
     let mut i = run.from;
-    let mut left = run.count;
-    while left > 0 {
-        if mark(marks, wide(word_at(words, i))) {
+    for _ in 0..run.count {
+        if mark(marks, word_at(words, i) as usize) {
             return true;
         }
-        i += step;
-        left -= 1;
+        i += run.step;
     }
     false
 }
@@ -54,12 +51,15 @@ fn mark_words(words: &[u32], from: usize, n: usize, marks: &mut [u8]) -> bool
     requires { from + 2 * n < 2 ^ 63 }
     ensures { Marking marks.old (parts_from words.now 1 from n) marks.new result }
 {
-    let run = Run {
-        from,
-        count: n,
-        step: 1,
-    };
-    mark_run(words, run, marks)
+    mark_run(
+        words,
+        Run {
+            from,
+            count: n,
+            step: 1,
+        },
+        marks,
+    )
 }
 
 // The conditions and bodies of `count` cases of a Match, and its default, whose last word stands before `end`.
@@ -68,19 +68,17 @@ fn mark_cases(words: &[u32], from: usize, count: usize, end: usize, marks: &mut 
     ensures { Marking marks.old (case_parts words.now end from count) marks.new result }
 {
     let mut at = from;
-    let mut k = count;
-    while k > 0 {
-        if mark(marks, wide(word_at(words, at + 1))) {
+    for _ in 0..count {
+        if mark(marks, word_at(words, at + 1) as usize) {
             return true;
         }
-        let n = wide(word_at(words, at + 2));
+        let n = word_at(words, at + 2) as usize;
         if mark_words(words, at + 3, n, marks) {
             return true;
         }
         at = at + 3 + n;
-        k -= 1;
     }
-    mark_words(words, at + 1, image_words::less(end, at + 1), marks)
+    mark_words(words, at + 1, end.saturating_sub(at + 1), marks)
 }
 
 // The parts of the node at a place.
@@ -92,10 +90,11 @@ fn mark_parts(words: &[u32], at: usize, marks: &mut [u8]) -> bool
     }
     let head = word_at(words, at);
     if tok::kind(head) == MATCH {
-        let count = wide(word_at(words, at + 2));
-        return mark_cases(words, at + 3, count, at + tok::payload(head), marks);
+        let count = word_at(words, at + 2) as usize;
+        mark_cases(words, at + 3, count, at + tok::payload(head), marks)
+    } else {
+        mark_run(words, node_parts::run_at(words, at), marks)
     }
-    mark_run(words, node_parts::run_at(words, at), marks)
 }
 
 // n numbers from the first on.
@@ -103,14 +102,10 @@ fn mark_count(first: usize, n: usize, marks: &mut [u8]) -> bool
     requires { first + n < 2 ^ 63 }
     ensures { Marking marks.old (count_from first n) marks.new result }
 {
-    let mut x = first;
-    let mut left = n;
-    while left > 0 {
+    for x in first..first + n {
         if mark(marks, x) {
             return true;
         }
-        x += 1;
-        left -= 1;
     }
     false
 }
@@ -121,38 +116,33 @@ fn mark_count(first: usize, n: usize, marks: &mut [u8]) -> bool
 fn mark_node(words: &[u32], at: usize, nodes: &mut [u8], slots: &mut [u8]) -> bool
     ensures { Claiming words.now at nodes.old slots.old nodes.new slots.new result }
 {
-    if mark_parts(words, at, nodes) {
-        return true;
-    }
-    let slot = wide(node_parts::slot(words, at));
-    let n = wide(node_parts::arguments(words, at));
-    mark_count(slot, n + 1, slots)
+    let slot = node_parts::slot(words, at) as usize;
+    let n = node_parts::arguments(words, at) as usize;
+    mark_parts(words, at, nodes) || mark_count(slot, n + 1, slots)
 }
 
 // All nodes, then the roots, with marks for what is claimed before.
-fn claims_by(words: &[u32], nodes: &mut [u8], slots: &mut [u8]) -> Verdict
+fn claims_by(words: &[u32], nodes: &mut [u8], slots: &mut [u8]) -> Result<(), Fault>
     ensures { offending result ≡ claims_by nodes.old slots.old 0 (parts_from words.now 1 4 (root_count words.now))
         (outlines_from words.now 0 (node_count words.now)) }
 {
-    let n = wide(word_at(words, 0));
-    let roots = wide(word_at(words, 2));
+    let n = word_at(words, 0) as usize;
+    let roots = word_at(words, 2) as usize;
     let mut at = 4 + roots;
-    let mut i = 0;
-    while i < n {
+    for i in 0..n {
         if mark_node(words, at, nodes, slots) {
-            return Verdict::Offends(i);
+            return Err(Fault(i));
         }
         at = node_parts::after(words, at);
-        i += 1;
     }
     if mark_words(words, 4, roots, nodes) {
-        return Verdict::Offends(n);
+        return Err(Fault(n));
     }
-    Verdict::Accepted
+    Ok(())
 }
 
 // The second claimant of a node or slot, nodes rising, then N for roots; if there is none the image is accepted.
-pub fn claims(words: &[u32]) -> Verdict
+pub fn claims(words: &[u32]) -> Result<(), Fault>
     ensures { offending result ≡ claims_in words.now }
 {
     let mut nodes = [0u8; 2048];

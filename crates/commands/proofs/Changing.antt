@@ -1,5 +1,5 @@
 -- The ways out of the functions that change lists: a law for each. Assumes nothing.
-use Rattle.std.proofs.Common.{◌≡◌, ℕ, zero, suc, ◌+◌, ◌-◌, ◌/◌, ◌%◌, ◌^◌, ◌<◌, ◌≤◌, List, get_or, set, sym, refl, ap, ◌∙◌, arith, eq-eqb, ne_eqb, le-leb}
+use Rattle.std.proofs.Common.{◌≡◌, ℕ, suc, ◌+◌, ◌-◌, ◌/◌, ◌%◌, ◌^◌, ◌<◌, ◌≤◌, List, get_or, set, sym, ◌∙◌, arith, eq-eqb, ne_eqb, le-leb}
 use native.Mathlib.Nat.{sub-zero}
 use borrow.Author.Tests.{lt-leb}
 use Rattle.commands.specs.Changes.{low_byte, whole, filled, four_bytes, Lists, lists, on_list, patterned, fill_of, data_of, changed}
@@ -24,21 +24,6 @@ module _ (held : ℕ → ℕ) (stride step : ℕ) where
   fill-ends l at w count counter e h =
       let n : count - counter ≡ 0 = omega arith in
       sym (rw n at e)
-
--- ---- words and bytes
-pub four : (o : List ℕ) (at w : ℕ) {o₁ o₂ o₃ o₄ : List ℕ} → o₁ ≡ set o at (w % 256) → o₂ ≡ set o₁ (at + 1) (w / 256 % 256) → o₃ ≡ set o₂ (at + 2) (w / 65536 % 256)
-    → o₄ ≡ set o₃ (at + 3) (w / 16777216 % 256) → o₄ ≡ four_bytes o at w
-unfolding four_bytes
-four o at w p q r s = s ∙ rw (r, q, p)
-
-pub eight : (o : List ℕ) (at a b : ℕ) {o₁ o₂ : List ℕ} {i : ℕ} → i ≡ at → o₁ ≡ four_bytes o i a → o₂ ≡ four_bytes o₁ (i + 4) b → o₂ ≡ four_bytes (four_bytes o at a) (at + 4) b
-eight o at a b e p q = q ∙ rw (p, e)
-
-pub two : (o : List ℕ) (at a b : ℕ) {o₁ o₂ : List ℕ} {i : ℕ} → i ≡ at → o₁ ≡ set o i a → o₂ ≡ set o₁ (i + 1) b → o₂ ≡ set (set o at a) (at + 1) b
-two o at a b e p q = q ∙ rw (p, e)
-
-pub three : (r : List ℕ) (a b c : ℕ) {r₁ r₂ r₃ : List ℕ} → r₁ ≡ set r 10 a → r₂ ≡ set r₁ 11 b → r₃ ≡ set r₂ 12 c → r₃ ≡ patterned a b c r
-three r a b c p q s = s ∙ rw (q, p)
 
 -- ---- a list by its number
 module _ (s i t l r : List ℕ) (n : ℕ) (f g : List ℕ → List ℕ) where

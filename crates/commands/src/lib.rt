@@ -52,29 +52,19 @@ pub struct Command {
     pub c: u32,
 }
 
-fn wide(b: u8) -> u32
-    ensures { result ≡ b }
-{
-    b as u32
-}
-
 // The byte at an index, and 0 past the end.
 pub fn byte(bytes: &[u8], i: usize) -> u32
     ensures { ByteAt bytes.now i result }
 {
-    if i < bytes.len() { wide(bytes[i]) } else { 0 }
+    tok::byte_at(bytes, i)
 }
 
 // The little-endian word at a place.
+#[tactic(auto, unfolding(crate::specs::Words::word_in, tok::specs::LittleEndian::little_endian))]
 fn word(bytes: &[u8], at: usize) -> u32
-    requires { at ≤ 12 }
     ensures { result ≡ word_in bytes.now at }
 {
-    let a = byte(bytes, at);
-    let b = byte(bytes, at + 1);
-    let c = byte(bytes, at + 2);
-    let d = byte(bytes, at + 3);
-    a + 0x100 * (b + 0x100 * (c + 0x100 * d))
+    tok::little_endian(bytes, at)
 }
 
 // The four words of a command.
@@ -135,6 +125,7 @@ fn put_byte(text: &mut [u8], i: usize, w: u32)
 }
 
 // Four bytes of a word, from a place on.
+#[tactic(auto, unfolding(crate::specs::Changes::four_bytes))]
 fn put_bytes(out: &mut [u8], at: usize, w: u32)
     requires { at < 2 ^ 33 }
     ensures { out.new ≡ four_bytes out.old at w }
@@ -153,8 +144,8 @@ pub fn fill_words(out: &mut [u32], stride: usize, start: usize, count: usize, va
     let mut w = value;
     for _ in 0..count {
         put(out, at, w);
-        at = std::num::wrapping_add_usize(at, stride);
-        w = std::num::wrapping_add_u32(w, step);
+        at = at.wrapping_add(stride);
+        w = w.wrapping_add(step);
     }
 }
 
@@ -165,8 +156,8 @@ pub fn fill_bytes(out: &mut [u8], stride: usize, start: usize, count: usize, val
     let mut w = value;
     for _ in 0..count {
         put_byte(out, at, w);
-        at = std::num::wrapping_add_usize(at, stride);
-        w = std::num::wrapping_add_u32(w, step);
+        at = at.wrapping_add(stride);
+        w = w.wrapping_add(step);
     }
 }
 
@@ -175,7 +166,7 @@ pub fn fill_bytes(out: &mut [u8], stride: usize, start: usize, count: usize, val
 pub fn register(registers: &[u32], which: usize) -> usize
     ensures { result ≡ slice_index registers.now which }
 {
-    tok::wide(tok::word_at(registers, which))
+    tok::word_at(registers, which) as usize
 }
 
 // A register that counts is one higher.
@@ -183,35 +174,33 @@ pub fn counted(registers: &mut [u32], which: usize)
     ensures { registers.new ≡ slice_set registers.old which ((slice_index registers.old which + 1) % 2 ^ 32) }
 {
     let n = tok::word_at(registers, which);
-    put(registers, which, std::num::wrapping_add_u32(n, 1));
-}
-
-fn least(a: usize, b: usize) -> usize
-    ensures { result ≡ min a b }
-{
-    if a <= b { a } else { b }
+    put(registers, which, n.wrapping_add(1));
 }
 
 // A length, and no more than there is.
 pub fn lent(registers: &[u32], which: usize, most: usize) -> usize
     ensures { result ≡ min (slice_index registers.now which) most }
 {
-    least(register(registers, which), most)
+    register(registers, which).min(most)
 }
 
 // As much of a list as its length says.
+fn front<'a, T>(list: &'a [T], registers: &[u32], which: usize) -> &'a [T]
+    ensures { result.now ≡ take (slice_index registers.now which) list.now }
+{
+    &list[..lent(registers, which, list.len())]
+}
+
 pub fn bytes_of<'a>(bytes: &'a [u8], registers: &[u32], which: usize) -> &'a [u8]
     ensures { result.now ≡ take (slice_index registers.now which) bytes.now }
 {
-    let end = lent(registers, which, bytes.len());
-    &bytes[0..end]
+    front(bytes, registers, which)
 }
 
 pub fn words_of<'a>(words: &'a [u32], registers: &[u32], which: usize) -> &'a [u32]
     ensures { result.now ≡ take (slice_index registers.now which) words.now }
 {
-    let end = lent(registers, which, words.len());
-    &words[0..end]
+    front(words, registers, which)
 }
 
 // What commands do.
@@ -239,25 +228,18 @@ fn fill(
     let stride = list / 4;
     let start = register(registers, START);
     let count = register(registers, COUNT);
-    if list % 4 == SCRIPT {
-        fill_bytes(script, stride, start, count, c.a, c.b);
-        return;
+    match list % 4 {
+        SCRIPT => fill_bytes(script, stride, start, count, c.a, c.b),
+        IMAGE => fill_words(image, stride, start, count, c.a, c.b),
+        TEXT => fill_bytes(text, stride, start, count, c.a, c.b),
+        _ => fill_words(library, stride, start, count, c.a, c.b),
     }
-    if list % 4 == IMAGE {
-        fill_words(image, stride, start, count, c.a, c.b);
-        return;
-    }
-    if list % 4 == TEXT {
-        fill_bytes(text, stride, start, count, c.a, c.b);
-        return;
-    }
-    fill_words(library, stride, start, count, c.a, c.b);
 }
 
 fn two_words(out: &mut [u32], at: u32, a: u32, b: u32)
     ensures { out.new ≡ slice_set (slice_set out.old at a) (at + 1) b }
 {
-    let i = tok::wide(at);
+    let i = at as usize;
     put(out, i, a);
     put(out, i + 1, b);
 }
@@ -265,7 +247,7 @@ fn two_words(out: &mut [u32], at: u32, a: u32, b: u32)
 fn eight_bytes(out: &mut [u8], at: u32, a: u32, b: u32)
     ensures { out.new ≡ four_bytes (four_bytes out.old at a) (at + 4) b }
 {
-    let i = tok::wide(at);
+    let i = at as usize;
     put_bytes(out, i, a);
     put_bytes(out, i + 4, b);
 }
@@ -282,19 +264,12 @@ fn put_data(
         data_of list c.a c.b c.c (lists script.old image.old text.old library.old R)
         ≡ lists script.new image.new text.new library.new R }
 {
-    if list == SCRIPT {
-        eight_bytes(script, c.a, c.b, c.c);
-        return;
+    match list {
+        SCRIPT => eight_bytes(script, c.a, c.b, c.c),
+        IMAGE => two_words(image, c.a, c.b, c.c),
+        TEXT => eight_bytes(text, c.a, c.b, c.c),
+        _ => two_words(library, c.a, c.b, c.c),
     }
-    if list == IMAGE {
-        two_words(image, c.a, c.b, c.c);
-        return;
-    }
-    if list == TEXT {
-        eight_bytes(text, c.a, c.b, c.c);
-        return;
-    }
-    two_words(library, c.a, c.b, c.c);
 }
 
 // Does what a command says of lists and lengths; other commands are the program's.
@@ -310,21 +285,12 @@ pub fn change(
         (lists script.old image.old text.old library.old registers.old)
         ≡ lists script.new image.new text.new library.new registers.new }
 {
-    let op = c.op;
-    if op == 1 {
-        pattern(registers, c);
-        return;
-    }
-    if op == 2 {
-        fill(script, image, text, library, registers, c);
-        return;
-    }
-    if op == 3 {
-        put(registers, tok::wide(c.a), c.b);
-        return;
-    }
-    if op >= 8 {
-        put_data(script, image, text, library, tok::wide(op) - 8, c);
+    match c.op {
+        1 => pattern(registers, c),
+        2 => fill(script, image, text, library, registers, c),
+        3 => put(registers, c.a as usize, c.b),
+        8.. => put_data(script, image, text, library, c.op as usize - 8, c),
+        _ => {}
     }
 }
 
@@ -343,7 +309,7 @@ pub fn print_number(rt: &impl Print, n: usize) -> io::Result<usize>
 {
     let mut digits = [0u8; 20];
     let k = decimal(n as u64, &mut digits);
-    print(rt, &digits[0..k])
+    print(rt, &digits[..k])
 }
 
 // " refused ", number and place.

@@ -40,10 +40,11 @@ pub to-measure : {words depths : List ℕ} {step from count : ℕ} → ToMeasure
 to-measure {words} {depths} {step} {from} {count} = record { place = omega arith; rest = sym (zero-max (deepest depths (parts_from words step from count))) }
 
 module _ {words depths : List ℕ} {step from count i left d : ℕ} (h : ToMeasure words depths step from count i left d) where
-  pub run_more : {w e d' : ℕ} → 0 < left → step ≤ 2 → w ≡ word_at words i → e ≡ get_or depths w 0 → d' ≡ max d e → ToMeasure words depths step from count (i + step) (left - 1) d'
-  run_more {w} {e} {d'} l s ew ee ed =
+  pub run_more : {w e d' later : ℕ} → 0 < left → left ≡ later + 1 → step ≤ 2 → w ≡ word_at words i → e ≡ get_or depths w 0 → d' ≡ max d e → ToMeasure words depths step from count (i + step) later d'
+  run_more {w} {e} {d'} {later} l el s ew ee ed =
+      let one : later ≡ left - 1 = omega arith in
       let others : List ℕ = parts_from words step (i + step) (left - 1) in
-      record {
+      rw one record {
         place = let p = h.place in omega arith;
         rest = h.rest
             ∙ ap (λ xs. max d (deepest depths xs)) (parts_next words step i left l)
@@ -73,10 +74,11 @@ module _ {words depths : List ℕ} {end from count at k d : ℕ} (h : CasesToMea
       ∙ deepest-next depths _ _
       ∙ ap (max (get_or depths (word_at words (at + 1)) 0)) (deepest-append depths _ _)
 
-  pub case-more : {c e d₁ n b d₂ : ℕ} → 0 < k → c ≡ word_at words (at + 1) → e ≡ get_or depths c 0 → d₁ ≡ max d e → n ≡ word_at words (at + 2) → n < 2 ^ 32
-      → b ≡ deepest depths (parts_from words 1 (at + 3) n) → d₂ ≡ max d₁ b → CasesToMeasure words depths end from count (at + 3 + n) (k - 1) d₂
-  case-more {c} {e} {d₁} {n} {b} {d₂} l ec ee e₁ en s eb e₂ =
-      record {
+  pub case-more : {c e d₁ n b d₂ later : ℕ} → 0 < k → k ≡ later + 1 → c ≡ word_at words (at + 1) → e ≡ get_or depths c 0 → d₁ ≡ max d e → n ≡ word_at words (at + 2) → n < 2 ^ 32
+      → b ≡ deepest depths (parts_from words 1 (at + 3) n) → d₂ ≡ max d₁ b → CasesToMeasure words depths end from count (at + 3 + n) later d₂
+  case-more {c} {e} {d₁} {n} {b} {d₂} {later} l el ec ee e₁ en s eb e₂ =
+      let one : later ≡ k - 1 = omega arith in
+      rw one record {
         left = cases_step h.left l en s;
         rest = rw (e₂, e₁, eb, ee, ec, en) (h.rest ∙ ap (max d) (case-rest l) ∙ regroup d (get_or depths (word_at words (at + 1)) 0) _ _);
       }

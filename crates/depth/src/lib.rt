@@ -1,7 +1,7 @@
 // Refusal 5: "depth 65". The depths of the nodes stand in a local array.
 #![tactic(auto)]
 
-ghost use Rattle.std.specs.Prelude.{◌≡◌, ◌+◌, ◌*◌, ◌^◌, ◌≤◌, ◌<◌, max, length, get_or, set};
+ghost use Rattle.std.specs.Prelude.{◌≡◌, ◌+◌, ◌*◌, ◌^◌, ◌≤◌, ◌<◌, length, get_or, set};
 ghost use Rattle.reader.specs.Reading.{offending};
 ghost use Rattle.ast.specs.Image.{node_count};
 ghost use Rattle.ast.specs.Depth.{deepest};
@@ -9,8 +9,8 @@ ghost use Rattle.image_laws.specs.OutlineAt.{parts_from, case_parts, parts_at, o
 ghost use Rattle.depth.specs.Depths.{depth_by, depth_in};
 
 use node_parts::Run;
-use reader::Verdict;
-use tok::{wide, word_at};
+use reader::Fault;
+use tok::word_at;
 
 // "6 Match"
 const MATCH: u32 = 6;
@@ -24,7 +24,7 @@ const MOST: u8 = 64;
 fn depth_at(depths: &[u8], p: usize) -> u8
     ensures { result ≡ get_or depths.now p 0 }
 {
-    if p < depths.len() { depths[p] } else { 0 }
+    depths.get(p).copied().unwrap_or(0)
 }
 
 // Keeps the depth of a node. Past the end nothing is kept.
@@ -36,12 +36,6 @@ fn keep(depths: &mut [u8], i: usize, d: u8)
     }
 }
 
-fn greater(a: u8, b: u8) -> u8
-    ensures { result ≡ max a b }
-{
-    if a <= b { b } else { a }
-}
-
 // The greatest depth of parts.
 
 // Of those in a run of words.
@@ -49,14 +43,11 @@ fn deepest_run(words: &[u32], run: Run, depths: &[u8]) -> u8
     requires { (run.step ≤ 2) × (run.from + 2 * run.count < 2 ^ 63) }
     ensures { result ≡ deepest depths.now (parts_from words.now run.step run.from run.count) }
 {
-    let step = run.step;
     let mut i = run.from;
-    let mut left = run.count;
-    let mut d = 0;
-    while left > 0 {
-        d = greater(d, depth_at(depths, wide(word_at(words, i))));
-        i += step;
-        left -= 1;
+    let mut d = 0u8;
+    for _ in 0..run.count {
+        d = d.max(depth_at(depths, word_at(words, i) as usize));
+        i += run.step;
     }
     d
 }
@@ -66,12 +57,15 @@ fn deepest_words(words: &[u32], from: usize, n: usize, depths: &[u8]) -> u8
     requires { from + 2 * n < 2 ^ 63 }
     ensures { result ≡ deepest depths.now (parts_from words.now 1 from n) }
 {
-    let run = Run {
-        from,
-        count: n,
-        step: 1,
-    };
-    deepest_run(words, run, depths)
+    deepest_run(
+        words,
+        Run {
+            from,
+            count: n,
+            step: 1,
+        },
+        depths,
+    )
 }
 
 // Of the conditions and bodies of `count` cases of a Match, and of its default, whose last word stands before `end`.
@@ -80,19 +74,15 @@ fn deepest_cases(words: &[u32], from: usize, count: usize, end: usize, depths: &
     ensures { result ≡ deepest depths.now (case_parts words.now end from count) }
 {
     let mut at = from;
-    let mut k = count;
-    let mut d = 0;
-    while k > 0 {
-        d = greater(d, depth_at(depths, wide(word_at(words, at + 1))));
-        let n = wide(word_at(words, at + 2));
-        d = greater(d, deepest_words(words, at + 3, n, depths));
+    let mut d = 0u8;
+    for _ in 0..count {
+        d = d.max(depth_at(depths, word_at(words, at + 1) as usize));
+        let n = word_at(words, at + 2) as usize;
+        d = d.max(deepest_words(words, at + 3, n, depths));
         at = at + 3 + n;
-        k -= 1;
     }
-    greater(
-        d,
-        deepest_words(words, at + 1, image_words::less(end, at + 1), depths),
-    )
+    let n = end.saturating_sub(at + 1);
+    d.max(deepest_words(words, at + 1, n, depths))
 }
 
 // Of the node at a place.
@@ -104,35 +94,34 @@ fn deepest_part(words: &[u32], at: usize, depths: &[u8]) -> u8
     }
     let head = word_at(words, at);
     if tok::kind(head) == MATCH {
-        let count = wide(word_at(words, at + 2));
-        return deepest_cases(words, at + 3, count, at + tok::payload(head), depths);
+        let count = word_at(words, at + 2) as usize;
+        deepest_cases(words, at + 3, count, at + tok::payload(head), depths)
+    } else {
+        deepest_run(words, node_parts::run_at(words, at), depths)
     }
-    deepest_run(words, node_parts::run_at(words, at), depths)
 }
 
 // Nodes.
 
 // All nodes, whose depths are kept as they are found.
-fn depth_by(words: &[u32], depths: &mut [u8]) -> Verdict
+fn depth_by(words: &[u32], depths: &mut [u8]) -> Result<(), Fault>
     ensures { offending result ≡ depth_by depths.old 0 (outlines_from words.now 0 (node_count words.now)) }
 {
-    let n = wide(word_at(words, 0));
-    let mut at = 4 + wide(word_at(words, 2));
-    let mut i = 0;
-    while i < n {
+    let n = word_at(words, 0) as usize;
+    let mut at = 4 + word_at(words, 2) as usize;
+    for i in 0..n {
         let d = deepest_part(words, at, depths);
         if d >= MOST {
-            return Verdict::Offends(i);
+            return Err(Fault(i));
         }
         keep(depths, i, 1 + d);
         at = node_parts::after(words, at);
-        i += 1;
     }
-    Verdict::Accepted
+    Ok(())
 }
 
 // The smallest node of depth 65; if there is none the image is accepted.
-pub fn depth(words: &[u32]) -> Verdict
+pub fn depth(words: &[u32]) -> Result<(), Fault>
     ensures { offending result ≡ depth_in words.now }
 {
     let mut depths = [0u8; 2048];

@@ -1,23 +1,30 @@
--- The turn and the ends of `put`'s loop: what is written so far is the front of the piece. Assumes nothing.
-use Prim.Native.Nat.{ℕ, ◌+◌, ◌≤◌, ◌<◌}
-use mathlib.Core.Path.{◌≡◌}
+-- What `put` copies, and its answer, by whether all of the piece has room. By induction on the buffer and the piece. Assumes nothing.
+use Prim.Native.Nat.{ℕ, zero, suc, ◌≤◌, ◌<◌, min}
+use mathlib.Core.Path.{◌≡◌, refl, ap}
 use mathlib.Core.List.{List, [], ◌∷◌, ◌++◌}
-use native.Mathlib.Numerals.{add-one}
+use native.Mathlib.Nat.{zero-add}
 use native.Mathlib.Omega.{arith}
-use lib.ListN.{length, take, drop, get_or, set, take-append-drop, length-drop}
-use lib.Seq.{take_all, take-suc}
+use lib.ListN.{length, take, drop}
+use borrow.Author.Tests.{le-leb, lt-leb}
+use Rattle.ptype.specs.Add.{overwrite, write}
 use Rattle.display.specs.declared.Wrote.TheVariants.{All, Full}
-use Rattle.display.specs.Writing.{Writes}
-use Rattle.display.specs.WritingLaws.{◌and_then◌, writes_byte, writes-past}
+use Rattle.display.specs.Writing.{Writes, place_after, buffer_after}
 
-module _ {o out : List ℕ} (s : List ℕ) (i : ℕ) (sofar : Writes o (All 0) out (All i) (take i s)) where
-  pub copy_byte : i < length out → i < length s → Writes o (All 0) (set out i (get_or s i 0)) (All (i + 1)) (take (i + 1) s)
-  copy_byte p q =
-      let front : take (i + 1) s ≡ take i s ++ (get_or s i 0 ∷ []) = rw (add-one, take-suc s i 0) in
-      rw front (sofar and_then writes_byte out i (get_or s i 0) p)
+-- as much of a list as has room, over the front of another
+over-part : (o s : List ℕ) (n : ℕ) → n ≡ min (length s) (length o) → take n s ++ drop n o ≡ overwrite o s
+unfolding overwrite
+over-part [] s zero e = refl
+over-part [] s (suc n) e = absurd (omega arith)
+over-part (x ∷ o) [] zero e = refl
+over-part (x ∷ o) [] (suc n) e = absurd (omega arith)
+over-part (x ∷ o) (y ∷ s) zero e = absurd (omega arith)
+over-part (x ∷ o) (y ∷ s) (suc n) e = ap (λ l. y ∷ l) (over-part o s n (omega arith))
 
-  pub copy_full : length out ≤ i → i < length s → Writes o (All 0) out Full s
-  copy_full p q = rw (take-append-drop i s) at (sofar and_then writes-past out i (drop i s) p (simp length-drop (omega arith)))
+module _ (o s : List ℕ) {n : ℕ} (e : n ≡ min (length s) (length o)) where
+  pub copied_full : n < length s → Writes o (All 0) (take n s ++ drop n o) Full s
+  unfolding place_after buffer_after write
+  copied_full h = record { bytes = over-part o s n e; answer = rw (zero-add, lt-leb (length s) (length o) (omega arith)) }
 
-  pub copy_done : length s ≤ i → Writes o (All 0) out (All i) s
-  copy_done p = rw (take_all i s p) at sofar
+  pub copied_all : length s ≤ n → Writes o (All 0) (take n s ++ drop n o) (All n) s
+  unfolding place_after buffer_after write
+  copied_all h = record { bytes = over-part o s n e; answer = rw (zero-add, le-leb (length s) (length o) (omega arith)) (ap All (omega arith)) }

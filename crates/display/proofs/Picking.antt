@@ -1,12 +1,12 @@
 -- The turn and the ends of `one_of`'s loop: what is left to look at has the piece that is asked for. Assumes nothing.
 use Prim.Native.Nat.{ℕ, zero, suc, ◌+◌, ◌-◌, ◌≤◌, ◌<◌}
-use mathlib.Core.Path.{◌≡◌, refl, sym, ap, ◌∙◌}
+use mathlib.Core.Path.{◌≡◌, refl, sym, ◌∙◌}
 use mathlib.Core.List.{List, [], ◌∷◌, ◌++◌}
 use native.Mathlib.Numerals.{add-one}
 use native.Mathlib.Omega.{arith}
 use lib.ListN.{length, take, drop, get_or, drop_of_length-le, length-drop}
 use lib.Seq.{take-suc, drop-cons, get_or-drop}
-use borrow.Author.Tests.{eq-eqb, ne_eqb}
+use borrow.Author.Tests.{ne_eqb}
 use Rattle.display.specs.Pieces.{barred, unbarred, piece_after, one_of}
 
 -- the bytes from `start` up to `end` are the front of a piece, and `left` pieces come before the one that is asked for
@@ -70,6 +70,12 @@ module _ {p : List ℕ} {k start end left : ℕ} (s : Picking p k start end left
       within = omega arith;
     }
 
-  pub picking_last : length p ≤ end → front p start end ≡ one_of p k
+  picking_last : length p ≤ end → front p start end ≡ one_of p k
   unfolding barred unbarred
   picking_last h = sym (s.whole ∙ rw (drop_of_length-le p h))
+
+  -- the last piece goes to the end
+  pub picking_rest : length p ≤ end → front p start (length p) ≡ one_of p k
+  picking_rest h =
+      let e : length p ≡ end = omega (arith, s.within) in
+      rw e (picking_last h)

@@ -1,7 +1,7 @@
 -- The text of a type, by the kind of its word, and of fields one by one: the branches of `show_within` and the turns of `show_fields`. Assumes nothing.
 use Prim.Native.Nat.{ℕ, zero, suc, ◌+◌, ◌*◌, ◌-◌, ◌<◌}
 use mathlib.Core.Path.{◌≡◌, refl, sym, ap, ◌∙◌}
-use mathlib.Core.Bool.{Bool, true, false, ◌||◌, true≢false}
+use mathlib.Core.Bool.{true, false, true≢false}
 use mathlib.Core.Logic.{⊎_elim}
 use mathlib.Core.List.{List, [], ◌++◌, append-nil, append_assoc}
 use native.Mathlib.Omega.{arith}
@@ -9,7 +9,7 @@ use lib.ListN.{get_or}
 use borrow.Author.Tests.{ne_eqb}
 use Rattle.tok.specs.Word.{kind_of, payload_of}
 use Rattle.tok.specs.Text.{Texts, text, name_bytes}
-use Rattle.ptype.specs.Ty.{Ty, no_field}
+use Rattle.ptype.specs.Ty.{Ty}
 use Rattle.ptype.specs.Words.{inner_word, field_count, fields_from, unfolded, ty_of}
 use Rattle.ptype.specs.Show.{plain_names, openings, closings, gap, show, show_fields}
 use Rattle.ptype.specs.Kinds.{wraps, one_of, Plain, shape, is_plain, is_wrap, is_record, is_named}
@@ -19,13 +19,6 @@ use Rattle.display.specs.Signature.{show_signature, args_of, ret_of}
 use Rattle.display.specs.Joined.{separated}
 
 -- ---- kinds
--- the two results of `wraps`
-pub or_first : {a : Bool} (b : Bool) → a ≡ true → a ≡ (a || b)
-or_first b e = rw e
-
-pub or_second : {a b : Bool} → a ≡ false → b ≡ (a || b)
-or_second e = rw e
-
 pub is_leaf : (w : ℕ) {k : ℕ} → k ≡ kind_of w → wraps k ≡ false → (k ≡ 8 → ⊥) → Leaf (kind_of w)
 is_leaf w ek e n = rw (← ek) (record { no_type = e; no_field = n })
 

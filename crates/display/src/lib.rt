@@ -3,10 +3,8 @@
 
 ghost use Rattle.std.specs.Prelude.{◌≡◌, [], ◌∷◌, ◌++◌, map, ◌+◌, ◌*◌, ◌^◌, ◌≤◌, ◌<◌, get_or};
 ghost use Rattle.tok.specs.Word.{kind_of};
-ghost use Rattle.tok.specs.Text.{Texts, texts_of};
 ghost use Rattle.ptype.specs.Ty.{Fields};
 ghost use Rattle.ptype.specs.Words.{fields_from, unfolded, ty_of};
-ghost use Rattle.ptype.specs.Kinds.{wraps};
 ghost use Rattle.ptype.specs.Show.{plain_names, openings, show, show_fields, digits, decimal};
 ghost use Rattle.display.specs.Writing.{Writes};
 ghost use Rattle.display.specs.Leaf.{Leaf};
@@ -14,6 +12,8 @@ ghost use Rattle.display.specs.Joined.{separated, sig};
 ghost use Rattle.display.specs.Every.{every};
 ghost use Rattle.display.specs.Pieces.{one_of};
 ghost use Rattle.display.specs.Signature.{show_signature, arg_types, args_of, ret_of};
+
+use tok::Texts;
 
 // The place where the next piece goes, or that a piece had no room.
 #[derive(Clone, Copy)]
@@ -28,15 +28,13 @@ pub enum Wrote {
 pub fn put(out: &mut [u8], piece: &[u8]) -> Wrote
     ensures { Writes out.old (Wrote.All 0) out.new result piece.now }
 {
-    let mut i = 0;
-    while i < piece.len() {
-        if i >= out.len() {
-            return Wrote::Full;
-        }
-        out[i] = piece[i];
-        i += 1;
+    let n = piece.len().min(out.len());
+    out[..n].copy_from_slice(&piece[..n]);
+    if n < piece.len() {
+        Wrote::Full
+    } else {
+        Wrote::All(n)
     }
-    Wrote::All(i)
 }
 
 // Writes a piece at a place: the rest of the buffer is lent on.
@@ -84,19 +82,17 @@ pub fn one_of(pieces: &[u8], k: usize) -> &[u8]
     ensures { result.now ≡ one_of pieces.now k }
 {
     let mut start = 0;
-    let mut end = 0;
     let mut left = k;
-    while end < pieces.len() {
-        if pieces[end] == BAR {
+    for (end, b) in pieces.iter().enumerate() {
+        if *b == BAR {
             if left == 0 {
                 return &pieces[start..end];
             }
             left -= 1;
             start = end + 1;
         }
-        end += 1;
     }
-    &pieces[start..end]
+    &pieces[start..]
 }
 
 // Numbers.
@@ -118,10 +114,11 @@ fn put_digits(out: &mut [u8], at: Wrote, most: usize, n: usize) -> Wrote
         return put_at(out, at, b"");
     }
     if n < 10 {
-        return put_digit(out, at, n);
+        put_digit(out, at, n)
+    } else {
+        let a = put_digits(out, at, most - 1, n / 10);
+        put_digit(out, a, n % 10)
     }
-    let a = put_digits(out, at, most - 1, n / 10);
-    put_digit(out, a, n % 10)
 }
 
 // How many digits a number can have.
@@ -138,13 +135,6 @@ pub fn put_decimal(out: &mut [u8], at: Wrote, n: usize) -> Wrote
 
 // "type depth 32": one level more tells a type that is deeper.
 const LEVELS: usize = 33;
-
-// Whether a type of that kind has one type inside: Option and Array.
-fn wraps(kind: u32) -> bool
-    ensures { result ≡ wraps kind }
-{
-    kind == ptype::OPTION || kind == ptype::ARRAY
-}
 
 // Writes what stands before the inside of an Option, an Array, a Record or a Foreign.
 fn put_opening(out: &mut [u8], at: Wrote, kind: u32) -> Wrote
@@ -169,36 +159,33 @@ fn put_plain(out: &mut [u8], at: Wrote, kind: u32) -> Wrote
 }
 
 // Writes a type that has no type inside. No word of the types buffer is read.
-fn show_leaf<'a>(out: &mut [u8], at: Wrote, script: &'a [u8], library: &'a [u8], w: u32) -> Wrote
+fn show_leaf(out: &mut [u8], at: Wrote, texts: &Texts, w: u32) -> Wrote
     requires { Leaf (kind_of w) }
-    ensures { let T : Texts = texts_of script.now library.now in
-        Writes out.old at out.new result (show (unfolded T [] 1 w)) }
+    ensures { Writes out.old at out.new result (show (unfolded texts.now [] 1 w)) }
 {
     let k = tok::kind(w);
     if k == ptype::FOREIGN {
         let a = put_opening(out, at, k);
-        let b = put_at(out, a, tok::name_bytes(script, library, w));
-        return put_at(out, b, b">");
+        let b = put_at(out, a, tok::name_bytes(texts, w));
+        put_at(out, b, b">")
+    } else if k == ptype::SLOT {
+        put_at(out, at, tok::name_bytes(texts, w))
+    } else {
+        put_plain(out, at, k)
     }
-    if k == ptype::SLOT {
-        return put_at(out, at, tok::name_bytes(script, library, w));
-    }
-    put_plain(out, at, k)
 }
 
 // Writes a type, unfolded `depth` levels deep.
 #[cycle(show_fields_show_within)]
-fn show_within<'a>(
+fn show_within(
     out: &mut [u8],
     at: Wrote,
     types: &[u32],
-    script: &'a [u8],
-    library: &'a [u8],
+    texts: &Texts,
     w: u32,
     depth: usize,
 ) -> Wrote
-    ensures { let T : Texts = texts_of script.now library.now in
-        Writes out.old at out.new result (show (unfolded T types.now depth w)) }
+    ensures { Writes out.old at out.new result (show (unfolded texts.now types.now depth w)) }
 {
     let Wrote::All(_) = at else {
         return Wrote::Full;
@@ -207,36 +194,27 @@ fn show_within<'a>(
         return put_plain(out, at, ptype::UNKNOWN);
     }
     let k = tok::kind(w);
-    if wraps(k) {
+    if ptype::wraps(k) {
         let a = put_opening(out, at, k);
-        let b = show_within(
-            out,
-            a,
-            types,
-            script,
-            library,
-            ptype::inner(types, w),
-            depth - 1,
-        );
-        return put_at(out, b, b">");
-    }
-    if k == ptype::RECORD {
+        let b = show_within(out, a, types, texts, ptype::inner(types, w), depth - 1);
+        put_at(out, b, b">")
+    } else if k == ptype::RECORD {
         let a = put_opening(out, at, k);
         let i = tok::payload(w) + 1;
         let n = ptype::field_count(types, w);
-        return show_fields(out, a, types, script, library, types, i, n, depth - 1, b">");
+        show_fields(out, a, types, texts, types, i, n, depth - 1, b">")
+    } else {
+        show_leaf(out, at, texts, w)
     }
-    show_leaf(out, at, script, library, w)
 }
 
 // Writes n fields, or arguments, whose names and types stand in `words` from the index i on, and what comes after them.
 #[cycle(show_fields_show_within)]
-fn show_fields<'a>(
+fn show_fields(
     out: &mut [u8],
     at: Wrote,
     types: &[u32],
-    script: &'a [u8],
-    library: &'a [u8],
+    texts: &Texts,
     words: &[u32],
     i: usize,
     n: usize,
@@ -244,26 +222,15 @@ fn show_fields<'a>(
     after: &[u8],
 ) -> Wrote
     requires { i + 2 * n < 2 ^ 40 }
-    ensures { let T : Texts = texts_of script.now library.now in
-        let F : Fields = fields_from (unfolded T types.now depth) T words.now i n in
+    ensures { let F : Fields = fields_from (unfolded texts.now types.now depth) texts.now words.now i n in
         Writes out.old at out.new result (show_fields F ++ after.now) }
 {
     let mut at = at;
     let mut i = i;
-    let mut left = n;
-    while left > 0 {
-        at = put_at(out, at, ptype::field_name(words, script, library, i));
+    for left in (0..n).rev() {
+        at = put_at(out, at, ptype::field_name(words, texts, i));
         at = put_at(out, at, b": ");
-        at = show_within(
-            out,
-            at,
-            types,
-            script,
-            library,
-            ptype::field_type(words, i),
-            depth,
-        );
-        left -= 1;
+        at = show_within(out, at, types, texts, ptype::field_type(words, i), depth);
         at = put_separator(out, at, left, b" ");
         i += 2;
     }
@@ -271,102 +238,69 @@ fn show_fields<'a>(
 }
 
 // Writes a type as `Display` shows it.
-pub fn show_type<'a>(
-    out: &mut [u8],
-    at: Wrote,
-    types: &[u32],
-    script: &'a [u8],
-    library: &'a [u8],
-    w: u32,
-) -> Wrote
-    ensures { let T : Texts = texts_of script.now library.now in
-        Writes out.old at out.new result (show (ty_of T types.now w)) }
+pub fn show_type(out: &mut [u8], at: Wrote, types: &[u32], texts: &Texts, w: u32) -> Wrote
+    ensures { Writes out.old at out.new result (show (ty_of texts.now types.now w)) }
 {
-    show_within(out, at, types, script, library, w, LEVELS)
+    show_within(out, at, types, texts, w, LEVELS)
 }
 
 // Writes the signature that `words` begins with, as `Display` shows it.
-pub fn show_signature<'a>(
+pub fn show_signature(
     out: &mut [u8],
     at: Wrote,
     types: &[u32],
-    script: &'a [u8],
-    library: &'a [u8],
+    texts: &Texts,
     words: &[u32],
 ) -> Wrote
-    ensures { let T : Texts = texts_of script.now library.now in
-        Writes out.old at out.new result (show_signature (args_of T types.now words.now) (ret_of T types.now words.now)) }
+    ensures { Writes out.old at out.new result (show_signature (args_of texts.now types.now words.now) (ret_of texts.now types.now words.now)) }
 {
-    let n = tok::wide(tok::word_at(words, 0));
+    let n = tok::word_at(words, 0) as usize;
     let a = put_at(out, at, b"(");
-    let b = show_fields(
-        out, a, types, script, library, words, 1, n, LEVELS, b") -> ",
-    );
-    show_type(
-        out,
-        b,
-        types,
-        script,
-        library,
-        tok::word_at(words, 1 + 2 * n),
-    )
+    let b = show_fields(out, a, types, texts, words, 1, n, LEVELS, b") -> ");
+    show_type(out, b, types, texts, tok::word_at(words, 1 + 2 * n))
 }
 
 // Writes the types of `count` words, joined by `, `; they stand in `words`, the first at an index and each other a step further.
-fn show_every<'a>(
+fn show_every(
     out: &mut [u8],
     at: Wrote,
     types: &[u32],
-    script: &'a [u8],
-    library: &'a [u8],
+    texts: &Texts,
     words: &[u32],
     first: usize,
     step: usize,
     count: usize,
 ) -> Wrote
     requires { (step ≤ 2) × (first + 2 * count < 2 ^ 63) }
-    ensures { let T : Texts = texts_of script.now library.now in
-        Writes out.old at out.new result (sig (every (ty_of T types.now) words.now first step count)) }
+    ensures { Writes out.old at out.new result (sig (every (ty_of texts.now types.now) words.now first step count)) }
 {
     let mut at = at;
     let mut i = first;
-    let mut done = 0;
-    while done < count {
+    for done in 0..count {
         at = put_separator(out, at, done, b", ");
-        at = show_type(out, at, types, script, library, tok::word_at(words, i));
+        at = show_type(out, at, types, texts, tok::word_at(words, i));
         i += step;
-        done += 1;
     }
     put_at(out, at, b"")
 }
 
 // Writes the types of words, joined by `, `.
-pub fn show_types<'a>(
-    out: &mut [u8],
-    at: Wrote,
-    types: &[u32],
-    script: &'a [u8],
-    library: &'a [u8],
-    words: &[u32],
-) -> Wrote
-    ensures { let T : Texts = texts_of script.now library.now in
-        Writes out.old at out.new result (sig (map (ty_of T types.now) words.now)) }
+pub fn show_types(out: &mut [u8], at: Wrote, types: &[u32], texts: &Texts, words: &[u32]) -> Wrote
+    ensures { Writes out.old at out.new result (sig (map (ty_of texts.now types.now) words.now)) }
 {
-    show_every(out, at, types, script, library, words, 0, 1, words.len())
+    show_every(out, at, types, texts, words, 0, 1, words.len())
 }
 
 // Writes the types of the arguments of the signature that `words` begins with, joined by `, `.
-pub fn show_arg_types<'a>(
+pub fn show_arg_types(
     out: &mut [u8],
     at: Wrote,
     types: &[u32],
-    script: &'a [u8],
-    library: &'a [u8],
+    texts: &Texts,
     words: &[u32],
 ) -> Wrote
-    ensures { let T : Texts = texts_of script.now library.now in
-        Writes out.old at out.new result (sig (arg_types (args_of T types.now words.now))) }
+    ensures { Writes out.old at out.new result (sig (arg_types (args_of texts.now types.now words.now))) }
 {
-    let n = tok::wide(tok::word_at(words, 0));
-    show_every(out, at, types, script, library, words, 2, 2, n)
+    let n = tok::word_at(words, 0) as usize;
+    show_every(out, at, types, texts, words, 2, 2, n)
 }

@@ -1,15 +1,12 @@
 -- The two ways to an answer: a cause of refusal found before the walk, or the walk and what is left after it. By cases. Assumes nothing.
-use Rattle.std.specs.Prelude.{ℕ, ◌≡◌, refl, List, [], ◌∷◌, length, replicate}
-use Rattle.std.proofs.Common.{sym, ap, ◌∙◌, subst, ⊎_elim}
+use Rattle.std.specs.Prelude.{ℕ, ◌≡◌, refl, List, length, replicate, Result as Found, Ok, Err, ⊤}
+use Rattle.std.proofs.Common.{sym, ap, ◌∙◌, subst}
 use Rattle.std.proofs.Math.Option.{none}
-use types.Run.{OneOf}
-use denote.Enum.Declared.{tag_of}
-use Rattle.std.proofs.lemmas.Bool.{eqb-false}
 use Rattle.tok.specs.Step.{Result, ok, refused, Refusal}
 use Rattle.refusals.specs.Inputs.{Inputs, Buffers}
 use Rattle.refusals.specs.Refusals.{refusal_of}
-use Rattle.refuse.specs.declared.Before.{Before}
-use Rattle.refuse.specs.declared.Before.TheVariants.{Passed, Scratch, Library, Image, Claims, Depth, Room}
+use Rattle.refuse.specs.declared.Cause.{Cause}
+use Rattle.refuse.specs.declared.Cause.TheVariants.{Scratch, Library, Image, Claims, Depth, Room}
 use Rattle.refuse.specs.Answer.{refusal_in, buffers_of}
 use Rattle.rules.specs.World.{World}
 use Rattle.rules.specs.Steps.{Done}
@@ -20,37 +17,26 @@ use Rattle.visit.specs.declared.Visit.{Visit}
 use Rattle.visit.specs.Whole.{lent}
 use Rattle.ending.specs.declared.Checked.{Checked}
 use Rattle.ending.specs.Ended.{ended_of, checked_of, EndsAs, before_of, over_of, WalkEnds}
-use Rattle.refuse.specs.contracts.Before.{the_type}
 
 -- ── Before the walk ──
 
--- the tag of Passed is none of the others
-passed-not : OneOf (1 ∷ 2 ∷ 3 ∷ 4 ∷ 5 ∷ 6 ∷ []) 0 → ⊥
-passed-not t =
-    ⊎_elim (λ z. eqb-false 0 1 refl z)
-    (λ t. ⊎_elim (λ z. eqb-false 0 2 refl z)
-    (λ t. ⊎_elim (λ z. eqb-false 0 3 refl z)
-    (λ t. ⊎_elim (λ z. eqb-false 0 4 refl z)
-    (λ t. ⊎_elim (λ z. eqb-false 0 5 refl z) (λ z. eqb-false 0 6 refl z) t) t) t) t) t
-
 -- a cause that was found is the answer, and every buffer is as it was
-found_before : (i : Inputs) (b : Buffers) (q : Before) → refusal_in q ≡ refusal_of i b → OneOf (1 ∷ 2 ∷ 3 ∷ 4 ∷ 5 ∷ 6 ∷ []) (tag_of the_type q) → EndsAs (check_of i b) b (before_of q)
+found_before : (i : Inputs) (b : Buffers) (cause : Cause) → refusal_in (Err cause) ≡ refusal_of i b → EndsAs (check_of i b) b (before_of cause)
 unfolding check_of unless_refused
-found_before i b Passed h t = absurd (passed-not t)
-found_before i b Scratch h t = rw (← h) (record { means = refl; only = refl })
-found_before i b (Library p) h t = rw (← h) (record { means = refl; only = refl })
-found_before i b (Image p) h t = rw (← h) (record { means = refl; only = refl })
-found_before i b (Claims p) h t = rw (← h) (record { means = refl; only = refl })
-found_before i b (Depth p) h t = rw (← h) (record { means = refl; only = refl })
-found_before i b Room h t = rw (← h) (record { means = refl; only = refl })
+found_before i b Scratch h = rw (← h) (record { means = refl; only = refl })
+found_before i b (Library p) h = rw (← h) (record { means = refl; only = refl })
+found_before i b (Image p) h = rw (← h) (record { means = refl; only = refl })
+found_before i b (Claims p) h = rw (← h) (record { means = refl; only = refl })
+found_before i b (Depth p) h = rw (← h) (record { means = refl; only = refl })
+found_before i b Room h = rw (← h) (record { means = refl; only = refl })
 
-module _ (i : Inputs) (b : Buffers) (q : Before) (h : refusal_in q ≡ refusal_of i b) where
-  pub refused-before : {r : Checked} → OneOf (1 ∷ 2 ∷ 3 ∷ 4 ∷ 5 ∷ 6 ∷ []) (tag_of the_type q) → r ≡ before_of q → (check_of i b ≡ ended_of r b) × (r ≡ checked_of (check_of i b))
-  refused-before t e =
-      let f = found_before i b q h t in
+module _ (i : Inputs) (b : Buffers) {q : Found ⊤ Cause} (h : refusal_in q ≡ refusal_of i b) where
+  pub refused-before : {cause : Cause} {r : Checked} → q ≡ Err cause → r ≡ before_of cause → (check_of i b ≡ ended_of r b) × (r ≡ checked_of (check_of i b))
+  refused-before {cause} k e =
+      let f = found_before i b cause (ap refusal_in (sym k) ∙ h) in
       rw e (f.means, f.only)
 
-  pub passed-before : q ≡ Passed → refusal_of i b ≡ none
+  pub passed-before : {passed : ⊤} → q ≡ Ok passed → refusal_of i b ≡ none
   passed-before e = sym h ∙ ap refusal_in e
 
 -- ── After it ──

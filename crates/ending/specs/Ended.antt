@@ -3,8 +3,8 @@
 use Rattle.std.specs.Prelude.{ℕ, ◌≤◌, ◌≡◌, cond, List, eqb, length}
 use Rattle.tok.specs.Step.{Result, Refusal, refusal, next}
 use Rattle.refusals.specs.Inputs.{Inputs, Buffers}
-use Rattle.refuse.specs.declared.Before.{Before}
-use Rattle.refuse.specs.declared.Before.TheVariants.{Passed, Scratch, Library, Image, Claims, Depth, Room}
+use Rattle.refuse.specs.declared.Cause.{Cause}
+use Rattle.refuse.specs.declared.Cause.TheVariants.{Scratch, Library, Image, Claims, Depth, Room}
 use Rattle.rules.specs.World.{World}
 use Rattle.rules.specs.Steps.{Done, skip}
 use Rattle.rules.specs.Walk.{walk_of}
@@ -39,9 +39,8 @@ pub record EndsAs (e : Ended) (after : Buffers) (r : Checked) : Type 0 where
   pub means : e ≡ ended_of r after
   pub only : r ≡ checked_of e
 
--- what is found before the walk; where nothing is found no refusal is answered, and number 0 stands for none
-abbrev pub before_of : Before → Checked
-before_of Passed = C.Refused 0 0
+-- what is found before the walk
+abbrev pub before_of : Cause → Checked
 before_of Scratch = C.Refused 1 0
 before_of (Library word) = C.Refused 2 word
 before_of (Image word) = C.Refused 3 word

@@ -12,7 +12,7 @@ ghost use Rattle.visit.specs.Whole.{Lent, lent};
 ghost use Rattle.ending.specs.Numbers.{numbers_of};
 ghost use Rattle.ending.specs.Ended.{EndsAs, before_of, Answers, over_of, EndsWell};
 
-use refuse::Before;
+use refuse::Cause;
 use visit::{State, Visit};
 
 // What the check answers: how many function words, type words, diagnostics and message bytes are used; or a refusal's number and place.
@@ -31,35 +31,31 @@ pub enum Checked {
 }
 
 // The number and place of what is found before the walk.
-pub fn refused_before(before: Before) -> Checked
-    ensures { result ≡ before_of before }
+pub fn refused_before(cause: Cause) -> Checked
+    ensures { result ≡ before_of cause }
 {
-    match before {
-        Before::Passed => return Checked::Refused {
-            number: 0,
-            place: 0,
-        },
-        Before::Scratch => return Checked::Refused {
+    match cause {
+        Cause::Scratch => Checked::Refused {
             number: 1,
             place: 0,
         },
-        Before::Library(word) => return Checked::Refused {
+        Cause::Library(word) => Checked::Refused {
             number: 2,
             place: word,
         },
-        Before::Image(word) => return Checked::Refused {
+        Cause::Image(word) => Checked::Refused {
             number: 3,
             place: word,
         },
-        Before::Claims(node) => return Checked::Refused {
+        Cause::Claims(node) => Checked::Refused {
             number: 4,
             place: node,
         },
-        Before::Depth(node) => return Checked::Refused {
+        Cause::Depth(node) => Checked::Refused {
             number: 5,
             place: node,
         },
-        Before::Room => return Checked::Refused {
+        Cause::Room => Checked::Refused {
             number: 6,
             place: 0,
         },

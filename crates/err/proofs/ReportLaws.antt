@@ -1,6 +1,6 @@
 -- The step of one diagnostic, from the writing of its texts and of its record: with room for all of it every part is written, and else
 -- some part had none. Assumes nothing.
-use Rattle.std.specs.Prelude.{ℕ, ◌+◌, ◌*◌, ◌-◌, ◌≤◌, ◌<◌, min, ◌≡◌, refl, Bool, true, false, ◌&&◌, List, [], ◌∷◌, ◌++◌, set}
+use Rattle.std.specs.Prelude.{ℕ, ◌+◌, ◌*◌, ◌-◌, ◌≤◌, ◌<◌, min, ◌≡◌, refl, Bool, true, false, ◌&&◌, List, [], ◌∷◌, ◌++◌, set, Option, None}
 use Rattle.std.proofs.Math.Path.{sym, ap}
 use Rattle.std.proofs.Common.{◌∙◌, le-leb, leb-true, leb-false, ltb-true}
 use native.Mathlib.Omega.{arith}
@@ -17,8 +17,6 @@ use Rattle.display.specs.Writing.{buffer_after, Writes}
 use Rattle.display.specs.WritingLaws.{◌and_then◌, writes-length, all_wrote, full_wrote, writes_nothing, writes-full}
 use Rattle.display.specs.WriteLaws.{write-one, write-append}
 use Rattle.err.specs.declared.Counts.{Counts}
-use Rattle.err.specs.declared.Reported.{Reported}
-use Rattle.err.specs.declared.Reported.TheVariants.{NoRoom}
 use Rattle.err.specs.Message.{Diagnostic}
 use Rattle.err.specs.Report.{six_words, most_diagnostics, most_bytes, has_room, added, tell, output, ended, Reports, fits, placed, placed_answer}
 
@@ -81,7 +79,7 @@ writes_end {o' = o'} {r = Full} p = writes-full o' []
 -- a text had no room
 no_room :
     {ds ms ms₂ : List ℕ} {c : Counts} {code : ℕ} {span : Span} {message primary : List ℕ} →
-    length ms < c.bytes + length (message ++ primary) → Reports (whole code span message primary) ds ms c ds ms₂ NoRoom
+    length ms < c.bytes + length (message ++ primary) → Reports (whole code span message primary) ds ms c ds ms₂ None
 unfolding ended
 no_room {ds} {ms} {ms₂} {c} {code} {span} {message} {primary} h = record { step = λ n. tells_none ds ms c code span message primary (ap (λ b. ltb c.diagnostics (most_diagnostics ds) && b) (lt-leb (c.bytes + length (message ++ primary)) (most_bytes ms) (omega arith)) ∙ and-false (ltb c.diagnostics (most_diagnostics ds))) n }
 
@@ -117,7 +115,7 @@ module _ {ds ms ms₁ ms₂ : List ℕ} {c : Counts} {code : ℕ} {span : Span} 
 
 -- both texts were written, the span was asked for, and the record was written
 pub tells :
-    {ds ds' ms ms₁ ms₂ : List ℕ} {c : Counts} {code : ℕ} {span span' : Span} {message primary : List ℕ} {r₁ r₂ : Wrote} {r : Reported} →
+    {ds ds' ms ms₁ ms₂ : List ℕ} {c : Counts} {code : ℕ} {span span' : Span} {message primary : List ℕ} {r₁ r₂ : Wrote} {r : Option Counts} →
     Writes ms (All c.bytes) ms₁ r₁ message → Writes ms₁ r₁ ms₂ r₂ primary → span' ≡ span →
     (ds' ≡ placed ds c code span' r₁ r₂) × (r ≡ placed_answer ds c r₁ r₂) →
     Reports (whole code span message primary) ds ms c ds' ms₂ r

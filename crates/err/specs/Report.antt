@@ -1,5 +1,5 @@
 -- One diagnostic written (document 01, "An answer", refusal 9): its record and its bytes, and the room that they need. Definitions.
-use Rattle.std.specs.Prelude.{ℕ, ◌+◌, ◌*◌, ◌-◌, ◌/◌, ◌%◌, ◌^◌, min, ◌≡◌, Bool, ◌&&◌, cond, List, [], ◌∷◌, ◌++◌, length, leb, ltb}
+use Rattle.std.specs.Prelude.{ℕ, ◌+◌, ◌*◌, ◌-◌, ◌/◌, ◌%◌, ◌^◌, min, ◌≡◌, Bool, ◌&&◌, cond, List, [], ◌∷◌, ◌++◌, length, leb, ltb, Option, Some, None}
 use Rattle.tok.specs.Word.{word_of}
 use Rattle.tok.specs.Step.{Result, ok, refused, Step, Refusal, refusal, ◌>>=◌, look, give, refuse, when}
 use Rattle.tok.specs.declared.Span.{Span}
@@ -7,8 +7,6 @@ use Rattle.ptype.specs.Add.{Buffer, buffer, write, append}
 use Rattle.display.specs.declared.Wrote.{Wrote}
 use Rattle.display.specs.declared.Wrote.TheVariants.{All, Full}
 use Rattle.err.specs.declared.Counts.{Counts}
-use Rattle.err.specs.declared.Reported.{Reported}
-use Rattle.err.specs.declared.Reported.TheVariants.{Told, NoRoom}
 use Rattle.err.specs.Message.{Diagnostic}
 
 -- The two buffers that a diagnostic goes to. Of the first, `used` counts diagnostics, of six words each.
@@ -60,14 +58,14 @@ abbrev pub output : (diagnostics messages : List ℕ) → Counts → Output
 output ds ms c = record { diagnostics = buffer ds c.diagnostics; messages = buffer ms c.bytes }
 
 -- The paper's number and values for each case, of node n: told, with the buffers and the counts after it; or refusal 9.
-unfoldable pub ended : (n : ℕ) → (diagnostics messages : List ℕ) → Reported → Result Output Refusal (Unit {0})
-ended n ds ms (Told c) = ok tt (output ds ms c)
-ended n ds ms NoRoom = refused (refusal 9 n)
+unfoldable pub ended : (n : ℕ) → (diagnostics messages : List ℕ) → Option Counts → Result Output Refusal (Unit {0})
+ended n ds ms (Some c) = ok tt (output ds ms c)
+ended n ds ms None = refused (refusal 9 n)
 
 -- One diagnostic in the whole buffers: ds and ms with their counts c came in, ds' and ms' are the buffers now, r the answer. (Its writer is lent
 -- the rest of ms: err_text, `ReportsIn`.)
 -- After 9 it says nothing of the buffers: "all outputs and scratch zero to their ends", which the check does at its end, whatever they held.
-pub record Reports (d : Diagnostic) (ds ms : List ℕ) (c : Counts) (ds' ms' : List ℕ) (r : Reported) : Type 0 where
+pub record Reports (d : Diagnostic) (ds ms : List ℕ) (c : Counts) (ds' ms' : List ℕ) (r : Option Counts) : Type 0 where
   pub step : (n : ℕ) → tell n d (output ds ms c) ≡ ended n ds' ms' r
 
 -- ---- the record alone
@@ -86,7 +84,7 @@ placed ds c code span Full p = ds
 placed ds c code span (All m) Full = ds
 placed ds c code span (All m) (All p) = cond (fits ds c m p) (write ds (6 * c.diagnostics) (placed_record c code span m p)) ds
 
-unfoldable pub placed_answer : List ℕ → Counts → (message primary : Wrote) → Reported
-placed_answer ds c Full p = NoRoom
-placed_answer ds c (All m) Full = NoRoom
-placed_answer ds c (All m) (All p) = cond (fits ds c m p) (Told (record { diagnostics = c.diagnostics + 1; bytes = p })) NoRoom
+unfoldable pub placed_answer : List ℕ → Counts → (message primary : Wrote) → Option Counts
+placed_answer ds c Full p = None
+placed_answer ds c (All m) Full = None
+placed_answer ds c (All m) (All p) = cond (fits ds c m p) (Some (record { diagnostics = c.diagnostics + 1; bytes = p })) None

@@ -2,7 +2,7 @@
 #![tactic(auto)]
 
 ghost use Rattle.std.specs.Prelude.{ℕ, map};
-ghost use Rattle.tok.specs.Text.{Texts, texts_of, name_bytes, text};
+ghost use Rattle.tok.specs.Text.{name_bytes, text};
 ghost use Rattle.ptype.specs.Ty.{Ty};
 ghost use Rattle.ptype.specs.Words.{ty_of};
 ghost use Rattle.display.specs.Writing.{Writes};
@@ -12,7 +12,8 @@ ghost use Rattle.err_text.specs.Rest.{ReportsIn};
 ghost use Rattle.err_calls.specs.Candidates.{candidate_at, candidates_at};
 
 use display::Wrote;
-use err::{CallName, Counts, Reported};
+use err::{CallName, Counts};
+use tok::Texts;
 
 // 14: A call through a field of what is no name.
 pub fn call_through_field(
@@ -20,7 +21,7 @@ pub fn call_through_field(
     rest: &mut [u8],
     counts: Counts,
     name: u32,
-) -> Reported
+) -> Option<Counts>
     ensures { ReportsIn (call_through_field name) diagnostics.old rest.old counts diagnostics.new rest.new result }
 {
     let a = display::put_at(
@@ -32,146 +33,131 @@ pub fn call_through_field(
 }
 
 // 15: A call into a package that is not held.
-pub fn missing_package<'a>(
+pub fn missing_package(
     diagnostics: &mut [u32],
     rest: &mut [u8],
     counts: Counts,
-    script: &'a [u8],
-    library: &'a [u8],
+    texts: &Texts,
     pkg: u32,
-) -> Reported
-    ensures { let T : Texts = texts_of script.now library.now in
-        ReportsIn (missing_package pkg (name_bytes T pkg)) diagnostics.old rest.old counts diagnostics.new rest.new result }
+) -> Option<Counts>
+    ensures { ReportsIn (missing_package pkg (name_bytes texts.now pkg)) diagnostics.old rest.old counts diagnostics.new rest.new result }
 {
     let a = display::put_at(rest, Wrote::All(0), b"Can't find package ");
-    let b = err_text::put_ticked(rest, a, script, library, pkg);
+    let b = err_text::put_ticked(rest, a, texts, pkg);
     let c = display::put_at(rest, b, b"package used here");
     err_text::report(diagnostics, counts, 15, tok::token_span(pkg), b, c)
 }
 
 // 16: A call of a function that the package does not have.
-pub fn undefined_in_package<'a>(
+pub fn undefined_in_package(
     diagnostics: &mut [u32],
     rest: &mut [u8],
     counts: Counts,
-    script: &'a [u8],
-    library: &'a [u8],
+    texts: &Texts,
     pkg: u32,
     name: u32,
-) -> Reported
-    ensures { let T : Texts = texts_of script.now library.now in
-        ReportsIn (undefined_in_package name (pkg_name (name_bytes T pkg) (name_bytes T name))) diagnostics.old rest.old counts diagnostics.new
+) -> Option<Counts>
+    ensures { ReportsIn (undefined_in_package name (pkg_name (name_bytes texts.now pkg) (name_bytes texts.now name))) diagnostics.old rest.old counts diagnostics.new
         rest.new result }
 {
     let a = display::put_at(rest, Wrote::All(0), b"Call to undefined function ");
-    let b = err_text::put_call_name(rest, a, script, library, CallName::OfPackage(pkg, name));
+    let b = err_text::put_call_name(rest, a, texts, CallName::OfPackage(pkg, name));
     err_text::report(diagnostics, counts, 16, tok::token_span(name), b, b)
 }
 
 // 17: A call of a function that the script does not have.
-pub fn undefined_own<'a>(
+pub fn undefined_own(
     diagnostics: &mut [u32],
     rest: &mut [u8],
     counts: Counts,
-    script: &'a [u8],
-    library: &'a [u8],
+    texts: &Texts,
     name: u32,
-) -> Reported
-    ensures { let T : Texts = texts_of script.now library.now in
-        ReportsIn (undefined_own name (name_bytes T name)) diagnostics.old rest.old counts diagnostics.new rest.new result }
+) -> Option<Counts>
+    ensures { ReportsIn (undefined_own name (name_bytes texts.now name)) diagnostics.old rest.old counts diagnostics.new rest.new result }
 {
     let a = display::put_at(rest, Wrote::All(0), b"Call to undefined function ");
-    let b = err_text::put_ticked(rest, a, script, library, name);
+    let b = err_text::put_ticked(rest, a, texts, name);
     err_text::report(diagnostics, counts, 17, tok::token_span(name), b, b)
 }
 
 // Writes the types of the arguments of the signature that begins at a place of `words`, joined by `, `.
-fn put_candidate<'a>(
+fn put_candidate(
     rest: &mut [u8],
     at: Wrote,
     types: &[u32],
-    script: &'a [u8],
-    library: &'a [u8],
+    texts: &Texts,
     words: &[u32],
     start: u32,
 ) -> Wrote
-    ensures { let T : Texts = texts_of script.now library.now in
-        Writes rest.old at rest.new result (sig (candidate_at T types.now words.now start)) }
+    ensures { Writes rest.old at rest.new result (sig (candidate_at texts.now types.now words.now start)) }
 {
     let i = tok::wide(start);
     if i <= words.len() {
-        return display::show_arg_types(rest, at, types, script, library, &words[i..]);
+        return display::show_arg_types(rest, at, types, texts, &words[i..]);
     }
     display::put_at(rest, at, b"")
 }
 
 // Writes the candidates whose signatures begin at the places `starts` of `words`, joined by ` | `.
-fn put_candidates<'a>(
+fn put_candidates(
     rest: &mut [u8],
     at: Wrote,
     types: &[u32],
-    script: &'a [u8],
-    library: &'a [u8],
+    texts: &Texts,
     words: &[u32],
     starts: &[u32],
 ) -> Wrote
-    ensures { let T : Texts = texts_of script.now library.now in
-        Writes rest.old at rest.new result (joined (text " | ") (map sig (candidates_at T types.now words.now starts.now))) }
+    ensures { Writes rest.old at rest.new result (joined (text " | ") (map sig (candidates_at texts.now types.now words.now starts.now))) }
 {
     let mut at = at;
-    let mut i = 0;
-    while i < starts.len() {
+    for i in 0..starts.len() {
         at = display::put_separator(rest, at, i, b" | ");
         let start = tok::word_at(starts, i);
-        at = put_candidate(rest, at, types, script, library, words, start);
-        i += 1;
+        at = put_candidate(rest, at, types, texts, words, start);
     }
     display::put_at(rest, at, b"")
 }
 
 // 18: A call of a group of several, none of which takes these argument types. The candidates' signatures begin at the places `starts` of `words`.
-pub fn no_specialisation<'a>(
+pub fn no_specialisation(
     diagnostics: &mut [u32],
     rest: &mut [u8],
     counts: Counts,
     types: &[u32],
-    script: &'a [u8],
-    library: &'a [u8],
+    texts: &Texts,
     token: u32,
     callee: CallName,
     provided: &[u32],
     words: &[u32],
     starts: &[u32],
-) -> Reported
-    ensures { let T : Texts = texts_of script.now library.now in let U : ℕ → Ty = ty_of T types.now in
-        ReportsIn (no_specialisation token (call_name T callee) (map U provided.now) (candidates_at T types.now words.now starts.now))
+) -> Option<Counts>
+    ensures { let U : ℕ → Ty = ty_of texts.now types.now in
+        ReportsIn (no_specialisation token (call_name texts.now callee) (map U provided.now) (candidates_at texts.now types.now words.now starts.now))
         diagnostics.old rest.old counts diagnostics.new rest.new result }
 {
     let a = display::put_at(rest, Wrote::All(0), b"no specialisation of ");
-    let b = err_text::put_call_name(rest, a, script, library, callee);
+    let b = err_text::put_call_name(rest, a, texts, callee);
     let c = display::put_at(rest, b, b" accepts (");
-    let d = display::show_types(rest, c, types, script, library, provided);
+    let d = display::show_types(rest, c, types, texts, provided);
     let e = display::put_at(rest, d, b"); available: ");
-    let f = put_candidates(rest, e, types, script, library, words, starts);
+    let f = put_candidates(rest, e, types, texts, words, starts);
     err_text::report(diagnostics, counts, 18, tok::token_span(token), f, f)
 }
 
 // 19: A call with another number of arguments.
-pub fn argument_count<'a>(
+pub fn argument_count(
     diagnostics: &mut [u32],
     rest: &mut [u8],
     counts: Counts,
-    script: &'a [u8],
-    library: &'a [u8],
+    texts: &Texts,
     token: u32,
     callee: CallName,
     required: usize,
     given: usize,
-) -> Reported
-    ensures { let T : Texts = texts_of script.now library.now in
-        ReportsIn (argument_count token (call_name T callee) required given) diagnostics.old rest.old counts diagnostics.new rest.new result }
+) -> Option<Counts>
+    ensures { ReportsIn (argument_count token (call_name texts.now callee) required given) diagnostics.old rest.old counts diagnostics.new rest.new result }
 {
-    let a = err_text::put_call_name(rest, Wrote::All(0), script, library, callee);
+    let a = err_text::put_call_name(rest, Wrote::All(0), texts, callee);
     let b = display::put_at(rest, a, b" requires ");
     let c = display::put_decimal(rest, b, required);
     let d = display::put_at(rest, c, b" arguments, got ");

@@ -2,35 +2,39 @@
 #![tactic(auto)]
 
 ghost use Rattle.std.specs.Prelude.{ℕ};
-ghost use Rattle.tok.specs.Text.{Texts, texts_of, name_bytes};
+ghost use Rattle.tok.specs.Text.{name_bytes};
 ghost use Rattle.ptype.specs.Ty.{Ty};
 ghost use Rattle.ptype.specs.Words.{ty_of};
 ghost use Rattle.err.specs.Message.{no_binding, let_void, defined_already, bad_return, bad_condition, match_cases, empty_import, no_import};
 ghost use Rattle.err_text.specs.Rest.{ReportsIn};
 
 use display::Wrote;
-use err::{Counts, Reported};
+use err::Counts;
+use tok::Texts;
 
 // 3: A name that is not bound.
-pub fn no_binding<'a>(
+pub fn no_binding(
     diagnostics: &mut [u32],
     rest: &mut [u8],
     counts: Counts,
-    script: &'a [u8],
-    library: &'a [u8],
+    texts: &Texts,
     name: u32,
-) -> Reported
-    ensures { let T : Texts = texts_of script.now library.now in
-        ReportsIn (no_binding name (name_bytes T name)) diagnostics.old rest.old counts diagnostics.new rest.new result }
+) -> Option<Counts>
+    ensures { ReportsIn (no_binding name (name_bytes texts.now name)) diagnostics.old rest.old counts diagnostics.new rest.new result }
 {
     let a = display::put_at(rest, Wrote::All(0), b"binding ");
-    let b = err_text::put_ticked(rest, a, script, library, name);
+    let b = err_text::put_ticked(rest, a, texts, name);
     let c = display::put_at(rest, b, b" not found");
     err_text::report(diagnostics, counts, 3, tok::token_span(name), c, c)
 }
 
 // 7: A let whose right side returns nothing.
-pub fn let_void(diagnostics: &mut [u32], rest: &mut [u8], counts: Counts, name: u32) -> Reported
+pub fn let_void(
+    diagnostics: &mut [u32],
+    rest: &mut [u8],
+    counts: Counts,
+    name: u32,
+) -> Option<Counts>
     ensures { ReportsIn (let_void name) diagnostics.old rest.old counts diagnostics.new rest.new result }
 {
     let a = display::put_at(
@@ -42,79 +46,74 @@ pub fn let_void(diagnostics: &mut [u32], rest: &mut [u8], counts: Counts, name: 
 }
 
 // 8: A function of a name already met.
-pub fn defined_already<'a>(
+pub fn defined_already(
     diagnostics: &mut [u32],
     rest: &mut [u8],
     counts: Counts,
-    script: &'a [u8],
-    library: &'a [u8],
+    texts: &Texts,
     name: u32,
-) -> Reported
-    ensures { let T : Texts = texts_of script.now library.now in
-        ReportsIn (defined_already name (name_bytes T name)) diagnostics.old rest.old counts diagnostics.new rest.new result }
+) -> Option<Counts>
+    ensures { ReportsIn (defined_already name (name_bytes texts.now name)) diagnostics.old rest.old counts diagnostics.new rest.new result }
 {
-    let a = err_text::put_ticked(rest, Wrote::All(0), script, library, name);
+    let a = err_text::put_ticked(rest, Wrote::All(0), texts, name);
     let b = display::put_at(rest, a, b" is already defined");
     err_text::report(diagnostics, counts, 8, tok::token_span(name), b, b)
 }
 
 // 9: A function whose body is not of its return type. The token is the return type's.
-pub fn bad_return<'a>(
+pub fn bad_return(
     diagnostics: &mut [u32],
     rest: &mut [u8],
     counts: Counts,
     types: &[u32],
-    script: &'a [u8],
-    library: &'a [u8],
+    texts: &Texts,
     token: u32,
     name: u32,
     ret: u32,
     computed: u32,
-) -> Reported
-    ensures { let T : Texts = texts_of script.now library.now in let U : ℕ → Ty = ty_of T types.now in
-        ReportsIn (bad_return token (name_bytes T name) (U ret) (U computed)) diagnostics.old rest.old counts diagnostics.new rest.new result }
+) -> Option<Counts>
+    ensures { let U : ℕ → Ty = ty_of texts.now types.now in
+        ReportsIn (bad_return token (name_bytes texts.now name) (U ret) (U computed)) diagnostics.old rest.old counts diagnostics.new rest.new result }
 {
-    let a = err_text::put_ticked(rest, Wrote::All(0), script, library, name);
+    let a = err_text::put_ticked(rest, Wrote::All(0), texts, name);
     let b = display::put_at(rest, a, b" should return ");
-    let c = display::show_type(rest, b, types, script, library, ret);
+    let c = display::show_type(rest, b, types, texts, ret);
     let d = display::put_at(rest, c, b", but returns ");
-    let e = display::show_type(rest, d, types, script, library, computed);
+    let e = display::show_type(rest, d, types, texts, computed);
     err_text::report(diagnostics, counts, 9, tok::token_span(token), e, e)
 }
 
 // 23: A match condition that is not Bool.
-pub fn bad_condition<'a>(
+pub fn bad_condition(
     diagnostics: &mut [u32],
     rest: &mut [u8],
     counts: Counts,
     types: &[u32],
-    script: &'a [u8],
-    library: &'a [u8],
+    texts: &Texts,
     token: u32,
     ty: u32,
-) -> Reported
-    ensures { let T : Texts = texts_of script.now library.now in let U : ℕ → Ty = ty_of T types.now in
+) -> Option<Counts>
+    ensures { let U : ℕ → Ty = ty_of texts.now types.now in
         ReportsIn (bad_condition token (U ty)) diagnostics.old rest.old counts diagnostics.new rest.new result }
 {
     let a = display::put_at(rest, Wrote::All(0), b"Match conditions must be Bool, got ");
-    let b = display::show_type(rest, a, types, script, library, ty);
+    let b = display::show_type(rest, a, types, texts, ty);
     let c = display::put_at(rest, b, b" instead");
     err_text::report(diagnostics, counts, 23, tok::token_span(token), c, c)
 }
 
 // 24: A match case that is not of the default's type.
-pub fn match_cases<'a>(
+pub fn match_cases(
     diagnostics: &mut [u32],
     rest: &mut [u8],
     counts: Counts,
     types: &[u32],
-    script: &'a [u8],
-    library: &'a [u8],
+    texts: &Texts,
     token: u32,
     default: u32,
     ty: u32,
-) -> Reported
-    ensures { let T : Texts = texts_of script.now library.now in let U : ℕ → Ty = ty_of T types.now in
+) -> Option<Counts>
+    ensures { let U : ℕ → Ty = ty_of texts.now types.now in
         ReportsIn (match_cases token (U default) (U ty)) diagnostics.old rest.old counts diagnostics.new rest.new result }
 {
     let a = display::put_at(
@@ -122,9 +121,9 @@ pub fn match_cases<'a>(
         Wrote::All(0),
         b"Match cases must resolve to the same type, but got ",
     );
-    let b = display::show_type(rest, a, types, script, library, default);
+    let b = display::show_type(rest, a, types, texts, default);
     let c = display::put_at(rest, b, b" and ");
-    let d = display::show_type(rest, c, types, script, library, ty);
+    let d = display::show_type(rest, c, types, texts, ty);
     err_text::report(diagnostics, counts, 24, tok::token_span(token), d, d)
 }
 
@@ -134,7 +133,7 @@ pub fn empty_import(
     rest: &mut [u8],
     counts: Counts,
     token: u32,
-) -> Reported
+) -> Option<Counts>
     ensures { ReportsIn (empty_import token) diagnostics.old rest.old counts diagnostics.new rest.new result }
 {
     let a = display::put_at(
@@ -146,18 +145,16 @@ pub fn empty_import(
 }
 
 // 26: A path that names no package of the library.
-pub fn no_import<'a>(
+pub fn no_import(
     diagnostics: &mut [u32],
     rest: &mut [u8],
     counts: Counts,
-    script: &'a [u8],
-    library: &'a [u8],
+    texts: &Texts,
     path: u32,
-) -> Reported
-    ensures { let T : Texts = texts_of script.now library.now in
-        ReportsIn (no_import path (name_bytes T path)) diagnostics.old rest.old counts diagnostics.new rest.new result }
+) -> Option<Counts>
+    ensures { ReportsIn (no_import path (name_bytes texts.now path)) diagnostics.old rest.old counts diagnostics.new rest.new result }
 {
     let a = display::put_at(rest, Wrote::All(0), b"Wasnt able to find a package named ");
-    let b = err_text::put_ticked(rest, a, script, library, path);
+    let b = err_text::put_ticked(rest, a, texts, path);
     err_text::report(diagnostics, counts, 26, tok::token_span(path), b, b)
 }

@@ -6,9 +6,9 @@
 
 ghost use Rattle.std.specs.Prelude.{◌≡◌, ◌<◌};
 
-use err::{CallName, Counts, Reported};
+use err::{CallName, Counts};
 use std::io;
-use tok::{Span, least, little_endian};
+use tok::{Span, Texts, least, little_endian};
 
 // How much is read of the input, and how many bytes of messages are lent.
 const LARGE: usize = 65_536;
@@ -84,15 +84,14 @@ fn callee(pkg: u32, name: u32) -> CallName {
     CallName::OfPackage(pkg, name)
 }
 
-fn of_values<'a>(
+fn of_values(
     diagnostics: &mut [u32],
     rest: &mut [u8],
     counts: Counts,
     types: &[u32],
-    script: &'a [u8],
-    library: &'a [u8],
+    texts: &Texts,
     c: Case,
-) -> Reported {
+) -> Option<Counts> {
     let code = c.code;
     if code == 1 {
         return err_values::empty_array(diagnostics, rest, counts, c.a);
@@ -103,25 +102,14 @@ fn of_values<'a>(
             rest,
             counts,
             types,
-            script,
-            library,
+            texts,
             span(c.a, c.b),
             c.c,
             c.d,
         );
     }
     if code == 4 {
-        return err_values::unsupported(
-            diagnostics,
-            rest,
-            counts,
-            types,
-            script,
-            library,
-            c.a,
-            c.b,
-            c.c,
-        );
+        return err_values::unsupported(diagnostics, rest, counts, types, texts, c.a, c.b, c.c);
     }
     if code == 5 {
         return err_values::incompatible(
@@ -129,8 +117,7 @@ fn of_values<'a>(
             rest,
             counts,
             types,
-            script,
-            library,
+            texts,
             c.a,
             c.b,
             c.c,
@@ -138,154 +125,91 @@ fn of_values<'a>(
         );
     }
     if code == 6 {
-        return err_values::bad_unary(
-            diagnostics,
-            rest,
-            counts,
-            types,
-            script,
-            library,
-            c.a,
-            c.b,
-            c.c,
-        );
+        return err_values::bad_unary(diagnostics, rest, counts, types, texts, c.a, c.b, c.c);
     }
-    of_casts_and_fields(diagnostics, rest, counts, types, script, library, c)
+    of_casts_and_fields(diagnostics, rest, counts, types, texts, c)
 }
 
-fn of_casts_and_fields<'a>(
+fn of_casts_and_fields(
     diagnostics: &mut [u32],
     rest: &mut [u8],
     counts: Counts,
     types: &[u32],
-    script: &'a [u8],
-    library: &'a [u8],
+    texts: &Texts,
     c: Case,
-) -> Reported {
+) -> Option<Counts> {
     let code = c.code;
     if code == 10 {
-        return err_values::redundant_cast(
-            diagnostics,
-            rest,
-            counts,
-            types,
-            script,
-            library,
-            c.a,
-            c.b,
-        );
+        return err_values::redundant_cast(diagnostics, rest, counts, types, texts, c.a, c.b);
     }
     if code == 11 {
-        return err_values::bad_cast(
-            diagnostics,
-            rest,
-            counts,
-            types,
-            script,
-            library,
-            c.a,
-            c.b,
-            c.c,
-        );
+        return err_values::bad_cast(diagnostics, rest, counts, types, texts, c.a, c.b, c.c);
     }
     if code == 12 {
-        return err_values::no_record(diagnostics, rest, counts, types, script, library, c.a, c.b);
+        return err_values::no_record(diagnostics, rest, counts, types, texts, c.a, c.b);
     }
     if code == 13 {
-        return err_values::no_field(diagnostics, rest, counts, types, script, library, c.a, c.b);
+        return err_values::no_field(diagnostics, rest, counts, types, texts, c.a, c.b);
     }
-    of_names(diagnostics, rest, counts, types, script, library, c)
+    of_names(diagnostics, rest, counts, types, texts, c)
 }
 
-fn of_names<'a>(
+fn of_names(
     diagnostics: &mut [u32],
     rest: &mut [u8],
     counts: Counts,
     types: &[u32],
-    script: &'a [u8],
-    library: &'a [u8],
+    texts: &Texts,
     c: Case,
-) -> Reported {
+) -> Option<Counts> {
     let code = c.code;
     if code == 3 {
-        return err_names::no_binding(diagnostics, rest, counts, script, library, c.a);
+        return err_names::no_binding(diagnostics, rest, counts, texts, c.a);
     }
     if code == 7 {
         return err_names::let_void(diagnostics, rest, counts, c.a);
     }
     if code == 8 {
-        return err_names::defined_already(diagnostics, rest, counts, script, library, c.a);
+        return err_names::defined_already(diagnostics, rest, counts, texts, c.a);
     }
     if code == 9 {
-        return err_names::bad_return(
-            diagnostics,
-            rest,
-            counts,
-            types,
-            script,
-            library,
-            c.a,
-            c.b,
-            c.c,
-            c.d,
-        );
+        return err_names::bad_return(diagnostics, rest, counts, types, texts, c.a, c.b, c.c, c.d);
     }
-    of_matches_and_imports(diagnostics, rest, counts, types, script, library, c)
+    of_matches_and_imports(diagnostics, rest, counts, types, texts, c)
 }
 
-fn of_matches_and_imports<'a>(
+fn of_matches_and_imports(
     diagnostics: &mut [u32],
     rest: &mut [u8],
     counts: Counts,
     types: &[u32],
-    script: &'a [u8],
-    library: &'a [u8],
+    texts: &Texts,
     c: Case,
-) -> Reported {
+) -> Option<Counts> {
     let code = c.code;
     if code == 23 {
-        return err_names::bad_condition(
-            diagnostics,
-            rest,
-            counts,
-            types,
-            script,
-            library,
-            c.a,
-            c.b,
-        );
+        return err_names::bad_condition(diagnostics, rest, counts, types, texts, c.a, c.b);
     }
     if code == 24 {
-        return err_names::match_cases(
-            diagnostics,
-            rest,
-            counts,
-            types,
-            script,
-            library,
-            c.a,
-            c.b,
-            c.c,
-        );
+        return err_names::match_cases(diagnostics, rest, counts, types, texts, c.a, c.b, c.c);
     }
     if code == 25 {
         return err_names::empty_import(diagnostics, rest, counts, c.a);
     }
     if code == 26 {
-        return err_names::no_import(diagnostics, rest, counts, script, library, c.a);
+        return err_names::no_import(diagnostics, rest, counts, texts, c.a);
     }
-    of_arguments(diagnostics, rest, counts, types, script, library, c)
+    of_arguments(diagnostics, rest, counts, types, texts, c)
 }
 
-fn of_arguments<'a>(
+fn of_arguments(
     diagnostics: &mut [u32],
     rest: &mut [u8],
     counts: Counts,
     types: &[u32],
-    script: &'a [u8],
-    library: &'a [u8],
+    texts: &Texts,
     c: Case,
-) -> Reported {
+) -> Option<Counts> {
     let code = c.code;
     let at = span(c.a, c.b);
     if code == 20 {
@@ -294,8 +218,7 @@ fn of_arguments<'a>(
             rest,
             counts,
             types,
-            script,
-            library,
+            texts,
             at,
             callee(c.f, c.g),
             c.c,
@@ -309,8 +232,7 @@ fn of_arguments<'a>(
             rest,
             counts,
             types,
-            script,
-            library,
+            texts,
             at,
             callee(c.f, c.g),
             c.c,
@@ -323,73 +245,61 @@ fn of_arguments<'a>(
             diagnostics,
             rest,
             counts,
-            script,
-            library,
+            texts,
             at,
             callee(c.d, c.e),
             c.c,
         );
     }
-    Reported::NoRoom
+    None
 }
 
-fn of_calls<'a>(
+fn of_calls(
     diagnostics: &mut [u32],
     rest: &mut [u8],
     counts: Counts,
     types: &[u32],
-    script: &'a [u8],
-    library: &'a [u8],
+    texts: &Texts,
     c: Case,
-) -> Reported {
+) -> Option<Counts> {
     let code = c.code;
     if code == 14 {
         return err_calls::call_through_field(diagnostics, rest, counts, c.a);
     }
     if code == 15 {
-        return err_calls::missing_package(diagnostics, rest, counts, script, library, c.a);
+        return err_calls::missing_package(diagnostics, rest, counts, texts, c.a);
     }
     if code == 16 {
-        return err_calls::undefined_in_package(
-            diagnostics,
-            rest,
-            counts,
-            script,
-            library,
-            c.a,
-            c.b,
-        );
+        return err_calls::undefined_in_package(diagnostics, rest, counts, texts, c.a, c.b);
     }
     if code == 17 {
-        return err_calls::undefined_own(diagnostics, rest, counts, script, library, c.a);
+        return err_calls::undefined_own(diagnostics, rest, counts, texts, c.a);
     }
     if code == 19 {
         return err_calls::argument_count(
             diagnostics,
             rest,
             counts,
-            script,
-            library,
+            texts,
             c.a,
             callee(c.d, c.e),
             tok::wide(c.b),
             tok::wide(c.c),
         );
     }
-    of_values(diagnostics, rest, counts, types, script, library, c)
+    of_values(diagnostics, rest, counts, types, texts, c)
 }
 
-fn of_groups<'a>(
+fn of_groups(
     diagnostics: &mut [u32],
     rest: &mut [u8],
     counts: Counts,
     types: &[u32],
-    script: &'a [u8],
-    library: &'a [u8],
+    texts: &Texts,
     words: &[u32],
     lists: &[u32],
     c: Case,
-) -> Reported {
+) -> Option<Counts> {
     let code = c.code;
     if code == 18 {
         return err_calls::no_specialisation(
@@ -397,8 +307,7 @@ fn of_groups<'a>(
             rest,
             counts,
             types,
-            script,
-            library,
+            texts,
             c.a,
             callee(c.b, c.c),
             words_in(lists, tok::wide(c.d), tok::wide(c.e)),
@@ -406,29 +315,27 @@ fn of_groups<'a>(
             words_in(lists, tok::wide(c.f), tok::wide(c.g)),
         );
     }
-    of_calls(diagnostics, rest, counts, types, script, library, c)
+    of_calls(diagnostics, rest, counts, types, texts, c)
 }
 
 // A case, written into the rest of the messages.
-fn written<'a>(
+fn written(
     diagnostics: &mut [u32],
     messages: &mut [u8],
     counts: Counts,
     types: &[u32],
-    script: &'a [u8],
-    library: &'a [u8],
+    texts: &Texts,
     words: &[u32],
     lists: &[u32],
     c: Case,
-) -> Reported {
+) -> Option<Counts> {
     let free = err_text::first_free(messages, counts);
     of_groups(
         diagnostics,
         &mut messages[free..],
         counts,
         types,
-        script,
-        library,
+        texts,
         words,
         lists,
         c,
@@ -487,21 +394,20 @@ fn print_all(
 }
 
 // The counts after a case; a case that is refused says so.
-fn after(rt: &impl Print, r: Reported, counts: Counts) -> io::Result<Counts> {
-    let Reported::Told(c) = r else {
+fn after(rt: &impl Print, r: Option<Counts>, counts: Counts) -> io::Result<Counts> {
+    let Some(c) = r else {
         print(rt, b"refused 9\n")?;
         return Ok(counts);
     };
     Ok(c)
 }
 
-fn run<'a>(
+fn run(
     rt: &impl Print,
     diagnostics: &mut [u32],
     messages: &mut [u8],
     types: &[u32],
-    script: &'a [u8],
-    library: &'a [u8],
+    texts: &Texts,
     words: &[u32],
     lists: &[u32],
     cases: &[u32],
@@ -513,17 +419,7 @@ fn run<'a>(
     };
     for k in 0..count {
         let c = case_at(cases, k);
-        let r = written(
-            diagnostics,
-            messages,
-            counts,
-            types,
-            script,
-            library,
-            words,
-            lists,
-            c,
-        );
+        let r = written(diagnostics, messages, counts, types, texts, words, lists, c);
         counts = after(rt, r, counts)?;
     }
     print_all(rt, diagnostics, messages, counts.diagnostics)
@@ -552,7 +448,7 @@ fn room(rt: &impl Print, words: usize, bytes: usize, told: usize, used: usize) -
         counts,
         0,
     );
-    let Reported::Told(_) = r else {
+    let Some(_) = r else {
         return print(rt, b"refused\n");
     };
     print(rt, b"told\n")
@@ -593,13 +489,16 @@ fn parts(rt: &impl Print, input: &[u8]) -> io::Result<()> {
     fill(&mut w, input, 24 + script + library);
     let mut diagnostics = [0u32; 1536];
     let mut messages = [0u8; LARGE];
+    let texts = Texts {
+        script: bytes_in(input, 24, script),
+        library: bytes_in(input, 24 + script, library),
+    };
     run(
         rt,
         &mut diagnostics,
         &mut messages,
         words_in(&w, 0, types),
-        bytes_in(input, 24, script),
-        bytes_in(input, 24 + script, library),
+        &texts,
         words_in(&w, types, words),
         words_in(&w, types + words, lists),
         words_in(&w, types + words + lists, cases),

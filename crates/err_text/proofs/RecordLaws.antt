@@ -1,4 +1,5 @@
 -- The record of a diagnostic by the branches that write it. Assumes nothing.
+use Rattle.std.specs.Prelude.{Option, Some, None}
 use Prim.Native.Nat.{ℕ, ◌+◌, ◌*◌, ◌-◌, ◌≤◌, ◌<◌}
 use mathlib.Core.Path.{◌≡◌, refl, sym, ◌∙◌}
 use mathlib.Core.Bool.{Bool, true, false, not, ◌&&◌}
@@ -13,8 +14,6 @@ use Rattle.ptype.specs.Add.{write}
 use Rattle.display.specs.declared.Wrote.{Wrote}
 use Rattle.display.specs.declared.Wrote.TheVariants.{All, Full}
 use Rattle.err.specs.declared.Counts.{Counts}
-use Rattle.err.specs.declared.Reported.{Reported}
-use Rattle.err.specs.declared.Reported.TheVariants.{Told, NoRoom}
 use Rattle.err.specs.Report.{as_word, most_diagnostics, fits, placed, placed_answer}
 use Rattle.err_text.specs.Rest.{in_whole}
 
@@ -41,21 +40,21 @@ module _ (ds : List ℕ) (c : Counts) (m p : ℕ) where
   in_order e f g h = left_over h ∙ rw (lt-ltb c.diagnostics (most_diagnostics ds) (rw e at f), le-leb c.bytes (c.bytes + m) (omega arith), le-leb (c.bytes + m) (c.bytes + p) (omega arith))
 
 -- ---- report
-abbrev Placed : (ds : List ℕ) → Counts → (code : ℕ) → Span → (message primary : Wrote) → (ds' : List ℕ) → Reported → Type 0
+abbrev Placed : (ds : List ℕ) → Counts → (code : ℕ) → Span → (message primary : Wrote) → (ds' : List ℕ) → Option Counts → Type 0
 Placed ds c code span message primary ds' r =
     (ds' ≡ placed ds c code span (in_whole c message) (in_whole c primary)) × (r ≡ placed_answer ds c (in_whole c message) (in_whole c primary))
 
 module _ (ds : List ℕ) (c : Counts) (code : ℕ) (span : Span) {message : Wrote} (primary : Wrote) where
-  pub no-message : message ≡ Full → Placed ds c code span message primary ds NoRoom
+  pub no-message : message ≡ Full → Placed ds c code span message primary ds None
   unfolding placed placed_answer in_whole
   no-message e = (rw e, rw e)
 
 module _ (ds : List ℕ) (c : Counts) (code : ℕ) (span : Span) {message primary : Wrote} where
-  pub no-primary : {m : ℕ} → message ≡ All m → primary ≡ Full → Placed ds c code span message primary ds NoRoom
+  pub no-primary : {m : ℕ} → message ≡ All m → primary ≡ Full → Placed ds c code span message primary ds None
   unfolding placed placed_answer in_whole
   no-primary e k = (rw (e, k), rw (e, k))
 
-  pub not-placed : {m p : ℕ} {t : Bool} → message ≡ All m → primary ≡ All p → t ≡ fits ds c (c.bytes + m) (c.bytes + p) → not t ≡ true → Placed ds c code span message primary ds NoRoom
+  pub not-placed : {m p : ℕ} {t : Bool} → message ≡ All m → primary ≡ All p → t ≡ fits ds c (c.bytes + m) (c.bytes + p) → not t ≡ true → Placed ds c code span message primary ds None
   unfolding placed placed_answer in_whole
   not-placed {t = t} e k f h = (rw (e, k, ← f, not-true t h), rw (e, k, ← f, not-true t h))
 
@@ -63,7 +62,7 @@ module _ (ds : List ℕ) (c : Counts) (code : ℕ) (span : Span) {message primar
       {m p : ℕ} {t : Bool} {w₁ w₂ : ℕ} {ds' : List ℕ} → message ≡ All m → primary ≡ All p → t ≡ fits ds c (c.bytes + m) (c.bytes + p) → not t ≡ false →
       w₁ ≡ as_word span.start → w₂ ≡ as_word span.len →
       ds' ≡ write ds (6 * c.diagnostics) ((word_of 13 0 + code) ∷ w₁ ∷ w₂ ∷ c.bytes ∷ m ∷ (p - m) ∷ []) →
-      Placed ds c code span message primary ds' (Told (record { diagnostics = c.diagnostics + 1; bytes = c.bytes + p }))
+      Placed ds c code span message primary ds' (Some (record { diagnostics = c.diagnostics + 1; bytes = c.bytes + p }))
   unfolding placed placed_answer in_whole
   is-placed {m} {p} {t = t} e k f h x y z =
       let a : (c.bytes + m) - c.bytes ≡ m = omega arith in

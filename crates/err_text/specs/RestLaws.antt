@@ -1,5 +1,5 @@
 -- What is written into the rest of the message buffer is written in the whole buffer from the first free byte on. Assumes nothing.
-use Rattle.std.specs.Prelude.{ℕ, ◌+◌, ◌-◌, ◌≤◌, ◌<◌, ◌≡◌, refl, Bool, true, false, List, [], ◌∷◌, ◌++◌, leb, take, drop}
+use Rattle.std.specs.Prelude.{ℕ, ◌+◌, ◌-◌, ◌≤◌, ◌<◌, ◌≡◌, refl, Bool, true, false, List, [], ◌∷◌, ◌++◌, leb, take, drop, Option}
 use Rattle.std.proofs.Math.Path.{ap}
 use Rattle.std.proofs.Common.{◌∙◌, append-nil, zero-add, suc-add, add-zero, add_assoc, length-take, length-drop, take-append-drop, drop_of_length-le, take_all, leb-true, leb-false}
 use native.Mathlib.Omega.{arith}
@@ -13,7 +13,6 @@ use Rattle.display.specs.Writing.{place_after, buffer_after, Writes}
 use Rattle.display.specs.WriteLaws.{write-past}
 use Rattle.display.specs.WritingLaws.{◌and_then◌, all_wrote, writes-past, place-room, place-full, lent, put_back}
 use Rattle.err.specs.declared.Counts.{Counts}
-use Rattle.err.specs.declared.Reported.{Reported}
 use Rattle.err.specs.Message.{Diagnostic}
 use Rattle.err.specs.Report.{Reports, placed, placed_answer}
 use Rattle.err.proofs.ReportLaws.{tells, writes_end}
@@ -52,7 +51,7 @@ module _ (before : List ℕ) (c : Counts) (e : length before ≡ c.bytes) where
 abbrev diagnostic : (code : ℕ) → Span → (message primary : List ℕ) → Diagnostic
 diagnostic code span message primary = record { code = code; span = span; message = message; primary = primary }
 
-module _ (before : List ℕ) {ds ds' rest rest₁ rest₂ : List ℕ} {c : Counts} {code : ℕ} {span span' : Span} {message primary : List ℕ} {r : Reported} where
+module _ (before : List ℕ) {ds ds' rest rest₁ rest₂ : List ℕ} {c : Counts} {code : ℕ} {span span' : Span} {message primary : List ℕ} {r : Option Counts} where
   -- more bytes are counted than are lent: a message of one byte has no room
   past_the_end :
       {r₁ r₂ : Wrote} → length rest ≡ 0 → length (before ++ rest) < c.bytes → 0 < length message →
@@ -67,7 +66,7 @@ module _ (before : List ℕ) {ds ds' rest rest₁ rest₂ : List ℕ} {c : Count
       let same : rest₁ ≡ rest = a.bytes ∙ write-past rest 0 message (omega arith) in
       tells (writes-past (before ++ rest) c.bytes message (omega arith) (omega arith)) (full-before before c (rw same at b)) e w
 
-module _ {ds ds' rest rest₁ rest₂ : List ℕ} {c : Counts} {code : ℕ} {span span' : Span} {message primary : List ℕ} {r₁ r₂ : Wrote} {r : Reported} where
+module _ {ds ds' rest rest₁ rest₂ : List ℕ} {c : Counts} {code : ℕ} {span span' : Span} {message primary : List ℕ} {r₁ r₂ : Wrote} {r : Option Counts} where
   tells_in :
       0 < length message → Writes rest (All 0) rest₁ r₁ message → Writes rest₁ r₁ rest₂ r₂ primary → span' ≡ span →
       (ds' ≡ placed ds c code span' (in_whole c r₁) (in_whole c r₂)) × (r ≡ placed_answer ds c (in_whole c r₁) (in_whole c r₂)) →
@@ -84,7 +83,7 @@ module _ {ds ds' rest rest₁ rest₂ : List ℕ} {c : Counts} {code : ℕ} {spa
   }
 
 -- a message that begins with fixed text
-module _ {ds ds' rest rest₁ : List ℕ} {c : Counts} {code : ℕ} {span span' : Span} {x : ℕ} {message : List ℕ} {r₁ : Wrote} {r : Reported} where
+module _ {ds ds' rest rest₁ : List ℕ} {c : Counts} {code : ℕ} {span span' : Span} {x : ℕ} {message : List ℕ} {r₁ : Wrote} {r : Option Counts} where
   pub tells-rest :
       {rest₂ primary : List ℕ} {r₂ : Wrote} → Writes rest (All 0) rest₁ r₁ (x ∷ message) → Writes rest₁ r₁ rest₂ r₂ primary → span' ≡ span →
       (ds' ≡ placed ds c code span' (in_whole c r₁) (in_whole c r₂)) × (r ≡ placed_answer ds c (in_whole c r₁) (in_whole c r₂)) →
@@ -99,7 +98,7 @@ module _ {ds ds' rest rest₁ : List ℕ} {c : Counts} {code : ℕ} {span span' 
   tells-rest-alone a e w = tells-rest a (writes_end a) e w
 
 -- a message that begins with a type and goes on with fixed text
-module _ {ds ds' rest rest₁ rest₂ : List ℕ} {c : Counts} {code : ℕ} {span span' : Span} {shown : List ℕ} {x : ℕ} {fixed : List ℕ} {r₁ r₂ : Wrote} {r : Reported} where
+module _ {ds ds' rest rest₁ rest₂ : List ℕ} {c : Counts} {code : ℕ} {span span' : Span} {shown : List ℕ} {x : ℕ} {fixed : List ℕ} {r₁ r₂ : Wrote} {r : Option Counts} where
   pub tells-shown :
       Writes rest (All 0) rest₁ r₁ shown → Writes rest₁ r₁ rest₂ r₂ (x ∷ fixed) → span' ≡ span →
       (ds' ≡ placed ds c code span' (in_whole c r₂) (in_whole c r₂)) × (r ≡ placed_answer ds c (in_whole c r₂) (in_whole c r₂)) →
@@ -117,7 +116,7 @@ module _ {ds ds' rest rest₁ rest₂ : List ℕ} {c : Counts} {code : ℕ} {spa
 
 -- ---- the rest that was lent came back: what was told in it was told in the whole
 pub told_in_whole :
-    (ms : List ℕ) {d : Diagnostic} {ds ds' l : List ℕ} {c : Counts} {r : Reported} {at : ℕ} →
+    (ms : List ℕ) {d : Diagnostic} {ds ds' l : List ℕ} {c : Counts} {r : Option Counts} {at : ℕ} →
     at ≡ first_free ms c → ReportsIn d ds (lent ms at (length ms)) c ds' l r → Reports d ds ms c ds' (put_back ms at (length ms) l) r
 told_in_whole ms {d} {ds} {ds'} {l} {c} {r} {at} e p =
     let a : lent ms at (length ms) ≡ drop at ms = take_all (length ms - at) (drop at ms) (simp length-drop (omega arith)) in

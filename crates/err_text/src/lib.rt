@@ -2,7 +2,7 @@
 #![tactic(auto)]
 
 ghost use Rattle.std.specs.Prelude.{◌≡◌, [], ◌∷◌, ◌+◌, ◌*◌, ◌≤◌, length};
-ghost use Rattle.tok.specs.Text.{Texts, texts_of, name_bytes};
+ghost use Rattle.tok.specs.Text.{name_bytes};
 ghost use Rattle.ptype.specs.Add.{write};
 ghost use Rattle.display.specs.Writing.{Writes};
 ghost use Rattle.err.specs.Message.{ticked, call_name, quoted, class_of, wanted, wanted_both};
@@ -10,8 +10,8 @@ ghost use Rattle.err.specs.Report.{most_diagnostics, as_word, fits, placed, plac
 ghost use Rattle.err_text.specs.Rest.{first_free, in_whole};
 
 use display::Wrote;
-use err::{CallName, Counts, Reported};
-use tok::Span;
+use err::{CallName, Counts};
+use tok::{Span, Texts};
 
 // The record.
 
@@ -90,18 +90,18 @@ pub fn report(
     span: Span,
     message: Wrote,
     primary: Wrote,
-) -> Reported
+) -> Option<Counts>
     ensures six_words { diagnostics.new ≡ placed diagnostics.old counts code span (in_whole counts message) (in_whole counts primary) }
     ensures answer { result ≡ placed_answer diagnostics.old counts (in_whole counts message) (in_whole counts primary) }
 {
     let Wrote::All(m) = message else {
-        return Reported::NoRoom;
+        return None;
     };
     let Wrote::All(p) = primary else {
-        return Reported::NoRoom;
+        return None;
     };
     if !has_room(diagnostics, counts, m, p) {
-        return Reported::NoRoom;
+        return None;
     }
     put_record(
         diagnostics,
@@ -113,7 +113,7 @@ pub fn report(
         m as u32,
         (p - m) as u32,
     );
-    Reported::Told(Counts {
+    Some(Counts {
         diagnostics: counts.diagnostics + 1,
         bytes: counts.bytes + p,
     })
@@ -122,51 +122,30 @@ pub fn report(
 // Pieces.
 
 // Writes a name between backquotes.
-pub fn put_ticked<'a>(
-    out: &mut [u8],
-    at: Wrote,
-    script: &'a [u8],
-    library: &'a [u8],
-    name: u32,
-) -> Wrote
-    ensures { let T : Texts = texts_of script.now library.now in
-        Writes out.old at out.new result (ticked (name_bytes T name)) }
+pub fn put_ticked(out: &mut [u8], at: Wrote, texts: &Texts, name: u32) -> Wrote
+    ensures { Writes out.old at out.new result (ticked (name_bytes texts.now name)) }
 {
-    display::put_around(out, at, b"`", tok::name_bytes(script, library, name), b"`")
+    display::put_around(out, at, b"`", tok::name_bytes(texts, name), b"`")
 }
 
 // Writes a name.
-pub fn put_name<'a>(
-    out: &mut [u8],
-    at: Wrote,
-    script: &'a [u8],
-    library: &'a [u8],
-    name: u32,
-) -> Wrote
-    ensures { let T : Texts = texts_of script.now library.now in
-        Writes out.old at out.new result (name_bytes T name) }
+pub fn put_name(out: &mut [u8], at: Wrote, texts: &Texts, name: u32) -> Wrote
+    ensures { Writes out.old at out.new result (name_bytes texts.now name) }
 {
-    display::put_at(out, at, tok::name_bytes(script, library, name))
+    display::put_at(out, at, tok::name_bytes(texts, name))
 }
 
 // Writes how a call names its function, between backquotes.
-pub fn put_call_name<'a>(
-    out: &mut [u8],
-    at: Wrote,
-    script: &'a [u8],
-    library: &'a [u8],
-    callee: CallName,
-) -> Wrote
-    ensures { let T : Texts = texts_of script.now library.now in
-        Writes out.old at out.new result (ticked (call_name T callee)) }
+pub fn put_call_name(out: &mut [u8], at: Wrote, texts: &Texts, callee: CallName) -> Wrote
+    ensures { Writes out.old at out.new result (ticked (call_name texts.now callee)) }
 {
     match callee {
         CallName::Own(name) => {
-            return put_ticked(out, at, script, library, name);
+            return put_ticked(out, at, texts, name);
         }
         CallName::OfPackage(pkg, name) => {
-            let a = display::put_around(out, at, b"`", tok::name_bytes(script, library, pkg), b".");
-            let b = put_name(out, a, script, library, name);
+            let a = display::put_around(out, at, b"`", tok::name_bytes(texts, pkg), b".");
+            let b = put_name(out, a, texts, name);
             return display::put_at(out, b, b"`");
         }
     }

@@ -60,12 +60,10 @@ fn extern_held(st: State, used: Used, start: usize) -> State
     ensures { result ≡ extern_held st used start }
 {
     State {
-        used: used,
-        base: st.base,
-        depth: st.depth,
+        used,
         held: start,
         packages: st.packages + 1,
-        functions: st.functions,
+        ..st
     }
 }
 

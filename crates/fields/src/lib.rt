@@ -30,31 +30,15 @@ fn open(types: &mut [u32], st: State, n: u32, k: usize) -> Gave
     let used = st.used;
     let added = add::open_record(types, used.types, k);
     match added {
-        Added::Put(word, after) => {
-            let counts = used.told;
-            let kept = used.kept;
-            return Gave::Word(
-                word,
-                State {
-                    used: Used {
-                        types: after,
-                        told: counts,
-                        kept,
-                    },
-                    base: st.base,
-                    depth: st.depth,
-                    held: st.held,
-                    packages: st.packages,
-                    functions: st.functions,
-                },
-            );
-        }
-        Added::Full => {
-            return Gave::Refused(7, n);
-        }
-        Added::TooDeep => {
-            return Gave::Refused(8, n);
-        }
+        Added::Put(word, types) => Gave::Word(
+            word,
+            State {
+                used: Used { types, ..used },
+                ..st
+            },
+        ),
+        Added::Full => Gave::Refused(7, n),
+        Added::TooDeep => Gave::Refused(8, n),
     }
 }
 

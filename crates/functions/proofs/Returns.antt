@@ -1,4 +1,5 @@
 -- Each return of the functions, from what the callees answered. By rewriting. Assumes nothing.
+use Rattle.std.specs.Prelude.{Some, None, Option as Found}
 use Prim.Native.Nat.{ℕ, zero, suc, ◌+◌, ◌*◌, ◌-◌, ◌^◌, ◌≤◌, ◌<◌}
 use mathlib.Core.Path.{◌≡◌, refl, sym, ap, ◌∙◌}
 use mathlib.Core.Bool.{false}
@@ -11,7 +12,6 @@ use denote.Enum.Declared.{tag_of}
 use Rattle.tok.specs.Text.{Texts, name_bytes}
 use Rattle.tok.specs.Step.{ok, refused, refusal, next, return}
 use Rattle.ptype.specs.Add.{write, append}
-use Rattle.err.specs.declared.Reported.{Reported}
 use Rattle.err.specs.Message.{defined_already}
 use Rattle.err.specs.Report.{Reports}
 use Rattle.library.specs.Package.{Package, Signature, Param, find_function, params_from}
@@ -34,8 +34,6 @@ use Rattle.state.specs.Context.{ctx}
 use Rattle.state.specs.Reporting.{poison_of, poisons-step, on-steps, refused-steps}
 use Rattle.state.specs.Signatures.{entries_end, own_in}
 use Rattle.state.specs.World.{More, no_more, Steps, Goes}
-use Rattle.scope.specs.declared.Own.{Own}
-use Rattle.scope.specs.declared.Own.TheVariants as O
 use Rattle.scope.specs.Found.{own_of}
 use Rattle.visit.specs.declared.State.{State}
 use Rattle.visit.specs.declared.Visit.{Visit}
@@ -54,20 +52,21 @@ use Rattle.parameters.specs.Arguments.{argued_in, Argues}
 use Rattle.functions.specs.declared.Met.TheVariants as M
 use Rattle.functions.specs.Defined.{fn_begin, fn_end, met_in, new, already, Meets}
 use Rattle.functions.specs.Entering.{CopyRoom, EntryRoom, FnReady, entered_with, ends-many, length-params}
+use Rattle.err.specs.declared.Counts.{Counts}
 
 -- ── A name that was met ──
 
-module _ (T : Texts) (n name : ℕ) (st : State) (f : List ℕ) (own : Own) (eo : own_of f own ≡ find_function T (name_bytes T name) (own_in f st.functions)) where
+module _ (T : Texts) (n name : ℕ) (st : State) (f : List ℕ) (own : Found ℕ) (eo : own_of f own ≡ find_function T (name_bytes T name) (own_in f st.functions)) where
   chosen : (q : Option Signature) → own_of f own ≡ q → (ls : List Package) (v : ℕ) (words s t d m e : List ℕ) (o : More) (r : Walk Answer)
       → unless_defined (ctx T ls v) n name r (whole words st (lent s f t d m e o)) ≡ on_option q r (λ _. poison n (defined_already name (name_bytes T name))) (whole words st (lent s f t d m e o))
   unfolding unless_defined
   chosen q eq ls v words s t d m e o r = ap (λ x. on_option x r (λ _. poison n (defined_already name (name_bytes T name))) (whole words st (lent s f t d m e o))) (sym eo ∙ eq)
 
-  pub name_new : own ≡ O.Nothing → (ls : List Package) (v : ℕ) (words s t d m e : List ℕ) (o : More) → Meets (ctx T ls v) n name words st (lent s f t d m e o) (lent s f t d m e o) M.New
+  pub name_new : own ≡ None → (ls : List Package) (v : ℕ) (words s t d m e : List ℕ) (o : More) → Meets (ctx T ls v) n name words st (lent s f t d m e o) (lent s f t d m e o) M.New
   unfolding on_option met_in
   name_new eq ls v words s t d m e o = record { step = λ r. chosen none (ap (λ x. own_of f x) eq) ls v words s t d m e o r; keeps = new refl }
 
-  pub name-met : {at : ℕ} {d m d' m' : List ℕ} {q : Reported} {r : Step} {x : Visit} → own ≡ O.At at → Reports (defined_already name (name_bytes T name)) d m st.used.told d' m' q
+  pub name-met : {at : ℕ} {d m d' m' : List ℕ} {q : Found Counts} {r : Step} {x : Visit} → own ≡ Some at → Reports (defined_already name (name_bytes T name)) d m st.used.told d' m' q
       → r ≡ poison_of n st.used q → x ≡ visit_of st r
       → (ls : List Package) (v : ℕ) (words s t e : List ℕ) (o : More) → Meets (ctx T ls v) n name words st (lent s f t d m e o) (lent s f t d' m' e o) (M.Already x)
   unfolding on_option met_in

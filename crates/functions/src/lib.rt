@@ -3,7 +3,7 @@
 #![tactic(auto)]
 
 ghost use Rattle.std.specs.Prelude.{◌≡◌, List, ℕ, ◌+◌, ◌*◌, ◌^◌, ◌≤◌, ◌<◌, length};
-ghost use Rattle.tok.specs.Text.{Texts, texts_of};
+ghost use Rattle.tok.specs.Text.{Texts};
 ghost use Rattle.ptype.specs.Add.{write};
 ghost use Rattle.library.specs.Package.{Package, params_from};
 ghost use Rattle.ast.specs.TypeExpr.{type_of, args_from};
@@ -20,9 +20,8 @@ ghost use Rattle.functions.specs.Entering.{CopyRoom, EntryRoom, FnReady, entered
 use add::Added;
 use parameters::{fn_arguments, refusal_number};
 use rules::Answer;
-use scope::Own;
 use state::{Step, Used, Went};
-use tok::word_at;
+use tok::{Texts, word_at};
 use type_expr::type_from_type_expr;
 use visit::{Gave, State, Visit, Walked};
 
@@ -34,29 +33,27 @@ pub enum Met {
 }
 
 // if self.functions.contains_key(inner_name): 8.
-pub fn unless_defined<'a>(
+pub fn unless_defined(
     functions: &[u32],
     diagnostics: &mut [u32],
     messages: &mut [u8],
-    script: &'a [u8],
-    library: &'a [u8],
+    texts: &Texts,
     st: State,
     n: u32,
     name: u32,
 ) -> Met
     requires { entries_end functions.now 0 0 st.functions ≤ length functions.now }
-    ensures { let T : Texts = texts_of script.now library.now in
-        ((ls : List Package) (v : ℕ) (words s t e : List ℕ) (o : More) →
+    ensures { ((ls : List Package) (v : ℕ) (words s t e : List ℕ) (o : More) →
         let b : Lent = lent s functions.now t diagnostics.old messages.old e o in
         let b' : Lent = lent s functions.now t diagnostics.new messages.new e o in
-        Meets (ctx T ls v) n name words st b b' result) }
+        Meets (ctx texts.now ls v) n name words st b b' result) }
 {
-    let own = scope::find_own(script, library, functions, st.functions, name);
+    let own = scope::find_own(texts, functions, st.functions, name);
     match own {
-        Own::Nothing => {
+        None => {
             return Met::New;
         }
-        Own::At(_) => {
+        Some(_) => {
             let used = st.used;
             let counts = used.told;
             let free = err_text::first_free(messages, counts);
@@ -64,8 +61,7 @@ pub fn unless_defined<'a>(
                 diagnostics,
                 &mut messages[free..],
                 counts,
-                script,
-                library,
+                texts,
                 name,
             );
             return Met::Already(visit::answered(st, state::poisoned(n, used, met)));
@@ -111,20 +107,10 @@ fn entered(st: State, types: usize) -> State
     requires { st.functions < 2 ^ 62 }
     ensures { result ≡ entered_with st types }
 {
-    let used = st.used;
-    let counts = used.told;
-    let kept = used.kept;
     State {
-        used: Used {
-            types: types,
-            told: counts,
-            kept,
-        },
-        base: st.base,
-        depth: st.depth,
-        held: st.held,
-        packages: st.packages,
+        used: Used { types, ..st.used },
         functions: st.functions + 1,
+        ..st
     }
 }
 
@@ -178,13 +164,12 @@ pub fn fn_begin(
 }
 
 // Node::Fn after its body: 9 where the body is not of the return type; the function's slot has its return type.
-pub fn fn_end<'a>(
+pub fn fn_end(
     slots: &mut [u32],
     types: &[u32],
     diagnostics: &mut [u32],
     messages: &mut [u8],
-    script: &'a [u8],
-    library: &'a [u8],
+    texts: &Texts,
     image: &[u32],
     places: &[u16],
     used: Used,
@@ -196,8 +181,7 @@ pub fn fn_end<'a>(
     computed: Answer,
 ) -> Step
     requires { TypeReady image.now places.now expr }
-    ensures { let T : Texts = texts_of script.now library.now in
-        ((ls : List Package) (v : ℕ) → Steps (fn_end (ctx T ls v) n slot name (type_of image.now expr) ret computed) slots.old types.now
+    ensures { ((ls : List Package) (v : ℕ) → Steps (fn_end (ctx texts.now ls v) n slot name (type_of image.now expr) ret computed) slots.old types.now
         diagnostics.old messages.old used slots.new types.now diagnostics.new messages.new result) }
 {
     let token = type_expr::type_token(image, places, expr);
@@ -206,8 +190,7 @@ pub fn fn_end<'a>(
         types,
         diagnostics,
         messages,
-        script,
-        library,
+        texts,
         used,
         n,
         name,

@@ -1,4 +1,5 @@
 -- The text of candidates: of one by its place, of all turn by turn. Assumes nothing.
+use Rattle.std.specs.Prelude.{Option, Some, None}
 use Prim.Native.Nat.{ℕ, zero, suc, ◌+◌, ◌-◌, ◌≤◌, ◌<◌}
 use mathlib.Core.Path.{◌≡◌, refl, sym, ap, ap₂, ◌∙◌}
 use mathlib.Core.Bool.{Bool}
@@ -19,7 +20,6 @@ use Rattle.display.specs.Writing.{Writes}
 use Rattle.library.specs.Package.{params_from}
 use Rattle.state.specs.Signatures.{signature_at}
 use Rattle.signatures.specs.declared.Entry.{Entry}
-use Rattle.signatures.specs.declared.Entry.TheVariants.{One, Over}
 use Rattle.signatures.specs.Entries.{Finds}
 use Rattle.selection.specs.Candidates.{group, param_types}
 use Rattle.selection.proofs.Ways.{none_left_lem, over-is, one-is}
@@ -75,15 +75,15 @@ module _ (texts : Texts) (types name words : List ℕ) (flags from k : ℕ) wher
     pub listing_none : {o' : List ℕ} {r : Wrote} → left ≤ 0 → Writes o to o' r [] → Writes o₀ to₀ o' r (joined (text " | ") (listed from k))
     listing_none h p = ends (none_left_lem texts name words flags first left h) p
 
-    module _ {r : Entry} (found : Finds texts name words flags first left r) where
-      pub listing-over : {o' : List ℕ} {w : Wrote} → r ≡ Over → Writes o to o' w [] → Writes o₀ to₀ o' w (joined (text " | ") (listed from k))
+    module _ {r : Option Entry} (found : Finds texts name words flags first left r) where
+      pub listing-over : {o' : List ℕ} {w : Wrote} → r ≡ None → Writes o to o' w [] → Writes o₀ to₀ o' w (joined (text " | ") (listed from k))
       listing-over e p = ends (over-is texts name words flags found e) p
 
-      pub listing-more : {slotted : Bool} {at next after : ℕ} {o' : List ℕ} {w : Wrote} → r ≡ One slotted at next after → 0 < left
-          → ((f : Bool) → Writes o to o' w (separated count (text " | ") ++ sig (param_types (ty_of texts types) (signature_at words at f).params))) → length o' ≡ length o
-          → Listing o₀ to₀ o' w next after (count + 1)
-      listing-more {slotted} {at} {next} {after} e h p q = record {
-        owes = owes-less l.owes (rw (one-is texts name words flags found e) (joined-turn count (text " | ") (sig (param_types (ty_of texts types) (signature_at words at slotted).params)) (listed next after))) (p slotted);
+      pub listing-more : {x : Entry} {o' : List ℕ} {w : Wrote} → r ≡ Some x → 0 < left
+          → ((f : Bool) → Writes o to o' w (separated count (text " | ") ++ sig (param_types (ty_of texts types) (signature_at words x.at f).params))) → length o' ≡ length o
+          → Listing o₀ to₀ o' w x.next x.left (count + 1)
+      listing-more {x} e h p q = record {
+        owes = owes-less l.owes (rw (one-is texts name words flags found e) (joined-turn count (text " | ") (sig (param_types (ty_of texts types) (signature_at words x.at x.slotted).params)) (listed x.next x.left))) (p x.slotted);
         most = omega (arith, l.most, rw e at found.fewer);
         long = q ∙ l.long;
       }

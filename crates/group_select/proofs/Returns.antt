@@ -1,4 +1,5 @@
 -- A call of a group as the code has it, one law for each way out. Assumes nothing.
+use Rattle.std.specs.Prelude.{Some, None, Option as Found}
 use Prim.Native.Nat.{ℕ}
 use mathlib.Core.Path.{◌≡◌, refl, sym, ap, ◌∙◌}
 use mathlib.Core.Bool.{Bool, true, false}
@@ -9,7 +10,6 @@ use Rattle.tok.specs.Text.{Texts}
 use Rattle.tok.specs.Step.{ok, next, return, when}
 use Rattle.ptype.specs.Ty.{Ty}
 use Rattle.ptype.specs.Words.{ty_of}
-use Rattle.err.specs.declared.Reported.{Reported}
 use Rattle.err.specs.Message.{no_specialisation}
 use Rattle.err.specs.Report.{Reports}
 use Rattle.library.specs.Package.{Signature, Package}
@@ -24,15 +24,15 @@ use Rattle.state.specs.Context.{ctx}
 use Rattle.state.specs.Signatures.{signature_at}
 use Rattle.state.specs.World.{Rest, world, Steps}
 use Rattle.state.specs.Reporting.{told_of, reports_step, on-steps, refused-steps}
-use Rattle.selection.specs.declared.Taken.{Taken}
-use Rattle.selection.specs.declared.Taken.TheVariants.{At, Nothing}
+use Rattle.signatures.specs.declared.Entry.{Entry}
 use Rattle.selection.specs.Candidates.{position_of, position_in, CommonReturn}
 use Rattle.selection.proofs.Read.{provided-are, candidates-are, position-is}
 use Rattle.group_select.specs.Selects.{candidate_types, NoneFits, Selects}
+use Rattle.err.specs.declared.Counts.{Counts}
 
 -- ── None fits ──
 
-module _ (texts : Texts) (n slot token : ℕ) (call_name : List ℕ) (provided : List Ty) {fs : List Signature} (s t d m : List ℕ) (u : Used) {d' m' : List ℕ} {r : Reported} {went : Went}
+module _ (texts : Texts) (n slot token : ℕ) (call_name : List ℕ) (provided : List Ty) {fs : List Signature} (s t d m : List ℕ) (u : Used) {d' m' : List ℕ} {r : Found Counts} {went : Went}
     (p : Reports (no_specialisation token call_name provided (candidate_types (ty_of texts t) fs)) d m u.told d' m' r) (e : went ≡ told_of n u r) where
   pub fits_told : {s' : List ℕ} {v : Used} {x : Step} → went ≡ W.On v → CommonReturn texts slot fs s t v s' x → NoneFits texts n slot token call_name provided fs s t d m u s' d' m' x
   fits_told {s'} {v} {x} o c = record {
@@ -55,19 +55,19 @@ module _ (texts : Texts) (n slot token : ℕ) (call_name provided : List ℕ) {p
   unfolding select when
   select-poisoned y c = record { of = λ f others q given e library void. record { step = λ w. rw y ((c.of f others q library void d m).step w) } }
 
-  module _ (no : poisoned ≡ false) (words : List ℕ) {taken : Taken} (p : position_of (ty_of texts t) (map (ty_of texts t) provided) fs ≡ position_in words taken) where
-    pub select-taken : {slotted : Bool} {at ret : ℕ} {s' : List ℕ} {r : Step} → taken ≡ At slotted at → ((f : Bool) → ret ≡ (signature_at words at f).ret)
+  module _ (no : poisoned ≡ false) (words : List ℕ) {taken : Found Entry} (p : position_of (ty_of texts t) (map (ty_of texts t) provided) fs ≡ position_in words taken) where
+    pub select-taken : {x : Entry} {ret : ℕ} {s' : List ℕ} {r : Step} → taken ≡ Some x → ((f : Bool) → ret ≡ (signature_at words x.at f).ret)
         → ((t d m : List ℕ) → Steps (set_known slot ret) s t d m u s' t d m r) → Selects texts n slot token call_name provided poisoned fs s t d m u s' d m r
     unfolding select when on_option
-    select-taken {slotted} o er k = record {
+    select-taken {x} o er k = record {
       of = λ f others q given e library void. record {
         step = λ w.
-            rw (no, provided-are (ctx texts library void) (world w s t d m u) given, provided-is texts s t provided given e, position-is (ctx texts library void) (world w s t d m u) (map (ty_of texts t) provided) (f ∷ others), ← q, p, o, ← er slotted)
+            rw (no, provided-are (ctx texts library void) (world w s t d m u) given, provided-is texts s t provided given e, position-is (ctx texts library void) (world w s t d m u) (map (ty_of texts t) provided) (f ∷ others), ← q, p, o, ← er x.slotted)
             ((k t d m).step w);
       };
     }
 
-    pub select-none : {s' d' m' : List ℕ} {r : Step} → taken ≡ Nothing → NoneFits texts n slot token call_name (map (ty_of texts t) provided) fs s t d m u s' d' m' r
+    pub select-none : {s' d' m' : List ℕ} {r : Step} → taken ≡ None → NoneFits texts n slot token call_name (map (ty_of texts t) provided) fs s t d m u s' d' m' r
         → Selects texts n slot token call_name provided poisoned fs s t d m u s' d' m' r
     unfolding select when on_option
     select-none o k = record {

@@ -4,7 +4,7 @@
 #![tactic(auto)]
 
 ghost use Rattle.std.specs.Prelude.{◌≡◌, Bool, map, ℕ, ◌+◌, ◌≤◌, length};
-ghost use Rattle.tok.specs.Text.{Texts, texts_of, text};
+ghost use Rattle.tok.specs.Text.{text};
 ghost use Rattle.ptype.specs.Ty.{Ty};
 ghost use Rattle.ptype.specs.Words.{ty_of};
 ghost use Rattle.display.specs.Writing.{Writes};
@@ -17,78 +17,66 @@ ghost use Rattle.selection.specs.Candidates.{group, param_types};
 ghost use Rattle.group_select.specs.Selects.{candidate_types, NoneFits, Selects};
 
 use display::Wrote;
-use err::{CallName, Counts, Reported};
-use selection::Taken;
-use signatures::Entry;
+use err::{CallName, Counts};
 use state::{Step, Used, Went};
+use tok::Texts;
 
 // Writes the types of the arguments of the signature whose argument count stands at a place of `words`, joined by `, `.
-fn put_candidate<'a>(
+fn put_candidate(
     rest: &mut [u8],
     to: Wrote,
     types: &[u32],
-    script: &'a [u8],
-    library: &'a [u8],
+    texts: &Texts,
     words: &[u32],
     at: usize,
 ) -> Wrote
-    ensures { let T : Texts = texts_of script.now library.now in
-        ((f : Bool) → Writes rest.old to rest.new result (sig (param_types (ty_of T types.now) (signature_at words.now at f).params))) }
+    ensures { ((f : Bool) → Writes rest.old to rest.new result (sig (param_types (ty_of texts.now types.now) (signature_at words.now at f).params))) }
 {
     if at <= words.len() {
-        return display::show_arg_types(rest, to, types, script, library, &words[at..]);
+        return display::show_arg_types(rest, to, types, texts, &words[at..]);
     }
     display::put_at(rest, to, b"")
 }
 
 // Writes the candidates of a name among k entries from a place on, joined by ` | `.
-fn put_candidates<'a>(
+fn put_candidates(
     rest: &mut [u8],
     to: Wrote,
     types: &[u32],
-    script: &'a [u8],
-    library: &'a [u8],
+    texts: &Texts,
     words: &[u32],
     flagged: bool,
     from: usize,
     k: usize,
     name: &[u8],
 ) -> Wrote
-    ensures { let T : Texts = texts_of script.now library.now in
-        Writes rest.old to rest.new result
-        (joined (text " | ") (map sig (candidate_types (ty_of T types.now) (group T name.now words.now (flag_words flagged) from k)))) }
+    ensures { Writes rest.old to rest.new result
+        (joined (text " | ") (map sig (candidate_types (ty_of texts.now types.now) (group texts.now name.now words.now (flag_words flagged) from k)))) }
 {
     let mut to = to;
     let mut first = from;
     let mut left = k;
     let mut count = 0;
     while left > 0 {
-        let Entry::One {
-            slotted: _,
-            at,
-            next,
-            left: after,
-        } = signatures::find_entry(script, library, words, flagged, first, left, name)
-        else {
+        let Some(entry) = signatures::find_entry(texts, words, flagged, first, left, name) else {
             return display::put_at(rest, to, b"");
         };
         to = display::put_separator(rest, to, count, b" | ");
-        to = put_candidate(rest, to, types, script, library, words, at);
+        to = put_candidate(rest, to, types, texts, words, entry.at);
         count += 1;
-        first = next;
-        left = after;
+        first = entry.next;
+        left = entry.left;
     }
     display::put_at(rest, to, b"")
 }
 
 // 18: A call of a group of several, none of which takes these argument types.
-fn no_specialisation<'a>(
+fn no_specialisation(
     diagnostics: &mut [u32],
     rest: &mut [u8],
     counts: Counts,
     types: &[u32],
-    script: &'a [u8],
-    library: &'a [u8],
+    texts: &Texts,
     token: u32,
     callee: CallName,
     provided: &[u32],
@@ -97,31 +85,28 @@ fn no_specialisation<'a>(
     from: usize,
     k: usize,
     name: &[u8],
-) -> Reported
-    ensures { let T : Texts = texts_of script.now library.now in let U : ℕ → Ty = ty_of T types.now in
+) -> Option<Counts>
+    ensures { let U : ℕ → Ty = ty_of texts.now types.now in
         ReportsIn
-        (no_specialisation token (call_name T callee) (map U provided.now) (candidate_types U (group T name.now words.now (flag_words flagged) from k)))
+        (no_specialisation token (call_name texts.now callee) (map U provided.now) (candidate_types U (group texts.now name.now words.now (flag_words flagged) from k)))
         diagnostics.old rest.old counts diagnostics.new rest.new result }
 {
     let a = display::put_at(rest, Wrote::All(0), b"no specialisation of ");
-    let b = err_text::put_call_name(rest, a, script, library, callee);
+    let b = err_text::put_call_name(rest, a, texts, callee);
     let c = display::put_at(rest, b, b" accepts (");
-    let d = display::show_types(rest, c, types, script, library, provided);
+    let d = display::show_types(rest, c, types, texts, provided);
     let e = display::put_at(rest, d, b"); available: ");
-    let f = put_candidates(
-        rest, e, types, script, library, words, flagged, from, k, name,
-    );
+    let f = put_candidates(rest, e, types, texts, words, flagged, from, k, name);
     err_text::report(diagnostics, counts, 18, tok::token_span(token), f, f)
 }
 
 // No candidate fits: 18, and what all return is still known.
-fn none_fits<'a>(
+fn none_fits(
     slots: &mut [u32],
     types: &[u32],
     diagnostics: &mut [u32],
     messages: &mut [u8],
-    script: &'a [u8],
-    library: &'a [u8],
+    texts: &Texts,
     used: Used,
     n: u32,
     slot: u32,
@@ -134,9 +119,8 @@ fn none_fits<'a>(
     k: usize,
     name: &[u8],
 ) -> Step
-    ensures { let T : Texts = texts_of script.now library.now in
-        NoneFits T n slot token (call_name T callee) (map (ty_of T types.now) provided.now)
-        (group T name.now words.now (flag_words flagged) from k) slots.old types.now diagnostics.old messages.old used
+    ensures { NoneFits texts.now n slot token (call_name texts.now callee) (map (ty_of texts.now types.now) provided.now)
+        (group texts.now name.now words.now (flag_words flagged) from k) slots.old types.now diagnostics.old messages.old used
         slots.new diagnostics.new messages.new result }
 {
     let free = err_text::first_free(messages, used.told);
@@ -145,8 +129,7 @@ fn none_fits<'a>(
         &mut messages[free..],
         used.told,
         types,
-        script,
-        library,
+        texts,
         token,
         callee,
         provided,
@@ -160,7 +143,7 @@ fn none_fits<'a>(
     match went {
         Went::On(after) => {
             return selection::common_return(
-                slots, types, script, library, after, slot, words, flagged, from, k, name,
+                slots, types, texts, after, slot, words, flagged, from, k, name,
             );
         }
         Went::Refused(number, place) => {
@@ -170,13 +153,12 @@ fn none_fits<'a>(
 }
 
 // A group of several: the first that fits; where an argument is poisoned, or none fits, what all return.
-pub fn select<'a>(
+pub fn select(
     slots: &mut [u32],
     types: &[u32],
     diagnostics: &mut [u32],
     messages: &mut [u8],
-    script: &'a [u8],
-    library: &'a [u8],
+    texts: &Texts,
     used: Used,
     n: u32,
     slot: u32,
@@ -190,31 +172,27 @@ pub fn select<'a>(
     name: &[u8],
     poisoned: bool,
 ) -> Step
-    ensures { let T : Texts = texts_of script.now library.now in
-        Selects T n slot token (call_name T callee) provided.now poisoned (group T name.now words.now (flag_words flagged) from k) slots.old
+    ensures { Selects texts.now n slot token (call_name texts.now callee) provided.now poisoned (group texts.now name.now words.now (flag_words flagged) from k) slots.old
         types.now diagnostics.old messages.old used slots.new diagnostics.new messages.new result }
 {
     if poisoned {
         return selection::common_return(
-            slots, types, script, library, used, slot, words, flagged, from, k, name,
+            slots, types, texts, used, slot, words, flagged, from, k, name,
         );
     }
-    let taken = selection::position(
-        types, script, library, words, flagged, from, k, name, provided,
-    );
+    let taken = selection::position(types, texts, words, flagged, from, k, name, provided);
     match taken {
-        Taken::At(_, at) => {
-            let ret = signatures::return_type(words, at);
+        Some(entry) => {
+            let ret = signatures::return_type(words, entry.at);
             return operators::set_known(slots, used, slot, ret);
         }
-        Taken::Nothing => {
+        None => {
             return none_fits(
                 slots,
                 types,
                 diagnostics,
                 messages,
-                script,
-                library,
+                texts,
                 used,
                 n,
                 slot,

@@ -45,12 +45,6 @@ module _ {words : List ℕ} {from to : Reading} (c : Counts) (number left : ℕ)
 
 -- ── The rows of the table of kinds ──
 
-pub short-type : (long : ℕ) → long < 2 → false ≡ (leb 2 long && eqb (long % 2) 0)
-short-type long h = rw (lt-leb 2 long h) refl
-
-pub long-type : (long : ℕ) → 2 ≤ long → eqb (long % 2) 0 ≡ (leb 2 long && eqb (long % 2) 0)
-long-type long h = rw (le-leb 2 long h) refl
-
 -- words of one kind have one row
 same_row : (w v : ℕ) → kind_of w ≡ kind_of v → type_kind w ≡ type_kind v
 unfolding type_kind

@@ -13,8 +13,8 @@ ghost use Rattle.image_nodes.specs.Site.{counts_of};
 ghost use Rattle.image.specs.Counted.{counted};
 
 use image_nodes::Sizes;
-use image_words::{between, less, numbers, pairs, stopped, token};
-use reader::{Reading, Verdict};
+use image_words::{between, numbers, pairs, stopped, token};
+use reader::{Fault, Reading};
 
 // Type records: the words after the first, by kind.
 
@@ -23,7 +23,7 @@ fn type_atom(script: &[u8], words: &[u32], from: Reading) -> Reading
     ensures { (n t v number left : ℕ) → Leads words.now from (type_atom (counted script.now n t v) number left) result }
 {
     let at = token(script, words, from);
-    let kind = tok::wide(reader::next_word(words, at));
+    let kind = reader::next_word(words, at) as usize;
     reader::word(words, at, between(1, 5, kind))
 }
 
@@ -46,17 +46,14 @@ fn type_record(script: &[u8], words: &[u32], from: Reading, number: usize, left:
     ensures { (n t v : ℕ) → Leads words.now from (type_record (counted script.now n t v) number left) result }
 {
     let at = token(script, words, from);
-    pairs(script, words, at, less(left, 1) / 2, number)
+    pairs(script, words, at, left.saturating_sub(1) / 2, number)
 }
 
 // Whether a length is even, and 2 at least.
 fn even(long: usize) -> bool
     ensures { result ≡ (leb 2 long && eqb (long % 2) 0) }
 {
-    if long < 2 {
-        return false;
-    }
-    long % 2 == 0
+    long >= 2 && long % 2 == 0
 }
 
 // Whether a record's first word has a kind of type, and a length that the kind may have.
@@ -66,12 +63,12 @@ fn good_type_head(head: u32) -> bool
     let long = tok::payload(head);
     let kind = tok::kind(head);
     match kind {
-        0 => return long == 3,
-        1 => return long == 2,
-        2 => return long == 2,
-        3 => return long == 2,
-        4 => return even(long),
-        _ => return false,
+        0 => long == 3,
+        1 => long == 2,
+        2 => long == 2,
+        3 => long == 2,
+        4 => even(long),
+        _ => false,
     }
 }
 
@@ -87,12 +84,12 @@ fn type_rest(
     ensures { (head n t v : ℕ) → kind_of head ≡ kind → Leads words.now from ((type_kind head).rest (counted script.now n t v) number left) result }
 {
     match kind {
-        0 => return type_atom(script, words, from),
-        1 => return type_foreign(script, words, from),
-        2 => return type_inner(words, from, number),
-        3 => return type_inner(words, from, number),
-        4 => return type_record(script, words, from, number, left),
-        _ => return from,
+        0 => type_atom(script, words, from),
+        1 => type_foreign(script, words, from),
+        2 => type_inner(words, from, number),
+        3 => type_inner(words, from, number),
+        4 => type_record(script, words, from, number, left),
+        _ => from,
     }
 }
 
@@ -102,8 +99,15 @@ fn type_expression(script: &[u8], words: &[u32], from: Reading, number: usize) -
 {
     let head = reader::next_word(words, from);
     let long = tok::payload(head);
-    let at = reader::owing(words, from, good_type_head(head), less(long, 2));
-    type_rest(script, words, at, tok::kind(head), number, less(long, 1))
+    let at = reader::owing(words, from, good_type_head(head), long.saturating_sub(2));
+    type_rest(
+        script,
+        words,
+        at,
+        tok::kind(head),
+        number,
+        long.saturating_sub(1),
+    )
 }
 
 // All `count` type records.
@@ -111,13 +115,11 @@ fn type_expressions(script: &[u8], words: &[u32], from: Reading, count: usize) -
     ensures { (n t v : ℕ) → Leads words.now from (type_expressions (counted script.now n t v) count 0) result }
 {
     let mut to = from;
-    let mut i = 0;
-    while i < count {
+    for i in 0..count {
         if stopped(to) {
             return to;
         }
         to = type_expression(script, words, to, i);
-        i += 1;
     }
     to
 }
@@ -136,17 +138,14 @@ fn nodes_by(script: &[u8], words: &[u32], kinds: &mut [u8], from: Reading, sizes
     requires { sizes.nodes ≤ length kinds.old }
     ensures { Leads words.now from (nodes (counts_of script.now sizes) sizes.nodes 0 []) result }
 {
-    let n = sizes.nodes;
     let mut to = from;
-    let mut i = 0;
-    while i < n {
+    for i in 0..sizes.nodes {
         if stopped(to) {
             return to;
         }
         let kind = kind_there(words, to);
         to = image_nodes::node(script, words, kinds, to, sizes, i);
         kinds[i] = kind;
-        i += 1;
     }
     to
 }
@@ -163,20 +162,20 @@ fn nodes(script: &[u8], words: &[u32], from: Reading, sizes: Sizes) -> Reading
 // The whole image.
 
 // Whether an image is accepted; if not, the first offending word, or its length.
-pub fn read(script: &[u8], words: &[u32]) -> Verdict
+pub fn read(script: &[u8], words: &[u32]) -> Result<(), Fault>
     ensures { (library : List ℕ) → offending result ≡ image_fault (texts_of script.now library) words.now }
 {
     let at = reader::begin(script, 4);
-    let n = tok::wide(reader::next_word(words, at));
+    let n = reader::next_word(words, at) as usize;
     let at = reader::owing(words, at, n <= 2048, 3 * n);
     if stopped(at) {
         return reader::conclude(at);
     }
-    let t = tok::wide(reader::next_word(words, at));
+    let t = reader::next_word(words, at) as usize;
     let at = reader::owing(words, at, t <= 512, 2 * t);
-    let r = tok::wide(reader::next_word(words, at));
+    let r = reader::next_word(words, at) as usize;
     let at = reader::owing(words, at, r <= 512, r);
-    let v = tok::wide(reader::next_word(words, at));
+    let v = reader::next_word(words, at) as usize;
     let at = reader::word(words, at, v <= 4096);
     let at = numbers(words, at, r, n);
     let sizes = Sizes {

@@ -60,13 +60,6 @@ pub no-rest : {words : List ℕ} {from : Reading} (head k : ℕ) (h : Here) → 
 unfolding node_kind node_kinds
 no-rest head k h e r = let s = beyond k r in rw (e ∙ s.1) (leads-return _)
 
--- pairs after the least length
-pub pairs-short : (least long : ℕ) → long < least → false ≡ (leb least long && eqb ((long - least) % 2) 0)
-pairs-short least long h = rw (lt-leb least long h) refl
-
-pub pairs-long : (least long : ℕ) → least ≤ long → eqb ((long - least) % 2) 0 ≡ (leb least long && eqb ((long - least) % 2) 0)
-pairs-long least long h = rw (le-leb least long h) refl
-
 -- the whole record: head, slot, rest
 pub node-leads : {words : List ℕ} {from to : Reading} (c : Counts) (before : List Outline) (i head slot kind left : ℕ) (r₁ r₂ : Reading)
     → Took words from (owing good_node_head (λ w. payload_of w - 3)) head r₁ → Took words r₁ (below c.slots) slot r₂ → kind ≡ kind_of head → left ≡ payload_of head - 2

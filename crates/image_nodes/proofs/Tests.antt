@@ -1,11 +1,12 @@
 -- The tests of counts inside a record, as the code makes them: it divides what there is room for, and multiplies nothing that may not fit.
 -- Assumes nothing.
 use Prim.Native.Nat.{ℕ, zero, suc, ◌+◌, ◌*◌, ◌-◌, ◌/◌, ◌≤◌, ◌<◌}
-use mathlib.Core.Bool.{Bool, true, false, ◌&&◌, ◌||◌}
-use mathlib.Core.Path.{◌≡◌, refl, sym}
+use mathlib.Core.Bool.{true, false}
+use mathlib.Core.Path.{◌≡◌, refl, sym, ◌∙◌}
 use native.Mathlib.Omega.{arith}
 use lib.Dec.{leb, ltb, eqb}
 use borrow.Author.Tests.{ltb-true, leb-true, eqb-true, lt-ltb, lt-leb, le-leb, eq-eqb, le-ltb, ne_eqb}
+use Rattle.std.proofs.Math.Decide.{dec_lt}
 use Rattle.facts.specs.Tests.{same}
 use Rattle.ast.specs.Outline.{Here}
 use Rattle.ast.specs.NodeRecords.{good_arguments, good_extern_count, good_function_count}
@@ -75,21 +76,8 @@ module _ (room count : ℕ) where
   unfolding good_function_count
   functions-none g l = rw (le-leb (3 * count) room (omega arith), le-ltb 0 count l) refl
 
--- ── Call ──
-
-module _ (p n k : ℕ) where
-  pub not-before : n ≤ p → false ≡ (ltb p n && (eqb k 1 || eqb k 8))
-  not-before g = rw (le-ltb p n g) refl
-
-  pub no_kind : k ≡ 0 → false ≡ (ltb p n && (eqb k 1 || eqb k 8))
-  no_kind e = rw e (no (ltb p n))
-    where
-      no : (b : Bool) → false ≡ (b && false)
-      no true = refl
-      no false = refl
-
-  pub an_ident : p < n → k ≡ 1 → true ≡ (ltb p n && (eqb k 1 || eqb k 8))
-  an_ident g e = rw (lt-ltb p n g, e) refl
-
-  pub or_field : p < n → (k ≡ 1 → ⊥) → eqb k 8 ≡ (ltb p n && (eqb k 1 || eqb k 8))
-  or_field g e = rw (lt-ltb p n g, ne_eqb k 1 e) refl
+  pub functions-by : 0 < count → leb count (room / 3) ≡ good_function_count room count
+  functions-by l = elim (dec_lt (room / 3) count) [
+    | yes g ↦ lt-leb count (room / 3) g ∙ functions-over g
+    | no g ↦ let within : count ≤ room / 3 = omega arith in le-leb count (room / 3) within ∙ functions-some within l
+  ]

@@ -11,7 +11,7 @@ ghost use Rattle.image_laws.specs.OutlineAt.{outline_from};
 ghost use Rattle.image_words.specs.Leads.{Leads};
 ghost use Rattle.image_nodes.specs.Site.{counts_of, here_of, Kept};
 
-use image_words::{between, less, names, numbers, pairs, stopped, token};
+use image_words::{between, names, numbers, pairs, stopped, token};
 use reader::Reading;
 
 // The counts of an image that its records go by.
@@ -44,7 +44,7 @@ fn atom(script: &[u8], words: &[u32], from: Reading, site: Site) -> Reading
     ensures { (before : List Outline) → Leads words.now from (atom (here_of script.now before site)) result }
 {
     let at = token(script, words, from);
-    let kind = tok::wide(reader::next_word(words, at));
+    let kind = reader::next_word(words, at) as usize;
     reader::word(words, at, between(2, 5, kind))
 }
 
@@ -86,10 +86,7 @@ fn binding(script: &[u8], words: &[u32], from: Reading, site: Site) -> Reading
 fn arguments_fit(site: Site, n: usize) -> bool
     ensures { (text : List ℕ) (before : List Outline) → result ≡ good_arguments (here_of text before site) n }
 {
-    if n > less(site.left, 3) / 2 {
-        return false;
-    }
-    n < less(site.slots, site.slot)
+    n <= site.left.saturating_sub(3) / 2 && n < site.slots.saturating_sub(site.slot)
 }
 
 // 5 Fn: name, return type, argument count, name and type of each, body.
@@ -98,20 +95,22 @@ fn function(script: &[u8], words: &[u32], from: Reading, site: Site) -> Reading
 {
     let at = token(script, words, from);
     let at = reader::below(words, at, site.types);
-    let n = tok::wide(reader::next_word(words, at));
+    let n = reader::next_word(words, at) as usize;
     let at = reader::word(words, at, arguments_fit(site, n));
     let at = pairs(script, words, at, n, site.types);
-    numbers(words, at, less(less(less(site.left, 3), n), n), site.number)
+    let body = site
+        .left
+        .saturating_sub(3)
+        .saturating_sub(n)
+        .saturating_sub(n);
+    numbers(words, at, body, site.number)
 }
 
 // Whether a body of n words, `others` cases of three words at least and the default's token lie within `room` words.
 fn cases_fit(n: usize, others: usize, room: usize) -> bool
     ensures { result ≡ leb (n + 3 * others + 1) room }
 {
-    if others > room / 3 {
-        return false;
-    }
-    n < room - 3 * others
+    others <= room / 3 && n < room - 3 * others
 }
 
 // `count` cases and the default, in `left` words: per case token, condition, body count, body; then default token, body.
@@ -126,31 +125,29 @@ fn cases(
     ensures { (before : List Outline) → Leads words.now from (cases (here_of script.now before site) count left) result }
 {
     let mut to = from;
-    let mut k = count;
     let mut room = left;
-    while k > 0 {
+    for others in (0..count).rev() {
         if stopped(to) {
             return to;
         }
         to = token(script, words, to);
         to = reader::below(words, to, site.number);
-        let n = tok::wide(reader::next_word(words, to));
-        room = less(room, 3);
-        to = reader::word(words, to, cases_fit(n, k - 1, room));
+        let n = reader::next_word(words, to) as usize;
+        room = room.saturating_sub(3);
+        to = reader::word(words, to, cases_fit(n, others, room));
         to = numbers(words, to, n, site.number);
-        room = less(room, n);
-        k -= 1;
+        room = room.saturating_sub(n);
     }
     to = token(script, words, to);
-    numbers(words, to, less(room, 1), site.number)
+    numbers(words, to, room.saturating_sub(1), site.number)
 }
 
 // 6 Match: case count; the cases.
 fn matching(script: &[u8], words: &[u32], from: Reading, site: Site) -> Reading
     ensures { (before : List Outline) → Leads words.now from (match (here_of script.now before site)) result }
 {
-    let count = tok::wide(reader::next_word(words, from));
-    let room = less(site.left, 1);
+    let count = reader::next_word(words, from) as usize;
+    let room = site.left.saturating_sub(1);
     let at = reader::word(words, from, cases_fit(0, count, room));
     cases(script, words, at, site, count, room)
 }
@@ -159,26 +156,16 @@ fn matching(script: &[u8], words: &[u32], from: Reading, site: Site) -> Reading
 fn callable(kinds: &[u8], p: usize, n: usize) -> bool
     ensures { result ≡ (ltb p n && (eqb (get_or kinds.now p 0) 1 || eqb (get_or kinds.now p 0) 8)) }
 {
-    if p >= n {
-        return false;
-    }
-    if p >= kinds.len() {
-        return false;
-    }
-    let kind = kinds[p];
-    if kind == 1 {
-        return true;
-    }
-    kind == 8
+    p < n && matches!(kinds.get(p), Some(1 | 8))
 }
 
 // 7 Call: target (Ident or Field), arguments.
 fn call(words: &[u32], kinds: &[u8], from: Reading, site: Site) -> Reading
     ensures { (text : List ℕ) (before : List Outline) → Kept kinds.now before site.number → Leads words.now from (call (here_of text before site)) result }
 {
-    let target = tok::wide(reader::next_word(words, from));
+    let target = reader::next_word(words, from) as usize;
     let at = reader::word(words, from, callable(kinds, target, site.number));
-    numbers(words, at, less(site.left, 1), site.number)
+    numbers(words, at, site.left.saturating_sub(1), site.number)
 }
 
 // 8 Field: target, name.
@@ -203,7 +190,7 @@ fn imports(script: &[u8], words: &[u32], from: Reading, site: Site) -> Reading
     ensures { (before : List Outline) → Leads words.now from (imports (here_of script.now before site)) result }
 {
     let at = token(script, words, from);
-    names(script, words, at, less(site.left, 1))
+    names(script, words, at, site.left.saturating_sub(1))
 }
 
 // Whether n arguments and `others` functions of three words at least lie within `room` words; the last function's use them up.
@@ -215,9 +202,10 @@ fn function_fits(n: usize, others: usize, room: usize) -> bool
     }
     let rest = room - 2 * n;
     if others == 0 {
-        return rest == 0;
+        rest == 0
+    } else {
+        others <= rest / 3
     }
-    others <= rest / 3
 }
 
 // `count` functions of an Extern, in `left` words: each: name, return type, argument count, pairs.
@@ -232,20 +220,18 @@ fn functions(
     ensures { (before : List Outline) → Leads words.now from (extern_functions (here_of script.now before site) count left) result }
 {
     let mut to = from;
-    let mut k = count;
     let mut room = left;
-    while k > 0 {
+    for others in (0..count).rev() {
         if stopped(to) {
             return to;
         }
         to = token(script, words, to);
         to = reader::below(words, to, site.types);
-        let n = tok::wide(reader::next_word(words, to));
-        room = less(room, 3);
-        to = reader::word(words, to, function_fits(n, k - 1, room));
+        let n = reader::next_word(words, to) as usize;
+        room = room.saturating_sub(3);
+        to = reader::word(words, to, function_fits(n, others, room));
         to = pairs(script, words, to, n, site.types);
-        room = less(less(room, n), n);
-        k -= 1;
+        room = room.saturating_sub(n).saturating_sub(n);
     }
     to
 }
@@ -254,13 +240,11 @@ fn functions(
 fn functions_fit(count: usize, room: usize) -> bool
     ensures { result ≡ good_function_count room count }
 {
-    if count > room / 3 {
-        return false;
-    }
     if count > 0 {
-        return true;
+        count <= room / 3
+    } else {
+        room == 0
     }
-    room == 0
 }
 
 // 11 Extern: token, name, function count; the functions.
@@ -269,8 +253,8 @@ fn externs(script: &[u8], words: &[u32], from: Reading, site: Site) -> Reading
 {
     let at = token(script, words, from);
     let at = token(script, words, at);
-    let count = tok::wide(reader::next_word(words, at));
-    let room = less(site.left, 3);
+    let count = reader::next_word(words, at) as usize;
+    let room = site.left.saturating_sub(3);
     let at = reader::word(words, at, functions_fit(count, room));
     functions(script, words, at, site, count, room)
 }
@@ -280,7 +264,13 @@ fn record_node(script: &[u8], words: &[u32], from: Reading, site: Site) -> Readi
     ensures { (before : List Outline) → Leads words.now from (record_node (here_of script.now before site)) result }
 {
     let at = token(script, words, from);
-    pairs(script, words, at, less(site.left, 1) / 2, site.number)
+    pairs(
+        script,
+        words,
+        at,
+        site.left.saturating_sub(1) / 2,
+        site.number,
+    )
 }
 
 // 13 Array: token, members.
@@ -288,7 +278,7 @@ fn array(script: &[u8], words: &[u32], from: Reading, site: Site) -> Reading
     ensures { (before : List Outline) → Leads words.now from (array (here_of script.now before site)) result }
 {
     let at = token(script, words, from);
-    numbers(words, at, less(site.left, 1), site.number)
+    numbers(words, at, site.left.saturating_sub(1), site.number)
 }
 
 // Nodes.
@@ -297,10 +287,7 @@ fn array(script: &[u8], words: &[u32], from: Reading, site: Site) -> Reading
 fn and_pairs(least: usize, long: usize) -> bool
     ensures { result ≡ (leb least long && eqb ((long - least) % 2) 0) }
 {
-    if long < least {
-        return false;
-    }
-    (long - least) % 2 == 0
+    long >= least && (long - least) % 2 == 0
 }
 
 // Whether a record's first word has a kind of node, and a length that the kind may have.
@@ -310,21 +297,21 @@ fn good_head(head: u32) -> bool
     let long = tok::payload(head);
     let kind = tok::kind(head);
     match kind {
-        0 => return long == 4,
-        1 => return long == 3,
-        2 => return long == 6,
-        3 => return long == 5,
-        4 => return long == 4,
-        5 => return long >= 5,
-        6 => return long >= 4,
-        7 => return long >= 3,
-        8 => return long == 4,
-        9 => return long == 5,
-        10 => return long >= 3,
-        11 => return long >= 5,
-        12 => return and_pairs(3, long),
-        13 => return long >= 3,
-        _ => return false,
+        0 => long == 4,
+        1 => long == 3,
+        2 => long == 6,
+        3 => long == 5,
+        4 => long == 4,
+        5 => long >= 5,
+        6 => long >= 4,
+        7 => long >= 3,
+        8 => long == 4,
+        9 => long == 5,
+        10 => long >= 3,
+        11 => long >= 5,
+        12 => and_pairs(3, long),
+        13 => long >= 3,
+        _ => false,
     }
 }
 
@@ -333,23 +320,22 @@ fn rest(script: &[u8], words: &[u32], kinds: &[u8], from: Reading, site: Site) -
     ensures { (head : ℕ) (before : List Outline) → kind_of head ≡ site.kind → Kept kinds.now before site.number → Leads words.now from
         ((node_kind head).rest (here_of script.now before site)) result }
 {
-    let kind = site.kind;
-    match kind {
-        0 => return atom(script, words, from, site),
-        1 => return ident(script, words, from, site),
-        2 => return bin(script, words, from, site),
-        3 => return unary(script, words, from, site),
-        4 => return binding(script, words, from, site),
-        5 => return function(script, words, from, site),
-        6 => return matching(script, words, from, site),
-        7 => return call(words, kinds, from, site),
-        8 => return field(script, words, from, site),
-        9 => return cast(script, words, from, site),
-        10 => return imports(script, words, from, site),
-        11 => return externs(script, words, from, site),
-        12 => return record_node(script, words, from, site),
-        13 => return array(script, words, from, site),
-        _ => return from,
+    match site.kind {
+        0 => atom(script, words, from, site),
+        1 => ident(script, words, from, site),
+        2 => bin(script, words, from, site),
+        3 => unary(script, words, from, site),
+        4 => binding(script, words, from, site),
+        5 => function(script, words, from, site),
+        6 => matching(script, words, from, site),
+        7 => call(words, kinds, from, site),
+        8 => field(script, words, from, site),
+        9 => cast(script, words, from, site),
+        10 => imports(script, words, from, site),
+        11 => externs(script, words, from, site),
+        12 => record_node(script, words, from, site),
+        13 => array(script, words, from, site),
+        _ => from,
     }
 }
 
@@ -367,17 +353,17 @@ pub fn node(
 {
     let head = reader::next_word(words, from);
     let long = tok::payload(head);
-    let at = reader::owing(words, from, good_head(head), less(long, 3));
-    let slot = tok::wide(reader::next_word(words, at));
+    let at = reader::owing(words, from, good_head(head), long.saturating_sub(3));
+    let slot = reader::next_word(words, at) as usize;
     let at = reader::below(words, at, sizes.slots);
     let site = Site {
         nodes: sizes.nodes,
         types: sizes.types,
         slots: sizes.slots,
         number,
-        kind: tok::wide(tok::kind(head)),
+        kind: tok::kind(head) as usize,
         slot,
-        left: less(long, 2),
+        left: long.saturating_sub(2),
     };
     rest(script, words, kinds, at, site)
 }

@@ -1,5 +1,5 @@
 -- A list read by a loop: what the rest leads to, the whole leads to. One law for each way of the loop. Assumes nothing.
-use Prim.Native.Nat.{ℕ, zero, suc, ◌-◌, ◌≤◌, ◌<◌}
+use Prim.Native.Nat.{ℕ, zero, suc, ◌+◌, ◌≤◌}
 use mathlib.Core.Path.{◌≡◌}
 use mathlib.Core.List.{List, [], ◌∷◌}
 use native.Mathlib.Nat.{not-suc-le-zero}
@@ -20,9 +20,9 @@ module _ {A : Type 0} {words : List ℕ} (m : Read A) where
   many-none (suc k) h = absurd (not-suc-le-zero h)
 
   -- one, and those that are left
-  pub many-one : {to mid end : Reading} (k : ℕ) → 0 < k → Leads words to m mid → Leads words mid (many (k - 1) m) end → Leads words to (many k m) end
+  pub many-one : {to mid end : Reading} (k j : ℕ) → k ≡ j + 1 → Leads words to m mid → Leads words mid (many j m) end → Leads words to (many k m) end
   unfolding many
-  many-one zero h l others = absurd (not-suc-le-zero h)
-  many-one (suc k) h l others =
-      let e : suc k - 1 ≡ k = omega arith in
-      leads-then _ _ l λ a. leads-then _ _ (rw e at others) λ others. leads-return (a ∷ others)
+  many-one zero j e l others = absurd (omega arith)
+  many-one (suc k) j e l others =
+      let same : j ≡ k = omega arith in
+      leads-then _ _ l λ a. leads-then _ _ (rw same at others) λ others. leads-return (a ∷ others)

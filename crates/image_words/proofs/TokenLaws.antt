@@ -6,7 +6,7 @@ use mathlib.Core.List.{List}
 use native.Mathlib.Omega.{arith}
 use lib.ListN.{length}
 use Rattle.utf8.specs.Rfc3629.{well_formed}
-use Rattle.tok.specs.Word.{kind_of, name_length, name_start, name_bit, name_rest}
+use Rattle.tok.specs.Word.{kind_of, name_bit, name_rest}
 use Rattle.tok.specs.Token.{token_bytes}
 use Rattle.tok.specs.Name.{good_payload, good_name, reads_well, in_script}
 use Rattle.tok.specs.declared.Span.{Span}

@@ -18,27 +18,21 @@ use reader::Reading;
 pub fn less(a: usize, b: usize) -> usize
     ensures { result ≡ a - b }
 {
-    if a < b { 0 } else { a - b }
+    a.saturating_sub(b)
 }
 
 // Whether a number lies from `low` to `high`.
 pub fn between(low: usize, high: usize, n: usize) -> bool
     ensures { result ≡ range low high n }
 {
-    if n < low {
-        return false;
-    }
-    n <= high
+    low <= n && n <= high
 }
 
 // Whether a fault has ended a reading.
 pub fn stopped(from: Reading) -> bool
     ensures { result ≡ is_fault from }
 {
-    match from {
-        Reading::At(_, _) => false,
-        Reading::Fault(_) => true,
-    }
+    matches!(from, Reading::Fault(_))
 }
 
 // One word, and lists.
@@ -76,13 +70,11 @@ pub fn numbers(words: &[u32], from: Reading, n: usize, most: usize) -> Reading
     ensures { Leads words.now from (many n (below most)) result }
 {
     let mut to = from;
-    let mut k = n;
-    while k > 0 {
+    for _ in 0..n {
         if stopped(to) {
             return to;
         }
         to = reader::below(words, to, most);
-        k -= 1;
     }
     to
 }
@@ -92,14 +84,12 @@ pub fn pairs(script: &[u8], words: &[u32], from: Reading, n: usize, most: usize)
     ensures { Leads words.now from (many n (pair_rule script.now most)) result }
 {
     let mut to = from;
-    let mut k = n;
-    while k > 0 {
+    for _ in 0..n {
         if stopped(to) {
             return to;
         }
         let at = token(script, words, to);
         to = reader::below(words, at, most);
-        k -= 1;
     }
     to
 }
@@ -109,13 +99,11 @@ pub fn names(script: &[u8], words: &[u32], from: Reading, n: usize) -> Reading
     ensures { Leads words.now from (many n (word (good_name in_script script.now))) result }
 {
     let mut to = from;
-    let mut left = n;
-    while left > 0 {
+    for _ in 0..n {
         if stopped(to) {
             return to;
         }
         to = token(script, words, to);
-        left -= 1;
     }
     to
 }

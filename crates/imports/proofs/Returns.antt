@@ -1,4 +1,5 @@
 -- Each return of the functions, from what the callees answered. By rewriting. Assumes nothing.
+use Rattle.std.specs.Prelude.{Option as Found, Some, None}
 use Prim.Native.Nat.{ℕ, zero, suc, ◌+◌, ◌-◌, ◌≤◌, ◌<◌}
 use mathlib.Core.Path.{◌≡◌, refl, sym, ap, ◌∙◌}
 use mathlib.Core.Logic.{⊎_elim}
@@ -12,12 +13,9 @@ use denote.Enum.Declared.{tag_of}
 use borrow.Author.Tests.{eqb-false}
 use Rattle.tok.specs.Text.{Texts, name_bytes}
 use Rattle.tok.specs.Step.{Result, ok, refused, Refusal, refusal, next, return, for_each, ◌>>=◌, ◌>>◌}
-use Rattle.err.specs.declared.Reported.{Reported}
 use Rattle.err.specs.Message.{no_import, empty_import}
 use Rattle.err.specs.Report.{Reports}
 use Rattle.library.specs.Package.{Package, packages_of, find_package}
-use Rattle.library.specs.declared.Found.{Found}
-use Rattle.library.specs.declared.Found.TheVariants as F
 use Rattle.library.specs.Access.{found_in}
 use Rattle.ast.specs.Image.{word_at}
 use Rattle.ast.specs.Node.{words_from}
@@ -44,6 +42,7 @@ use Rattle.visit.specs.Walks.{walked_in, KeepsOn, goes, stops, Walks}
 use Rattle.visit.specs.Plain.{walked_of, within-plain, goes-walks}
 use Rattle.visit.specs.Free.{Free, free-less, free-then}
 use Rattle.imports.specs.Holding.{one_held, CanHold, CanHoldAll, import_rule, found-low, held_one, names-kept, within_held}
+use Rattle.err.specs.declared.Counts.{Counts}
 
 more_room : {r : Walked} {room room' : ℕ} {st : State} {b b' : Lent} → room ≤ room' → KeepsOn room 0 st b b' r → KeepsOn room' 0 st b b' r
 more_room h (goes w) = goes (within-most w h (omega arith))
@@ -75,7 +74,7 @@ module _ (T : Texts) (words : List ℕ) (n path : ℕ) (st : State) (e : List �
   already p ep v s f t d m o = record { step = chosen (some p) ep v s f t d m o; keeps = goes (within-most (within-plain st st.used s t d m s t d m f e o) (omega arith) (omega arith)) }
 
   -- none is held
-  module _ (eo : held ≡ H.Nothing) {b : List ℕ} (eb : b ≡ name_bytes T path) (found : Found) (eg : find_package T b (packages_of words) ≡ found_in words found) where
+  module _ (eo : held ≡ H.Nothing) {b : List ℕ} (eb : b ≡ name_bytes T path) (found : Found ℕ) (eg : find_package T b (packages_of words) ≡ found_in words found) where
     ef : find_package T (name_bytes T path) (packages_of words) ≡ found_in words found
     ef = rw (← eb) eg
 
@@ -85,10 +84,10 @@ module _ (T : Texts) (words : List ℕ) (n path : ℕ) (st : State) (e : List �
     looked q e' v s f t d m o =
         chosen none (ap (λ x. held_of words e x) eo) v s f t d m o ∙ ap (λ x. unheld T (packages_of words) n path x (whole words st (lent s f t d m e o))) (ef ∙ e')
 
-    pub place-low : {at : ℕ} → found ≡ F.At at → at < 8192
+    pub place-low : {at : ℕ} → found ≡ Some at → at < 8192
     place-low {at} e' = found-low h.fine (name_bytes T path) at (ef ∙ ap (λ x. found_in words x) e')
 
-    pub import_found_lem : {at w : ℕ} {e'' : List ℕ} {st' : State} → found ≡ F.At at → w ≡ at → e'' ≡ set e (st.held - 1) w → st' ≡ one_held st
+    pub import_found_lem : {at w : ℕ} {e'' : List ℕ} {st' : State} → found ≡ Some at → w ≡ at → e'' ≡ set e (st.held - 1) w → st' ≡ one_held st
         → (v : ℕ) (s f t d m : List ℕ) (o : More) → Walks (import_one (ctx T (packages_of words) v) n path) 1 0 words st (lent s f t d m e o) (lent s f t d m e'' o) (W.On st')
     unfolding unheld on_option hold walked_in
     import_found_lem {at} e' ew es et v s f t d m o =
@@ -98,7 +97,7 @@ module _ (T : Texts) (words : List ℕ) (n path : ℕ) (st : State) (e : List �
           keeps = rw (et, es, ew) (goes (within_held h.free at low s f t d m o));
         }
 
-    pub import_none : {d m d' m' : List ℕ} {q : Reported} {w : Went} {x : Walked} → found ≡ F.Nothing → Reports (no_import path (name_bytes T path)) d m st.used.told d' m' q
+    pub import_none : {d m d' m' : List ℕ} {q : Found Counts} {w : Went} {x : Walked} → found ≡ None → Reports (no_import path (name_bytes T path)) d m st.used.told d' m' q
         → w ≡ told_of n st.used q → x ≡ walked_of st w
         → (v : ℕ) (s f t : List ℕ) (o : More) → Walks (import_one (ctx T (packages_of words) v) n path) 1 0 words st (lent s f t d m e o) (lent s f t d' m' e o) x
     unfolding unheld on_option
@@ -154,7 +153,7 @@ module _ {T : Texts} {words : List ℕ} (image : List ℕ) (n token at count : �
     most = omega arith;
   }
 
-  pub import_empty : {d' m' : List ℕ} {q : Reported} {w : Went} {x : Walked} → count ≡ 0 → Reports (empty_import token) d₀ m₀ st₀.used.told d' m' q → w ≡ told_of n st₀.used q → x ≡ walked_of st₀ w
+  pub import_empty : {d' m' : List ℕ} {q : Found Counts} {w : Went} {x : Walked} → count ≡ 0 → Reports (empty_import token) d₀ m₀ st₀.used.told d' m' q → w ≡ told_of n st₀.used q → x ≡ walked_of st₀ w
       → (v : ℕ) (s f t : List ℕ) (o : More) → Walks (import_all (ctx T (packages_of words) v) n token (words_from image at count)) count 0 words st₀ (lent s f t d₀ m₀ e₀ o) (lent s f t d' m' e₀ o) x
   unfolding import_all words_from
   import_empty z p ew ex v s f t o = rw (z, ex, ew) (goes-walks (reports_step n p) words f e₀ o)

@@ -3,7 +3,6 @@
 #![tactic(auto)]
 
 ghost use Rattle.std.specs.Prelude.{◌≡◌, List, ℕ, ◌+◌, ◌≤◌, ◌<◌};
-ghost use Rattle.tok.specs.Text.{Texts, texts_of};
 ghost use Rattle.library.specs.Package.{packages_of};
 ghost use Rattle.ast.specs.Node.{words_from};
 ghost use Rattle.rules.specs.Rules.{import_one, import_all};
@@ -14,8 +13,8 @@ ghost use Rattle.visit.specs.Within.{Visits};
 ghost use Rattle.visit.specs.Walks.{Walks};
 ghost use Rattle.imports.specs.Holding.{one_held, CanHold, CanHoldAll, import_rule};
 
-use library::Found;
 use scope::Held;
+use tok::Texts;
 use visit::{State, Visit, Walked};
 
 // The word of Void.
@@ -26,56 +25,43 @@ fn one_held(st: State) -> State
     requires { (0 < st.held) × (st.packages ≤ 8192) }
     ensures { result ≡ one_held st }
 {
-    let used = st.used;
     State {
-        used: used,
-        base: st.base,
-        depth: st.depth,
         held: st.held - 1,
         packages: st.packages + 1,
-        functions: st.functions,
+        ..st
     }
 }
 
 // One path: "an Import of one already held does nothing; the first library package of a name is found"; 26 where there is none.
-pub fn import_one<'a>(
+pub fn import_one(
     diagnostics: &mut [u32],
     messages: &mut [u8],
     scratch: &mut [u32],
-    script: &'a [u8],
-    library: &'a [u8],
+    texts: &Texts,
     words: &[u32],
     st: State,
     n: u32,
     path: u32,
 ) -> Walked
-    requires { CanHold (texts_of script.now library.now) words.now st scratch.old }
-    ensures { let T : Texts = texts_of script.now library.now in let W : List ℕ = words.now in
+    requires { CanHold texts.now words.now st scratch.old }
+    ensures { let W : List ℕ = words.now in
         ((v : ℕ) (s f t : List ℕ) (o : More) →
         let b : Lent = lent s f t diagnostics.old messages.old scratch.old o in
         let b' : Lent = lent s f t diagnostics.new messages.new scratch.new o in
-        Walks (import_one (ctx T (packages_of W) v) n path) 1 0 W st b b' result) }
+        Walks (import_one (ctx texts.now (packages_of W) v) n path) 1 0 W st b b' result) }
 {
-    let held = scope::find_held(
-        script,
-        library,
-        words,
-        &scratch[..],
-        st.held,
-        st.packages,
-        path,
-    );
+    let held = scope::find_held(texts, words, &scratch[..], st.held, st.packages, path);
     let Held::Nothing = held else {
         return Walked::On(st);
     };
-    let name = tok::name_bytes(script, library, path);
-    let found = library::find_package(script, library, words, name);
+    let name = tok::name_bytes(texts, path);
+    let found = library::find_package(texts, words, name);
     match found {
-        Found::At(at) => {
+        Some(at) => {
             operators::store(scratch, st.held - 1, at as u32);
             return Walked::On(one_held(st));
         }
-        Found::Nothing => {
+        None => {
             let used = st.used;
             let counts = used.told;
             let free = err_text::first_free(messages, counts);
@@ -83,8 +69,7 @@ pub fn import_one<'a>(
                 diagnostics,
                 &mut messages[free..],
                 counts,
-                script,
-                library,
+                texts,
                 path,
             );
             return visit::went_on(st, state::told(n, used, none));
@@ -93,12 +78,11 @@ pub fn import_one<'a>(
 }
 
 // All paths, of which `count` stand in the image from word `at` on: 25 where there is none.
-pub fn import_all<'a>(
+pub fn import_all(
     diagnostics: &mut [u32],
     messages: &mut [u8],
     scratch: &mut [u32],
-    script: &'a [u8],
-    library: &'a [u8],
+    texts: &Texts,
     words: &[u32],
     image: &[u32],
     st: State,
@@ -107,12 +91,12 @@ pub fn import_all<'a>(
     at: usize,
     count: usize,
 ) -> Walked
-    requires { CanHoldAll (texts_of script.now library.now) words.now st scratch.old at count }
-    ensures { let T : Texts = texts_of script.now library.now in let W : List ℕ = words.now in
+    requires { CanHoldAll texts.now words.now st scratch.old at count }
+    ensures { let W : List ℕ = words.now in
         ((v : ℕ) (s f t : List ℕ) (o : More) →
         let b : Lent = lent s f t diagnostics.old messages.old scratch.old o in
         let b' : Lent = lent s f t diagnostics.new messages.new scratch.new o in
-        Walks (import_all (ctx T (packages_of W) v) n token (words_from image.now at count)) count 0 W st b b' result) }
+        Walks (import_all (ctx texts.now (packages_of W) v) n token (words_from image.now at count)) count 0 W st b b' result) }
 {
     if count == 0 {
         let used = st.used;
@@ -125,17 +109,7 @@ pub fn import_all<'a>(
     let mut k = 0;
     while k < count {
         let path = tok::word_at(image, at + k);
-        let one = import_one(
-            diagnostics,
-            messages,
-            scratch,
-            script,
-            library,
-            words,
-            after,
-            n,
-            path,
-        );
+        let one = import_one(diagnostics, messages, scratch, texts, words, after, n, path);
         let Walked::On(next) = one else {
             return one;
         };
@@ -146,13 +120,12 @@ pub fn import_all<'a>(
 }
 
 // Node::Import: its paths, and its slot is Void.
-pub fn import_node<'a>(
+pub fn import_node(
     slots: &mut [u32],
     diagnostics: &mut [u32],
     messages: &mut [u8],
     scratch: &mut [u32],
-    script: &'a [u8],
-    library: &'a [u8],
+    texts: &Texts,
     words: &[u32],
     image: &[u32],
     st: State,
@@ -162,19 +135,18 @@ pub fn import_node<'a>(
     at: usize,
     count: usize,
 ) -> Visit
-    requires { CanHoldAll (texts_of script.now library.now) words.now st scratch.old at count }
-    ensures { let T : Texts = texts_of script.now library.now in let W : List ℕ = words.now in
+    requires { CanHoldAll texts.now words.now st scratch.old at count }
+    ensures { let W : List ℕ = words.now in
         ((v : ℕ) (f t : List ℕ) (o : More) →
         let b : Lent = lent slots.old f t diagnostics.old messages.old scratch.old o in
         let b' : Lent = lent slots.new f t diagnostics.new messages.new scratch.new o in
-        Visits (import_rule (ctx T (packages_of W) v) n slot token (words_from image.now at count)) count 0 W st b b' result) }
+        Visits (import_rule (ctx texts.now (packages_of W) v) n slot token (words_from image.now at count)) count 0 W st b b' result) }
 {
     let all = import_all(
         diagnostics,
         messages,
         scratch,
-        script,
-        library,
+        texts,
         words,
         image,
         st,

@@ -2,14 +2,13 @@
 #![tactic(auto)]
 
 ghost use Rattle.std.specs.Prelude.{◌≡◌, List, ℕ, ◌<◌};
-ghost use Rattle.tok.specs.Text.{Texts, texts_of};
 ghost use Rattle.tok.specs.Word.{word_of};
 ghost use Rattle.state.specs.World.{More};
 ghost use Rattle.visit.specs.Whole.{Lent, lent};
 ghost use Rattle.walking.specs.Visited.{NodeVisited};
 ghost use Rattle.leaves.specs.Leaves.{LeafReady};
 
-use tok::{kind, payload, word_at};
+use tok::{Texts, kind, payload, word_at};
 use visit::{State, Visit};
 
 const ATOM: u32 = 0;
@@ -27,26 +26,24 @@ fn plain_word(kind: u32) -> u32
 }
 
 // A node of such a kind.
-pub fn leaf<'a>(
+pub fn leaf(
     slots: &mut [u32],
     types: &mut [u32],
     diagnostics: &mut [u32],
     messages: &mut [u8],
     scratch: &mut [u32],
-    script: &'a [u8],
-    library: &'a [u8],
+    texts: &Texts,
     image: &[u32],
     words: &[u32],
     places: &[u16],
     st: State,
     n: u32,
 ) -> Visit
-    requires { LeafReady (texts_of script.now library.now) image.now places.now words.now n st scratch.old }
-    ensures { let T : Texts = texts_of script.now library.now in
-        ((f : List ℕ) (o : More) →
+    requires { LeafReady texts.now image.now places.now words.now n st scratch.old }
+    ensures { ((f : List ℕ) (o : More) →
         let b : Lent = lent slots.old f types.old diagnostics.old messages.old scratch.old o in
         let b' : Lent = lent slots.new f types.new diagnostics.new messages.new scratch.new o in
-        NodeVisited T image.now words.now n st b b' result) }
+        NodeVisited texts.now image.now words.now n st b b' result) }
 {
     let at = places::node_place(places, n);
     let head = word_at(image, at);
@@ -64,8 +61,7 @@ pub fn leaf<'a>(
             diagnostics,
             messages,
             &scratch[..],
-            script,
-            library,
+            texts,
             st,
             n,
             slot,
@@ -78,8 +74,7 @@ pub fn leaf<'a>(
             diagnostics,
             messages,
             scratch,
-            script,
-            library,
+            texts,
             words,
             image,
             st,

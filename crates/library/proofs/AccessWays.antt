@@ -14,9 +14,6 @@ use Rattle.library.specs.Package.{param, params_from, function_at, function_end,
 use Rattle.library.specs.PackagesRead.{package_at, package_end}
 use Rattle.library.specs.Past.{functions_end-after, functions-held, packages-held, functions_end-held}
 
-pub past_end : (words : List ℕ) (at n : ℕ) → (length words ≤ at + n) → 0 ≡ get_or words (at + n) 0
-past_end words at n l = sym (get_or-eq_default words 0 l)
-
 -- ── The pool ──
 
 take-held : (words : List ℕ) (n : ℕ) → take (min n (length words)) words ≡ take n words
@@ -55,19 +52,17 @@ unfolding functions_end
 functions_end-next words at k = refl
 
 module _ {words : List ℕ} {from k : ℕ} where
-  pub functions-begin : {at : ℕ} → at ≡ min from (length words) → FunctionsLeft words from k at k
-  functions-begin e = record { within = omega arith; rest = rw e (sym (functions_end-held words k from)) }
+  pub functions-begin : {at left : ℕ} → at ≡ min from (length words) → left ≡ k → FunctionsLeft words from k at left
+  functions-begin e f = record { within = omega arith; rest = rw (e, f) (sym (functions_end-held words k from)) }
 
   module _ {at left : ℕ} (h : FunctionsLeft words from k at left) where
-    pub functions-less : {at' : ℕ} → 0 < left → at' ≡ min (function_end words at) (length words) → FunctionsLeft words from k at' (left - 1)
-    functions-less {at'} l e =
-        let s : left ≡ suc (left - 1) = omega arith in
-        record {
-          within = omega arith;
-          rest =
-              h.rest ∙ ap (λ n. min (functions_end words at n) (length words)) s ∙ ap (λ n. min n (length words)) (functions_end-next words at (left - 1))
-              ∙ sym (functions_end-held words (left - 1) (function_end words at)) ∙ ap (λ n. min (functions_end words n (left - 1)) (length words)) (sym e);
-        }
+    pub functions-less : {at' left' : ℕ} → left ≡ suc left' → at' ≡ min (function_end words at) (length words) → FunctionsLeft words from k at' left'
+    functions-less {at'} {left'} s e = record {
+      within = omega arith;
+      rest =
+          h.rest ∙ ap (λ n. min (functions_end words at n) (length words)) s ∙ ap (λ n. min n (length words)) (functions_end-next words at left')
+          ∙ sym (functions_end-held words left' (function_end words at)) ∙ ap (λ n. min (functions_end words n left') (length words)) (sym e);
+    }
 
     pub functions-over : left ≤ 0 → at ≡ min (functions_end words from k) (length words)
     unfolding functions_end
@@ -101,20 +96,18 @@ module _ (t : Texts) (name words : List ℕ) where
   packages-begin e f = rw (e, f) (ap (find_package t name) (sym (packages-held words (get_or words 1 0) (2 + get_or words 0 0))))
 
   module _ (at left : ℕ) (h : find_package t name (packages_of words) ≡ find_package t name (packages_from words at left)) where
-    module _ {w : ℕ} {b : List ℕ} {r : Bool} (l : 0 < left) (ew : w ≡ get_or words at 0) (eb : b ≡ name_bytes t w) (er : r ≡ same_bytes name b) where
-      split : find_package t name (packages_of words) ≡ find_package t name (packages_from words at (suc (left - 1)))
-      split =
-          let s : left ≡ suc (left - 1) = omega arith in
-          h ∙ ap (λ n. find_package t name (packages_from words at n)) s
+    module _ {w left' : ℕ} {b : List ℕ} {r : Bool} (s : left ≡ suc left') (ew : w ≡ get_or words at 0) (eb : b ≡ name_bytes t w) (er : r ≡ same_bytes name b) where
+      split : find_package t name (packages_of words) ≡ find_package t name (packages_from words at (suc left'))
+      split = h ∙ ap (λ n. find_package t name (packages_from words at n)) s
 
       pub package_found : r ≡ true → find_package t name (packages_of words) ≡ some (package_at words at)
-      package_found y = split ∙ package_first t name words at (left - 1) ew eb er ∙ rw y refl
+      package_found y = split ∙ package_first t name words at left' ew eb er ∙ rw y refl
 
       pub package_past : {at' : ℕ} → r ≡ false → at' ≡ min (package_end words at) (length words)
-          → find_package t name (packages_of words) ≡ find_package t name (packages_from words at' (left - 1))
+          → find_package t name (packages_of words) ≡ find_package t name (packages_from words at' left')
       package_past n e =
-          split ∙ package_first t name words at (left - 1) ew eb er
-          ∙ rw (n, e) (ap (find_package t name) (sym (packages-held words (left - 1) (package_end words at))))
+          split ∙ package_first t name words at left' ew eb er
+          ∙ rw (n, e) (ap (find_package t name) (sym (packages-held words left' (package_end words at))))
 
     pub package_none : left ≤ 0 → find_package t name (packages_of words) ≡ none
     unfolding find_package packages_from

@@ -2,7 +2,7 @@
 use Rattle.std.specs.Prelude.{ℕ, ◌*◌, true, List, length, take, drop, ltb}
 use Rattle.std.proofs.Math.Option.{Option}
 use Rattle.tok.specs.Text.{Texts}
-use Rattle.tok.specs.Step.{Result, next, ◌>>=◌, ◌>>◌, return}
+use Rattle.tok.specs.Step.{Result, ◌>>=◌, return}
 use Rattle.tok.specs.Reader.{Cursor, Read, owing, many, ends, start, fault_of, most_bytes, unless_long}
 use Rattle.library.specs.Pool.{Pool, pool_from}
 use Rattle.library.specs.Package.{Package}

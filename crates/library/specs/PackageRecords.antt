@@ -1,8 +1,8 @@
 -- Reading the library's packages and functions (document 01, "Words"). Definitions.
-use Rattle.std.specs.Prelude.{ℕ, zero, suc, ◌+◌, ◌*◌, Bool, true, false, not, ◌&&◌, ◌||◌, List, [], ◌∷◌, ◌++◌, map, ltb, eqb}
+use Rattle.std.specs.Prelude.{ℕ, zero, suc, ◌*◌, Bool, true, false, not, ◌&&◌, ◌||◌, List, [], ◌∷◌, ◌++◌, map, ltb, eqb}
 use Rattle.tok.specs.Text.{Texts, name_bytes, same_bytes}
 use Rattle.tok.specs.Name.{good_name, in_library}
-use Rattle.tok.specs.Step.{next, ◌>>=◌, ◌>>◌, return}
+use Rattle.tok.specs.Step.{◌>>=◌, return}
 use Rattle.tok.specs.Reader.{Read, word, owing, many}
 use Rattle.library.specs.Pool.{Pool, good_type, name}
 use Rattle.library.specs.Slots.{no_slot, return_stands}

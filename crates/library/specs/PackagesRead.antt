@@ -15,7 +15,7 @@ use Rattle.tok.specs.Step.{ok}
 use Rattle.tok.specs.Reader.{many}
 use Rattle.reader.specs.Reading.{standing}
 use Rattle.reader.specs.Reads.{Within, Reads, reads, reads-map, reads-done, reads_then, reads_word}
-use Rattle.library.specs.Pool.{Pool, good_type, name}
+use Rattle.library.specs.Pool.{Pool, good_type}
 use Rattle.library.specs.Slots.{no_slot, return_stands}
 use Rattle.library.specs.Package.{Param, param, Signature, Function, function, Package, pkg, params_from, function_at, function_end, functions_from, functions_end, packages_from}
 use Rattle.library.specs.PackageRecords.{any_function, same_group, good_group, good_flag, good_signature_type, argument, good_return, function_record, function_records, package_record}

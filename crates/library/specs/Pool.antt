@@ -4,7 +4,7 @@ use Rattle.utf8.specs.Rfc3629.{range}
 use Rattle.tok.specs.Word.{kind_of, payload_of}
 use Rattle.tok.specs.Text.{Texts}
 use Rattle.tok.specs.Name.{good_name, good_payload, in_library}
-use Rattle.tok.specs.Step.{next, ◌>>=◌, ◌>>◌, return}
+use Rattle.tok.specs.Step.{◌>>=◌, return}
 use Rattle.tok.specs.Reader.{Read, word}
 
 -- what a reader of library words knows: the texts, P, and the pool words by index

@@ -14,7 +14,7 @@ use Rattle.tok.specs.Name.{good_name, in_library}
 use Rattle.tok.proofs.NameLaws.{good_name-kind}
 use Rattle.reader.specs.Reading.{standing}
 use Rattle.reader.specs.Reads.{Within, Reads, reads, reads-map, reads_then, reads_word}
-use Rattle.library.specs.Pool.{Pool, pool_word, good_type, name, fields, good_pool_word, pairs_after, pool_from}
+use Rattle.library.specs.Pool.{Pool, pool_word, good_type, fields, good_pool_word, pairs_after, pool_from}
 use Rattle.library.specs.TypeWords.{TypeKind, good_type-true}
 
 -- the pair at pool index i: "a name and a type word for each field"

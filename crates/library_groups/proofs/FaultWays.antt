@@ -1,8 +1,8 @@
 -- The lowest place at which the rule on groups fails, group by group. Assumes nothing.
 use Prim.Native.Nat.{ℕ, ◌+◌, ◌≤◌, ◌<◌, min}
-use mathlib.Core.Path.{◌≡◌, refl, sym, ap, subst, ◌∙◌}
+use mathlib.Core.Path.{◌≡◌, sym, ap, subst, ◌∙◌}
 use mathlib.Core.Logic.{◌⊎◌, inl, inr}
-use mathlib.Core.Bool.{Bool, true, false, true≢false}
+use mathlib.Core.Bool.{true}
 use mathlib.Core.List.{List}
 use native.Mathlib.Omega.{arith}
 use native.Mathlib.Decide.{dec_lt, ℕ_discrete}
@@ -11,22 +11,6 @@ use Rattle.tok.specs.Text.{Texts}
 use Rattle.name_order.specs.Order.{place_in, name_of, Grouped, GroupEnd}
 use Rattle.name_order.specs.OrderLaws.{Begins, begins-first, begins-next, group-is}
 use Rattle.library_groups.specs.Kept.{slotted, Lowest, FaultAt, FaultsFrom, FirstFault}
-
--- ── A place ──
-
-module _ (words : List ℕ) (low p most : ℕ) where
-  pub at_first : p ≡ low → FaultAt words low p most most
-  at_first e = record { limit = omega arith; found = λ d s. absurd (d e) }
-
-  pub at-fault : {r : ℕ} → r ≡ min most p → FaultAt words low p most r
-  at-fault e = record { limit = omega arith; found = λ d s. omega arith }
-
-  pub at_none : {a b : Bool} → a ≡ slotted words low → a ≡ false → b ≡ slotted words p → b ≡ false → FaultAt words low p most most
-  at_none ea fa eb fb = record { limit = omega arith; found = λ d s. by s }
-    where
-      by : (slotted words low ≡ true) ⊎ (slotted words p ≡ true) → most ≤ p
-      by (inl y) = absurd (true≢false (sym y ∙ sym ea ∙ fa))
-      by (inr y) = absurd (true≢false (sym y ∙ sym eb ∙ fb))
 
 -- ── A group ──
 

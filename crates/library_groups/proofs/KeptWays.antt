@@ -1,18 +1,16 @@
 -- The functions of a package before the first fault keep the rule on groups. Assumes nothing.
-use Prim.Native.Nat.{ℕ, zero, suc, ◌+◌, ◌≤◌, ◌<◌}
-use mathlib.Core.Path.{◌≡◌, refl, sym, ap, ap₂, subst, ◌∙◌}
+use Prim.Native.Nat.{ℕ, zero, suc, ◌<◌}
+use mathlib.Core.Path.{◌≡◌, refl, sym, ap, subst, ◌∙◌}
 use mathlib.Core.Logic.{◌⊎◌, inl, inr}
-use mathlib.Core.Bool.{Bool, true, false, ◌&&◌, and-false, and-eq-true_iff, false≢true}
-use mathlib.Core.List.{List, [], ◌∷◌}
+use mathlib.Core.Bool.{Bool, true, false, ◌&&◌, and-eq-true_iff, false≢true}
+use mathlib.Core.List.{List}
 use native.Mathlib.Omega.{arith}
-use lib.ListN.{length, get_or}
-use Rattle.tok.specs.Text.{Texts, name_bytes, same_bytes}
+use lib.ListN.{get_or}
+use Rattle.tok.specs.Text.{Texts, name_bytes}
 use Rattle.tok.proofs.TextLaws.{same_bytes-true}
-use Rattle.library.specs.Pool.{pool_in}
 use Rattle.library.specs.Package.{Function, function_at, function_end, functions_from, functions_end}
 use Rattle.library.specs.PackageRecords.{any_function, same_group}
-use Rattle.library.specs.PackagesRead.{GroupFine}
-use Rattle.name_order.specs.Order.{place_in, name_of, Listed, Rearranged, Grouping}
+use Rattle.name_order.specs.Order.{place_in, name_of, Listed, Grouping}
 use Rattle.library_groups.specs.Kept.{slotted, GroupsKept, FunctionsListed, ListedEnd, NoneSlotted, FirstFault}
 use Rattle.library_groups.proofs.PlaceWays.{ends_rise, ends-first}
 

@@ -3,29 +3,27 @@
 #![tactic(auto)]
 
 ghost use Rattle.std.specs.Prelude.{◌≡◌};
-ghost use Rattle.tok.specs.Text.{Texts, texts_of};
+ghost use Rattle.tok.specs.Text.{Texts};
 ghost use Rattle.library_groups.specs.Kept.{GroupsKept, FunctionsListed, ListedEnd, NoneSlotted, Lowest, FaultAt, FaultsFrom, FirstFault};
 ghost use Rattle.name_order.specs.Order.{Grouped};
 
-use tok::least;
+use tok::Texts;
 
 // The places of a package's functions, as far as the words and the list go, and how many there are.
 fn function_places(words: &[u32], from: usize, count: usize, order: &mut [u16]) -> usize
     ensures { FunctionsListed words.now from order.new result }
 {
-    let end = least(count, order.len());
-    let last = least(words.len(), 8192);
+    let end = count.min(order.len());
+    let last = words.len().min(8192);
     let mut at = from;
-    let mut k = 0;
-    while k < end {
+    for k in 0..end {
         if at >= last {
             return k;
         }
         name_order::enter(order, k, at);
         at = library::function_end(words, at);
-        k += 1;
     }
-    k
+    end
 }
 
 // The place after the last of them.
@@ -42,12 +40,10 @@ fn listed_end(words: &[u32], from: usize, order: &[u16], n: usize) -> usize
 fn none_slotted(words: &[u32], order: &[u16], n: usize) -> bool
     ensures { NoneSlotted words.now order.now n result }
 {
-    let mut i = 0;
-    while i < n {
+    for i in 0..n {
         if library::with_slots(words, name_order::place_at(order, i)) {
             return false;
         }
-        i += 1;
     }
     true
 }
@@ -57,10 +53,8 @@ fn lowest(order: &[u16], at: usize, end: usize) -> usize
     ensures { Lowest order.now at end result }
 {
     let mut low = name_order::place_at(order, at);
-    let mut i = at;
-    while i < end {
-        low = least(low, name_order::place_at(order, i));
-        i += 1;
+    for i in at..end {
+        low = low.min(name_order::place_at(order, i));
     }
     low
 }
@@ -69,16 +63,11 @@ fn lowest(order: &[u16], at: usize, end: usize) -> usize
 fn fault_at(words: &[u32], low: usize, p: usize, most: usize) -> usize
     ensures { FaultAt words.now low p most result }
 {
-    if p == low {
-        return most;
+    if p != low && (library::with_slots(words, low) || library::with_slots(words, p)) {
+        most.min(p)
+    } else {
+        most
     }
-    if library::with_slots(words, low) {
-        return least(most, p);
-    }
-    if library::with_slots(words, p) {
-        return least(most, p);
-    }
-    most
 }
 
 // The lower of `most` and the lowest such place of a group.
@@ -86,10 +75,8 @@ fn fault_in(words: &[u32], order: &[u16], at: usize, end: usize, low: usize, mos
     ensures { FaultsFrom words.now order.now at end low most result }
 {
     let mut best = most;
-    let mut i = at;
-    while i < end {
+    for i in at..end {
         best = fault_at(words, low, name_order::place_at(order, i), best);
-        i += 1;
     }
     best
 }
@@ -110,14 +97,8 @@ fn first_fault(words: &[u32], order: &[u16], n: usize, most: usize) -> usize
 }
 
 // The functions of a package that stand before this place keep the rule.
-pub fn kept_up_to<'a>(
-    script: &'a [u8],
-    library: &'a [u8],
-    words: &[u32],
-    from: usize,
-    count: usize,
-) -> usize
-    ensures { let T : Texts = texts_of script.now library.now in GroupsKept T words.now from result }
+pub fn kept_up_to(texts: &Texts, words: &[u32], from: usize, count: usize) -> usize
+    ensures { GroupsKept texts.now words.now from result }
 {
     let mut order = [0u16; 2048];
     let n = function_places(words, from, count, &mut order);
@@ -125,7 +106,7 @@ pub fn kept_up_to<'a>(
     if none_slotted(words, &order, n) {
         return end;
     }
-    if name_order::group_names(script, library, words, &mut order, n) {
+    if name_order::group_names(texts, words, &mut order, n) {
         return first_fault(words, &order, n, end);
     }
     from

@@ -1,2 +1,1 @@
-pub mod TypeWays
 pub mod PoolWays

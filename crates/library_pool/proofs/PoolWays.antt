@@ -37,19 +37,19 @@ pub record FieldsLeft (library words pool : List ℕ) (n i : ℕ) (from c : Read
       → onward words from (fields (pool_at (texts_of script library) size pool) n i) ≡ onward words c (fields (pool_at (texts_of script library) size pool) left at)
 
 module _ {library words pool : List ℕ} {n i : ℕ} {from : Reading} where
-  pub fields-begin : FieldsLeft library words pool n i from from n i
-  fields-begin = record { place = refl; rest = λ s z. refl }
+  pub fields-begin : {left at : ℕ} → left ≡ n → at ≡ i → FieldsLeft library words pool n i from from left at
+  fields-begin e f = record { place = omega arith; rest = λ s z. rw (e, f) refl }
 
   module _ {c : Reading} {left at : ℕ} (h : FieldsLeft library words pool n i from c left at) where
-    pub fields-turn : (d e : Reading) (a b : ℕ) → 0 < left → onward words c (word (good_name in_library library)) ≡ gave words a d
+    pub fields-turn : {left' at' : ℕ} (d e : Reading) (a b : ℕ) → left ≡ suc left' → at' ≡ at + 2 → onward words c (word (good_name in_library library)) ≡ gave words a d
         → ((script : List ℕ) (size : ℕ) → onward words d (word (good_type (pool_at (texts_of script library) size pool) (at + 1))) ≡ gave words b e)
-        → FieldsLeft library words pool n i from e (left - 1) (at + 2)
-    fields-turn d e a b l f g =
-        let s : left ≡ suc (left - 1) = omega arith in
-        record {
-          place = omega (arith, h.place);
-          rest = λ t z. h.rest t z ∙ ap (λ k. onward words c (fields (pool_at (texts_of t library) z pool) k at)) s ∙ fields-pair words _ (left - 1) at c d e a b f (g t z);
-        }
+        → FieldsLeft library words pool n i from e left' at'
+    fields-turn {left'} d e a b s m f g = record {
+      place = omega (arith, h.place);
+      rest = λ t z.
+          h.rest t z ∙ ap (λ k. onward words c (fields (pool_at (texts_of t library) z pool) k at)) s
+          ∙ rw m (fields-pair words _ left' at c d e a b f (g t z));
+    }
 
     pub fields-ended : (place : ℕ) → c ≡ Fault place → (script : List ℕ) (size : ℕ)
         → onward words from (fields (pool_at (texts_of script library) size pool) n i) ≡ gave words (i + 2 * n) c

@@ -2,8 +2,6 @@
 #![tactic(auto)]
 
 ghost use Rattle.std.specs.Prelude.{◌≡◌, List, ℕ, ◌+◌, ◌*◌, ◌<◌, ◌^◌};
-ghost use Rattle.utf8.specs.Rfc3629.{range};
-ghost use Rattle.tok.specs.Word.{kind_of, payload_of};
 ghost use Rattle.tok.specs.Text.{texts_of};
 ghost use Rattle.tok.specs.Name.{good_name, in_library};
 ghost use Rattle.tok.specs.Reader.{word};
@@ -14,73 +12,55 @@ use reader::Reading;
 
 // Type words.
 
-// Whether a kind lies from lo to hi.
-fn within(lo: u32, hi: u32, k: u32) -> bool
-    ensures { result ≡ range lo hi k }
-{
-    lo <= k && k <= hi
-}
-
 // Void, Bool, Int, Double and Str have payload 0; Unknown is not allowed.
+#[tactic(auto, unfolding(library::specs::Pool::good_plain))]
 fn good_plain(w: u32) -> bool
     ensures { result ≡ good_plain w }
 {
-    within(1, 5, tok::kind(w)) && tok::payload(w) == 0
+    matches!(tok::kind(w), 1..=5) && tok::payload(w) == 0
 }
 
 // Option and Array refer to a type word of the pool below `own`.
+#[tactic(auto, unfolding(library::specs::Pool::good_wrapped))]
 fn good_wrapped(pool: &[u32], own: usize, w: u32) -> bool
     ensures { (script library : List ℕ) (size : ℕ) → result ≡ good_wrapped (pool_at (texts_of script library) size pool.now) own w }
 {
-    if !within(6, 7, tok::kind(w)) {
-        return false;
-    }
     let inner = tok::payload(w);
-    if inner >= own {
-        return false;
-    }
-    within(1, 10, tok::kind(tok::word_at(pool, inner)))
+    matches!(tok::kind(w), 6..=7)
+        && inner < own
+        && matches!(tok::kind(tok::word_at(pool, inner)), 1..=10)
 }
 
 // Record refers to a field count of the pool, whose whole list lies below `own`.
+#[tactic(auto, unfolding(library::specs::Pool::good_record))]
 fn good_record(pool: &[u32], own: usize, w: u32) -> bool
     ensures { (script library : List ℕ) (size : ℕ) → result ≡ good_record (pool_at (texts_of script library) size pool.now) own w }
 {
-    if tok::kind(w) != 8 {
-        return false;
-    }
     let list = tok::payload(w);
-    if list >= own {
+    if tok::kind(w) != 8 || list >= own {
         return false;
     }
     let count = tok::word_at(pool, list);
-    if tok::kind(count) != 0 {
-        return false;
-    }
-    list + 1 + 2 * tok::payload(count) <= own
+    tok::kind(count) == 0 && list + 1 + 2 * tok::payload(count) <= own
 }
 
 // Foreign and Slot carry a name payload.
+#[tactic(auto, unfolding(library::specs::Pool::good_named))]
 fn good_named(library: &[u8], w: u32) -> bool
     ensures { (script types : List ℕ) (size : ℕ) → result ≡ good_named (pool_at (texts_of script library.now) size types) w }
 {
-    within(9, 10, tok::kind(w)) && tok::good_payload(tok::IN_LIBRARY, library, w)
+    matches!(tok::kind(w), 9..=10) && tok::good_payload(tok::IN_LIBRARY, library, w)
 }
 
 // Whether a word is a type word that refers below `own`.
+#[tactic(auto, unfolding(library::specs::Pool::good_type))]
 pub fn good_type(library: &[u8], pool: &[u32], own: usize, w: u32) -> bool
     ensures { (script : List ℕ) (size : ℕ) → result ≡ good_type (pool_at (texts_of script library.now) size pool.now) own w }
 {
-    if good_plain(w) {
-        return true;
-    }
-    if good_wrapped(pool, own, w) {
-        return true;
-    }
-    if good_record(pool, own, w) {
-        return true;
-    }
-    good_named(library, w)
+    good_plain(w)
+        || good_wrapped(pool, own, w)
+        || good_record(pool, own, w)
+        || good_named(library, w)
 }
 
 // Reading.
@@ -109,29 +89,27 @@ fn fields(library: &[u8], words: &[u32], pool: &[u32], n: usize, i: usize, from:
         ≡ gave words.now (i + 2 * n) result }
 {
     let mut c = from;
-    let mut left = n;
-    let mut at = i;
-    while left > 0 {
+    for k in 0..n {
         let Reading::At(_, _) = c else {
             return c;
         };
         let d = name(library, words, c);
-        c = type_word(library, words, pool, at + 1, d);
-        at += 2;
-        left -= 1;
+        c = type_word(library, words, pool, i + 2 * k + 1, d);
     }
     c
 }
 
 // A field count whose pairs all stand in the pool, or a type word.
+#[tactic(auto, unfolding(library::specs::Pool::good_pool_word))]
 fn good_pool_word(library: &[u8], pool: &[u32], size: usize, i: usize, w: u32) -> bool
     requires { i < 2 ^ 40 }
     ensures { (script : List ℕ) → result ≡ good_pool_word (pool_at (texts_of script library.now) size pool.now) i w }
 {
-    if tok::kind(w) != 0 {
-        return good_type(library, pool, i, w);
+    if tok::kind(w) == 0 {
+        i + 1 + 2 * tok::payload(w) <= size
+    } else {
+        good_type(library, pool, i, w)
     }
-    i + 1 + 2 * tok::payload(w) <= size
 }
 
 // How many pairs follow a pool word.
@@ -150,7 +128,7 @@ pub fn pool_words(library: &[u8], words: &[u32], pool: &[u32], count: u32, from:
     ensures { (script : List ℕ) → onward words.now from (pool_from (pool_at (texts_of script library.now) count pool.now) count 0)
         ≡ gave words.now tt result }
 {
-    let size = tok::wide(count);
+    let size = count as usize;
     let mut c = from;
     let mut i = 0;
     while i < size {

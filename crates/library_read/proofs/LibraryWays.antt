@@ -8,7 +8,7 @@ use lib.ListN.{length, get_or, take, drop, length-take, length-drop}
 use lib.Seq.{get_or-take, get_or-drop}
 use lib.Dec.{ltb}
 use Rattle.tok.specs.Text.{Texts}
-use Rattle.tok.specs.Step.{next, ◌>>=◌, ◌>>◌, return}
+use Rattle.tok.specs.Step.{◌>>=◌, return}
 use Rattle.tok.specs.Reader.{Read, owing, many, ends, fault_of, most_bytes}
 use Rattle.reader.specs.declared.Reading.{Reading}
 use Rattle.reader.specs.declared.Reading.TheVariants.{At, Fault}

@@ -9,7 +9,7 @@ use native.Mathlib.Numerals.{add-one, add-two}
 use lib.ListN.{length, get_or, take, drop}
 use lib.Seq.{drop-cons}
 use lib.Dec.{eqb}
-use borrow.Author.Tests.{eq-eqb, ne_eqb, not-true, not-false}
+use borrow.Author.Tests.{ne_eqb, not-true, not-false}
 use Rattle.tok.specs.Text.{Texts}
 use Rattle.ptype.specs.Ty.{contains_slot}
 use Rattle.library.specs.Pool.{Pool, pool_in, good_type}
@@ -35,17 +35,9 @@ module _ (t : Texts) (types sums : List ℕ) (ready : Ready t types sums) (flag 
   slot-told g e = e ∙ slot_by-is p ready.fine (length types) w (omega arith) (good_type-true p (length types) w g) (λ j. get_or sums j 0) ready.counts
 
   module _ {r : Bool} (er : r ≡ good_type p (length types) w) where
-    pub type_bad : not r ≡ true → false ≡ good_signature_type p flag w
-    unfolding good_signature_type
-    type_bad n = rw (sym er ∙ not-true r n) refl
-
     module _ (y : not r ≡ false) where
       good : good_type p (length types) w ≡ true
       good = sym er ∙ not-false r y
-
-      pub type-slotted : flag ≡ 1 → true ≡ good_signature_type p flag w
-      unfolding good_signature_type
-      type-slotted e = rw (good, eq-eqb flag 1 e) refl
 
       pub type-plain : {s : Bool} → (flag ≡ 1 → ⊥) → s ≡ slot_by (λ j. get_or sums j 0) types w → not s ≡ good_signature_type p flag w
       unfolding good_signature_type no_slot
@@ -54,9 +46,6 @@ module _ (t : Texts) (types sums : List ℕ) (ready : Ready t types sums) (flag 
   -- ── The return type ──
 
   module _ (args : List ℕ) {r : Bool} (er : r ≡ good_signature_type p flag w) where
-    pub return_bad : not r ≡ true → false ≡ (good_signature_type p flag w && return_stands p args w)
-    return_bad n = rw (sym er ∙ not-true r n) refl
-
     module _ (y : not r ≡ false) {s : Bool} (es : s ≡ slot_by (λ j. get_or sums j 0) types w) (fine : Each (TypeWord p (length types)) args) where
       signature-good : good_signature_type p flag w ≡ true
       signature-good = sym er ∙ not-false r y

@@ -3,7 +3,7 @@
 #![tactic(auto)]
 
 ghost use Rattle.std.specs.Prelude.{◌≡◌, true, false, ◌&&◌, List, [], map, ℕ, ◌+◌, ◌*◌, length, get_or, take, drop};
-ghost use Rattle.tok.specs.Text.{Texts, texts_of};
+ghost use Rattle.tok.specs.Text.{texts_of};
 ghost use Rattle.tok.specs.Reader.{many};
 ghost use Rattle.reader.specs.Reading.{place_of, onward, gave, offending};
 ghost use Rattle.library.specs.Pool.{pool_at, pool_in};
@@ -17,86 +17,50 @@ ghost use Rattle.library.specs.PackageRecords.{any_function, same_group, good_gr
 ghost use Rattle.library.specs.LibraryFault.{library_fault};
 ghost use Rattle.library_read.specs.Ready.{Ready, Ordered, Placed};
 
-use library::Candidate;
-use reader::{Reading, Verdict};
-use tok::least;
+use reader::{Fault, Reading};
+use tok::Texts;
 
 // Groups and flags.
 
 // Whether one of the k functions from a place on is of a group.
-fn group_met<'a>(
-    script: &'a [u8],
-    library: &'a [u8],
-    words: &[u32],
-    from: usize,
-    k: usize,
-    group: u32,
-) -> bool
-    ensures { let T : Texts = texts_of script.now library.now in
-        result ≡ any_function (same_group T group) (functions_from words.now from k) }
+fn group_met(texts: &Texts, words: &[u32], from: usize, k: usize, group: u32) -> bool
+    ensures { result ≡ any_function (same_group texts.now group) (functions_from words.now from k) }
 {
-    let name = tok::name_bytes(script, library, group);
-    match library::find_candidate(script, library, words, from, k, name) {
-        Candidate::One(_, _, _) => true,
-        Candidate::Over => false,
-    }
+    let name = tok::name_bytes(texts, group);
+    library::find_candidate(texts, words, from, k, name).is_some()
 }
 
 // Whether one of them has slots.
-fn group_slotted<'a>(
-    script: &'a [u8],
-    library: &'a [u8],
-    words: &[u32],
-    from: usize,
-    k: usize,
-    group: u32,
-) -> bool
-    ensures { let T : Texts = texts_of script.now library.now in
-        result ≡ any_function (λ f. same_group T group f && f.sig.with_slots) (functions_from words.now from k) }
+fn group_slotted(texts: &Texts, words: &[u32], from: usize, k: usize, group: u32) -> bool
+    ensures { result ≡ any_function (λ f. same_group texts.now group f && f.sig.with_slots) (functions_from words.now from k) }
 {
-    let name = tok::name_bytes(script, library, group);
+    let name = tok::name_bytes(texts, group);
     let mut at = from;
     let mut left = k;
-    loop {
-        let found = library::find_candidate(script, library, words, at, left, name);
-        let Candidate::One(f, next, more) = found else {
-            return false;
-        };
-        if library::with_slots(words, f) {
+    while let Some(found) = library::find_candidate(texts, words, at, left, name) {
+        if library::with_slots(words, found.at) {
             return true;
         }
-        at = next;
-        left = more;
+        at = found.next;
+        left = found.left;
     }
+    false
 }
 
 // The group name of a function after k functions of its package: none of its group has flag 1. `kept`: the rule is known to hold.
-fn good_group<'a>(
-    script: &'a [u8],
-    library: &'a [u8],
-    words: &[u32],
-    from: usize,
-    k: usize,
-    kept: bool,
-    group: u32,
-) -> bool
-    ensures { let T : Texts = texts_of script.now library.now in
-        ((size : ℕ) (types : List ℕ) → (kept ≡ true → any_function (λ f. same_group T group f && f.sig.with_slots) (functions_from words.now from k) ≡ false)
-        → result ≡ good_group (pool_at T size types) (functions_from words.now from k) group) }
+#[tactic(auto, unfolding(library::specs::PackageRecords::good_group))]
+fn good_group(texts: &Texts, words: &[u32], from: usize, k: usize, kept: bool, group: u32) -> bool
+    ensures { ((size : ℕ) (types : List ℕ) → (kept ≡ true → any_function (λ f. same_group texts.now group f && f.sig.with_slots) (functions_from words.now from k) ≡ false)
+        → result ≡ good_group (pool_at texts.now size types) (functions_from words.now from k) group) }
 {
-    if !tok::good_name(tok::IN_LIBRARY, library, group) {
-        return false;
-    }
-    if kept {
-        return true;
-    }
-    !group_slotted(script, library, words, from, k, group)
+    tok::good_name(tok::IN_LIBRARY, texts.library, group)
+        && (kept || !group_slotted(texts, words, from, k, group))
 }
 
 // Its flag: 1 only where none is of its group.
-fn good_flag<'a>(
-    script: &'a [u8],
-    library: &'a [u8],
+#[tactic(auto, unfolding(library::specs::PackageRecords::good_flag))]
+fn good_flag(
+    texts: &Texts,
     words: &[u32],
     from: usize,
     k: usize,
@@ -104,36 +68,22 @@ fn good_flag<'a>(
     group: u32,
     flag: u32,
 ) -> bool
-    ensures { let T : Texts = texts_of script.now library.now in
-        ((size : ℕ) (types : List ℕ) → (kept ≡ true → flag ≡ 1 → any_function (same_group T group) (functions_from words.now from k) ≡ false)
-        → result ≡ good_flag (pool_at T size types) (functions_from words.now from k) group flag) }
+    ensures { ((size : ℕ) (types : List ℕ) → (kept ≡ true → flag ≡ 1 → any_function (same_group texts.now group) (functions_from words.now from k) ≡ false)
+        → result ≡ good_flag (pool_at texts.now size types) (functions_from words.now from k) group flag) }
 {
-    if flag >= 2 {
-        return false;
-    }
-    if flag == 0 {
-        return true;
-    }
-    if kept {
-        return true;
-    }
-    !group_met(script, library, words, from, k, group)
+    flag == 0 || flag == 1 && (kept || !group_met(texts, words, from, k, group))
 }
 
 // Signatures.
 
 // A type of a signature: it refers into the pool, and holds a slot only under flag 1.
+#[tactic(auto, unfolding(library::specs::PackageRecords::good_signature_type))]
 fn good_signature_type(library: &[u8], pool: &[u32], sums: &[u16], flag: u32, w: u32) -> bool
     ensures { (script : List ℕ) → Ready (texts_of script library.now) pool.now sums.now
         → result ≡ good_signature_type (pool_in (texts_of script library.now) pool.now) flag w }
 {
-    if !library_pool::good_type(library, pool, pool.len(), w) {
-        return false;
-    }
-    if flag == 1 {
-        return true;
-    }
-    !library_slots::has_slot(pool, sums, w)
+    library_pool::good_type(library, pool, pool.len(), w)
+        && (flag == 1 || !library_slots::has_slot(pool, sums, w))
 }
 
 // An argument: its name and its type.
@@ -169,13 +119,11 @@ fn arguments(
         ≡ gave words.now (params_from words.now (place_of from) count) result }
 {
     let mut c = from;
-    let mut i = 0;
-    while i < count {
+    for _ in 0..count {
         let Reading::At(_, _) = c else {
             return c;
         };
         c = argument(library, words, pool, sums, flag, c);
-        i += 1;
     }
     c
 }
@@ -184,15 +132,14 @@ fn arguments(
 fn pairs_at(words: &[u32], at: usize, count: u32) -> &[u32]
     ensures { result.now ≡ take (2 * count) (drop at words.now) }
 {
-    let start = least(at, words.len());
-    let end = least(start + 2 * tok::wide(count), words.len());
+    let start = at.min(words.len());
+    let end = (start + 2 * count as usize).min(words.len());
     &words[start..end]
 }
 
 // A return type: a type of the signature, whose slots stand in the arguments. The arguments' pairs stand from place `first` on, it at `end`.
-fn good_return<'a>(
-    script: &'a [u8],
-    library: &'a [u8],
+fn good_return(
+    texts: &Texts,
     pool: &[u32],
     sums: &[u16],
     order: &[u16],
@@ -203,26 +150,20 @@ fn good_return<'a>(
     first: usize,
     end: usize,
 ) -> bool
-    ensures { let T : Texts = texts_of script.now library.now in
-        ((words : List ℕ) → Ready T pool.now sums.now → Ordered T words pool.now order.now n
-        → Each (TypeWord (pool_in T pool.now) (length pool.now)) (types_in pairs.now) → Placed words (types_in pairs.now) w first end
-        → result ≡ (good_signature_type (pool_in T pool.now) flag w && return_stands (pool_in T pool.now) (types_in pairs.now) w)) }
+    ensures { ((words : List ℕ) → Ready texts.now pool.now sums.now → Ordered texts.now words pool.now order.now n
+        → Each (TypeWord (pool_in texts.now pool.now) (length pool.now)) (types_in pairs.now) → Placed words (types_in pairs.now) w first end
+        → result ≡ (good_signature_type (pool_in texts.now pool.now) flag w && return_stands (pool_in texts.now pool.now) (types_in pairs.now) w)) }
 {
-    if !good_signature_type(library, pool, sums, flag, w) {
-        return false;
-    }
-    if !library_slots::has_slot(pool, sums, w) {
-        return true;
-    }
-    library_slots::return_stands(script, library, pool, pairs, w, order, n, first, end)
+    good_signature_type(texts.library, pool, sums, flag, w)
+        && (!library_slots::has_slot(pool, sums, w)
+            || library_slots::return_stands(texts, pool, pairs, w, order, n, first, end))
 }
 
 // Records.
 
 // A function after k functions of its package, the first of which stands at `start`. `kept`: the rule on groups is known to hold of it.
-fn function_record<'a>(
-    script: &'a [u8],
-    library: &'a [u8],
+fn function_record(
+    texts: &Texts,
     words: &[u32],
     pool: &[u32],
     sums: &[u16],
@@ -233,27 +174,22 @@ fn function_record<'a>(
     kept: bool,
     from: Reading,
 ) -> Reading
-    ensures { let T : Texts = texts_of script.now library.now in
-        (Ready T pool.now sums.now → Ordered T words.now pool.now order.now n
-        → (kept ≡ true → GroupFine (pool_in T pool.now) (functions_from words.now start k) (function_at words.now (place_of from)))
-        → onward words.now from (function_record (pool_in T pool.now) (functions_from words.now start k))
+    ensures { (Ready texts.now pool.now sums.now → Ordered texts.now words.now pool.now order.now n
+        → (kept ≡ true → GroupFine (pool_in texts.now pool.now) (functions_from words.now start k) (function_at words.now (place_of from)))
+        → onward words.now from (function_record (pool_in texts.now pool.now) (functions_from words.now start k))
         ≡ gave words.now (function_at words.now (place_of from)) result) }
 {
     let group = reader::next_word(words, from);
-    let c = reader::word(
-        words,
-        from,
-        good_group(script, library, words, start, k, kept, group),
-    );
+    let c = reader::word(words, from, good_group(texts, words, start, k, kept, group));
     let flag = reader::next_word(words, c);
     let d = reader::word(
         words,
         c,
-        good_flag(script, library, words, start, k, kept, group, flag),
+        good_flag(texts, words, start, k, kept, group, flag),
     );
     let count = reader::next_word(words, d);
-    let e = reader::owing(words, d, true, 2 * tok::wide(count));
-    let f = arguments(library, words, pool, sums, flag, count, e);
+    let e = reader::owing(words, d, true, 2 * count as usize);
+    let f = arguments(texts.library, words, pool, sums, flag, count, e);
     let Reading::At(_, _) = f else {
         return f;
     };
@@ -264,16 +200,13 @@ fn function_record<'a>(
     reader::word(
         words,
         f,
-        good_return(
-            script, library, pool, sums, order, n, flag, pairs, ret, first, end,
-        ),
+        good_return(texts, pool, sums, order, n, flag, pairs, ret, first, end),
     )
 }
 
 // All functions of a package.
-fn function_records<'a>(
-    script: &'a [u8],
-    library: &'a [u8],
+fn function_records(
+    texts: &Texts,
     words: &[u32],
     pool: &[u32],
     sums: &[u16],
@@ -282,44 +215,28 @@ fn function_records<'a>(
     count: u32,
     from: Reading,
 ) -> Reading
-    ensures { let T : Texts = texts_of script.now library.now in
-        (Ready T pool.now sums.now → Ordered T words.now pool.now order.now n
-        → onward words.now from (function_records (pool_in T pool.now) count [])
+    ensures { (Ready texts.now pool.now sums.now → Ordered texts.now words.now pool.now order.now n
+        → onward words.now from (function_records (pool_in texts.now pool.now) count [])
         ≡ gave words.now (functions_from words.now (place_of from) count) result) }
 {
     let Reading::At(start, _) = from else {
         return from;
     };
-    let end = tok::wide(count);
-    let kept = library_groups::kept_up_to(script, library, words, start, end);
+    let end = count as usize;
+    let kept = library_groups::kept_up_to(texts, words, start, end);
     let mut c = from;
-    let mut k = 0;
-    while k < end {
+    for k in 0..end {
         let Reading::At(at, _) = c else {
             return c;
         };
-        c = function_record(
-            script,
-            library,
-            words,
-            pool,
-            sums,
-            order,
-            n,
-            start,
-            k,
-            at < kept,
-            c,
-        );
-        k += 1;
+        c = function_record(texts, words, pool, sums, order, n, start, k, at < kept, c);
     }
     c
 }
 
 // A package.
-fn package_record<'a>(
-    script: &'a [u8],
-    library: &'a [u8],
+fn package_record(
+    texts: &Texts,
     words: &[u32],
     pool: &[u32],
     sums: &[u16],
@@ -327,21 +244,19 @@ fn package_record<'a>(
     n: usize,
     from: Reading,
 ) -> Reading
-    ensures { let T : Texts = texts_of script.now library.now in
-        (Ready T pool.now sums.now → Ordered T words.now pool.now order.now n
-        → onward words.now from (package_record (pool_in T pool.now))
+    ensures { (Ready texts.now pool.now sums.now → Ordered texts.now words.now pool.now order.now n
+        → onward words.now from (package_record (pool_in texts.now pool.now))
         ≡ gave words.now (package_at words.now (place_of from)) result) }
 {
-    let c = library_pool::name(library, words, from);
+    let c = library_pool::name(texts.library, words, from);
     let count = reader::next_word(words, c);
-    let d = reader::owing(words, c, true, 4 * tok::wide(count));
-    function_records(script, library, words, pool, sums, order, n, count, d)
+    let d = reader::owing(words, c, true, 4 * count as usize);
+    function_records(texts, words, pool, sums, order, n, count, d)
 }
 
 // All packages.
-fn packages<'a>(
-    script: &'a [u8],
-    library: &'a [u8],
+fn packages(
+    texts: &Texts,
     words: &[u32],
     pool: &[u32],
     sums: &[u16],
@@ -350,41 +265,38 @@ fn packages<'a>(
     count: u32,
     from: Reading,
 ) -> Reading
-    ensures { let T : Texts = texts_of script.now library.now in
-        (Ready T pool.now sums.now → Ordered T words.now pool.now order.now n
-        → onward words.now from (many count (package_record (pool_in T pool.now)))
+    ensures { (Ready texts.now pool.now sums.now → Ordered texts.now words.now pool.now order.now n
+        → onward words.now from (many count (package_record (pool_in texts.now pool.now)))
         ≡ gave words.now (packages_from words.now (place_of from) count) result) }
 {
     let mut c = from;
-    let mut i = 0;
-    while i < count {
+    for _ in 0..count {
         let Reading::At(_, _) = c else {
             return c;
         };
-        c = package_record(script, library, words, pool, sums, order, n, c);
-        i += 1;
+        c = package_record(texts, words, pool, sums, order, n, c);
     }
     c
 }
 
 // The library: pool length, package count, pool, packages, nothing after. Accepted, or the first offending word.
-pub fn library_fault<'a>(script: &'a [u8], library: &'a [u8], words: &[u32]) -> Verdict
-    ensures { library_fault (texts_of script.now library.now) words.now ≡ offending result }
+pub fn library_fault(texts: &Texts, words: &[u32]) -> Result<(), Fault>
+    ensures { library_fault texts.now words.now ≡ offending result }
 {
-    let c = reader::begin(library, 2);
+    let c = reader::begin(texts.library, 2);
     let size = reader::next_word(words, c);
-    let d = reader::owing(words, c, true, tok::wide(size));
+    let d = reader::owing(words, c, true, size as usize);
     let count = reader::next_word(words, d);
-    let e = reader::owing(words, d, true, 2 * tok::wide(count));
+    let e = reader::owing(words, d, true, 2 * count as usize);
     let pool = library::pool(words);
-    let f = library_pool::pool_words(library, words, pool, size, e);
+    let f = library_pool::pool_words(texts.library, words, pool, size, e);
     let Reading::At(_, _) = f else {
         return reader::conclude(f);
     };
     let mut sums = [0u16; 8193];
     library_slots::slot_sums(pool, &mut sums);
     let mut order = [0u16; 8192];
-    let n = library_slots::named_slots(script, library, words, pool, &sums, &mut order);
-    let g = packages(script, library, words, pool, &sums, &order, n, count, f);
+    let n = library_slots::named_slots(texts, words, pool, &sums, &mut order);
+    let g = packages(texts, words, pool, &sums, &order, n, count, f);
     reader::conclude(reader::ends(words, g))
 }

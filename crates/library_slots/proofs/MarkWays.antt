@@ -9,10 +9,6 @@ use native.Mathlib.Decide.{dec_lt}
 use lib.ListN.{length, get_or, set, drop, length-set, drop_of_length-le}
 use lib.Seq.{drop-cons, set_out}
 use lib.Dec.{eqb}
-use borrow.Author.Tests.{eq-eqb, ne_eqb}
-use Rattle.tok.specs.Word.{kind_of, payload_of}
-use Rattle.ptype.specs.Words.{field_count}
-use Rattle.ptype.specs.Kinds.{wraps}
 use Rattle.library.specs.SlotMarks.{mark_fields, mark_inside, mark_all, spread, types_in}
 use Rattle.library.specs.SlotReach.{length-mark_inside}
 
@@ -22,8 +18,8 @@ pub record FieldsToMark (before marks : List ℕ) (at n i left : ℕ) : Type 0 w
   pub long : length marks ≡ length before
   pub rest : mark_fields before at n ≡ mark_fields marks i left
 
-pub to_mark : {marks : List ℕ} {at n : ℕ} → FieldsToMark marks marks at n at n
-to_mark = record { place = refl; long = refl; rest = refl }
+pub to_mark : {marks : List ℕ} {at n i left : ℕ} → i ≡ at → left ≡ n → FieldsToMark marks marks at n i left
+to_mark e f = record { place = omega arith; long = refl; rest = rw (e, f) refl }
 
 marked_next : (marks : List ℕ) (i n : ℕ) → mark_fields marks i (suc n) ≡ mark_fields (set marks i 1) (i + 2) n
 unfolding mark_fields
@@ -35,14 +31,12 @@ nothing-past zero marks i l = refl
 nothing-past (suc n) marks i l = rw (set_out marks i 1 l) (nothing-past n marks (i + 2) (omega arith))
 
 module _ {before marks : List ℕ} {at n i left : ℕ} (h : FieldsToMark before marks at n i left) where
-  pub to_mark_less : {marks' : List ℕ} → 0 < left → marks' ≡ set marks i 1 → FieldsToMark before marks' at n (i + 2) (left - 1)
-  to_mark_less l e =
-      let s : left ≡ suc (left - 1) = omega arith in
-      record {
-        place = omega (arith, h.place);
-        long = ap length e ∙ length-set marks i 1 ∙ h.long;
-        rest = h.rest ∙ ap (mark_fields marks i) s ∙ marked_next marks i (left - 1) ∙ ap (λ m. mark_fields m (i + 2) (left - 1)) (sym e);
-      }
+  pub to_mark_less : {marks' : List ℕ} {i' left' : ℕ} → left ≡ suc left' → i' ≡ i + 2 → marks' ≡ set marks i 1 → FieldsToMark before marks' at n i' left'
+  to_mark_less {left' = left'} s f e = record {
+    place = omega (arith, h.place);
+    long = ap length e ∙ length-set marks i 1 ∙ h.long;
+    rest = h.rest ∙ ap (mark_fields marks i) s ∙ marked_next marks i left' ∙ rw (e, f) refl;
+  }
 
   -- past the end of the marks nothing is set
   pub marked-past : length marks ≤ i → marks ≡ mark_fields before at n
@@ -54,30 +48,7 @@ module _ {before marks : List ℕ} {at n i left : ℕ} (h : FieldsToMark before 
       let s : left ≡ 0 = omega arith in
       sym (h.rest ∙ ap (mark_fields marks i) s)
 
--- the words inside a type word
-module _ (types : List ℕ) (w : ℕ) (marks : List ℕ) {k q : ℕ} (ek : k ≡ kind_of w) (eq : q ≡ payload_of w) where
-  pub inside-inner : {r : Bool} {marks' : List ℕ} → r ≡ wraps k → r ≡ true → marks' ≡ set marks q 1 → marks' ≡ mark_inside types w marks
-  unfolding mark_inside
-  inside-inner er t e = rw (← ek, sym er ∙ t, ← eq) e
-
-  pub inside-fields : {r : Bool} {n : ℕ} {marks' : List ℕ} → r ≡ wraps k → r ≡ false → k ≡ 8 → n ≡ field_count types w
-      → marks' ≡ mark_fields marks (q + 2) n → marks' ≡ mark_inside types w marks
-  unfolding mark_inside
-  inside-fields er f k8 en e = e ∙ sym (rw (← ek, sym er ∙ f, eq-eqb k 8 k8) (ap (λ x. mark_fields marks (x + 2) (field_count types w)) (sym eq) ∙ ap (mark_fields marks (q + 2)) (sym en)))
-
-  pub inside-none : {r : Bool} → r ≡ wraps k → r ≡ false → (k ≡ 8 → ⊥) → marks ≡ mark_inside types w marks
-  unfolding mark_inside
-  inside-none er f d = rw (← ek, sym er ∙ f, ne_eqb k 8 d) refl
-
--- one step of the spread
-module _ (types : List ℕ) (marks : List ℕ) (i : ℕ) {m : ℕ} (em : m ≡ get_or marks i 0) where
-  pub from-marked : {w : ℕ} {marks' : List ℕ} → m ≡ 1 → w ≡ get_or types i 0 → marks' ≡ mark_inside types w marks
-      → marks' ≡ cond (eqb (get_or marks i 0) 1) (mark_inside types (get_or types i 0) marks) marks
-  from-marked e ew h = rw (← em, e, ← ew) h
-
-  pub from_unmarked : (m ≡ 1 → ⊥) → marks ≡ cond (eqb (get_or marks i 0) 1) (mark_inside types (get_or types i 0) marks) marks
-  from_unmarked d = rw (← em, ne_eqb m 1 d) refl
-
+-- one step of the spread keeps the number of marks
 pub length_from : (types : List ℕ) (marks marks' : List ℕ) (i : ℕ)
     → marks' ≡ cond (eqb (get_or marks i 0) 1) (mark_inside types (get_or types i 0) marks) marks → length marks' ≡ length marks
 length_from types marks marks' i e = ap length e ∙ by (eqb (get_or marks i 0) 1)
@@ -123,14 +94,15 @@ pub record TypesToMark (types before marks pairs : List ℕ) (i : ℕ) : Type 0 
   pub rest : mark_all types (types_in pairs) before ≡ mark_all types (types_in (drop i pairs)) marks
 
 module _ {types before pairs : List ℕ} where
-  pub types-begin : TypesToMark types before before pairs 0
-  types-begin = record { within = omega arith; long = refl; rest = refl }
-
   module _ {marks : List ℕ} {i : ℕ} (h : TypesToMark types before marks pairs i) where
-    pub types_more : {w : ℕ} {marks' : List ℕ} → i + 1 < length pairs → w ≡ get_or pairs (i + 1) 0 → marks' ≡ mark_inside types w marks
-        → TypesToMark types before marks' pairs (i + 2)
+    pub types_more : {w i' : ℕ} {marks' : List ℕ} → i + 1 < length pairs → i' ≡ i + 2 → w ≡ get_or pairs (i + 1) 0 → marks' ≡ mark_inside types w marks
+        → TypesToMark types before marks' pairs i'
     unfolding mark_all
-    types_more l ew e = record { within = omega arith; long = ap length e ∙ length-mark_inside types _ marks ∙ h.long; rest = h.rest ∙ ap (λ ts. mark_all types ts marks) (types-next pairs i l) ∙ ap (mark_all types (types_in (drop (i + 2) pairs))) (ap (λ v. mark_inside types v marks) (sym ew) ∙ sym e) }
+    types_more l f ew e = record {
+      within = omega arith;
+      long = ap length e ∙ length-mark_inside types _ marks ∙ h.long;
+      rest = h.rest ∙ ap (λ ts. mark_all types ts marks) (types-next pairs i l) ∙ rw (e, ew, f) refl;
+    }
 
     pub types-done : length pairs ≤ i + 1 → marks ≡ mark_all types (types_in pairs) before
     unfolding mark_all

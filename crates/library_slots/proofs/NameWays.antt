@@ -8,20 +8,12 @@ use lib.ListN.{length, get_or, drop}
 use lib.Dec.{eqb}
 use borrow.Author.Tests.{eq-eqb, ne_eqb}
 use Rattle.tok.specs.Word.{kind_of}
-use Rattle.tok.specs.Text.{Texts, name_bytes, same_bytes}
+use Rattle.tok.specs.Text.{Texts, name_bytes}
 use Rattle.library.specs.SlotSums.{zeros}
 use Rattle.library.specs.SlotMarks.{mark_inside, mark_all, spread, any_marked, is_slot, any_slot_of, types_in}
 use Rattle.tok.proofs.TextLaws.{eq_same_bytes}
 use Rattle.library.specs.ReturnSlots.{among_marked, missing, stands_by, any_some}
 use Rattle.library_slots.proofs.MarkWays.{types-next, types-end}
-
-pub slot-kind : (t : Texts) (name : List ℕ) (w : ℕ) {k : ℕ} → k ≡ kind_of w → k ≡ 10 → same_bytes name (name_bytes t w) ≡ is_slot t name w
-unfolding is_slot
-slot-kind t name w e d = rw (← e, d) refl
-
-pub slot-other : (t : Texts) (name : List ℕ) (w : ℕ) {k : ℕ} → k ≡ kind_of w → (k ≡ 10 → ⊥) → eqb k 10 ≡ is_slot t name w
-unfolding is_slot
-slot-other t name w {k} e d = rw (← e, ne_eqb k 10 d) refl
 
 -- ── Among the types of pairs ──
 
@@ -34,9 +26,9 @@ module _ (t : Texts) (name pairs : List ℕ) (i : ℕ) (h : any_slot_of t name (
   pub types-found : {r : Bool} → i + 1 < length pairs → r ≡ is_slot t name (get_or pairs (i + 1) 0) → r ≡ true → true ≡ any_slot_of t name (types_in pairs)
   types-found l e y = sym (h ∙ any_next l ∙ rw (sym e ∙ y) refl)
 
-  pub types-past : {r : Bool} → i + 1 < length pairs → r ≡ is_slot t name (get_or pairs (i + 1) 0) → r ≡ false
-      → any_slot_of t name (types_in pairs) ≡ any_slot_of t name (types_in (drop (i + 2) pairs))
-  types-past l e n = h ∙ any_next l ∙ rw (sym e ∙ n) refl
+  pub types-past : {r : Bool} {i' : ℕ} → i + 1 < length pairs → i' ≡ i + 2 → r ≡ is_slot t name (get_or pairs (i + 1) 0) → r ≡ false
+      → any_slot_of t name (types_in pairs) ≡ any_slot_of t name (types_in (drop i' pairs))
+  types-past l f e n = h ∙ any_next l ∙ rw (sym e ∙ n, f) refl
 
   pub types-none : length pairs ≤ i + 1 → false ≡ any_slot_of t name (types_in pairs)
   unfolding any_slot_of
@@ -73,25 +65,6 @@ module _ (marks : List ℕ) (test : ℕ → Bool) (n i : ℕ) (h : any_marked ma
       sym (h ∙ ap (any_marked marks test) s)
 
 -- ── The arguments' slots and the return type's ──
-
-module _ (t : Texts) (types ws marks name : List ℕ) where
-  pub among_first : {r : Bool} → r ≡ any_slot_of t name ws → r ≡ true → true ≡ among_marked t types ws marks name
-  unfolding among_marked
-  among_first e y = rw (sym e ∙ y) refl
-
-  pub among_second : {r s : Bool} → r ≡ any_slot_of t name ws → r ≡ false → s ≡ any_marked marks (λ i. is_slot t name (get_or types i 0)) (length types)
-      → s ≡ among_marked t types ws marks name
-  unfolding among_marked
-  among_second e n f = rw (sym e ∙ n) f
-
-module _ (t : Texts) (types ws marks : List ℕ) (w : ℕ) {k : ℕ} (ek : k ≡ kind_of w) where
-  pub missing-slot : {r : Bool} → k ≡ 10 → r ≡ among_marked t types ws marks (name_bytes t w) → not r ≡ missing t types ws marks w
-  unfolding missing
-  missing-slot e er = rw (← ek, e, ← er) refl
-
-  pub missing-other : (k ≡ 10 → ⊥) → eqb k 10 ≡ missing t types ws marks w
-  unfolding missing
-  missing-other d = rw (← ek, ne_eqb k 10 d) refl
 
 -- a slot that the arguments reach is among theirs
 self-marked : (t : Texts) (types ws marks : List ℕ) (i : ℕ) → i < length types → get_or marks i 0 ≡ 1 → eqb (kind_of (get_or types i 0)) 10 ≡ true

@@ -1,89 +1,20 @@
 -- Slots by the order of their names as the code asks for them, one law for each way out. Assumes nothing.
-use Prim.Native.Nat.{ℕ, ◌+◌, ◌-◌, ◌*◌, ◌%◌, ◌≤◌, ◌<◌, min}
-use mathlib.Core.Path.{◌≡◌, refl, sym, ap, ap₂, ◌∙◌}
-use mathlib.Core.Logic.{◌⊎◌, inl, inr}
+use Prim.Native.Nat.{ℕ, ◌+◌, ◌≤◌, ◌<◌}
+use mathlib.Core.Path.{◌≡◌, refl, sym, ap, ◌∙◌}
 use mathlib.Core.Bool.{Bool, true, false, not, true≢false}
 use mathlib.Core.List.{List, [], ◌∷◌}
 use native.Mathlib.Omega.{arith}
-use native.Mathlib.Decide.{ℕ_discrete, dec_lt}
-use lib.ListN.{length, get_or, set, replicate, length-set}
-use lib.Seq.{get_or-set_same, get_or-set_other}
-use lib.Dec.{eqb}
-use borrow.Author.Tests.{lt-ltb, le-ltb, le-leb, lt-leb, eq-eqb, ne_eqb}
+use native.Mathlib.Decide.{dec_lt}
+use lib.ListN.{length, get_or, replicate}
 use Rattle.tok.specs.Word.{kind_of}
 use Rattle.tok.specs.Text.{Texts, name_bytes}
 use Rattle.library.specs.SlotSums.{zeros}
 use Rattle.library.specs.SlotMarks.{mark_inside, mark_all, spread, any_marked}
 use Rattle.library.specs.ReturnSlots.{among_marked, missing, reached_from}
 use Rattle.library_slots.proofs.NameWays.{return-slot, return-other}
-use Rattle.name_order.specs.Order.{place_in, name_of, Listed, Grouped, Grouping, GroupEnd}
+use Rattle.name_order.specs.Order.{place_in, Listed, Grouped, Grouping, GroupEnd}
 use Rattle.name_order.specs.OrderLaws.{Begins, begins-first, begins-next, group-is}
-use Rattle.library_slots.specs.Named.{of_pairs, in_pool, argued, wanted, Told, Had, Lacks, NamesStand, ReturnAsked, SlotsListed, SlotsNamed}
-
--- ── Tests of a place ──
-
-module _ (first end p : ℕ) where
-  pub pairs-low : p ≤ first → false ≡ of_pairs first end p
-  unfolding of_pairs
-  pairs-low l = rw (le-ltb first p l) refl
-
-  pub pairs-high : first < p → end ≤ p → false ≡ of_pairs first end p
-  unfolding of_pairs
-  pairs-high l m = rw (lt-ltb first p l, le-ltb p end m) refl
-
-  pub pairs_in : first < p → p < end → eqb ((p - first) % 2) 1 ≡ of_pairs first end p
-  unfolding of_pairs
-  pairs_in l m = rw (lt-ltb first p l, lt-ltb p end m) refl
-
-module _ (size : ℕ) (marks : List ℕ) (p : ℕ) where
-  pub pool-low : p < 2 → false ≡ in_pool size marks p
-  unfolding in_pool
-  pool-low l = rw (lt-leb 2 p l) refl
-
-  pub pool-high : 2 ≤ p → size ≤ p - 2 → false ≡ in_pool size marks p
-  unfolding in_pool
-  pool-high l m = rw (le-leb 2 p l, le-ltb (p - 2) size m) refl
-
-  pub pool_in_lem : 2 ≤ p → p - 2 < size → {m : ℕ} → m ≡ get_or marks (p - 2) 0 → eqb m 1 ≡ in_pool size marks p
-  unfolding in_pool
-  pool_in_lem l m e = rw (le-leb 2 p l, lt-ltb (p - 2) size m, e) refl
-
-module _ (size : ℕ) (args : List ℕ) (first end p : ℕ) {r : Bool} (er : r ≡ of_pairs first end p) where
-  pub argued-pair : r ≡ true → true ≡ argued size args first end p
-  unfolding argued
-  argued-pair y = rw (sym er ∙ y) refl
-
-  pub argued-pool : r ≡ false → {s : Bool} → s ≡ in_pool size args p → s ≡ argued size args first end p
-  unfolding argued
-  argued-pool f e = rw (sym er ∙ f) e
-
-module _ (size : ℕ) (marks : List ℕ) (end p : ℕ) where
-  pub wanted-end : p ≡ end → true ≡ wanted size marks end p
-  unfolding wanted
-  wanted-end e = rw (eq-eqb p end e) refl
-
-  pub wanted-pool : (p ≡ end → ⊥) → {s : Bool} → s ≡ in_pool size marks p → s ≡ wanted size marks end p
-  unfolding wanted
-  wanted-pool d e = rw (ne_eqb p end d) e
-
--- ── A test of some ranks ──
-
-module _ (test : ℕ → Bool) (order : List ℕ) (from i : ℕ) where
-  pub told-past : ((j : ℕ) → from ≤ j → j < i → test (place_in (get_or order j 0)) ≡ false) → {p : ℕ} {r : Bool} → p ≡ place_in (get_or order i 0) → r ≡ test p → r ≡ false
-      → (j : ℕ) → from ≤ j → j < i + 1 → test (place_in (get_or order j 0)) ≡ false
-  told-past h ep er f j l m = elim (ℕ_discrete j i) [
-    | yes q ↦ ap (λ k. test (place_in (get_or order k 0))) q ∙ ap test (sym ep) ∙ sym er ∙ f
-    | no d ↦ h j l (omega arith)
-  ]
-
-  pub told-yes : (to : ℕ) → from ≤ i → i < to → {p : ℕ} {r : Bool} → p ≡ place_in (get_or order i 0) → r ≡ test p → r ≡ true → Told test order from to true
-  told-yes to l m ep er y = record {
-    yes = λ _. record { rank = i; low = l; high = m; holds = ap test (sym ep) ∙ sym er ∙ y };
-    no = λ e. absurd (true≢false e);
-  }
-
-  pub told-no : (to : ℕ) → to ≤ i → ((j : ℕ) → from ≤ j → j < i → test (place_in (get_or order j 0)) ≡ false) → Told test order from to false
-  told-no to l h = record { yes = λ e. absurd (true≢false (sym e)); no = λ _ j o m. h j o (omega arith) }
+use Rattle.library_slots.specs.Named.{argued, wanted, Told, Had, NamesStand, ReturnAsked, SlotsListed, SlotsNamed}
 
 -- ── Group by group ──
 
@@ -98,9 +29,6 @@ module _ {order : List ℕ} {n : ℕ} {have want : ℕ → Bool} where
   stands-begin = record { within = omega arith; begins = begins-first order n; had = λ t w g i l. absurd (omega arith) }
 
   module _ {at : ℕ} (h : StandsTo order n have want at) where
-    pub stands-done : n ≤ at → (t : Texts) (words : List ℕ) → Grouped t words order n → NamesStand t words order n have want true
-    stands-done l t words g = record { yes = λ _ i m. h.had t words g i (omega arith); no = λ e. absurd (true≢false e) }
-
     module _ {end : ℕ} where
       -- one of the group is had, and with it all
       pub stands-had : GroupEnd order at n end → {r : Bool} → Told have order at end r → r ≡ true → StandsTo order n have want end
@@ -190,69 +118,6 @@ pub record Listing (words before order : List ℕ) (n i : ℕ) : Type 0 where
   pub most : i ≤ 8193
   pub all : 8192 ≤ length before → (p : ℕ) → 2 ≤ p → p < i → kind_of (get_or words p 0) ≡ 10 → Listed order n p
   pub only : 8192 ≤ length before → (p : ℕ) → Listed order n p → kind_of (get_or words p 0) ≡ 10
-
-pub listing-begin : {words order : List ℕ} → Listing words order order 0 2
-listing-begin = record {
-  long = refl;
-  few = omega arith;
-  most = omega arith;
-  all = λ b p l m k. absurd (omega arith);
-  only = λ b p h. absurd (omega (arith, h.below));
-}
-
-module _ {words before order : List ℕ} {n i : ℕ} (h : Listing words before order n i) where
-  -- a slot is entered
-  listing-slot : {order' : List ℕ} → i < 8193 → kind_of (get_or words i 0) ≡ 10 → order' ≡ set order n (2 * i) → Listing words before order' (n + 1) (i + 1)
-  listing-slot {order'} l k e = record {
-    long = ap length e ∙ length-set order n _ ∙ h.long;
-    few = omega (arith, h.few);
-    most = omega arith;
-    all = λ b p o m q. every b p o m q (ℕ_discrete p i);
-    only = λ b p r. none b p r (ℕ_discrete r.rank n);
-  }
-    where
-      here : 8192 ≤ length before → place_in (get_or order' n 0) ≡ i
-      here b =
-          let s : get_or order' n 0 ≡ 2 * i = ap (λ o. get_or o n 0) e ∙ get_or-set_same order n (2 * i) 0 (omega (arith, h.few, h.long)) in
-          ap place_in s ∙ (omega arith)
-
-      there : (r : ℕ) → (r ≡ n → ⊥) → get_or order' r 0 ≡ get_or order r 0
-      there r d = ap (λ o. get_or o r 0) e ∙ get_or-set_other order n r (2 * i) 0 d
-
-      every : 8192 ≤ length before → (p : ℕ) → 2 ≤ p → p < i + 1 → kind_of (get_or words p 0) ≡ 10 → Dec (p ≡ i) → Listed order' (n + 1) p
-      every b p o m q (yes z) = record { rank = n; below = omega arith; is = here b ∙ sym z }
-      every b p o m q (no d) =
-          let r = h.all b p o (omega arith) q in
-          record { rank = r.rank; below = omega (arith, r.below); is = ap place_in (there r.rank (λ z. omega (arith, r.below))) ∙ r.is }
-
-      none : 8192 ≤ length before → (p : ℕ) → (r : Listed order' (n + 1) p) → Dec (r.rank ≡ n) → kind_of (get_or words p 0) ≡ 10
-      none b p r (yes z) = ap (λ x. kind_of (get_or words x 0)) (sym r.is ∙ ap (λ x. place_in (get_or order' x 0)) z ∙ here b) ∙ k
-      none b p r (no d) = h.only b p (record { rank = r.rank; below = omega (arith, r.below); is = ap place_in (sym (there r.rank d)) ∙ r.is })
-
-  -- any other word is passed
-  listing-other : {order' : List ℕ} → i < 8193 → (kind_of (get_or words i 0) ≡ 10 → ⊥) → order' ≡ order → Listing words before order' n (i + 1)
-  listing-other l d e = rw e (record {
-    long = h.long;
-    few = omega (arith, h.few);
-    most = omega arith;
-    all = λ b p o m q. h.all b p o (before_it p m q) q;
-    only = h.only;
-  })
-    where
-      before_it : (p : ℕ) → p < i + 1 → kind_of (get_or words p 0) ≡ 10 → p < i
-      before_it p m q = elim (ℕ_discrete p i) [ yes z ↦ absurd (d (ap (λ x. kind_of (get_or words x 0)) (sym z) ∙ q)) | no z ↦ omega arith ]
-
-  pub listing-next : {order' : List ℕ} {n' end k : ℕ} → i < end → end ≡ min (length words) 8193 → k ≡ kind_of (get_or words i 0)
-      → ((k ≡ 10) × (order' ≡ set order n (2 * i)) × (n' ≡ n + 1)) ⊎ ((k ≡ 10 → ⊥) × (order' ≡ order) × (n' ≡ n)) → Listing words before order' n' (i + 1)
-  listing-next l e ek (inl h) = rw h.2 (listing-slot (omega arith) (sym ek ∙ h.0) h.1)
-  listing-next l e ek (inr h) = rw h.2 (listing-other (omega arith) (λ z. h.0 (ek ∙ z)) h.1)
-
-  pub listing-done : 8192 ≤ length before → {end : ℕ} → end ≡ min (length words) 8193 → end ≤ i → SlotsListed words order n
-  listing-done b e l = record {
-    all = λ p o m q k. h.all b p o (omega arith) k;
-    only = h.only b;
-    few = omega (arith, h.few, h.most);
-  }
 
 pub slots-named : (t : Texts) (words a b c : List ℕ) (n : ℕ) (r : Bool) → SlotsListed words b n → (n ≤ length b → Grouping t words b c n r) → length b ≡ length a
     → 8192 ≤ length a → r ≡ true → SlotsNamed t words c n

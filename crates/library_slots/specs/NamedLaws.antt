@@ -1,8 +1,8 @@
 -- A return type asked by the order of names: `NamesStand` is `return_stands`. Assumes nothing.
 use Prim.Native.Nat.{ℕ, zero, suc, ◌+◌, ◌-◌, ◌*◌, ◌/◌, ◌%◌, ◌≤◌, ◌<◌}
-use Rattle.std.specs.Prelude.{◌≡◌, ◌⊎◌, Bool, ◌&&◌, ◌||◌, List, [], ◌∷◌, map, eqb, leb, ltb}
+use Rattle.std.specs.Prelude.{◌≡◌, Bool, ◌&&◌, ◌||◌, List, [], ◌∷◌, map, eqb, leb, ltb}
 use Rattle.std.proofs.Math.Path.{refl, sym, ap}
-use Rattle.std.proofs.Common.{subst, ◌∙◌, true≢false, append-nil}
+use Rattle.std.proofs.Common.{◌∙◌, true≢false, append-nil}
 use Rattle.std.proofs.Math.Logic.{inl, inr}
 use Rattle.std.proofs.Math.Bool.{true, false, and-eq-true_iff, or-true}
 use Rattle.std.proofs.lemmas.Bool.{false≢true}
@@ -11,10 +11,10 @@ use Rattle.std.proofs.Math.Decide.{dec_lt}
 use Rattle.std.proofs.Math.ListN.{length, get_or, get_or-eq_default}
 use borrow.Author.Tests.{eq-eqb, eqb-true, ltb-true, lt-ltb, leb-true, le-leb}
 use Rattle.tok.specs.Word.{kind_of}
-use Rattle.tok.specs.Text.{Texts, name_bytes, same_bytes}
+use Rattle.tok.specs.Text.{Texts, name_bytes}
 use Rattle.tok.proofs.TextLaws.{same_bytes-true, eq_same_bytes}
 use Rattle.library.specs.Pool.{pool_in}
-use Rattle.library.specs.Slots.{pool_ty, slot_names, slot_names_of, name_among, all_among, return_stands}
+use Rattle.library.specs.Slots.{pool_ty, slot_names, slot_names_of, name_among, return_stands}
 use Rattle.library.specs.Each.{Each}
 use Rattle.library.specs.TypeWords.{TypeWord, either_true}
 use Rattle.library.specs.PoolRead.{PoolFine}
@@ -23,8 +23,8 @@ use Rattle.library.specs.SlotSums.{zeros, get_d_zeros, length-zeros}
 use Rattle.library.specs.SlotMarks.{any_marked, is_slot, any_slot_of}
 use Rattle.library.specs.SlotReach.{slots-reached}
 use Rattle.library.specs.ReturnSlots.{among_marked, reached_from, among-missing, all_among_lem, Witness, any_some}
-use Rattle.name_order.specs.Order.{place_in, name_of, Listed}
-use Rattle.library_slots.specs.Named.{of_pairs, in_pool, argued, wanted, Had, Lacks, NamesStand, SlotsListed}
+use Rattle.name_order.specs.Order.{place_in, name_of}
+use Rattle.library_slots.specs.Named.{of_pairs, in_pool, Had, Lacks, NamesStand, SlotsListed}
 
 -- ── Slots by name ──
 

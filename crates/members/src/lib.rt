@@ -3,7 +3,7 @@
 #![tactic(auto)]
 
 ghost use Rattle.std.specs.Prelude.{◌≡◌, List, ℕ, ◌+◌, ◌≤◌, get_or};
-ghost use Rattle.tok.specs.Text.{Texts, texts_of};
+ghost use Rattle.tok.specs.Text.{Texts};
 ghost use Rattle.ast.specs.Node.{tree_of};
 ghost use Rattle.ast.specs.Span.{span_of};
 ghost use Rattle.library.specs.Package.{Package};
@@ -20,7 +20,7 @@ ghost use Rattle.members.specs.Turns.{member_turn, Turns, ended_of};
 
 use rules::Answer;
 use state::Used;
-use tok::word_at;
+use tok::{Texts, word_at};
 use values::Compared;
 use visit::{State, Visit};
 
@@ -57,24 +57,16 @@ pub fn empty(
 fn with_used(st: State, used: Used) -> State
     ensures { result ≡ with_used st used }
 {
-    State {
-        used: used,
-        base: st.base,
-        depth: st.depth,
-        held: st.held,
-        packages: st.packages,
-        functions: st.functions,
-    }
+    State { used, ..st }
 }
 
 // The member `part` of the Array n, which answered `second`, against the first, which answered `first`: 2 where their types differ.
-pub fn member<'a>(
+pub fn member(
     slots: &[u32],
     types: &[u32],
     diagnostics: &mut [u32],
     messages: &mut [u8],
-    script: &'a [u8],
-    library: &'a [u8],
+    texts: &Texts,
     image: &[u32],
     places: &[u16],
     st: State,
@@ -85,11 +77,10 @@ pub fn member<'a>(
     poisoned: bool,
 ) -> Turn
     requires { NodeReady image.now places.now part }
-    ensures { let T : Texts = texts_of script.now library.now in
-        ((ls : List Package) (v : ℕ) (words f e : List ℕ) (o : More) →
+    ensures { ((ls : List Package) (v : ℕ) (words f e : List ℕ) (o : More) →
         let b : Lent = lent slots.now f types.now diagnostics.old messages.old e o in
         let b' : Lent = lent slots.now f types.now diagnostics.new messages.new e o in
-        Turns (member_turn (ctx T ls v) n (span_of (tree_of image.now part)) first second poisoned) words st b b' result) }
+        Turns (member_turn (ctx texts.now ls v) n (span_of (tree_of image.now part)) first second poisoned) words st b b' result) }
 {
     let used = st.used;
     let span = spans::span_of(image, places, part);
@@ -98,8 +89,7 @@ pub fn member<'a>(
         types,
         diagnostics,
         messages,
-        script,
-        library,
+        texts,
         used,
         n,
         span,

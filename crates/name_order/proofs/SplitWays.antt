@@ -2,18 +2,17 @@
 use Prim.Native.Nat.{ℕ, zero, suc, ◌+◌, ◌-◌, ◌≤◌, ◌<◌}
 use mathlib.Core.Path.{◌≡◌, refl, sym, ap, ap₂, ◌∙◌}
 use mathlib.Core.Logic.{◌⊎◌, inl, inr}
-use mathlib.Core.Bool.{Bool, true, false, not, true≢false}
+use mathlib.Core.Bool.{Bool, true, false, true≢false}
 use mathlib.Core.List.{List}
 use native.Mathlib.Omega.{arith}
 use native.Mathlib.Decide.{ℕ_discrete}
 use lib.ListN.{length, get_or, set, length-set}
 use lib.Seq.{get_or-set_same, get_or-set_other}
-use borrow.Author.Tests.{not-true, not-false}
 use Rattle.tok.specs.Text.{Texts, name_bytes, same_bytes}
 use Rattle.tok.proofs.TextLaws.{same_bytes-true}
 use Rattle.name_order.specs.Bytes.{bytes_before, before_self, before-trans}
 use Rattle.name_order.specs.OrderLaws.{rearranged-then}
-use Rattle.name_order.specs.Order.{place_in, new_in, name_of, Rearranged, Grouped, Split, Grouping}
+use Rattle.name_order.specs.Order.{place_in, new_in, name_of, Rearranged, Split, Grouping}
 
 -- The loop: the entries before rank i are told.
 pub record Telling (t : Texts) (words before after : List ℕ) (i : ℕ) : Type 0 where

@@ -1,6 +1,6 @@
 -- Places in the order of the names that their words stand for. An entry is twice its place, and 1 more where a new name begins.
 -- Definitions.
-use Rattle.std.specs.Prelude.{ℕ, ◌+◌, ◌-◌, ◌/◌, ◌%◌, ◌≤◌, ◌<◌, ◌≡◌, Bool, true, false, List, length, get_or, eqb}
+use Rattle.std.specs.Prelude.{ℕ, ◌-◌, ◌/◌, ◌%◌, ◌≤◌, ◌<◌, ◌≡◌, Bool, true, false, List, length, get_or, eqb}
 use Rattle.tok.specs.Text.{Texts, name_bytes}
 
 abbrev pub place_in : (entry : ℕ) → ℕ

@@ -1,10 +1,10 @@
 -- Laws of groups: a group has one name, and no entry outside it has that name. Assumes nothing.
-use Rattle.std.specs.Prelude.{ℕ, zero, suc, ◌+◌, ◌-◌, ◌≤◌, ◌<◌, ◌≡◌, refl, ◌⊎◌, Bool, true, false, List, length, get_or}
+use Rattle.std.specs.Prelude.{ℕ, zero, suc, ◌+◌, ◌-◌, ◌≤◌, ◌<◌, ◌≡◌, refl, ◌⊎◌, true, List, get_or}
 use Rattle.std.proofs.Common.{sym, ap, ◌∙◌, arith}
 use Rattle.std.proofs.Math.Logic.{inl, inr}
 use Rattle.std.proofs.Math.Decide.{dec_lt, dec_le}
 use Rattle.tok.specs.Text.{Texts}
-use Rattle.name_order.specs.Order.{place_in, new_in, name_of, Listed, Rearranged, Grouped, GroupEnd}
+use Rattle.name_order.specs.Order.{new_in, name_of, Rearranged, Grouped, GroupEnd}
 
 pub rearranged-none : {order : List ℕ} {n : ℕ} → Rearranged order order n
 rearranged-none = record { long = refl; all = λ p h. h; only = λ p h. h }

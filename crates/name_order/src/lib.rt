@@ -4,11 +4,11 @@
 #![tactic(auto)]
 
 ghost use Rattle.std.specs.Prelude.{◌≡◌, true, ℕ, ◌+◌, ◌*◌, ◌<◌, ◌≤◌, ◌^◌, length, get_or, set};
-ghost use Rattle.tok.specs.Text.{Texts, texts_of, name_bytes};
+ghost use Rattle.tok.specs.Text.{name_bytes};
 ghost use Rattle.name_order.specs.Bytes.{bytes_before};
 ghost use Rattle.name_order.specs.Order.{place_in, new_in, Rearranged, Split, Grouping, GroupEnd};
 
-use tok::least;
+use tok::Texts;
 
 // Names.
 
@@ -18,12 +18,10 @@ fn same_first(a: &[u8], b: &[u8], end: usize) -> bool
     ensures { result ≡ true → (j : ℕ) → j < end → get_or a.now j 0 ≡ get_or b.now j 0 }
 {
     let mut same = true;
-    let mut i = 0;
-    while i < end {
+    for i in 0..end {
         if a[i] != b[i] {
             same = false;
         }
-        i += 1;
     }
     same
 }
@@ -32,31 +30,23 @@ fn same_first(a: &[u8], b: &[u8], end: usize) -> bool
 fn bytes_before(a: &[u8], b: &[u8]) -> bool
     ensures { result ≡ bytes_before a.now b.now }
 {
-    let end = least(a.len(), b.len());
+    let end = a.len().min(b.len());
     if same_first(a, b, end) {
         return a.len() < b.len();
     }
-    let mut i = 0;
-    while i < end {
+    for i in 0..end {
         if a[i] != b[i] {
             return a[i] < b[i];
         }
-        i += 1;
     }
     a.len() < b.len()
 }
 
 // Whether the name of a word comes before that of another.
-fn name_before<'a>(script: &'a [u8], library: &'a [u8], a: u32, b: u32) -> bool
-    ensures { let T : Texts = texts_of script.now library.now in result ≡ bytes_before (name_bytes T a) (name_bytes T b) }
+fn name_before(texts: &Texts, a: u32, b: u32) -> bool
+    ensures { result ≡ bytes_before (name_bytes texts.now a) (name_bytes texts.now b) }
 {
-    if a == b {
-        return false;
-    }
-    bytes_before(
-        tok::name_bytes(script, library, a),
-        tok::name_bytes(script, library, b),
-    )
+    a != b && bytes_before(tok::name_bytes(texts, a), tok::name_bytes(texts, b))
 }
 
 // Places in a row.
@@ -64,7 +54,7 @@ fn name_before<'a>(script: &'a [u8], library: &'a [u8], a: u32, b: u32) -> bool
 fn entry_at(order: &[u16], i: usize) -> u16
     ensures { result ≡ get_or order.now i 0 }
 {
-    if i < order.len() { order[i] } else { 0 }
+    order.get(i).copied().unwrap_or(0)
 }
 
 // The place of rank i.
@@ -85,28 +75,15 @@ fn word_of(words: &[u32], order: &[u16], i: usize) -> u32
 fn swap(order: &mut [u16], i: usize, j: usize)
     ensures { (n : ℕ) → i < n → j < n → n ≤ length order.old → Rearranged order.old order.new n }
 {
-    if i >= order.len() {
-        return;
+    if i < order.len() && j < order.len() {
+        order.swap(i, j);
     }
-    if j >= order.len() {
-        return;
-    }
-    let a = order[i];
-    order[i] = order[j];
-    order[j] = a;
 }
 
 // The sort: a heap of the first `end` entries, the last name on top.
 
 // The one of two children of an entry whose name comes last.
-fn later_child<'a>(
-    script: &'a [u8],
-    library: &'a [u8],
-    words: &[u32],
-    order: &[u16],
-    at: usize,
-    end: usize,
-) -> usize
+fn later_child(texts: &Texts, words: &[u32], order: &[u16], at: usize, end: usize) -> usize
     requires { 2 * at + 1 < end }
     ensures { (at < result) × (result < end) }
 {
@@ -116,29 +93,22 @@ fn later_child<'a>(
     }
     let a = word_of(words, order, child);
     let b = word_of(words, order, child + 1);
-    if name_before(script, library, a, b) {
+    if name_before(texts, a, b) {
         return child + 1;
     }
     child
 }
 
 // An entry goes down until no child comes after it.
-fn sift<'a>(
-    script: &'a [u8],
-    library: &'a [u8],
-    words: &[u32],
-    order: &mut [u16],
-    root: usize,
-    end: usize,
-)
+fn sift(texts: &Texts, words: &[u32], order: &mut [u16], root: usize, end: usize)
     ensures { (n : ℕ) → end ≤ n → n ≤ length order.old → Rearranged order.old order.new n }
 {
     let mut at = root;
     while at < end / 2 {
-        let child = later_child(script, library, words, order, at, end);
+        let child = later_child(texts, words, order, at, end);
         let a = word_of(words, order, at);
         let b = word_of(words, order, child);
-        if !name_before(script, library, a, b) {
+        if !name_before(texts, a, b) {
             return;
         }
         swap(order, at, child);
@@ -146,25 +116,21 @@ fn sift<'a>(
     }
 }
 
-fn make_heap<'a>(script: &'a [u8], library: &'a [u8], words: &[u32], order: &mut [u16], end: usize)
+fn make_heap(texts: &Texts, words: &[u32], order: &mut [u16], end: usize)
     ensures { (n : ℕ) → end ≤ n → n ≤ length order.old → Rearranged order.old order.new n }
 {
-    let mut i = end / 2;
-    while i > 0 {
-        i -= 1;
-        sift(script, library, words, order, i, end);
+    for i in (0..end / 2).rev() {
+        sift(texts, words, order, i, end);
     }
 }
 
 // The last name of the heap goes behind it, again and again.
-fn take_heap<'a>(script: &'a [u8], library: &'a [u8], words: &[u32], order: &mut [u16], end: usize)
+fn take_heap(texts: &Texts, words: &[u32], order: &mut [u16], end: usize)
     ensures { (n : ℕ) → end ≤ n → n ≤ length order.old → Rearranged order.old order.new n }
 {
-    let mut left = end;
-    while left > 1 {
-        left -= 1;
+    for left in (1..end).rev() {
         swap(order, 0, left);
-        sift(script, library, words, order, 0, left);
+        sift(texts, words, order, 0, left);
     }
 }
 
@@ -195,47 +161,29 @@ pub fn enter(order: &mut [u16], rank: usize, place: usize)
 }
 
 // Each entry is told whether its name is that of the one before it; false where the names are not in order.
-fn split<'a>(
-    script: &'a [u8],
-    library: &'a [u8],
-    words: &[u32],
-    order: &mut [u16],
-    end: usize,
-) -> bool
-    ensures { let T : Texts = texts_of script.now library.now in
-        (end ≤ length order.old → Split T words.now order.old order.new end result) }
+fn split(texts: &Texts, words: &[u32], order: &mut [u16], end: usize) -> bool
+    ensures { (end ≤ length order.old → Split texts.now words.now order.old order.new end result) }
 {
-    let mut i = 1;
-    while i < end {
+    for i in 1..end {
         let a = word_of(words, order, i - 1);
         let b = word_of(words, order, i);
-        let new = name_before(script, library, a, b);
-        if !new {
-            if !tok::same_name(script, library, a, b) {
-                return false;
-            }
+        let new = name_before(texts, a, b);
+        if !new && !tok::same_name(texts, a, b) {
+            return false;
         }
         let entry = told(entry_at(order, i), new);
         put(order, i, entry);
-        i += 1;
     }
     true
 }
 
 // The first n entries sorted by name and grouped; false where that did not succeed.
-pub fn group_names<'a>(
-    script: &'a [u8],
-    library: &'a [u8],
-    words: &[u32],
-    order: &mut [u16],
-    n: usize,
-) -> bool
-    ensures { let T : Texts = texts_of script.now library.now in
-        (n ≤ length order.old → Grouping T words.now order.old order.new n result) }
+pub fn group_names(texts: &Texts, words: &[u32], order: &mut [u16], n: usize) -> bool
+    ensures { (n ≤ length order.old → Grouping texts.now words.now order.old order.new n result) }
 {
-    make_heap(script, library, words, order, n);
-    take_heap(script, library, words, order, n);
-    split(script, library, words, order, n)
+    make_heap(texts, words, order, n);
+    take_heap(texts, words, order, n);
+    split(texts, words, order, n)
 }
 
 // Where the group ends that begins at a rank: at the next new name, or with the last of n entries.
@@ -243,12 +191,10 @@ pub fn group_end(order: &[u16], at: usize, n: usize) -> usize
     requires { at < n }
     ensures { GroupEnd order.now at n result }
 {
-    let mut i = at + 1;
-    while i < n {
+    for i in at + 1..n {
         if entry_at(order, i) % 2 == 1 {
             return i;
         }
-        i += 1;
     }
-    i
+    n
 }

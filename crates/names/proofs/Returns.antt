@@ -1,4 +1,5 @@
 -- Each return of the functions, from what the callees answered. By rewriting. Assumes nothing.
+use Rattle.std.specs.Prelude.{Option as Found}
 use Prim.Native.Nat.{ℕ, ◌+◌, ◌*◌, ◌^◌}
 use mathlib.Core.Path.{◌≡◌, refl, sym, ap, ◌∙◌}
 use mathlib.Core.Option.{Option, none, some}
@@ -10,7 +11,6 @@ use Rattle.tok.specs.Text.{Texts, name_bytes}
 use Rattle.tok.specs.Step.{return}
 use Rattle.ptype.specs.Words.{void_word}
 use Rattle.ptype.specs.Add.{write}
-use Rattle.err.specs.declared.Reported.{Reported}
 use Rattle.err.specs.Message.{no_binding}
 use Rattle.err.specs.Report.{Reports}
 use Rattle.library.specs.Package.{Package}
@@ -39,6 +39,7 @@ use Rattle.visit.specs.Within.{Visits, knows, refuses, poisons}
 use Rattle.visit.specs.StoreLaws.{env-bound, env-unbound}
 use Rattle.visit.specs.Plain.{visit_of, within-plain, steps-visits}
 use Rattle.names.specs.Bound.{one_more, Bindable, let_end, few-names, fits, packages-kept, within-bound}
+use Rattle.err.specs.declared.Counts.{Counts}
 
 -- a rule that goes on as another does
 same-visits : {rule rule' : Walk Answer} {library : List ℕ} {st : State} {b b' : Lent} {r : Visit} → rule (whole library st b) ≡ rule' (whole library st b)
@@ -66,7 +67,7 @@ module _ (T : Texts) (n slot name : ℕ) (found : Binding) (st : State) (e : Lis
   unfolding choose on_option visited
   ident-poisoned eb ls v words s f t d m o = record { step = chosen (ap (λ b. binding_of b) eb) ls v words s f t d m o; keeps = poisons (within-plain st st.used s t d m s t d m f e o) }
 
-  pub ident-none : {d m d' m' : List ℕ} {q : Reported} {r : Step} {x : Visit} → found ≡ B.Nothing → Reports (no_binding name (name_bytes T name)) d m st.used.told d' m' q → r ≡ poison_of n st.used q → x ≡ visit_of st r
+  pub ident-none : {d m d' m' : List ℕ} {q : Found Counts} {r : Step} {x : Visit} → found ≡ B.Nothing → Reports (no_binding name (name_bytes T name)) d m st.used.told d' m' q → r ≡ poison_of n st.used q → x ≡ visit_of st r
       → (ls : List Package) (v : ℕ) (words s f t : List ℕ) (o : More) → Visits (ident (ctx T ls v) n slot name) 0 0 words st (lent s f t d m e o) (lent s f t d' m' e o) x
   unfolding choose on_option
   ident-none {d} {m} eb p er ex ls v words s f t o = rw (ex, er) (same-visits {rule' = poison n (no_binding name (name_bytes T name))} (chosen (ap (λ b. binding_of b) eb) ls v words s f t d m o) (steps-visits (poisons-step n p) words f e o))

@@ -4,7 +4,6 @@
 
 ghost use Rattle.std.specs.Prelude.{◌≡◌, List, [], ◌∷◌, ℕ, ◌+◌, ◌*◌, ◌≤◌, ◌<◌, ◌^◌};
 ghost use Rattle.tok.specs.Word.{kind_of};
-ghost use Rattle.tok.specs.Text.{Texts, texts_of};
 ghost use Rattle.ptype.specs.Add.{write};
 ghost use Rattle.library.specs.Package.{Package};
 ghost use Rattle.rules.specs.Rules.{ident};
@@ -17,6 +16,7 @@ ghost use Rattle.names.specs.Bound.{one_more, Bindable, let_end};
 
 use rules::Answer;
 use state::Used;
+use tok::Texts;
 use visit::{State, Visit};
 
 // The word of Void.
@@ -44,37 +44,32 @@ pub fn one_more(st: State, used: Used) -> State
     ensures { result ≡ one_more st used }
 {
     State {
-        used: used,
-        base: st.base,
+        used,
         depth: st.depth + 1,
-        held: st.held,
-        packages: st.packages,
-        functions: st.functions,
+        ..st
     }
 }
 
 // Node::Ident: 3 where no binding is found; a poisoned binding poisons in silence.
-pub fn ident<'a>(
+pub fn ident(
     slots: &mut [u32],
     diagnostics: &mut [u32],
     messages: &mut [u8],
     scratch: &[u32],
-    script: &'a [u8],
-    library: &'a [u8],
+    texts: &Texts,
     st: State,
     n: u32,
     slot: u32,
     name: u32,
 ) -> Visit
     requires { st.base + st.depth ≤ 4096 }
-    ensures { let T : Texts = texts_of script.now library.now in
-        ((ls : List Package) (v : ℕ) (words f t : List ℕ) (o : More) →
+    ensures { ((ls : List Package) (v : ℕ) (words f t : List ℕ) (o : More) →
         let b : Lent = lent slots.old f t diagnostics.old messages.old scratch.now o in
         let b' : Lent = lent slots.new f t diagnostics.new messages.new scratch.now o in
-        Visits (ident (ctx T ls v) n slot name) 0 0 words st b b' result) }
+        Visits (ident (ctx texts.now ls v) n slot name) 0 0 words st b b' result) }
 {
     let used = st.used;
-    let found = scope::env_get(script, library, scratch, st.base, st.depth, name);
+    let found = scope::env_get(texts, scratch, st.base, st.depth, name);
     match found {
         scope::Binding::Bound(w) => {
             return visit::answered(st, operators::set_known(slots, used, slot, w));
@@ -89,8 +84,7 @@ pub fn ident<'a>(
                 diagnostics,
                 &mut messages[free..],
                 counts,
-                script,
-                library,
+                texts,
                 name,
             );
             return visit::answered(st, state::poisoned(n, used, none));

@@ -6,8 +6,7 @@ ghost use Rattle.ast.specs.Image.{word_at, record_length};
 ghost use Rattle.image_laws.specs.OutlineAt.{arguments_at};
 ghost use Rattle.node_parts.specs.Runs.{run, RunHere};
 
-use image_words::less;
-use tok::{kind, payload, wide, word_at};
+use tok::{kind, payload, word_at};
 
 // Words of an image that hold parts: `count` of them, each `step` after the one before.
 #[derive(Clone, Copy)]
@@ -44,13 +43,11 @@ pub fn slot(words: &[u32], at: usize) -> u32
 pub fn arguments(words: &[u32], at: usize) -> u32
     ensures { result ≡ arguments_at words.now at }
 {
-    if at >= words.len() {
-        return 0;
+    if at < words.len() && kind(word_at(words, at)) == FN {
+        word_at(words, at + 4)
+    } else {
+        0
     }
-    if kind(word_at(words, at)) == FN {
-        return word_at(words, at + 4);
-    }
-    0
 }
 
 fn stretch(from: usize, count: usize, step: usize) -> Run
@@ -68,18 +65,17 @@ pub fn run_at(words: &[u32], at: usize) -> Run
     }
     let head = word_at(words, at);
     let long = payload(head);
-    let n = wide(arguments(words, at));
-    let kind = kind(head);
-    match kind {
-        2 => return stretch(at + 4, 2, 1),
-        3 => return stretch(at + 4, 1, 1),
-        4 => return stretch(at + 3, 1, 1),
-        5 => return stretch(at + 5 + 2 * n, less(long, 5 + 2 * n), 1),
-        7 => return stretch(at + 2, 1 + less(long, 3), 1),
-        8 => return stretch(at + 2, 1, 1),
-        9 => return stretch(at + 3, 1, 1),
-        12 => return stretch(at + 4, less(long, 3) / 2, 2),
-        13 => return stretch(at + 3, less(long, 3), 1),
-        _ => return stretch(0, 0, 1),
+    let n = arguments(words, at) as usize;
+    match kind(head) {
+        2 => stretch(at + 4, 2, 1),
+        3 => stretch(at + 4, 1, 1),
+        4 => stretch(at + 3, 1, 1),
+        5 => stretch(at + 5 + 2 * n, long.saturating_sub(5 + 2 * n), 1),
+        7 => stretch(at + 2, 1 + long.saturating_sub(3), 1),
+        8 => stretch(at + 2, 1, 1),
+        9 => stretch(at + 3, 1, 1),
+        12 => stretch(at + 4, long.saturating_sub(3) / 2, 2),
+        13 => stretch(at + 3, long.saturating_sub(3), 1),
+        _ => stretch(0, 0, 1),
     }
 }

@@ -4,7 +4,7 @@
 #![tactic(auto)]
 
 ghost use Rattle.std.specs.Prelude.{◌≡◌, List, ℕ, ◌+◌, ◌≤◌};
-ghost use Rattle.tok.specs.Text.{Texts, texts_of};
+ghost use Rattle.tok.specs.Text.{Texts};
 ghost use Rattle.library.specs.Package.{Package};
 ghost use Rattle.state.specs.Context.{ctx};
 ghost use Rattle.state.specs.World.{More};
@@ -17,7 +17,7 @@ ghost use Rattle.operands.specs.Ready.{OneReady, CastReady};
 use add::Added;
 use rules::Answer;
 use state::Used;
-use tok::{kind, word_at};
+use tok::{Texts, kind, word_at};
 use visit::{Gave, State, Visit};
 
 // The kinds of nodes of one operand; the third is Field.
@@ -41,13 +41,12 @@ pub fn operand_of(image: &[u32], at: usize) -> u32
 }
 
 // Node::Bin after its operands: "a Known answer yields its slot, otherwise Poison ends the rule".
-pub fn bin_end<'a>(
+pub fn bin_end(
     slots: &mut [u32],
     types: &[u32],
     diagnostics: &mut [u32],
     messages: &mut [u8],
-    script: &'a [u8],
-    library: &'a [u8],
+    texts: &Texts,
     image: &[u32],
     at: usize,
     st: State,
@@ -56,11 +55,10 @@ pub fn bin_end<'a>(
     right: Answer,
 ) -> Visit
     requires { at ≤ 8192 }
-    ensures { let T : Texts = texts_of script.now library.now in
-        ((ls : List Package) (v : ℕ) (words f e : List ℕ) (o : More) →
+    ensures { ((ls : List Package) (v : ℕ) (words f e : List ℕ) (o : More) →
         let b : Lent = lent slots.old f types.now diagnostics.old messages.old e o in
         let b' : Lent = lent slots.new f types.now diagnostics.new messages.new e o in
-        Visits (bin_end (ctx T ls v) image.now n at left right) 0 0 words st b b' result) }
+        Visits (bin_end (ctx texts.now ls v) image.now n at left right) 0 0 words st b b' result) }
 {
     let Answer::Known(left_slot) = left else {
         return Visit::Poison(st);
@@ -79,8 +77,7 @@ pub fn bin_end<'a>(
             types,
             diagnostics,
             messages,
-            script,
-            library,
+            texts,
             used,
             n,
             slot,
@@ -93,14 +90,13 @@ pub fn bin_end<'a>(
 }
 
 // Node::Unary, Node::Let and Node::Field after their operand.
-pub fn one_end<'a>(
+pub fn one_end(
     slots: &mut [u32],
     types: &[u32],
     diagnostics: &mut [u32],
     messages: &mut [u8],
     scratch: &mut [u32],
-    script: &'a [u8],
-    library: &'a [u8],
+    texts: &Texts,
     image: &[u32],
     at: usize,
     st: State,
@@ -108,11 +104,10 @@ pub fn one_end<'a>(
     answer: Answer,
 ) -> Visit
     requires { OneReady image.now at st scratch.old }
-    ensures { let T : Texts = texts_of script.now library.now in
-        ((ls : List Package) (v : ℕ) (words f : List ℕ) (o : More) →
+    ensures { ((ls : List Package) (v : ℕ) (words f : List ℕ) (o : More) →
         let b : Lent = lent slots.old f types.now diagnostics.old messages.old scratch.old o in
         let b' : Lent = lent slots.new f types.now diagnostics.new messages.new scratch.new o in
-        Visits (one_end (ctx T ls v) image.now n at answer) (one_room image.now at) 0 words st b b' result) }
+        Visits (one_end (ctx texts.now ls v) image.now n at answer) (one_room image.now at) 0 words st b b' result) }
 {
     let k = kind(word_at(image, at));
     let slot = word_at(image, at + 1);
@@ -143,8 +138,7 @@ pub fn one_end<'a>(
                 types,
                 diagnostics,
                 messages,
-                script,
-                library,
+                texts,
                 used,
                 n,
                 slot,
@@ -161,8 +155,7 @@ pub fn one_end<'a>(
             types,
             diagnostics,
             messages,
-            script,
-            library,
+            texts,
             used,
             n,
             slot,
@@ -176,20 +169,9 @@ pub fn one_end<'a>(
 fn more_types(st: State, types: usize) -> State
     ensures { result ≡ more_types st types }
 {
-    let used = st.used;
-    let counts = used.told;
-    let kept = used.kept;
     State {
-        used: Used {
-            types: types,
-            told: counts,
-            kept,
-        },
-        base: st.base,
-        depth: st.depth,
-        held: st.held,
-        packages: st.packages,
-        functions: st.functions,
+        used: Used { types, ..st.used },
+        ..st
     }
 }
 
@@ -218,13 +200,12 @@ pub fn cast_begin(
 }
 
 // Node::Cast after its operand.
-pub fn cast_end<'a>(
+pub fn cast_end(
     slots: &mut [u32],
     types: &[u32],
     diagnostics: &mut [u32],
     messages: &mut [u8],
-    script: &'a [u8],
-    library: &'a [u8],
+    texts: &Texts,
     image: &[u32],
     at: usize,
     st: State,
@@ -233,11 +214,10 @@ pub fn cast_end<'a>(
     answer: Answer,
 ) -> Visit
     requires { at ≤ 8192 }
-    ensures { let T : Texts = texts_of script.now library.now in
-        ((ls : List Package) (v : ℕ) (words f e : List ℕ) (o : More) →
+    ensures { ((ls : List Package) (v : ℕ) (words f e : List ℕ) (o : More) →
         let b : Lent = lent slots.old f types.now diagnostics.old messages.old e o in
         let b' : Lent = lent slots.new f types.now diagnostics.new messages.new e o in
-        Visits (cast_end (ctx T ls v) image.now n at to answer) 0 0 words st b b' result) }
+        Visits (cast_end (ctx texts.now ls v) image.now n at to answer) 0 0 words st b b' result) }
 {
     let Answer::Known(value) = answer else {
         return Visit::Poison(st);
@@ -252,8 +232,7 @@ pub fn cast_end<'a>(
             types,
             diagnostics,
             messages,
-            script,
-            library,
+            texts,
             used,
             n,
             slot,

@@ -1,4 +1,5 @@
 -- Each return of the functions, over variables for what the calls gave. By rewriting with the tests. Assumes nothing.
+use Rattle.std.specs.Prelude.{Option, Some, None}
 use Prim.Native.Nat.{ℕ}
 use mathlib.Core.Path.{◌≡◌, refl, sym, ap, ◌∙◌}
 use mathlib.Core.Bool.{Bool, true, false, ◌&&◌, ◌||◌}
@@ -13,8 +14,6 @@ use Rattle.ptype.specs.Ty.{Ty, same_ty}
 use Rattle.ptype.specs.Words.{ty_of}
 use Rattle.library.specs.Package.{Package}
 use Rattle.err.specs.declared.Counts.{Counts}
-use Rattle.err.specs.declared.Reported.{Reported}
-use Rattle.err.specs.declared.Reported.TheVariants.{Told, NoRoom}
 use Rattle.err.specs.Message.{unsupported, incompatible, bad_unary, redundant_cast, bad_cast}
 use Rattle.err.specs.Report.{Reports}
 use Rattle.rules.specs.Steps.{ty, tree, set_known, report, poison}
@@ -48,7 +47,7 @@ module _ (T : Texts) (s t d m : List ℕ) (u : Used) (n slot token op left right
   unfolding when
   fuse-known z e p ls v = record { step = λ rest. fuse-is ls v rest ∙ rw (ne_eqb k 0 z, ← e) ((p t d m).step rest) }
 
-  module _ {same : Bool} {d' m' : List ℕ} {x : Reported} {q : Step} (z : k ≡ 0) (hs : same ≡ same_ty (ty_of T t l) (ty_of T t r)) (hq : q ≡ poison_of n u x) where
+  module _ {same : Bool} {d' m' : List ℕ} {x : Option Counts} {q : Step} (z : k ≡ 0) (hs : same ≡ same_ty (ty_of T t l) (ty_of T t r)) (hq : q ≡ poison_of n u x) where
     pub fuse-unsupported :
         same ≡ true → Reports (unsupported token op (ty_of T t l)) d m u.told d' m' x →
         (ls : List Package) (v : ℕ) → Steps (fuse (ctx T ls v) n slot token op left right) s t d m u s t d' m' q
@@ -77,7 +76,7 @@ module _ (T : Texts) (s t d m : List ℕ) (u : Used) (n slot token op right : �
   unary-known z e p ls v = record { step = λ rest. unary-is ls v rest ∙ rw (z, ← e) ((p t d m).step rest) }
 
   pub unary_bad :
-      {d' m' : List ℕ} {x : Reported} {q : Step} → takes ≡ false → Reports (bad_unary token op (ty_of T t r)) d m u.told d' m' x → q ≡ poison_of n u x →
+      {d' m' : List ℕ} {x : Option Counts} {q : Step} → takes ≡ false → Reports (bad_unary token op (ty_of T t r)) d m u.told d' m' x → q ≡ poison_of n u x →
       (ls : List Package) (v : ℕ) → Steps (unary (ctx T ls v) n slot token op right) s t d m u s t d' m' q
   unfolding when
   unary_bad z p hq ls v = record { step = λ rest. unary-is ls v rest ∙ rw (z, hq) ((poisons-step n p).step rest) }
@@ -99,7 +98,7 @@ module _ (T : Texts) (s t d m : List ℕ) (u : Used) (n slot token left to : ℕ
   unfolding when
   cast-known z p ls v = record { step = λ rest. cast_is ls v rest ∙ rw z ((p t d m).step rest) }
 
-  module _ {same : Bool} {d' m' : List ℕ} {x : Reported} (z : casts ≡ false) (hs : same ≡ same_ty (ty_of T t l) (ty_of T t to)) where
+  module _ {same : Bool} {d' m' : List ℕ} {x : Option Counts} (z : casts ≡ false) (hs : same ≡ same_ty (ty_of T t l) (ty_of T t to)) where
     pub cast_bad :
         {q : Step} → same ≡ false → Reports (bad_cast token (ty_of T t l) (ty_of T t to)) d m u.told d' m' x → q ≡ poison_of n u x →
         (ls : List Package) (v : ℕ) → Steps (cast (ctx T ls v) n slot token left to) s t d m u s t d' m' q
@@ -107,12 +106,12 @@ module _ (T : Texts) (s t d m : List ℕ) (u : Used) (n slot token left to : ℕ
     cast_bad e p hq ls v = record { step = λ rest. cast_is ls v rest ∙ rw (z, ← hs, e, hq) ((poisons-step n p).step rest) }
 
     module _ (e : same ≡ true) (p : Reports (redundant_cast token (ty_of T t l)) d m u.told d' m' x) where
-      pub cast-full : x ≡ NoRoom → (ls : List Package) (v : ℕ) → Steps (cast (ctx T ls v) n slot token left to) s t d m u s t d' m' (S.Refused 9 n)
+      pub cast-full : x ≡ None → (ls : List Package) (v : ℕ) → Steps (cast (ctx T ls v) n slot token left to) s t d m u s t d' m' (S.Refused 9 n)
       unfolding when
       cast-full hx ls v = record { step = λ rest. cast_is ls v rest ∙ rw (z, ← hs, e) ((refused-steps (set_known slot to) (full-goes n hx p)).step rest) }
 
       pub cast_same :
-          {c : Counts} {s' : List ℕ} {q : Step} → x ≡ Told c → ((t d m : List ℕ) → Steps (set_known slot to) s t d m (record { types = u.types; told = c; kept = u.kept }) s' t d m q) →
+          {c : Counts} {s' : List ℕ} {q : Step} → x ≡ Some c → ((t d m : List ℕ) → Steps (set_known slot to) s t d m (record { types = u.types; told = c; kept = u.kept }) s' t d m q) →
           (ls : List Package) (v : ℕ) → Steps (cast (ctx T ls v) n slot token left to) s t d m u s' t d' m' q
       unfolding when
       cast_same hx k ls v = record { step = λ rest. cast_is ls v rest ∙ rw (z, ← hs, e) ((on-steps (told-goes n hx p) (k t d' m')).step rest) }

@@ -4,16 +4,14 @@
 
 ghost use Rattle.std.specs.Prelude.{◌≡◌, ◌&&◌, ◌||◌, List, ℕ, ◌<◌, eqb, leb, set};
 ghost use Rattle.tok.specs.Word.{word_of};
-ghost use Rattle.tok.specs.Text.{Texts, texts_of};
 ghost use Rattle.library.specs.Package.{Package};
 ghost use Rattle.rules.specs.Steps.{set_known};
 ghost use Rattle.rules.specs.Operators.{result_kind, fuse, unary, castable, cast};
 ghost use Rattle.state.specs.Context.{ctx};
 ghost use Rattle.state.specs.World.{Steps};
 
-use err::Reported;
 use state::{Step, Used};
-use tok::{kind, wide, word_at};
+use tok::{Texts, kind, wide, word_at};
 
 // Slots.
 
@@ -117,13 +115,12 @@ fn result_kind(op: u32, left: u32, right: u32) -> u32
 }
 
 // Typechecker::fuse, of two slots: the table's type; else 4 where both types are equal, 5 where they differ.
-pub fn fuse<'a>(
+pub fn fuse(
     slots: &mut [u32],
     types: &[u32],
     diagnostics: &mut [u32],
     messages: &mut [u8],
-    script: &'a [u8],
-    library: &'a [u8],
+    texts: &Texts,
     used: Used,
     n: u32,
     slot: u32,
@@ -132,8 +129,7 @@ pub fn fuse<'a>(
     left: u32,
     right: u32,
 ) -> Step
-    ensures { let T : Texts = texts_of script.now library.now in
-        ((ls : List Package) (v : ℕ) → Steps (fuse (ctx T ls v) n slot token op left right) slots.old types.now diagnostics.old
+    ensures { ((ls : List Package) (v : ℕ) → Steps (fuse (ctx texts.now ls v) n slot token op left right) slots.old types.now diagnostics.old
         messages.old used slots.new types.now diagnostics.new messages.new result) }
 {
     let l = word_at(slots, wide(left));
@@ -144,14 +140,13 @@ pub fn fuse<'a>(
     }
     let counts = used.told;
     let free = err_text::first_free(messages, counts);
-    if ptype::same_type(types, script, library, l, r) {
+    if ptype::same_type(types, texts, l, r) {
         let told = err_values::unsupported(
             diagnostics,
             &mut messages[free..],
             counts,
             types,
-            script,
-            library,
+            texts,
             token,
             op,
             l,
@@ -163,8 +158,7 @@ pub fn fuse<'a>(
         &mut messages[free..],
         counts,
         types,
-        script,
-        library,
+        texts,
         token,
         op,
         l,
@@ -194,13 +188,12 @@ fn takes(op: u32, kind: u32) -> bool
 }
 
 // The Unary arm, of a slot: Int or Double under + or -, else 6.
-pub fn unary<'a>(
+pub fn unary(
     slots: &mut [u32],
     types: &[u32],
     diagnostics: &mut [u32],
     messages: &mut [u8],
-    script: &'a [u8],
-    library: &'a [u8],
+    texts: &Texts,
     used: Used,
     n: u32,
     slot: u32,
@@ -208,8 +201,7 @@ pub fn unary<'a>(
     op: u32,
     right: u32,
 ) -> Step
-    ensures { let T : Texts = texts_of script.now library.now in
-        ((ls : List Package) (v : ℕ) → Steps (unary (ctx T ls v) n slot token op right) slots.old types.now diagnostics.old messages.old
+    ensures { ((ls : List Package) (v : ℕ) → Steps (unary (ctx texts.now ls v) n slot token op right) slots.old types.now diagnostics.old messages.old
         used slots.new types.now diagnostics.new messages.new result) }
 {
     let r = word_at(slots, wide(right));
@@ -224,8 +216,7 @@ pub fn unary<'a>(
         &mut messages[free..],
         counts,
         types,
-        script,
-        library,
+        texts,
         token,
         op,
         r,
@@ -255,13 +246,12 @@ fn castable(from: u32, to: u32) -> bool
 }
 
 // Typechecker::cast, of a slot to a type: a cast to the same type is reported (10), yet known; one that does not exist is 11.
-pub fn cast<'a>(
+pub fn cast(
     slots: &mut [u32],
     types: &[u32],
     diagnostics: &mut [u32],
     messages: &mut [u8],
-    script: &'a [u8],
-    library: &'a [u8],
+    texts: &Texts,
     used: Used,
     n: u32,
     slot: u32,
@@ -269,8 +259,7 @@ pub fn cast<'a>(
     left: u32,
     to: u32,
 ) -> Step
-    ensures { let T : Texts = texts_of script.now library.now in
-        ((ls : List Package) (v : ℕ) → Steps (cast (ctx T ls v) n slot token left to) slots.old types.now diagnostics.old messages.old used
+    ensures { ((ls : List Package) (v : ℕ) → Steps (cast (ctx texts.now ls v) n slot token left to) slots.old types.now diagnostics.old messages.old used
         slots.new types.now diagnostics.new messages.new result) }
 {
     let i = word_at(slots, wide(left));
@@ -279,14 +268,13 @@ pub fn cast<'a>(
     }
     let counts = used.told;
     let free = err_text::first_free(messages, counts);
-    if !ptype::same_type(types, script, library, i, to) {
+    if !ptype::same_type(types, texts, i, to) {
         let bad = err_values::bad_cast(
             diagnostics,
             &mut messages[free..],
             counts,
             types,
-            script,
-            library,
+            texts,
             token,
             i,
             to,
@@ -298,12 +286,11 @@ pub fn cast<'a>(
         &mut messages[free..],
         counts,
         types,
-        script,
-        library,
+        texts,
         token,
         i,
     );
-    let Reported::Told(after) = reported else {
+    let Some(after) = reported else {
         return Step::Refused(9, n);
     };
     let kept = used.kept;

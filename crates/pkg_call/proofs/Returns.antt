@@ -1,4 +1,5 @@
 -- A call of a package's function, one law for each way out of the code. Assumes nothing.
+use Rattle.std.specs.Prelude.{Option as Found}
 use Prim.Native.Nat.{ℕ, ◌+◌, ◌≤◌, min}
 use mathlib.Core.Path.{◌≡◌, refl, sym, ap, subst, ◌∙◌}
 use mathlib.Core.Bool.{Bool, true, false}
@@ -7,7 +8,6 @@ use mathlib.Core.List.{List, [], ◌∷◌, ◌++◌}
 use lib.ListN.{length, get_or, take}
 use lib.Seq.{length-take-le, take_at}
 use Rattle.tok.specs.Text.{Texts, name_bytes}
-use Rattle.err.specs.declared.Reported.{Reported}
 use Rattle.err.specs.declared.CallName.TheVariants.{OfPackage}
 use Rattle.err.specs.Message.{pkg_name, call_name, missing_package}
 use Rattle.err.specs.Report.{Reports}
@@ -34,6 +34,7 @@ use Rattle.pkg_group.specs.GroupSizeLaws.{size-one}
 use Rattle.pkg_group.specs.Groups.{InGroup}
 use Rattle.pkg_call.specs.Calls.{Low, LibraryCalls, HeldCalls}
 use Rattle.pkg_call.proofs.Ready.{library-group, extern-group}
+use Rattle.err.specs.declared.Counts.{Counts}
 
 -- a tail of scratch that was lent and came back leaves what is before it
 pub front-stays : (e rest : List ℕ) → 8192 ≤ length e → Low e (take 8192 e ++ rest)
@@ -69,7 +70,7 @@ module _ (texts : Texts) (n slot pkg name : ℕ) (given : List Provided) (poison
 
 module _ (texts : Texts) (n slot pkg name : ℕ) (given : List Provided) (poisoned : Bool) (words : List ℕ) (held packages : ℕ) (e s t d m : List ℕ) (u : Used) (found : F.Held)
     (q : held_of words e found ≡ find_package texts (name_bytes texts pkg) (held_from words e held packages)) where
-  pub no_package : {d' m' : List ℕ} {x : Reported} {r : Step} → found ≡ H.Nothing → Reports (missing_package pkg (name_bytes texts pkg)) d m u.told d' m' x → r ≡ poison_of n u x
+  pub no_package : {d' m' : List ℕ} {x : Found Counts} {r : Step} → found ≡ H.Nothing → Reports (missing_package pkg (name_bytes texts pkg)) d m u.told d' m' x → r ≡ poison_of n u x
       → HeldCalls texts n slot pkg name given poisoned words held packages e s t d m u e s t d' m' r
   unfolding resolve_pkg_call on_option
   no_package o p w = record {

@@ -4,7 +4,7 @@
 #![tactic(auto)]
 
 ghost use Rattle.std.specs.Prelude.{◌≡◌, List, ℕ, ◌+◌, min, length, get_or};
-ghost use Rattle.tok.specs.Text.{Texts, texts_of, name_bytes};
+ghost use Rattle.tok.specs.Text.{name_bytes};
 ghost use Rattle.library.specs.Package.{Package, group_of};
 ghost use Rattle.library.specs.PackagesRead.{package_at};
 ghost use Rattle.rules.specs.Calls.{resolve_pkg_call};
@@ -22,6 +22,7 @@ use err::CallName;
 use pkg_group::{Candidates, in_group};
 use scope::Held;
 use state::{Step, Used};
+use tok::Texts;
 use visit::{State, Visit};
 
 // A package: its name, how many functions it has, their entries.
@@ -49,14 +50,13 @@ fn first_entry(words: &[u32], at: usize) -> usize
 // A call into the library's package at word `at`. The bindings of a function with slots stand in scratch from word 8,192 on, where the walk
 // keeps nothing: such a function is alone in its group, so that the types of the arguments, which only a group of several is selected by,
 // need not be lent with them.
-fn in_library<'a>(
+fn in_library(
     slots: &mut [u32],
     types: &mut [u32],
     diagnostics: &mut [u32],
     messages: &mut [u8],
     scratch: &mut [u32],
-    script: &'a [u8],
-    library: &'a [u8],
+    texts: &Texts,
     image: &[u32],
     places: &[u16],
     words: &[u32],
@@ -71,16 +71,14 @@ fn in_library<'a>(
     count: usize,
     poisoned: bool,
 ) -> Step
-    requires { let T : Texts = texts_of script.now library.now in
-        LibraryReady T image.now places.now words.now scratch.old top n at args count slots.old types.old used.types }
-    ensures { let T : Texts = texts_of script.now library.now in
-        LibraryCalls T n slot pkg name (given_from image.now args count) poisoned (package_at words.now at)
+    requires { LibraryReady texts.now image.now places.now words.now scratch.old top n at args count slots.old types.old used.types }
+    ensures { LibraryCalls texts.now n slot pkg name (given_from image.now args count) poisoned (package_at words.now at)
         scratch.old slots.old types.old diagnostics.old messages.old used
         scratch.new slots.new types.new diagnostics.new messages.new result }
 {
     let k = function_count(words, at);
     let from = first_entry(words, at);
-    let found = pkg_group::find_candidates(script, library, words, true, from, k, name);
+    let found = pkg_group::find_candidates(texts, words, true, from, k, name);
     let Candidates::Slotted(place) = found else {
         let end = top + count;
         return in_group(
@@ -89,8 +87,7 @@ fn in_library<'a>(
             diagnostics,
             messages,
             &scratch[top..end],
-            script,
-            library,
+            texts,
             image,
             places,
             used,
@@ -114,8 +111,7 @@ fn in_library<'a>(
         diagnostics,
         messages,
         &mut scratch[8192..],
-        script,
-        library,
+        texts,
         image,
         places,
         used,
@@ -131,14 +127,13 @@ fn in_library<'a>(
 }
 
 // A call into the Extern's package at word `at` of scratch. Its functions have no slots.
-fn in_extern<'a>(
+fn in_extern(
     slots: &mut [u32],
     types: &[u32],
     diagnostics: &mut [u32],
     messages: &mut [u8],
     scratch: &[u32],
-    script: &'a [u8],
-    library: &'a [u8],
+    texts: &Texts,
     image: &[u32],
     places: &[u16],
     used: Used,
@@ -152,16 +147,14 @@ fn in_extern<'a>(
     count: usize,
     poisoned: bool,
 ) -> Step
-    requires { let T : Texts = texts_of script.now library.now in
-        GatheredReady T image.now places.now scratch.now top n args count slots.old types.now used.types }
-    ensures { let T : Texts = texts_of script.now library.now in
-        InGroup T n slot pkg name (given_from image.now args count) poisoned (group_of T (name_bytes T name) (extern_at scratch.now at).functions)
+    requires { GatheredReady texts.now image.now places.now scratch.now top n args count slots.old types.now used.types }
+    ensures { InGroup texts.now n slot pkg name (given_from image.now args count) poisoned (group_of texts.now (name_bytes texts.now name) (extern_at scratch.now at).functions)
         slots.old types.now diagnostics.old messages.old used
         slots.new types.now diagnostics.new messages.new result }
 {
     let k = function_count(scratch, at);
     let from = first_entry(scratch, at);
-    let found = pkg_group::find_candidates(script, library, scratch, false, from, k, name);
+    let found = pkg_group::find_candidates(texts, scratch, false, from, k, name);
     let end = top + count;
     in_group(
         slots,
@@ -169,8 +162,7 @@ fn in_extern<'a>(
         diagnostics,
         messages,
         &scratch[top..end],
-        script,
-        library,
+        texts,
         image,
         places,
         used,
@@ -190,14 +182,13 @@ fn in_extern<'a>(
 }
 
 // The newest package of the name among those held: 15 where there is none. The types of the arguments stand from word `top` of scratch on.
-fn in_held<'a>(
+fn in_held(
     slots: &mut [u32],
     types: &mut [u32],
     diagnostics: &mut [u32],
     messages: &mut [u8],
     scratch: &mut [u32],
-    script: &'a [u8],
-    library: &'a [u8],
+    texts: &Texts,
     image: &[u32],
     places: &[u16],
     words: &[u32],
@@ -213,14 +204,12 @@ fn in_held<'a>(
     count: usize,
     poisoned: bool,
 ) -> Step
-    requires { let T : Texts = texts_of script.now library.now in
-        HeldReady T image.now places.now words.now scratch.old held packages top n args count slots.old types.old used.types }
-    ensures { let T : Texts = texts_of script.now library.now in
-        HeldCalls T n slot pkg name (given_from image.now args count) poisoned words.now held packages
+    requires { HeldReady texts.now image.now places.now words.now scratch.old held packages top n args count slots.old types.old used.types }
+    ensures { HeldCalls texts.now n slot pkg name (given_from image.now args count) poisoned words.now held packages
         scratch.old slots.old types.old diagnostics.old messages.old used
         scratch.new slots.new types.new diagnostics.new messages.new result }
 {
-    let found = scope::find_held(script, library, words, &scratch[..], held, packages, pkg);
+    let found = scope::find_held(texts, words, &scratch[..], held, packages, pkg);
     match found {
         Held::Library(at) => {
             return in_library(
@@ -229,8 +218,7 @@ fn in_held<'a>(
                 diagnostics,
                 messages,
                 scratch,
-                script,
-                library,
+                texts,
                 image,
                 places,
                 words,
@@ -253,8 +241,7 @@ fn in_held<'a>(
                 diagnostics,
                 messages,
                 &scratch[..],
-                script,
-                library,
+                texts,
                 image,
                 places,
                 used,
@@ -275,8 +262,7 @@ fn in_held<'a>(
                 diagnostics,
                 &mut messages[free..],
                 used.told,
-                script,
-                library,
+                texts,
                 pkg,
             );
             return state::poisoned(n, used, r);
@@ -286,14 +272,13 @@ fn in_held<'a>(
 
 // Function `name` of package `pkg`, called with the arguments whose node numbers stand from word `args` of the image on. Their types are
 // gathered in scratch, between the names in scope and the packages held.
-pub fn resolve_pkg_call<'a>(
+pub fn resolve_pkg_call(
     slots: &mut [u32],
     types: &mut [u32],
     diagnostics: &mut [u32],
     messages: &mut [u8],
     scratch: &mut [u32],
-    script: &'a [u8],
-    library: &'a [u8],
+    texts: &Texts,
     image: &[u32],
     places: &[u16],
     words: &[u32],
@@ -306,13 +291,11 @@ pub fn resolve_pkg_call<'a>(
     count: usize,
     poisoned: bool,
 ) -> Visit
-    requires { let T : Texts = texts_of script.now library.now in
-        PkgReady T image.now places.now words.now st scratch.old n args count slots.old types.old }
-    ensures { let T : Texts = texts_of script.now library.now in
-        ((ls : List Package) (v : ℕ) (f : List ℕ) (o : More) →
+    requires { PkgReady texts.now image.now places.now words.now st scratch.old n args count slots.old types.old }
+    ensures { ((ls : List Package) (v : ℕ) (f : List ℕ) (o : More) →
         let b : Lent = lent slots.old f types.old diagnostics.old messages.old scratch.old o in
         let b' : Lent = lent slots.new f types.new diagnostics.new messages.new scratch.new o in
-        Visits (resolve_pkg_call (ctx T ls v) n slot pkg name (given_from image.now args count) poisoned) count 0 words.now st b b' result) }
+        Visits (resolve_pkg_call (ctx texts.now ls v) n slot pkg name (given_from image.now args count) poisoned) count 0 words.now st b b' result) }
 {
     let top = 2 * (st.base + st.depth);
     let end = top + count;
@@ -331,8 +314,7 @@ pub fn resolve_pkg_call<'a>(
         diagnostics,
         messages,
         scratch,
-        script,
-        library,
+        texts,
         image,
         places,
         words,

@@ -1,10 +1,10 @@
 -- A call of a group, one law for each way out of the code. Assumes nothing.
+use Rattle.std.specs.Prelude.{Option}
 use Prim.Native.Nat.{ℕ}
 use mathlib.Core.Path.{◌≡◌, refl, sym, ap, ◌∙◌}
 use mathlib.Core.Bool.{Bool, false}
 use mathlib.Core.List.{List, [], ◌∷◌}
 use Rattle.tok.specs.Text.{Texts, name_bytes}
-use Rattle.err.specs.declared.Reported.{Reported}
 use Rattle.err.specs.declared.CallName.TheVariants.{OfPackage}
 use Rattle.err.specs.Message.{pkg_name, call_name, undefined_in_package}
 use Rattle.err.specs.Report.{Reports}
@@ -25,10 +25,11 @@ use Rattle.pkg_group.specs.declared.Candidates.TheVariants as C
 use Rattle.pkg_group.specs.GroupSize.{size_found, OfSeveral}
 use Rattle.pkg_group.specs.GroupSizeLaws.{size_none, size-one, size_several}
 use Rattle.pkg_group.specs.Groups.{GroupReady, InGroup}
+use Rattle.err.specs.declared.Counts.{Counts}
 
 module _ (texts : Texts) (n slot pkg name : ℕ) {image places : List ℕ} {args count : ℕ} {provided words : List ℕ} {fs : List Signature} {found : Candidates}
     (poisoned : Bool) (s t d m : List ℕ) (u : Used) (h : GroupReady image places n args count s provided words fs found) where
-  pub group-none : {d' m' : List ℕ} {x : Reported} {r : Step} → found ≡ C.Nothing
+  pub group-none : {d' m' : List ℕ} {x : Option Counts} {r : Step} → found ≡ C.Nothing
       → Reports (undefined_in_package name (pkg_name (name_bytes texts pkg) (name_bytes texts name))) d m u.told d' m' x → r ≡ poison_of n u x
       → InGroup texts n slot pkg name (given_from image args count) poisoned fs s t d m u s t d' m' r
   unfolding in_group

@@ -3,7 +3,7 @@
 #![tactic(auto)]
 
 ghost use Rattle.std.specs.Prelude.{◌≡◌, ℕ};
-ghost use Rattle.tok.specs.Text.{Texts, texts_of, name_bytes};
+ghost use Rattle.tok.specs.Text.{name_bytes};
 ghost use Rattle.signatures.specs.Entries.{flag_words};
 ghost use Rattle.selection.specs.Candidates.{group};
 ghost use Rattle.call_args.specs.Given.{given_from};
@@ -11,8 +11,8 @@ ghost use Rattle.pkg_group.specs.GroupSize.{group_size, size_found};
 ghost use Rattle.pkg_group.specs.Groups.{GroupReady, InGroup};
 
 use err::CallName;
-use signatures::Entry;
 use state::{Step, Used};
+use tok::Texts;
 
 // The candidates of a name: none, one without slots or with them, by the place of its argument count, or several.
 #[derive(Clone, Copy)]
@@ -24,49 +24,40 @@ pub enum Candidates {
 }
 
 // The candidates of a name among k entries of a package.
-pub fn find_candidates<'a>(
-    script: &'a [u8],
-    library: &'a [u8],
+pub fn find_candidates(
+    texts: &Texts,
     words: &[u32],
     flagged: bool,
     from: usize,
     k: usize,
     name: u32,
 ) -> Candidates
-    ensures { let T : Texts = texts_of script.now library.now in
-        group_size (group T (name_bytes T name) words.now (flag_words flagged) from k) ≡ size_found words.now result }
+    ensures { group_size (group texts.now (name_bytes texts.now name) words.now (flag_words flagged) from k) ≡ size_found words.now result }
 {
-    let wanted = tok::name_bytes(script, library, name);
-    let first = signatures::find_entry(script, library, words, flagged, from, k, wanted);
-    let Entry::One {
-        slotted,
-        at,
-        next,
-        left,
-    } = first
-    else {
+    let wanted = tok::name_bytes(texts, name);
+    let first = signatures::find_entry(texts, words, flagged, from, k, wanted);
+    let Some(entry) = first else {
         return Candidates::Nothing;
     };
-    let second = signatures::find_entry(script, library, words, flagged, next, left, wanted);
-    let Entry::Over = second else {
+    let second = signatures::find_entry(texts, words, flagged, entry.next, entry.left, wanted);
+    let None = second else {
         return Candidates::Several;
     };
-    if slotted {
-        return Candidates::Slotted(at);
+    if entry.slotted {
+        return Candidates::Slotted(entry.at);
     }
-    Candidates::Plain(at)
+    Candidates::Plain(entry.at)
 }
 
 // A call of the candidates of a name among k entries of a package, but for one with slots, which wants room for its bindings: none is 16,
 // one is checked by itself, several are selected from.
-pub fn in_group<'a>(
+pub fn in_group(
     slots: &mut [u32],
     types: &[u32],
     diagnostics: &mut [u32],
     messages: &mut [u8],
     provided: &[u32],
-    script: &'a [u8],
-    library: &'a [u8],
+    texts: &Texts,
     image: &[u32],
     places: &[u16],
     used: Used,
@@ -83,12 +74,10 @@ pub fn in_group<'a>(
     count: usize,
     poisoned: bool,
 ) -> Step
-    requires { let T : Texts = texts_of script.now library.now in
-        GroupReady image.now places.now n args count slots.old provided.now words.now
-        (group T (name_bytes T name) words.now (flag_words flagged) from k) found }
-    ensures { let T : Texts = texts_of script.now library.now in
-        InGroup T n slot pkg name (given_from image.now args count) poisoned
-        (group T (name_bytes T name) words.now (flag_words flagged) from k)
+    requires { GroupReady image.now places.now n args count slots.old provided.now words.now
+        (group texts.now (name_bytes texts.now name) words.now (flag_words flagged) from k) found }
+    ensures { InGroup texts.now n slot pkg name (given_from image.now args count) poisoned
+        (group texts.now (name_bytes texts.now name) words.now (flag_words flagged) from k)
         slots.old types.now diagnostics.old messages.old used
         slots.new types.now diagnostics.new messages.new result }
 {
@@ -99,8 +88,7 @@ pub fn in_group<'a>(
                 diagnostics,
                 &mut messages[free..],
                 used.told,
-                script,
-                library,
+                texts,
                 pkg,
                 name,
             );
@@ -112,8 +100,7 @@ pub fn in_group<'a>(
                 types,
                 diagnostics,
                 messages,
-                script,
-                library,
+                texts,
                 image,
                 places,
                 used,
@@ -131,14 +118,13 @@ pub fn in_group<'a>(
             return Step::Refused(0, 0);
         }
         Candidates::Several => {
-            let wanted = tok::name_bytes(script, library, name);
+            let wanted = tok::name_bytes(texts, name);
             return group_select::select(
                 slots,
                 types,
                 diagnostics,
                 messages,
-                script,
-                library,
+                texts,
                 used,
                 n,
                 slot,

@@ -1,5 +1,5 @@
 -- The loop that fills in places: what is left to fill gives the whole. Assumes nothing.
-use Prim.Native.Nat.{ℕ, suc, ◌+◌, ◌-◌, ◌≤◌, ◌<◌, min}
+use Prim.Native.Nat.{ℕ, suc, ◌+◌, ◌≤◌, min}
 use mathlib.Core.Path.{◌≡◌, refl, sym, ap, ◌∙◌}
 use mathlib.Core.List.{List}
 use native.Mathlib.Omega.{arith}
@@ -18,11 +18,11 @@ module _ {image : List ℕ} {index count first : ℕ} {old : List ℕ} where
   filling-none = record { place = refl; long = refl; last = refl; places = refl }
 
   module _ {i left at : ℕ} {new : List ℕ} (h : Filling image index count first old i left at new) where
-    pub filling-more : {at' : ℕ} {new' : List ℕ} → 0 < left → new' ≡ set new i at → at' ≡ place_after image at
-        → Filling image index count first old (i + 1) (left - 1) at' new'
+    pub filling-more : {at' later : ℕ} {new' : List ℕ} → left ≡ later + 1 → new' ≡ set new i at → at' ≡ place_after image at
+        → Filling image index count first old (i + 1) later at' new'
     unfolding place_last fill
-    filling-more l e e' =
-        let s : suc (left - 1) ≡ left = omega arith in
+    filling-more {later = later} l e e' =
+        let s : suc later ≡ left = omega arith in
         record {
           place = omega (arith, h.place);
           long = ap length e ∙ length-set new i at ∙ h.long;

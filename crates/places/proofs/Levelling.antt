@@ -21,15 +21,15 @@ module _ {image places : List ℕ} {at fields : ℕ} where
   most-none = record { place = refl; is = omega arith }
 
   module _ {most here left : ℕ} (h : Most image places at fields most here left) where
-    pub most-more : {w x most' : ℕ} → 0 < left → w ≡ get_or image (here + 1) 0 → x ≡ levels_in places w → most' ≡ max most x
-        → Most image places at fields most' (here + 2) (left - 1)
+    pub most-more : {w x most' next later : ℕ} → left ≡ later + 1 → next ≡ here + 2 → w ≡ get_or image (here + 1) 0 → x ≡ levels_in places w → most' ≡ max most x
+        → Most image places at fields most' next later
     unfolding most_in
-    most-more l ew ex em =
-        let s : suc (left - 1) ≡ left = omega arith in
+    most-more {next = next} {later} l en ew ex em =
+        let s : suc later ≡ left = omega arith in
         let x : levels_in places (get_or image (here + 1) 0) ≡ _ = sym (rw ew at ex) in
-        let f : max (levels_in places (get_or image (here + 1) 0)) (most_in image places (here + 2) (left - 1)) ≡ most_in image places here left
+        let f : max (levels_in places (get_or image (here + 1) 0)) (most_in image places (here + 2) later) ≡ most_in image places here left
         = ap (most_in image places here) s in
-        record { place = omega (arith, h.place); is = omega (arith, h.is, f, x, em) }
+        rw en (record { place = omega (arith, h.place); is = omega (arith, h.is, f, x, em) })
 
     pub most-all : left ≤ 0 → most ≡ most_in image places at fields
     unfolding most_in

@@ -2,11 +2,9 @@
 // node n's place at index n, type t's at index 2,048 + t, and its levels at index 2,560 + t.
 #![tactic(auto)]
 
-ghost use Rattle.std.specs.Prelude.{◌≡◌, ◌+◌, ◌-◌, ◌*◌, ◌/◌, ◌<◌, ◌^◌, max, get_or, set};
+ghost use Rattle.std.specs.Prelude.{◌≡◌, ◌+◌, ◌-◌, ◌*◌, ◌/◌, ◌<◌, ◌^◌, get_or, set};
 ghost use Rattle.tok.specs.Word.{payload_of};
 ghost use Rattle.places.specs.Places.{clipped, place_after, Filled, most_in, levels_inside, levels_at, fill_levels, places_in};
-
-use tok::least;
 
 // The index of type 0's place.
 const TYPES: usize = 2048;
@@ -24,27 +22,27 @@ const RECORD: u32 = 4;
 fn place(places: &[u16], i: usize) -> u16
     ensures { result ≡ get_or places.now i 0 }
 {
-    if i < places.len() { places[i] } else { 0 }
+    places.get(i).copied().unwrap_or(0)
 }
 
 // Where node n's record stands; 0 where the array has no place for it.
 pub fn node_place(places: &[u16], n: u32) -> usize
     ensures { result ≡ get_or places.now n 0 }
 {
-    place(places, tok::wide(n)) as usize
+    place(places, n as usize) as usize
 }
 
 // Where type t's record stands; 0 where the array has no place for it.
 pub fn type_place(places: &[u16], t: u32) -> usize
     ensures { result ≡ get_or places.now (2048 + t) 0 }
 {
-    place(places, TYPES + tok::wide(t)) as usize
+    place(places, TYPES + t as usize) as usize
 }
 
 fn levels(places: &[u16], t: u32) -> u16
     ensures { result ≡ get_or places.now (2560 + t) 0 }
 {
-    place(places, LEVELS + tok::wide(t))
+    place(places, LEVELS + t as usize)
 }
 
 // How many levels type t has; 0 where the array has no place for it.
@@ -52,12 +50,6 @@ pub fn type_levels(places: &[u16], t: u32) -> usize
     ensures { result ≡ get_or places.now (2560 + t) 0 }
 {
     levels(places, t) as usize
-}
-
-fn greatest(a: u16, b: u16) -> u16
-    ensures { result ≡ max a b }
-{
-    if a <= b { b } else { a }
 }
 
 // A place as 16 bits hold it. An image of at most 8,192 words has no greater one.
@@ -88,14 +80,10 @@ fn fill(places: &mut [u16], image: &[u32], index: usize, count: usize, first: u1
     requires { index + count < 2 ^ 40 }
     ensures { Filled image.now index count first places.old result places.new }
 {
-    let mut i = index;
-    let mut left = count;
     let mut at = first;
-    while left > 0 {
+    for i in index..index + count {
         store(places, i, at);
         at = place_after(image, at);
-        i += 1;
-        left -= 1;
     }
     at
 }
@@ -104,11 +92,7 @@ fn fill(places: &mut [u16], image: &[u32], index: usize, count: usize, first: u1
 fn fields_in(head: u32) -> usize
     ensures { (result ≡ (payload_of head - 2) / 2) × (result < 2 ^ 28) }
 {
-    let long = tok::payload(head);
-    if long < 2 {
-        return 0;
-    }
-    (long - 2) / 2
+    tok::payload(head).saturating_sub(2) / 2
 }
 
 // The most levels of some fields, which stand from word `at` on.
@@ -117,12 +101,8 @@ fn most_levels(places: &[u16], image: &[u32], at: usize, fields: usize) -> u16
     ensures { result ≡ most_in image.now places.now at fields }
 {
     let mut most: u16 = 0;
-    let mut here = at;
-    let mut left = fields;
-    while left > 0 {
-        most = greatest(most, levels(places, tok::word_at(image, here + 1)));
-        here += 2;
-        left -= 1;
+    for field in 0..fields {
+        most = most.max(levels(places, tok::word_at(image, at + 2 * field + 1)));
     }
     most
 }
@@ -133,17 +113,12 @@ fn levels_inside(places: &[u16], image: &[u32], at: u16) -> u16
 {
     let i = at as usize;
     let head = tok::word_at(image, i);
-    let k = tok::kind(head);
-    if k == OPTION {
-        return levels(places, tok::word_at(image, i + 1));
+    match tok::kind(head) {
+        OPTION => levels(places, tok::word_at(image, i + 1)),
+        ARRAY => levels(places, tok::word_at(image, i + 1)),
+        RECORD => most_levels(places, image, i + 2, fields_in(head)),
+        _ => 0,
     }
-    if k == ARRAY {
-        return levels(places, tok::word_at(image, i + 1));
-    }
-    if k == RECORD {
-        return most_levels(places, image, i + 2, fields_in(head));
-    }
-    0
 }
 
 // The levels of type t.
@@ -160,11 +135,9 @@ fn fill_levels(places: &mut [u16], image: &[u32], types: usize)
     requires { types < 2 ^ 40 }
     ensures { places.new ≡ fill_levels image.now 0 types places.old }
 {
-    let mut t: usize = 0;
-    while t < types {
+    for t in 0..types {
         let most = levels_at(&places[..], image, t);
         store(places, LEVELS + t, most);
-        t += 1;
     }
 }
 
@@ -173,9 +146,9 @@ fn fill_levels(places: &mut [u16], image: &[u32], types: usize)
 pub fn record_places(places: &mut [u16], image: &[u32])
     ensures { places.new ≡ places_in image.now places.old }
 {
-    let nodes = least(tok::wide(tok::word_at(image, 0)), 2048);
-    let types = least(tok::wide(tok::word_at(image, 1)), 512);
-    let first = clipped(4 + tok::wide(tok::word_at(image, 2)));
+    let nodes = (tok::word_at(image, 0) as usize).min(2048);
+    let types = (tok::word_at(image, 1) as usize).min(512);
+    let first = clipped(4 + tok::word_at(image, 2) as usize);
     let first_type = fill(places, image, 0, nodes, first);
     fill(places, image, TYPES, types, first_type);
     fill_levels(places, image, types);

@@ -3,7 +3,6 @@
 #![tactic(auto)]
 
 ghost use Rattle.std.specs.Prelude.{◌≡◌, ◌^◌, ◌<◌, IfOk};
-ghost use Rattle.tok.specs.Text.{texts_of};
 ghost use Rattle.rows_part.specs.Printing.{answer_of, part_of};
 ghost use Rattle.printing.specs.Loop.{is_done};
 ghost use Rattle.printing.specs.Handed.{Handed};
@@ -11,7 +10,7 @@ ghost use Rattle.printing.specs.Handed.{Handed};
 use rows_begin::Begun;
 use rows_part::{Part, Row};
 use std::io;
-use tok::{wide, word_at};
+use tok::{Texts, wide, word_at};
 
 // How much of a row is printed at the most: more than any machine prints, and so little that no place in a row is too large for a number.
 const MOST: usize = 0x4000_0000_0000_0000;
@@ -41,10 +40,9 @@ fn print_count(rt: &impl Print, n: usize) -> io::Result<()> {
 }
 
 // Prints the part of a row behind its first bytes.
-fn print_part<'a>(
+fn print_part(
     rt: &impl Print,
-    script: &'a [u8],
-    library: &'a [u8],
+    texts: &Texts,
     slots: &[u32],
     types: &[u32],
     functions: &[u32],
@@ -58,14 +56,13 @@ fn print_part<'a>(
 ) -> io::Result<Part>
     requires { skip < 2 ^ 63 }
     ensures { IfOk result (λ part. part ≡ part_of 4096
-        (answer_of (texts_of script.now library.now) slots.now types.now functions.now diagnostics.now messages.now last words count)
+        (answer_of texts.now slots.now types.now functions.now diagnostics.now messages.now last words count)
         row skip) }
 {
     let mut out = [0u8; 4_096];
     let part = rows_part::write_part(
         &mut out,
-        script,
-        library,
+        texts,
         slots,
         types,
         functions,
@@ -132,10 +129,9 @@ pub struct Printed {
 }
 
 // Prints all rows; if `full`, with primary messages and counts between them, which are not counted.
-pub fn print_rows<'a>(
+pub fn print_rows(
     rt: &impl Print,
-    script: &'a [u8],
-    library: &'a [u8],
+    texts: &Texts,
     slots: &[u32; 4_097],
     types: &[u32; 8_192],
     functions: &[u32; 8_192],
@@ -145,7 +141,7 @@ pub fn print_rows<'a>(
     full: bool,
 ) -> io::Result<Printed>
     ensures { IfOk result (λ printed. Handed
-        (answer_of (texts_of script.now library.now) slots.now types.now functions.now
+        (answer_of texts.now slots.now types.now functions.now
         diagnostics.now messages.now begun.last begun.words begun.count)
         begun.first printed) }
 {
@@ -164,8 +160,7 @@ pub fn print_rows<'a>(
         }
         let part = print_part(
             rt,
-            script,
-            library,
+            texts,
             slots,
             types,
             functions,

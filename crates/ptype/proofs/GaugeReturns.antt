@@ -71,17 +71,18 @@ module _ (go : ℕ → List ℕ → Gauged) (types : List ℕ) (f w : ℕ) (know
         by false = refl
 
 -- the loop: at first, and after one field more
-pub fields-first : (go : ℕ → List ℕ → Gauged) (types : List ℕ) (w : ℕ) (known : List ℕ) {at n : ℕ} → at ≡ payload_of w → n ≡ field_count types w
-    → gauge_fields go types (payload_of w + 1) (field_count types w) 0 known ≡ gauge_fields go types (at + 1) n 0 known
-fields-first go types w known ea en = ap₂ (λ q n. gauge_fields go types (q + 1) n 0 known) (sym ea) (sym en)
+pub fields-first : (go : ℕ → List ℕ → Gauged) (types : List ℕ) (w : ℕ) (known : List ℕ) {at n : ℕ} → at ≡ payload_of w + 1 → n ≡ field_count types w
+    → gauge_fields go types (payload_of w + 1) (field_count types w) 0 known ≡ gauge_fields go types at n 0 known
+fields-first go types w known ea en = ap₂ (λ q n. gauge_fields go types q n 0 known) (sym ea) (sym en)
 
-pub fields-next : (go : ℕ → List ℕ → Gauged) (types : List ℕ) (at most : ℕ) (known : List ℕ) {n w r m : ℕ} {known' : List ℕ}
-    → 0 < n → w ≡ get_or types (at + 1) 0 → go w known ≡ gauged r known' → m ≡ max most r
-    → gauge_fields go types at n most known ≡ gauge_fields go types (at + 2) (n - 1) m known'
+pub fields-next : (go : ℕ → List ℕ → Gauged) (types : List ℕ) (at most : ℕ) (known : List ℕ) {at' n n' w r m : ℕ} {known' : List ℕ}
+    → at' ≡ at + 2 → n' ≡ n - 1 → 0 < n → w ≡ get_or types (at + 1) 0 → go w known ≡ gauged r known' → m ≡ max most r
+    → gauge_fields go types at n most known ≡ gauge_fields go types at' n' m known'
 unfolding gauge_fields
-fields-next go types at most known {n} {w} {r} {m} {known'} l ew e em =
+fields-next go types at most known {at'} {n} {n'} {w} {r} {m} {known'} ea en l ew e em =
+    rw (ea, en) (
     let s : n ≡ suc (n - 1) = omega arith in
     let g : go (get_or types (at + 1) 0) known ≡ gauged r known' = ap (λ v. go v known) (sym ew) ∙ e in
     ap (λ k. gauge_fields go types at k most known) s
     ∙ ap (λ x. gauge_fields go types (at + 2) (n - 1) (max most x.depth) x.known) g
-    ∙ ap (λ d. gauge_fields go types (at + 2) (n - 1) d known') (sym em)
+    ∙ ap (λ d. gauge_fields go types (at + 2) (n - 1) d known') (sym em))

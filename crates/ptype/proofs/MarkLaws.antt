@@ -1,8 +1,8 @@
 -- Marks of field lists: fewer levels only cut a type. By induction on the levels. Assumes nothing.
-use Prim.Native.Nat.{ℕ, zero, suc, ◌+◌, ◌-◌, ◌≤◌, ◌<◌, min, max}
+use Prim.Native.Nat.{ℕ, zero, suc, ◌+◌, ◌-◌, ◌≤◌, ◌<◌, min}
 use native.Mathlib.Omega.{arith}
 use Rattle.std.proofs.Math.Decide.{ℕ_discrete, dec_lt}
-use Rattle.std.specs.Prelude.{◌≡◌, Bool, true, false, ◌||◌, List, get_or, set, length, replicate}
+use Rattle.std.specs.Prelude.{◌≡◌, Bool, false, List, get_or, set, length, replicate}
 use Rattle.std.proofs.Math.Path.{refl}
 use Rattle.std.proofs.Common.{sym, ap, ◌∙◌, true≢false, get_or-set_same, get_or-set_other}
 use borrow.Author.Tests.{ne_eqb}

@@ -64,9 +64,9 @@ module _ (t : Texts) (types : List ℕ) (go : ℕ → Ty) (a b : ℕ) {n m : ℕ
   pub differ-count : (n ≡ m → ⊥) → false ≡ same_fields (fields_of go t types a) (fields_of go t types b)
   differ-count d = sym (differ-length t types go (payload_of a + 1) (payload_of b + 1) (field_count types a) (field_count types b) (λ e. d (en ∙ (e ∙ sym em))))
 
-  pub same-all : {qa qb : ℕ} → n ≡ m → qa ≡ payload_of a → qb ≡ payload_of b
-      → same_fields (fields_of go t types a) (fields_of go t types b) ≡ same_fields (fields_from go t types (qa + 1) n) (fields_from go t types (qb + 1) n)
-  same-all nm ha hb = cc
+  pub same-all : {qa qb k : ℕ} → n ≡ m → qa ≡ payload_of a + 1 → qb ≡ payload_of b + 1 → k ≡ n
+      → same_fields (fields_of go t types a) (fields_of go t types b) ≡ same_fields (fields_from go t types qa k) (fields_from go t types qb k)
+  same-all nm ha hb hk = cc
 
 -- s is what all the fields say, by the loop's invariant
 module _ (t : Texts) (types : List ℕ) (go : ℕ → Ty) (i j : ℕ) {n : ℕ} {s : Bool} (inv : s ≡ same_fields (fields_from go t types i n) (fields_from go t types j n)) where
@@ -86,5 +86,5 @@ module _ (t : Texts) (types : List ℕ) (go : ℕ → Ty) (i j : ℕ) {n : ℕ} 
       pub differ-type : u ≡ false → false ≡ s
       differ-type h = rw (one_more, e, ← ka, ← kb, ← hu, h)
 
-      pub same_rest : u ≡ true → s ≡ same_fields (fields_from go t types (i + 2) (n - 1)) (fields_from go t types (j + 2) (n - 1))
-      same_rest h = rw (one_more, e, ← ka, ← kb, ← hu, h)
+      pub same_rest : {i' j' n' : ℕ} → i' ≡ i + 2 → j' ≡ j + 2 → n' ≡ n - 1 → u ≡ true → s ≡ same_fields (fields_from go t types i' n') (fields_from go t types j' n')
+      same_rest ei ej en h = rw (ei, ej, en, one_more, e, ← ka, ← kb, ← hu, h)

@@ -1,5 +1,5 @@
 -- What `room_after` and `room_after_fields` return, by the kind of the word and by the fields that are left. By the laws of unfolding. Assumes nothing.
-use Prim.Native.Nat.{ℕ, ◌+◌, ◌-◌, ◌<◌}
+use Prim.Native.Nat.{ℕ, ◌+◌, ◌-◌}
 use native.Mathlib.Omega.{arith}
 use native.Mathlib.Decide.{dec_lt}
 use mathlib.Core.Path.{◌≡◌, sym, ap, ◌∙◌}
@@ -41,9 +41,9 @@ module _ (t : Texts) (types : List ℕ) (w room : ℕ) {deep : ℕ} where
     ]
 
 -- the fields left, n from an index on: at first all
-pub room-all : (t : Texts) (types : List ℕ) (go : ℕ → Ty) (w room : ℕ) {q n : ℕ} → q ≡ payload_of w → n ≡ field_count types w
-    → room - size_of_all (fields_of go t types w) ≡ room - size_of_all (fields_from go t types (q + 1) n)
-room-all t types go w room eq en = rw (en, eq)
+pub room-all : (t : Texts) (types : List ℕ) (go : ℕ → Ty) (w room : ℕ) {at n : ℕ} → at ≡ payload_of w + 1 → n ≡ field_count types w
+    → room - size_of_all (fields_of go t types w) ≡ room - size_of_all (fields_from go t types at n)
+room-all t types go w room ea en = rw (en, ea)
 
 -- s is what is left after all the fields, by the loop's invariant
 module _ (t : Texts) (types : List ℕ) (go : ℕ → Ty) (at here : ℕ) {n s : ℕ} (inv : s ≡ here - size_of_all (fields_from go t types at n)) where
@@ -51,12 +51,14 @@ module _ (t : Texts) (types : List ℕ) (go : ℕ → Ty) (at here : ℕ) {n s :
   unfolding size_of
   room-none e = sym (inv ∙ rw (fields-none go t types at e) (omega arith))
 
-  pub room-more : {w h : ℕ} → (n ≡ 0 → ⊥) → w ≡ get_or types (at + 1) 0 → h ≡ here - size_of (go w) → s ≡ h - size_of_all (fields_from go t types (at + 2) (n - 1))
+  pub room-more : {w h at' n' : ℕ} → at' ≡ at + 2 → n' ≡ n - 1 → (n ≡ 0 → ⊥) → w ≡ get_or types (at + 1) 0 → h ≡ here - size_of (go w)
+      → s ≡ h - size_of_all (fields_from go t types at' n')
   unfolding size_of
-  room-more {h = h} p ew eh =
+  room-more {h = h} ea en p ew eh =
+      rw (ea, en) (
       let e : size_of_all (fields_from go t types at n) ≡ size_of (go (get_or types (at + 1) 0)) + size_of_all (fields_from go t types (at + 2) (n - 1)) = rw (fields-more go t types at (one_less p)) in
       let f : h ≡ here - size_of (go (get_or types (at + 1) 0)) = eh ∙ ap (λ v. here - size_of (go v)) ew in
-      omega arith
+      omega arith)
 
 -- room is left where there are fewer words
 pub room-left : (n s : ℕ) {x : ℕ} → x ≡ n - s → ltb 0 x ≡ ltb s n

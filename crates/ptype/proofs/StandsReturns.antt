@@ -41,9 +41,9 @@ module _ (t : Texts) (types : List ℕ) (k w : ℕ) {deep : ℕ} where
     ]
 
 -- the fields left, n from an index on: at first all
-pub among-all : (t : Texts) (types : List ℕ) (k : ℕ) (go : ℕ → Ty) (w : ℕ) {q n : ℕ} → q ≡ payload_of w → n ≡ field_count types w
-    → stands_among k (fields_of go t types w) ≡ stands_among k (fields_from go t types (q + 1) n)
-among-all t types k go w eq en = rw (en, eq)
+pub among-all : (t : Texts) (types : List ℕ) (k : ℕ) (go : ℕ → Ty) (w : ℕ) {at n : ℕ} → at ≡ payload_of w + 1 → n ≡ field_count types w
+    → stands_among k (fields_of go t types w) ≡ stands_among k (fields_from go t types at n)
+among-all t types k go w ea en = rw (en, ea)
 
 -- s is what all the fields say, by the loop's invariant
 module _ (t : Texts) (types : List ℕ) (k : ℕ) (go : ℕ → Ty) (at : ℕ) {n : ℕ} {s : Bool} (inv : s ≡ stands_among k (fields_from go t types at n)) where
@@ -56,9 +56,9 @@ module _ (t : Texts) (types : List ℕ) (k : ℕ) (go : ℕ → Ty) (at : ℕ) {
     unfolding stands_in
     among_first e = rw (inv, fields-more go t types at (one_less p), ← ew, ← eq, e)
 
-    pub among-rest : q ≡ false → s ≡ stands_among k (fields_from go t types (at + 2) (n - 1))
+    pub among-rest : {at' n' : ℕ} → at' ≡ at + 2 → n' ≡ n - 1 → q ≡ false → s ≡ stands_among k (fields_from go t types at' n')
     unfolding stands_in
-    among-rest e = rw (inv, fields-more go t types at (one_less p), ← ew, ← eq, e)
+    among-rest ea en e = rw (ea, en, inv, fields-more go t types at (one_less p), ← ew, ← eq, e)
 
 no-unknown : (k : ℕ) → names k ≡ true → eqb k 11 ≡ false
 no-unknown k h = elim (one_of 9 10 k h) [ inl e ↦ rw e | inr e ↦ rw e ]

@@ -2,7 +2,7 @@
 use Rattle.std.specs.Prelude.{ℕ, ◌+◌, ◌/◌, min, List, [], ◌∷◌, ◌++◌, length, take, drop, leb}
 use Rattle.tok.specs.Word.{word_of}
 use Rattle.tok.specs.Text.{Texts}
-use Rattle.tok.specs.Step.{Step, Refusal, refusal, ◌>>=◌, ◌>>◌, look, give, refuse, when}
+use Rattle.tok.specs.Step.{Step, Refusal, refusal, ◌>>=◌, look, give, refuse, when}
 use Rattle.ptype.specs.Ty.{depth_of}
 use Rattle.ptype.specs.Words.{ty_of}
 

@@ -3,7 +3,7 @@ use Rattle.std.specs.Prelude.{ℕ, ◌+◌, ◌-◌, Bool, true, false, ◌||◌
 use Rattle.std.proofs.Math.Option.{Option, none, some}
 use Rattle.tok.specs.Word.{kind_of, payload_of}
 use Rattle.tok.specs.Text.{Texts, same_bytes}
-use Rattle.tok.specs.Step.{Step, Refusal, ◌>>=◌, ◌>>◌, return, look, when}
+use Rattle.tok.specs.Step.{Step, Refusal, ◌>>=◌, return, look, when}
 use Rattle.ptype.specs.Ty.{Ty, Fields, plain, wrap, rec, named, no_field, field, same_ty}
 use Rattle.ptype.specs.Words.{ty_of, inner_word, field_count}
 use Rattle.ptype.specs.Add.{Buffer, add_wrap, add_record}

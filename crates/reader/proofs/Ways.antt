@@ -1,31 +1,17 @@
--- The ways of a reader of one word, one law for each, and the test of what is owed. Assumes nothing.
-use Prim.Native.Nat.{ℕ, ◌+◌, ◌-◌, ◌≤◌, ◌<◌}
+-- The ways of a reader of one word, one law for each, and the bound of what is owed. Assumes nothing.
+use Prim.Native.Nat.{ℕ, ◌+◌, ◌≤◌, ◌<◌}
 use mathlib.Core.Bool.{Bool, true, false, ◌&&◌, and-eq-true_iff}
 use mathlib.Core.Path.{◌≡◌, refl, sym, ap, ◌∙◌}
 use mathlib.Core.List.{List}
-use native.Mathlib.Omega.{arith}
 use native.Mathlib.Nat.{add-zero}
-use lib.ListN.{length, get_or}
+use lib.ListN.{length}
 use lib.Dec.{leb, ltb}
-use borrow.Author.Tests.{lt-ltb, le-ltb, le-leb, lt-leb, leb-true}
+use borrow.Author.Tests.{leb-true}
 use Rattle.tok.specs.Reader.{Read, most_words, owing, ends}
 use Rattle.reader.specs.declared.Reading.{Reading}
 use Rattle.reader.specs.declared.Reading.TheVariants.{At, Fault}
 use Rattle.reader.specs.Reading.{next_word, onward, gave}
-use Rattle.reader.specs.Laws.{admitted, short, taken, offends, ends-left, ends-here, onward-fault}
-
--- a test of three, the first or the last of which fails
-pub first-fails : (a b c : Bool) → a ≡ false → false ≡ (a && (b && c))
-first-fails a b c e = rw e refl
-
-pub last-fails : (a b c : Bool) → c ≡ false → false ≡ (a && (b && c))
-last-fails true true c e = sym e
-last-fails true false c e = refl
-last-fails false b c e = refl
-
-pub others-hold : (b : Bool) {a c : Bool} → a ≡ true → c ≡ true → b ≡ (a && (b && c))
-others-hold true p q = rw (p, q) refl
-others-hold false p q = rw p refl
+use Rattle.reader.specs.Laws.{short, taken, offends, ends-left, ends-here, onward-fault}
 
 -- what an admitted word owes lies within the most words
 pub owed-within : (at least n : ℕ) (good r : Bool) → r ≡ (ltb at most_words && (good && leb (least + n) most_words)) → r ≡ true → least + n ≤ 8192
@@ -47,11 +33,6 @@ module _ (words : List ℕ) (from : Reading) (good : Bool) (n at least : ℕ) (e
     owing-taken q = rw e (taken (λ _. good) (λ _. n) words at least h (sym p ∙ q))
 
 module _ (words : List ℕ) (from : Reading) (at least : ℕ) (e : from ≡ At at least) where
-  -- a word that owes none
-  pub word-taken : (good : Bool) → at < length words → (r : Bool) → r ≡ (ltb at most_words && (good && leb (least + 0) most_words)) → r ≡ true
-      → onward words from (owing (λ _. good) (λ _. 0)) ≡ gave words (next_word words from) (At (at + 1) least)
-  word-taken good h r p q = owing-taken words from good 0 at least e h r p q ∙ ap (λ n. gave words (next_word words from) (At (at + 1) n)) (add-zero least)
-
   pub from-ends-left : at < length words → onward words from ends ≡ gave words tt (Fault at)
   from-ends-left h = rw e (ends-left words at least h)
 

@@ -2,13 +2,13 @@
 use Prim.Native.Nat.{ℕ, zero, suc, ◌≤◌}
 use Rattle.std.specs.Prelude.{◌≡◌, List, [], ◌∷◌, ◌++◌}
 use Rattle.std.proofs.Math.Path.{refl}
-use Rattle.std.proofs.Common.{sym, ap, ◌∙◌, le_of_suc-le-suc, not-suc-le-zero, arith}
+use Rattle.std.proofs.Common.{ap, ◌∙◌, le_of_suc-le-suc, not-suc-le-zero}
 use Rattle.tok.specs.Step.{Result, ok, refused, next, ◌>>=◌, return}
 use Rattle.tok.specs.Reader.{Cursor, Read, many}
 use Rattle.reader.specs.declared.Reading.{Reading}
 use Rattle.reader.specs.declared.Reading.TheVariants.{At, Fault}
 use Rattle.reader.specs.Reading.{standing, onward, gave}
-use Rattle.reader.specs.Laws.{onward_then, onward-return, onward-fault}
+use Rattle.reader.specs.Laws.{onward_then, onward-return}
 
 module _ {A : Type 0} (m : Read A) where
   -- those before, then one more

@@ -1,12 +1,12 @@
 -- Where the code's reading stands, in the terms of tok's `Reader`: what the contracts of readers cite. Definitions.
-use Rattle.std.specs.Prelude.{ℕ, cond, List, get_or, drop, ltb}
+use Rattle.std.specs.Prelude.{ℕ, cond, List, get_or, drop, ltb, Ok, Err, ⊤}
+use Rattle.std.specs.Prelude as rust
 use Rattle.std.proofs.Math.Option.{Option, none, some}
 use Rattle.tok.specs.Step.{Result, ok, refused}
 use Rattle.tok.specs.Reader.{Cursor, Read, most_bytes}
 use Rattle.reader.specs.declared.Reading.{Reading}
 use Rattle.reader.specs.declared.Reading.TheVariants.{At, Fault}
-use Rattle.reader.specs.declared.Verdict.{Verdict}
-use Rattle.reader.specs.declared.Verdict.TheVariants.{Accepted, Offends}
+use Rattle.reader.specs.declared.Fault as place
 
 -- the definitions' cursor before word `at` of a list
 abbrev pub standing : List ℕ → (at least : ℕ) → Cursor
@@ -41,6 +41,6 @@ fault_in (At at least) = none
 fault_in (Fault place) = some place
 
 -- "first offending word, or its length"
-abbrev pub offending : Verdict → Option ℕ
-offending Accepted = none
-offending (Offends place) = some place
+abbrev pub offending : rust.Result ⊤ place.Fault → Option ℕ
+offending (Ok accepted) = none
+offending (Err fault) = some fault.0

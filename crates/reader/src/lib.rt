@@ -23,9 +23,10 @@ pub fn begin(text: &[u8], least: usize) -> Reading
     ensures { result ≡ beginning (length text.now) least }
 {
     if text.len() > MOST_BYTES {
-        return Reading::Fault(0);
+        Reading::Fault(0)
+    } else {
+        Reading::At(0, least)
     }
-    Reading::At(0, least)
 }
 
 // The word before which a reading stands, or the place of its fault.
@@ -49,16 +50,7 @@ pub fn next_word(words: &[u32], from: Reading) -> u32
 fn admits(at: usize, least: usize, good: bool, owes: usize) -> bool
     ensures { result ≡ (ltb at most_words && (good && leb (least + owes) most_words)) }
 {
-    if at >= MOST_WORDS {
-        return false;
-    }
-    if owes > MOST_WORDS {
-        return false;
-    }
-    if least > MOST_WORDS - owes {
-        return false;
-    }
-    good
+    at < MOST_WORDS && good && least.saturating_add(owes) <= MOST_WORDS
 }
 
 // One word that owes more after it: a count or a length. `good`: whether its field's rule holds of it.
@@ -68,37 +60,25 @@ pub fn owing(words: &[u32], from: Reading, good: bool, owes: usize) -> Reading
     let Reading::At(at, least) = from else {
         return from;
     };
-    if at >= words.len() {
-        return Reading::Fault(at);
+    if at < words.len() && admits(at, least, good, owes) {
+        Reading::At(at + 1, least + owes)
+    } else {
+        Reading::Fault(at)
     }
-    if admits(at, least, good, owes) {
-        return Reading::At(at + 1, least + owes);
-    }
-    Reading::Fault(at)
 }
 
-// One word that owes none; as short as can be, since most words are read by it.
+// One word that owes none.
 pub fn word(words: &[u32], from: Reading, good: bool) -> Reading
     ensures { onward words.now from (word (λ _. good)) ≡ gave words.now (next_word words.now from) result }
 {
-    let Reading::At(at, least) = from else {
-        return from;
-    };
-    if words.len() <= at {
-        return Reading::Fault(at);
-    }
-    if !admits(at, least, good, 0) {
-        return Reading::Fault(at);
-    }
-    Reading::At(at + 1, least)
+    owing(words, from, good, 0)
 }
 
 // One word below a number.
 pub fn below(words: &[u32], from: Reading, n: usize) -> Reading
     ensures { onward words.now from (below n) ≡ gave words.now (next_word words.now from) result }
 {
-    let w = tok::wide(next_word(words, from));
-    word(words, from, w < n)
+    word(words, from, (next_word(words, from) as usize) < n)
 }
 
 // No word is left.
@@ -109,23 +89,22 @@ pub fn ends(words: &[u32], from: Reading) -> Reading
         return from;
     };
     if end < words.len() {
-        return Reading::Fault(end);
+        Reading::Fault(end)
+    } else {
+        from
     }
-    from
 }
+
+// The place of the first fault: in a list the word that offends, or the list's length.
+#[derive(Clone, Copy, Debug, PartialEq, Eq)]
+pub struct Fault(pub usize);
 
 // What reading a whole list comes to: it is accepted, or a word of it is the first to offend.
-#[derive(Clone, Copy)]
-pub enum Verdict {
-    Accepted,
-    Offends(usize),
-}
-
-pub fn conclude(from: Reading) -> Verdict
+pub fn conclude(from: Reading) -> Result<(), Fault>
     ensures { offending result ≡ fault_in from }
 {
     match from {
-        Reading::At(_, _) => Verdict::Accepted,
-        Reading::Fault(place) => Verdict::Offends(place),
+        Reading::At(_, _) => Ok(()),
+        Reading::Fault(place) => Err(Fault(place)),
     }
 }

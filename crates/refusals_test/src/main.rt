@@ -4,7 +4,7 @@
 #![tactic(auto)]
 
 use commands::{CASES, Command};
-use refuse::Before;
+use refuse::Cause;
 use std::io;
 
 // The program's own register: how many cases were answered as expected.
@@ -23,15 +23,15 @@ fn pair(number: usize, place: usize) -> Answer {
     Answer { number, place }
 }
 
-fn numbered(before: Before) -> Answer {
-    match before {
-        Before::Passed => return pair(0, 0),
-        Before::Scratch => return pair(1, 0),
-        Before::Library(word) => return pair(2, word),
-        Before::Image(word) => return pair(3, word),
-        Before::Claims(node) => return pair(4, node),
-        Before::Depth(node) => return pair(5, node),
-        Before::Room => return pair(6, 0),
+fn numbered(found: Result<(), Cause>) -> Answer {
+    match found {
+        Ok(()) => pair(0, 0),
+        Err(Cause::Scratch) => pair(1, 0),
+        Err(Cause::Library(word)) => pair(2, word),
+        Err(Cause::Image(word)) => pair(3, word),
+        Err(Cause::Claims(node)) => pair(4, node),
+        Err(Cause::Depth(node)) => pair(5, node),
+        Err(Cause::Room) => pair(6, 0),
     }
 }
 
@@ -75,7 +75,7 @@ fn told(rt: &impl Print, registers: &mut [u32], got: Answer, c: Command) -> io::
     let place = got.place;
     commands::begin_line(rt, registers)?;
     print_answer(rt, number, place)?;
-    if number == tok::wide(c.a) && place == tok::wide(c.b) {
+    if number == c.a as usize && place == c.b as usize {
         commands::counted(registers, AGREE);
     }
     Ok(())
@@ -136,7 +136,7 @@ fn main(rt: HostRuntime) -> io::Result<()> {
         &mut registers,
         &words,
         &bytes,
-        tok::wide(first.a),
+        first.a as usize,
     )?;
     commands::print_number(&rt, commands::register(&registers, AGREE))?;
     commands::print(&rt, b" of ")?;

@@ -7,11 +7,7 @@ use mathlib.Core.List.{List}
 use lib.ListN.{length}
 use lib.Dec.{ltb}
 use borrow.Author.Tests.{lt-ltb, le-ltb}
-use Rattle.tok.specs.Text.{texts_of}
 use Rattle.tok.specs.Step.{Refusal, refusal}
-use Rattle.reader.specs.declared.Verdict.{Verdict}
-use Rattle.reader.specs.declared.Verdict.TheVariants.{Accepted, Offends}
-use Rattle.reader.specs.Reading.{offending}
 use Rattle.library.specs.LibraryFault.{library_fault}
 use Rattle.ast.specs.ImageFault.{image_read, image_fault}
 use Rattle.ast.specs.Image.{node_count, slot_count}
@@ -26,17 +22,6 @@ use Rattle.refusals.specs.Inputs.{Inputs, Buffers, texts_in}
 use Rattle.refusals.specs.Refusals.{or_else, scratch_fault, refusal_of_outlines, refusal_of_image, refusal_of}
 use Rattle.refuse.specs.Answer.{room_in}
 
--- ── One cause, then the next ──
-
-module _ (number : ℕ) (fault : Option ℕ) (later : Option Refusal) (v : Verdict) (e : offending v ≡ fault) where
-  pub ends-here : (place : ℕ) → v ≡ Offends place → some (refusal number place) ≡ or_else number fault later
-  unfolding or_else
-  ends-here place p = rw (← e, p) refl
-
-  pub goes_on : {answer : Option Refusal} → v ≡ Accepted → answer ≡ later → answer ≡ or_else number fault later
-  unfolding or_else
-  goes_on p q = rw (← e, p) q
-
 -- refusal 6 has place 0 only
 room-place : (slots functions : ℕ) (words : List ℕ) (place : ℕ) → room_in slots functions words ≡ some place → place ≡ 0
 unfolding room_fault
@@ -46,52 +31,75 @@ room-place slots functions words place e = by (ltb slots (slot_count words + 1) 
     by true e = cc
     by false e = cc
 
-pub room-short : (slots functions : ℕ) (words : List ℕ) (v : Verdict) (place : ℕ) → offending v ≡ room_in slots functions words → v ≡ Offends place
-    → some (refusal 6 0) ≡ or_else 6 (room_in slots functions words) none
-room-short slots functions words v place e p =
-    ap (λ k. some (refusal 6 k)) (sym (room-place slots functions words place (sym e ∙ ap offending p))) ∙ ends-here 6 _ none v e place p
-
--- ── The image ──
-
-module _ (script library words : List ℕ) (b : Buffers) where
-  module _ (v : Verdict) (e : offending v ≡ image_fault (texts_of script library) words) where
-    pub image-refused : (place : ℕ) → v ≡ Offends place → some (refusal 3 place) ≡ refusal_of_image b (image_read (texts_of script library) words)
-    unfolding refusal_of_image
-    image-refused place p = sym (ap (refusal_of_image b) (refused-read (texts_of script library) words place (sym e ∙ ap offending p)))
-
-    -- what 4 to 6 are asked of an accepted image
-    outlines-asked : v ≡ Accepted
-        → refusal_of_image b (image_read (texts_of script library) words)
-        ≡ or_else 4 (claims_in words) (or_else 5 (depth_in words) (or_else 6 (room_in (length b.slots) (length b.functions) words) none))
-    unfolding refusal_of_image refusal_of_outlines outlines_in
-    outlines-asked p =
-        let none-at : image_fault (texts_of script library) words ≡ none = sym e ∙ ap offending p in
-        let a = accepted (texts_of script library) words none-at in
-        ap (refusal_of_image b) (accepted-read (texts_of script library) words none-at).1
-        ∙ ap₂ (λ c d. or_else 4 c (or_else 5 d (or_else 6 (room_in (length b.slots) (length b.functions) words) none))) (sym (claims-accepted a)) (sym (depth-accepted a))
-
-    pub image-accepted : {slots functions : ℕ} {answer : Option Refusal} → v ≡ Accepted → slots ≡ length b.slots → functions ≡ length b.functions
-        → answer ≡ or_else 4 (claims_in words) (or_else 5 (depth_in words) (or_else 6 (room_in slots functions words) none))
-        → answer ≡ refusal_of_image b (image_read (texts_of script library) words)
-    image-accepted p es ef q =
-        q
-        ∙ ap₂ (λ s f. or_else 4 (claims_in words) (or_else 5 (depth_in words) (or_else 6 (room_in s f words) none))) es ef
-        ∙ sym (outlines-asked p)
-
--- ── Scratch and the library first ──
-
 module _ (i : Inputs) (b : Buffers) where
+  abbrev by-room : Option Refusal
+  by-room = or_else 6 (room_in (length b.slots) (length b.functions) i.image) none
+
+  abbrev by-depth : Option Refusal
+  by-depth = or_else 5 (depth_in i.image) by-room
+
+  abbrev by-claims : Option Refusal
+  by-claims = or_else 4 (claims_in i.image) by-depth
+
+  abbrev by-image : Option Refusal
+  by-image = refusal_of_image b (image_read (texts_in i) i.image)
+
   pub scratch-short : length b.scratch < 16384 → some (refusal 1 0) ≡ refusal_of i b
   unfolding refusal_of or_else scratch_fault
   scratch-short h = sym (rw (lt-ltb (length b.scratch) 16384 h) refl)
 
-  scratch-enough : 16384 ≤ length b.scratch → refusal_of i b ≡ or_else 2 (library_fault (texts_in i) i.library) (refusal_of_image b (image_read (texts_in i) i.image))
-  unfolding refusal_of or_else scratch_fault
-  scratch-enough h = rw (le-ltb (length b.scratch) 16384 h) refl
+  module _ (h : 16384 ≤ length b.scratch) where
+    scratch-enough : refusal_of i b ≡ or_else 2 (library_fault (texts_in i) i.library) by-image
+    unfolding refusal_of or_else scratch_fault
+    scratch-enough = rw (le-ltb (length b.scratch) 16384 h) refl
 
-  module _ (h : 16384 ≤ length b.scratch) (v : Verdict) (e : library_fault (texts_in i) i.library ≡ offending v) where
-    pub library-refused : (place : ℕ) → v ≡ Offends place → some (refusal 2 place) ≡ refusal_of i b
-    library-refused place p = ends-here 2 _ _ v (sym e) place p ∙ sym (scratch-enough h)
+    pub library-refused : (place : ℕ) → library_fault (texts_in i) i.library ≡ some place → some (refusal 2 place) ≡ refusal_of i b
+    unfolding or_else
+    library-refused place e = sym (scratch-enough ∙ ap (λ f. or_else 2 f by-image) e)
 
-    pub library-accepted : {answer : Option Refusal} → v ≡ Accepted → answer ≡ refusal_of_image b (image_read (texts_in i) i.image) → answer ≡ refusal_of i b
-    library-accepted p q = goes_on 2 _ _ v (sym e) p q ∙ sym (scratch-enough h)
+    module _ (library-read : library_fault (texts_in i) i.library ≡ none) where
+      after-library : refusal_of i b ≡ by-image
+      unfolding or_else
+      after-library = scratch-enough ∙ ap (λ f. or_else 2 f by-image) library-read
+
+      pub image-refused : (place : ℕ) → some place ≡ image_fault (texts_in i) i.image → some (refusal 3 place) ≡ refusal_of i b
+      unfolding refusal_of_image
+      image-refused place e = sym (after-library ∙ ap (refusal_of_image b) (refused-read (texts_in i) i.image place (sym e)))
+
+      -- what 4 to 6 are asked of an accepted image
+      module _ (read : none ≡ image_fault (texts_in i) i.image) where
+        after-image : refusal_of i b ≡ by-claims
+        unfolding refusal_of_image refusal_of_outlines outlines_in
+        after-image =
+            let a = accepted (texts_in i) i.image (sym read) in
+            after-library
+            ∙ ap (refusal_of_image b) (accepted-read (texts_in i) i.image (sym read)).1
+            ∙ ap₂ (λ c d. or_else 4 c (or_else 5 d by-room)) (sym (claims-accepted a)) (sym (depth-accepted a))
+
+        pub claims-refused : (place : ℕ) → some place ≡ claims_in i.image → some (refusal 4 place) ≡ refusal_of i b
+        unfolding or_else
+        claims-refused place e = sym (after-image ∙ ap (λ f. or_else 4 f by-depth) (sym e))
+
+        module _ (once : none ≡ claims_in i.image) where
+          after-claims : refusal_of i b ≡ by-depth
+          unfolding or_else
+          after-claims = after-image ∙ ap (λ f. or_else 4 f by-depth) (sym once)
+
+          pub depth-refused : (place : ℕ) → some place ≡ depth_in i.image → some (refusal 5 place) ≡ refusal_of i b
+          unfolding or_else
+          depth-refused place e = sym (after-claims ∙ ap (λ f. or_else 5 f by-room) (sym e))
+
+          module _ (shallow : none ≡ depth_in i.image) where
+            after-depth : refusal_of i b ≡ by-room
+            unfolding or_else
+            after-depth = after-claims ∙ ap (λ f. or_else 5 f by-room) (sym shallow)
+
+            pub room-short : (place : ℕ) → some place ≡ room_in (length b.slots) (length b.functions) i.image → some (refusal 6 0) ≡ refusal_of i b
+            unfolding or_else
+            room-short place e =
+                ap (λ k. some (refusal 6 k)) (sym (room-place (length b.slots) (length b.functions) i.image place (sym e)))
+                ∙ sym (after-depth ∙ ap (λ f. or_else 6 f none) (sym e))
+
+            pub room-enough : none ≡ room_in (length b.slots) (length b.functions) i.image → none ≡ refusal_of i b
+            unfolding or_else
+            room-enough e = sym (after-depth ∙ ap (λ f. or_else 6 f none) (sym e))

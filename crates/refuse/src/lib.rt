@@ -11,12 +11,12 @@ ghost use Rattle.claims.specs.Marks.{claims_in};
 ghost use Rattle.depth.specs.Depths.{depth_in};
 ghost use Rattle.refuse.specs.Answer.{refusal_in, room_in, inputs_of, buffers_of};
 
-use reader::Verdict;
+use reader::Fault;
+use tok::Texts;
 
-// What is found before the walk: nothing, or the first cause of document 01's table with its place.
-#[derive(Clone, Copy)]
-pub enum Before {
-    Passed,
+// The first cause of document 01's table that is found before the walk, with its place.
+#[derive(Clone, Copy, Debug, PartialEq, Eq)]
+pub enum Cause {
     Scratch,
     Library(usize),
     Image(usize),
@@ -27,47 +27,6 @@ pub enum Before {
 
 // "scratch below 16,384 words"
 const SCRATCH_WORDS: usize = 16384;
-
-// Refusal 6, for buffers of these lengths.
-fn of_room(image: &[u32], slots: usize, functions: usize) -> Before
-    ensures { refusal_in result ≡ or_else 6 (room_in slots functions image.now) none }
-{
-    match room::room(image, slots, functions) {
-        Verdict::Offends(_) => return Before::Room,
-        Verdict::Accepted => return Before::Passed,
-    }
-}
-
-// Refusals 5 and 6.
-fn of_depth(image: &[u32], slots: usize, functions: usize) -> Before
-    ensures { refusal_in result ≡ or_else 5 (depth_in image.now) (or_else 6 (room_in slots functions image.now) none) }
-{
-    match depth::depth(image) {
-        Verdict::Offends(node) => return Before::Depth(node),
-        Verdict::Accepted => return of_room(image, slots, functions),
-    }
-}
-
-// Refusals 4 to 6.
-fn of_claims(image: &[u32], slots: usize, functions: usize) -> Before
-    ensures { refusal_in result ≡ or_else 4 (claims_in image.now) (or_else 5 (depth_in image.now) (or_else 6 (room_in slots functions image.now) none)) }
-{
-    match claims::claims(image) {
-        Verdict::Offends(node) => return Before::Claims(node),
-        Verdict::Accepted => return of_depth(image, slots, functions),
-    }
-}
-
-// Refusals 3 to 6.
-fn of_image(script: &[u8], image: &[u32], slots: usize, functions: usize) -> Before
-    ensures { (library : List ℕ) (b : Buffers) → slots ≡ length b.slots → functions ≡ length b.functions → refusal_in result ≡ refusal_of_image b (image_read (texts_of script.now
-        library) image.now) }
-{
-    match image::read(script, image) {
-        Verdict::Offends(word) => return Before::Image(word),
-        Verdict::Accepted => return of_claims(image, slots, functions),
-    }
-}
 
 // Refusals 1 to 6; `text` is the library text. Of the lent buffers only the lengths matter.
 pub fn refuse<'a>(
@@ -81,16 +40,32 @@ pub fn refuse<'a>(
     diagnostics: &[u32],
     messages: &[u8],
     scratch: &[u32],
-) -> Before
+) -> Result<(), Cause>
     ensures { let before : Buffers = buffers_of slots.now functions.now types.now diagnostics.now messages.now scratch.now in
         let i : Inputs = inputs_of script.now image.now text.now library.now in
         refusal_in result ≡ refusal_of i before }
 {
     if scratch.len() < SCRATCH_WORDS {
-        return Before::Scratch;
+        return Err(Cause::Scratch);
     }
-    match library_read::library_fault(script, text, library) {
-        Verdict::Offends(word) => return Before::Library(word),
-        Verdict::Accepted => return of_image(script, image, slots.len(), functions.len()),
+    let texts = Texts {
+        script,
+        library: text,
+    };
+    if let Err(Fault(word)) = library_read::library_fault(&texts, library) {
+        return Err(Cause::Library(word));
     }
+    if let Err(Fault(word)) = image::read(script, image) {
+        return Err(Cause::Image(word));
+    }
+    if let Err(Fault(node)) = claims::claims(image) {
+        return Err(Cause::Claims(node));
+    }
+    if let Err(Fault(node)) = depth::depth(image) {
+        return Err(Cause::Depth(node));
+    }
+    if let Err(_) = room::room(image, slots.len(), functions.len()) {
+        return Err(Cause::Room);
+    }
+    Ok(())
 }

@@ -7,8 +7,8 @@ ghost use Rattle.ast.specs.Image.{node_count, slot_count};
 ghost use Rattle.ast.specs.Room.{entry_words, room_fault};
 ghost use Rattle.image_laws.specs.OutlineAt.{outline_from, outlines_from};
 
-use reader::Verdict;
-use tok::{wide, word_at};
+use reader::Fault;
+use tok::word_at;
 
 // "5 Fn"
 const FN: u32 = 5;
@@ -18,30 +18,29 @@ fn entry_words(words: &[u32], at: usize) -> usize
     ensures { result ≡ entry_words (outline_from words.now at) }
 {
     if tok::kind(word_at(words, at)) == FN {
-        return 3 + 2 * wide(node_parts::arguments(words, at));
+        3 + 2 * node_parts::arguments(words, at) as usize
+    } else {
+        0
     }
-    0
 }
 
 // Whether buffers of these lengths have room for an image's slots and functions.
-pub fn room(words: &[u32], slots: usize, functions: usize) -> Verdict
+pub fn room(words: &[u32], slots: usize, functions: usize) -> Result<(), Fault>
     ensures { offending result ≡ room_fault slots functions (slot_count words.now) (outlines_from words.now 0 (node_count words.now)) }
 {
-    if slots <= wide(word_at(words, 3)) {
-        return Verdict::Offends(0);
+    if slots <= word_at(words, 3) as usize {
+        return Err(Fault(0));
     }
-    let n = wide(word_at(words, 0));
-    let mut at = 4 + wide(word_at(words, 2));
+    let n = word_at(words, 0) as usize;
+    let mut at = 4 + word_at(words, 2) as usize;
     let mut left = functions;
-    let mut i = 0;
-    while i < n {
+    for _ in 0..n {
         let need = entry_words(words, at);
         if left < need {
-            return Verdict::Offends(0);
+            return Err(Fault(0));
         }
         left -= need;
         at = node_parts::after(words, at);
-        i += 1;
     }
-    Verdict::Accepted
+    Ok(())
 }

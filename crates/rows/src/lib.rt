@@ -2,7 +2,7 @@
 #![tactic(auto)]
 
 ghost use Rattle.std.specs.Prelude.{◌≡◌, List, ◌++◌, ℕ, ◌+◌, ◌*◌, get_or};
-ghost use Rattle.tok.specs.Text.{Texts, texts_of, text};
+ghost use Rattle.tok.specs.Text.{text};
 ghost use Rattle.ptype.specs.Show.{decimal};
 ghost use Rattle.rules.specs.Rows.{fn_row};
 ghost use Rattle.rows_window.specs.Showing.{Shows};
@@ -11,7 +11,7 @@ ghost use Rattle.rows.specs.Lines.{slot_row, fn_line, diag_line, diag_row, end_r
 use rows_input::bytes_in;
 use rows_types::{show_arguments, show_type};
 use rows_window::{Window, put, put_decimal};
-use tok::{name_bytes, wide, word_at};
+use tok::{Texts, name_bytes, wide, word_at};
 
 // A number, and a blank behind it.
 fn put_number(out: &mut [u8], w: Window, n: usize) -> Window
@@ -22,81 +22,64 @@ fn put_number(out: &mut [u8], w: Window, n: usize) -> Window
 }
 
 // "`slot` lines (number, `Display` of the type) for slots that have a type": the slot of that number and word.
-pub fn slot_row<'a>(
+pub fn slot_row(
     out: &mut [u8],
     w: Window,
     types: &[u32],
-    script: &'a [u8],
-    library: &'a [u8],
+    texts: &Texts,
     slot: usize,
     word: u32,
 ) -> Window
-    ensures { let T : Texts = texts_of script.now library.now in
-        Shows out.old w out.new result (slot_row T types.now slot word) }
+    ensures { Shows out.old w out.new result (slot_row texts.now types.now slot word) }
 {
     if word == 0 {
         return put(out, w, b"");
     }
     let a = put(out, w, b"slot ");
     let b = put_number(out, a, slot);
-    let c = show_type(out, b, types, script, library, word);
+    let c = show_type(out, b, types, texts, word);
     put(out, c, b"\n")
 }
 
 // A function's row from its name, its n arguments from a place on, and its return type.
-fn put_fn<'a>(
+fn put_fn(
     out: &mut [u8],
     w: Window,
     types: &[u32],
-    script: &'a [u8],
-    library: &'a [u8],
+    texts: &Texts,
     functions: &[u32],
     name: u32,
     at: usize,
     n: usize,
     ret: u32,
 ) -> Window
-    ensures { let T : Texts = texts_of script.now library.now in
-        Shows out.old w out.new result (fn_line T types.now functions.now name at n ret) }
+    ensures { Shows out.old w out.new result (fn_line texts.now types.now functions.now name at n ret) }
 {
     let a = put(out, w, b"fn ");
-    let b = put(out, a, name_bytes(script, library, name));
+    let b = put(out, a, name_bytes(texts, name));
     let c = put(out, b, b" (");
-    let d = show_arguments(out, c, types, script, library, functions, at, n, b") -> ");
-    let e = show_type(out, d, types, script, library, ret);
+    let d = show_arguments(out, c, types, texts, functions, at, n, b") -> ");
+    let e = show_type(out, d, types, texts, ret);
     put(out, e, b"\n")
 }
 
 // "`fn` lines with name and `Display` of the signature": the entry at a place of the functions buffer.
-pub fn fn_row<'a>(
+pub fn fn_row(
     out: &mut [u8],
     w: Window,
     types: &[u32],
-    script: &'a [u8],
-    library: &'a [u8],
+    texts: &Texts,
     functions: &[u32],
     at: u32,
 ) -> Window
-    ensures { let T : Texts = texts_of script.now library.now in
-        let F : List ℕ = functions.now in
-        Shows out.old w out.new result (fn_row T types.now F at (get_or F (at + 1) 0)) }
+    ensures { let F : List ℕ = functions.now in
+        Shows out.old w out.new result (fn_row texts.now types.now F at (get_or F (at + 1) 0)) }
 {
     let i = wide(at);
     let name = word_at(functions, i);
     let n = wide(word_at(functions, i + 1));
     let ret = word_at(functions, i + 2 + 2 * n);
-    put_fn(
-        out,
-        w,
-        types,
-        script,
-        library,
-        functions,
-        name,
-        i + 2,
-        n,
-        ret,
-    )
+    put_fn(out, w, types, texts, functions, name, i + 2, n, ret)
 }
 
 // A diagnostic's row from its code, its span and its message.

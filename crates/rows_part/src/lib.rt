@@ -2,12 +2,11 @@
 #![tactic(auto)]
 
 ghost use Rattle.std.specs.Prelude.{◌≡◌, ℕ};
-ghost use Rattle.tok.specs.Text.{texts_of};
 ghost use Rattle.rows_window.specs.Showing.{Shows};
 ghost use Rattle.rows_part.specs.Printing.{Answer, answer_of, row_of, diag_from, fn_from, next_of, Prints};
 
 use rows_window::Window;
-use tok::{least, wide, word_at};
+use tok::{Texts, least, wide, word_at};
 
 // A row: a slot's by its number, a function's by the place of its entry, a diagnostic's by its number; the last of an answer; a refusal's with number
 // and place; that of an input that does not fit; and none, behind the last.
@@ -31,11 +30,10 @@ pub struct Part {
 }
 
 // The bytes of a row, through a window.
-fn put_row<'a>(
+fn put_row(
     out: &mut [u8],
     w: Window,
-    script: &'a [u8],
-    library: &'a [u8],
+    texts: &Texts,
     slots: &[u32],
     types: &[u32],
     functions: &[u32],
@@ -45,17 +43,17 @@ fn put_row<'a>(
     row: Row,
 ) -> Window
     ensures { (last words : ℕ) → Shows out.old w out.new result
-        (row_of (answer_of (texts_of script.now library.now) slots.now types.now functions.now
+        (row_of (answer_of texts.now slots.now types.now functions.now
         diagnostics.now messages.now last words count) row) }
 {
     match row {
         Row::Slot(i) => {
             let slot = wide(i);
             let word = word_at(slots, slot);
-            return rows::slot_row(out, w, types, script, library, slot, word);
+            return rows::slot_row(out, w, types, texts, slot, word);
         }
         Row::Fn(at) => {
-            return rows::fn_row(out, w, types, script, library, functions, at);
+            return rows::fn_row(out, w, types, texts, functions, at);
         }
         Row::Diag(k) => {
             return rows::diag_row(out, w, diagnostics, messages, k);
@@ -131,10 +129,9 @@ fn next(functions: &[u32], last: u32, words: u32, count: u32, row: Row) -> Row
 
 // Writes the part of a row behind its first bytes into a buffer, as much as has room. A part goes no further than to the last place of a row that a
 // number can say: where the bytes passed over are as many as that, it is empty.
-pub fn write_part<'a>(
+pub fn write_part(
     out: &mut [u8],
-    script: &'a [u8],
-    library: &'a [u8],
+    texts: &Texts,
     slots: &[u32],
     types: &[u32],
     functions: &[u32],
@@ -147,15 +144,14 @@ pub fn write_part<'a>(
     skip: usize,
 ) -> Part
     ensures { Prints
-        (answer_of (texts_of script.now library.now) slots.now types.now functions.now
+        (answer_of texts.now slots.now types.now functions.now
         diagnostics.now messages.now last words count)
         row skip out.old out.new result }
 {
     let w = put_row(
         out,
         Window { skip, at: 0 },
-        script,
-        library,
+        texts,
         slots,
         types,
         functions,

@@ -3,10 +3,9 @@
 
 ghost use Rattle.std.specs.Prelude.{◌≡◌, [], ◌++◌, get_or};
 ghost use Rattle.tok.specs.Word.{kind_of};
-ghost use Rattle.tok.specs.Text.{Texts, texts_of, text};
+ghost use Rattle.tok.specs.Text.{text};
 ghost use Rattle.ptype.specs.Ty.{Fields};
 ghost use Rattle.ptype.specs.Words.{fields_from, unfolded, ty_of};
-ghost use Rattle.ptype.specs.Kinds.{wraps};
 ghost use Rattle.ptype.specs.Show.{openings, show, show_fields};
 ghost use Rattle.display.specs.Leaf.{Leaf};
 ghost use Rattle.display.specs.Joined.{separated};
@@ -16,16 +15,10 @@ ghost use Rattle.rows_types.specs.Behind.{behind_of};
 
 use display::Wrote;
 use rows_window::{Window, is_full, put};
+use tok::Texts;
 
 // "type depth 32": one level more tells a type that is deeper.
 const LEVELS: usize = 33;
-
-// Whether a type of that kind has one type inside: Option and Array.
-fn wraps(kind: u32) -> bool
-    ensures { result ≡ wraps kind }
-{
-    kind == ptype::OPTION || kind == ptype::ARRAY
-}
 
 // What stands before the inside of an Option or an Array.
 fn put_opening(out: &mut [u8], w: Window, kind: u32) -> Window
@@ -33,9 +26,10 @@ fn put_opening(out: &mut [u8], w: Window, kind: u32) -> Window
     ensures { Shows out.old w out.new result (get_or openings kind []) }
 {
     if kind == ptype::OPTION {
-        return put(out, w, b"Option<");
+        put(out, w, b"Option<")
+    } else {
+        put(out, w, b"Array<")
     }
-    put(out, w, b"Array<")
 }
 
 // A blank beside other fields: none where there are none.
@@ -43,48 +37,39 @@ fn put_gap(out: &mut [u8], w: Window, count: usize) -> Window
     ensures { Shows out.old w out.new result (separated count (text " ")) }
 {
     if count == 0 {
-        return put(out, w, b"");
+        put(out, w, b"")
+    } else {
+        put(out, w, b" ")
     }
-    put(out, w, b" ")
 }
 
 // The longest text of a type that has no type inside: a Foreign of a name of 255 bytes.
 const LONGEST: usize = 264;
 
 // A type that has no type inside.
-fn put_leaf<'a>(
-    out: &mut [u8],
-    w: Window,
-    types: &[u32],
-    script: &'a [u8],
-    library: &'a [u8],
-    word: u32,
-) -> Window
+fn put_leaf(out: &mut [u8], w: Window, types: &[u32], texts: &Texts, word: u32) -> Window
     requires { Leaf (kind_of word) }
-    ensures { let T : Texts = texts_of script.now library.now in
-        Shows out.old w out.new result (show (ty_of T types.now word)) }
+    ensures { Shows out.old w out.new result (show (ty_of texts.now types.now word)) }
 {
     let mut leaf = [0u8; LONGEST];
-    let place = display::show_type(&mut leaf, Wrote::All(0), types, script, library, word);
+    let place = display::show_type(&mut leaf, Wrote::All(0), types, texts, word);
     let Wrote::All(n) = place else {
         return w;
     };
-    put(out, w, &leaf[0..n])
+    put(out, w, &leaf[..n])
 }
 
 // A type, unfolded `depth` levels deep.
 #[cycle(show_fields_show_within)]
-fn show_within<'a>(
+fn show_within(
     out: &mut [u8],
     w: Window,
     types: &[u32],
-    script: &'a [u8],
-    library: &'a [u8],
+    texts: &Texts,
     word: u32,
     depth: usize,
 ) -> Window
-    ensures { let T : Texts = texts_of script.now library.now in
-        Shows out.old w out.new result (show (unfolded T types.now depth word)) }
+    ensures { Shows out.old w out.new result (show (unfolded texts.now types.now depth word)) }
 {
     if is_full(out, w) {
         return w;
@@ -93,26 +78,18 @@ fn show_within<'a>(
         return put(out, w, b"unknown");
     }
     let k = tok::kind(word);
-    if wraps(k) {
+    if ptype::wraps(k) {
         let a = put_opening(out, w, k);
-        let b = show_within(
-            out,
-            a,
-            types,
-            script,
-            library,
-            ptype::inner(types, word),
-            depth - 1,
-        );
-        return put(out, b, b">");
-    }
-    if k == ptype::RECORD {
+        let b = show_within(out, a, types, texts, ptype::inner(types, word), depth - 1);
+        put(out, b, b">")
+    } else if k == ptype::RECORD {
         let a = put(out, w, b"Record<");
         let i = tok::payload(word) + 1;
         let n = ptype::field_count(types, word);
-        return show_fields(out, a, types, script, library, types, i, n, depth - 1, b">");
+        show_fields(out, a, types, texts, types, i, n, depth - 1, b">")
+    } else {
+        put_leaf(out, w, types, texts, word)
     }
-    put_leaf(out, w, types, script, library, word)
 }
 
 // The index behind the two words of a field, as far as there are words: past their end all are read as 0.
@@ -124,38 +101,26 @@ fn behind(words: &[u32], i: usize) -> usize
 
 // n fields, or arguments, whose names and types stand in `words` from the index i on, and what comes after them.
 #[cycle(show_fields_show_within)]
-fn show_fields<'a>(
+fn show_fields(
     out: &mut [u8],
     w: Window,
     types: &[u32],
-    script: &'a [u8],
-    library: &'a [u8],
+    texts: &Texts,
     words: &[u32],
     i: usize,
     n: usize,
     depth: usize,
     after: &[u8],
 ) -> Window
-    ensures { let T : Texts = texts_of script.now library.now in
-        let F : Fields = fields_from (unfolded T types.now depth) T words.now i n in
+    ensures { let F : Fields = fields_from (unfolded texts.now types.now depth) texts.now words.now i n in
         Shows out.old w out.new result (show_fields F ++ after.now) }
 {
     let mut w = w;
     let mut i = i;
-    let mut left = n;
-    while left > 0 {
-        w = put(out, w, ptype::field_name(words, script, library, i));
+    for left in (0..n).rev() {
+        w = put(out, w, ptype::field_name(words, texts, i));
         w = put(out, w, b": ");
-        w = show_within(
-            out,
-            w,
-            types,
-            script,
-            library,
-            ptype::field_type(words, i),
-            depth,
-        );
-        left -= 1;
+        w = show_within(out, w, types, texts, ptype::field_type(words, i), depth);
         w = put_gap(out, w, left);
         i = behind(words, i);
     }
@@ -163,35 +128,25 @@ fn show_fields<'a>(
 }
 
 // A type as `Display` shows it.
-pub fn show_type<'a>(
-    out: &mut [u8],
-    w: Window,
-    types: &[u32],
-    script: &'a [u8],
-    library: &'a [u8],
-    word: u32,
-) -> Window
-    ensures { let T : Texts = texts_of script.now library.now in
-        Shows out.old w out.new result (show (ty_of T types.now word)) }
+pub fn show_type(out: &mut [u8], w: Window, types: &[u32], texts: &Texts, word: u32) -> Window
+    ensures { Shows out.old w out.new result (show (ty_of texts.now types.now word)) }
 {
-    show_within(out, w, types, script, library, word, LEVELS)
+    show_within(out, w, types, texts, word, LEVELS)
 }
 
 // n arguments as `Display` shows them, whose names and types stand in `words` from the index i on, and what comes after them.
-pub fn show_arguments<'a>(
+pub fn show_arguments(
     out: &mut [u8],
     w: Window,
     types: &[u32],
-    script: &'a [u8],
-    library: &'a [u8],
+    texts: &Texts,
     words: &[u32],
     i: usize,
     n: usize,
     after: &[u8],
 ) -> Window
-    ensures { let T : Texts = texts_of script.now library.now in
-        let F : Fields = fields_from (ty_of T types.now) T words.now i n in
+    ensures { let F : Fields = fields_from (ty_of texts.now types.now) texts.now words.now i n in
         Shows out.old w out.new result (show_fields F ++ after.now) }
 {
-    show_fields(out, w, types, script, library, words, i, n, LEVELS, after)
+    show_fields(out, w, types, texts, words, i, n, LEVELS, after)
 }

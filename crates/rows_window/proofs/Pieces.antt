@@ -1,14 +1,13 @@
 -- One piece through a window, by `display`'s writer, and a number by its digits in a local buffer. Assumes nothing.
-use Prim.Native.Nat.{ℕ, zero, suc, ◌+◌, ◌-◌, ◌/◌, ◌%◌, ◌≤◌, ◌<◌, min, max}
-use mathlib.Core.Path.{◌≡◌, refl, sym, ap, ◌∙◌}
+use Prim.Native.Nat.{ℕ, zero, suc, ◌+◌, ◌-◌, ◌/◌, ◌%◌, ◌≤◌, min, max}
+use mathlib.Core.Path.{◌≡◌, refl, ◌∙◌}
 use mathlib.Core.Bool.{Bool, true, false}
-use mathlib.Core.List.{List, [], ◌∷◌, ◌++◌}
+use mathlib.Core.List.{List, [], ◌∷◌}
 use native.Mathlib.Omega.{arith}
 use lib.ListN.{length, take, drop, length-drop, length-append}
 use lib.Seq.{take_all}
 use lib.Dec.{ltb, leb, eqb}
 use borrow.Author.Tests.{eq-eqb, ne_eqb}
-use Rattle.ptype.specs.Add.{write, overwrite}
 use Rattle.ptype.specs.Show.{digits, decimal}
 use Rattle.display.specs.declared.Wrote.{Wrote}
 use Rattle.display.specs.declared.Wrote.TheVariants.{All, Full}
@@ -80,13 +79,9 @@ module _ (o : List ℕ) (w : Window) where
 
 -- `reached`
 module _ {place : Wrote} (at end : ℕ) where
-  pub reached-cut : place ≡ Full → at < end → end ≡ reached_of place at end
+  pub reached_full : {n : ℕ} → place ≡ Full → n ≡ max at end → n ≡ reached_of place at end
   unfolding reached_of
-  reached-cut e h = rw e (omega arith)
-
-  pub reached-past : place ≡ Full → end ≤ at → at ≡ reached_of place at end
-  unfolding reached_of
-  reached-past e h = rw e (omega arith)
+  reached_full e h = rw e h
 
   pub reached-all : {n : ℕ} → place ≡ All n → n ≡ reached_of place at end
   unfolding reached_of

@@ -1,6 +1,6 @@
 -- Laws of windows: one text after another is their concatenation; windows one behind the other show the whole text. Assumes nothing.
-use Rattle.std.specs.Prelude.{ℕ, zero, suc, ◌+◌, ◌-◌, ◌≤◌, ◌<◌, min, ◌≡◌, refl, Bool, true, false, ◌&&◌, List, [], ◌∷◌, ◌++◌, length, take, drop, eqb, leb}
-use Rattle.std.proofs.Common.{sym, ap, ◌∙◌, true≢false, arith, length-append, length-drop, eqb-true, leb-true, leb-false}
+use Rattle.std.specs.Prelude.{ℕ, zero, suc, ◌+◌, ◌-◌, ◌≤◌, min, ◌≡◌, refl, Bool, true, false, List, [], ◌∷◌, ◌++◌, length, take, drop, eqb}
+use Rattle.std.proofs.Common.{sym, ap, ◌∙◌, true≢false, arith, length-append, length-drop, eqb-true, leb-true}
 use Rattle.std.proofs.Math.Nat.{sub-zero, zero-sub, suc-sub-suc, sub-add-eq}
 use Rattle.std.proofs.Math.Seq.{take-length}
 use Rattle.facts.specs.Tests.{by_order}
@@ -101,8 +101,8 @@ front-end p e =
 -- so it is the piece that is lent from there
 pub shows_front :
     {b b' o o' s : List ℕ} {place : Wrote} {w r : Window} {n : ℕ} →
-    place ≡ All n → Writes b (All 0) b' place s → Shows o w o' r (take (n - 0) (drop 0 b')) → Shows o w o' r s
-shows_front {n = n} e p q = shows_as (sym (front_wrote (rw e at p))) (rw (sub-zero n) at q)
+    place ≡ All n → Writes b (All 0) b' place s → Shows o w o' r (take n b') → Shows o w o' r s
+shows_front e p q = shows_as (sym (front_wrote (rw e at p))) q
 
 -- ---- loops
 -- Of the text s₀, begun in the buffer o₀ at the window w₀, the text s is still to be written, in the buffer o at w: whoever writes s has written s₀.

@@ -6,7 +6,6 @@ ghost use Rattle.ptype.specs.Show.{decimal};
 ghost use Rattle.rows_window.specs.Showing.{Shows, is_full, reached_of};
 
 use display::Wrote;
-use tok::least;
 
 // How many bytes of the text are still passed over, and where the next byte goes.
 #[derive(Clone, Copy)]
@@ -26,17 +25,17 @@ pub fn is_full(out: &[u8], w: Window) -> bool
 fn reached(place: Wrote, at: usize, end: usize) -> usize
     ensures { result ≡ reached_of place at end }
 {
-    let Wrote::All(n) = place else {
-        return if at < end { end } else { at };
-    };
-    n
+    match place {
+        Wrote::All(n) => n,
+        Wrote::Full => at.max(end),
+    }
 }
 
 // Writes of the next piece of the text what lies in the window.
 pub fn put(out: &mut [u8], w: Window, piece: &[u8]) -> Window
     ensures { Shows out.old w out.new result piece.now }
 {
-    let passed = least(w.skip, piece.len());
+    let passed = w.skip.min(piece.len());
     let end = out.len();
     let place = display::put_at(out, Wrote::All(w.at), &piece[passed..]);
     Window {
@@ -57,5 +56,5 @@ pub fn put_decimal(out: &mut [u8], w: Window, n: usize) -> Window
     let Wrote::All(end) = place else {
         return w;
     };
-    put(out, w, &digits[0..end])
+    put(out, w, &digits[..end])
 }

@@ -1,4 +1,5 @@
 -- Going through the entries of the functions buffer, one law for each way on. Assumes nothing.
+use Rattle.std.specs.Prelude.{Some, None, Option as Found}
 use Prim.Native.Nat.{ℕ, zero, suc, ◌+◌, ◌*◌, ◌-◌, ◌≤◌, ◌<◌}
 use mathlib.Core.Path.{◌≡◌, refl, sym, ap, ◌∙◌}
 use mathlib.Core.Bool.{Bool, true, false}
@@ -9,8 +10,6 @@ use lib.ListN.{length, get_or}
 use Rattle.tok.specs.Text.{Texts, name_bytes, same_bytes}
 use Rattle.library.specs.Package.{Signature, Function, find_function}
 use Rattle.state.specs.Signatures.{signature_at, entry_at, entry_end, entries_end, entries_back, own_in}
-use Rattle.scope.specs.declared.Own.{Own}
-use Rattle.scope.specs.declared.Own.TheVariants as O
 use Rattle.scope.specs.Found.{own_of}
 
 pub end_after : (words : List ℕ) (flags k at : ℕ) → at ≤ entries_end words flags at k
@@ -62,7 +61,7 @@ module _ {words : List ℕ} {k : ℕ} where
         sym (h.ends ∙ ap (entries_end words 0 at) z)
 
 -- Those met so far, newest first, and what was found among them.
-pub record Seeks (t : Texts) (wanted words : List ℕ) (k at left : ℕ) (found : Own) : Type 0 where
+pub record Seeks (t : Texts) (wanted words : List ℕ) (k at left : ℕ) (found : Found ℕ) : Type 0 where
   pub met : List Function
   pub all : own_in words k ≡ entries_back words 0 at left met
   pub newest : own_of words found ≡ find_function t wanted met
@@ -83,13 +82,13 @@ module _ (t : Texts) (wanted words : List ℕ) (k : ℕ) where
       let s : left ≡ suc (left - 1) = omega arith in
       ap (λ n. entries_back words 0 at n fs) s
 
-  pub seek_begin : Seeks t wanted words k 0 k O.Nothing
+  pub seek_begin : Seeks t wanted words k 0 k None
   unfolding own_in find_function
   seek_begin = record { met = []; all = refl; newest = refl }
 
-  module _ {at left w c : ℕ} {b : List ℕ} {r : Bool} {found : Own} (h : Seeks t wanted words k at left found) (l : 0 < left)
+  module _ {at left w c : ℕ} {b : List ℕ} {r : Bool} {found : Found ℕ} (h : Seeks t wanted words k at left found) (l : 0 < left)
       (ew : w ≡ get_or words at 0) (eb : b ≡ name_bytes t w) (er : r ≡ same_bytes wanted b) (ec : c ≡ get_or words (at + 1) 0) where
-    onward : (found' : Own) → own_of words found' ≡ find_function t wanted (entry_at words 0 at ∷ h.met) → Seeks t wanted words k (at + (3 + 2 * c)) (left - 1) found'
+    onward : (found' : Found ℕ) → own_of words found' ≡ find_function t wanted (entry_at words 0 at ∷ h.met) → Seeks t wanted words k (at + (3 + 2 * c)) (left - 1) found'
     onward found' e =
         let p = entry_next words at ec in
         record {
@@ -98,13 +97,13 @@ module _ (t : Texts) (wanted words : List ℕ) (k : ℕ) where
           newest = e;
         }
 
-    pub seek_hit : r ≡ true → Seeks t wanted words k (at + (3 + 2 * c)) (left - 1) (O.At (at + 1))
-    seek_hit y = onward (O.At (at + 1)) (sym (find_first at h.met ew eb er ∙ rw y refl))
+    pub seek_hit : r ≡ true → Seeks t wanted words k (at + (3 + 2 * c)) (left - 1) (Some (at + 1))
+    seek_hit y = onward (Some (at + 1)) (sym (find_first at h.met ew eb er ∙ rw y refl))
 
     pub seek_past : r ≡ false → Seeks t wanted words k (at + (3 + 2 * c)) (left - 1) found
     seek_past n = onward found (h.newest ∙ sym (find_first at h.met ew eb er ∙ rw n refl))
 
-  pub seek_over : {at left : ℕ} {found : Own} → Seeks t wanted words k at left found → left ≤ 0 → own_of words found ≡ find_function t wanted (own_in words k)
+  pub seek_over : {at left : ℕ} {found : Found ℕ} → Seeks t wanted words k at left found → left ≤ 0 → own_of words found ≡ find_function t wanted (own_in words k)
   unfolding entries_back
   seek_over {at} {left} h l =
       let z : left ≡ 0 = omega arith in

@@ -1,5 +1,5 @@
 -- What the answers of finding stand for. Definitions.
-use Rattle.std.specs.Prelude.{ℕ, false, List}
+use Rattle.std.specs.Prelude.{ℕ, false, List, Some, None, Option as Found}
 use Rattle.std.proofs.Math.Option.{Option, none, some}
 use Rattle.library.specs.Package.{Signature, Package}
 use Rattle.library.specs.PackagesRead.{package_at}
@@ -7,8 +7,6 @@ use Rattle.state.specs.Signatures.{signature_at}
 use Rattle.state.specs.Store.{extern_at}
 use Rattle.scope.specs.declared.Binding.{Binding}
 use Rattle.scope.specs.declared.Binding.TheVariants as B
-use Rattle.scope.specs.declared.Own.{Own}
-use Rattle.scope.specs.declared.Own.TheVariants as O
 use Rattle.scope.specs.declared.Held.{Held}
 use Rattle.scope.specs.declared.Held.TheVariants as H
 
@@ -19,9 +17,9 @@ binding_of B.Poisoned = some none
 binding_of B.Nothing = none
 
 -- the signature of an own function
-abbrev pub own_of : (functions : List ℕ) → Own → Option Signature
-own_of functions (O.At at) = some (signature_at functions at false)
-own_of functions O.Nothing = none
+abbrev pub own_of : (functions : List ℕ) → Found ℕ → Option Signature
+own_of functions (Some at) = some (signature_at functions at false)
+own_of functions None = none
 
 -- a package held
 abbrev pub held_of : (library scratch : List ℕ) → Held → Option Package

@@ -3,27 +3,20 @@
 
 ghost use Rattle.std.specs.Prelude.{◌≡◌, List, ℕ, ◌+◌, ◌*◌, ◌^◌, ◌<◌, ◌≤◌, length, get_or};
 ghost use Rattle.std.proofs.Math.Option.{some};
-ghost use Rattle.tok.specs.Text.{Texts, texts_of, name_bytes};
+ghost use Rattle.tok.specs.Text.{name_bytes};
 ghost use Rattle.library.specs.Package.{find_function, find_package};
 ghost use Rattle.rules.specs.Steps.{env_get};
 ghost use Rattle.state.specs.Signatures.{entries_end, own_in};
 ghost use Rattle.state.specs.Store.{poisoned, local_name, env_up, held_at, held_size, held_from, held_end};
 ghost use Rattle.scope.specs.Found.{binding_of, own_of, held_of};
 
-use tok::{kind, name_bytes, wide, word_at};
+use tok::{Texts, kind, name_bytes, word_at};
 
 // What a name is bound to: a type's word, a poisoned binding, or nothing.
 #[derive(Clone, Copy)]
 pub enum Binding {
     Bound(u32),
     Poisoned,
-    Nothing,
-}
-
-// The place of an own function's argument count, or none.
-#[derive(Clone, Copy)]
-pub enum Own {
-    At(usize),
     Nothing,
 }
 
@@ -53,25 +46,15 @@ fn local_name(w: u32) -> u32
 }
 
 // The newest binding of a name, among `depth` names from name number `base` on.
-pub fn env_get<'a>(
-    script: &'a [u8],
-    library: &'a [u8],
-    scratch: &[u32],
-    base: usize,
-    depth: usize,
-    name: u32,
-) -> Binding
+pub fn env_get(texts: &Texts, scratch: &[u32], base: usize, depth: usize, name: u32) -> Binding
     requires { base + depth ≤ 4096 }
-    ensures { let T : Texts = texts_of script.now library.now in
-        binding_of result ≡ env_get T (name_bytes T name) (env_up scratch.now base depth) }
+    ensures { binding_of result ≡ env_get texts.now (name_bytes texts.now name) (env_up scratch.now base depth) }
 {
-    let wanted = name_bytes(script, library, name);
-    let mut k = depth;
-    while k > 0 {
-        k -= 1;
+    let wanted = name_bytes(texts, name);
+    for k in (0..depth).rev() {
         let at = 2 * (base + k);
         let w = word_at(scratch, at);
-        if tok::is_name(script, library, wanted, local_name(w)) {
+        if tok::is_name(texts, wanted, local_name(w)) {
             if is_poisoned(w) {
                 return Binding::Poisoned;
             }
@@ -87,36 +70,25 @@ pub fn own_end(functions: &[u32], k: usize) -> usize
     ensures { result ≡ entries_end functions.now 0 0 k }
 {
     let mut at = 0;
-    let mut left = k;
-    while left > 0 {
-        at += 3 + 2 * wide(word_at(functions, at + 1));
-        left -= 1;
+    for _ in 0..k {
+        at += 3 + 2 * word_at(functions, at + 1) as usize;
     }
     at
 }
 
 // The newest own function of a name, among k entries.
-pub fn find_own<'a>(
-    script: &'a [u8],
-    library: &'a [u8],
-    functions: &[u32],
-    k: usize,
-    name: u32,
-) -> Own
+pub fn find_own(texts: &Texts, functions: &[u32], k: usize, name: u32) -> Option<usize>
     requires { entries_end functions.now 0 0 k ≤ length functions.now }
-    ensures { let T : Texts = texts_of script.now library.now in
-        own_of functions.now result ≡ find_function T (name_bytes T name) (own_in functions.now k) }
+    ensures { own_of functions.now result ≡ find_function texts.now (name_bytes texts.now name) (own_in functions.now k) }
 {
-    let wanted = name_bytes(script, library, name);
-    let mut found = Own::Nothing;
+    let wanted = name_bytes(texts, name);
+    let mut found = None;
     let mut entry = 0;
-    let mut rest = k;
-    while rest > 0 {
-        if tok::is_name(script, library, wanted, word_at(functions, entry)) {
-            found = Own::At(entry + 1);
+    for _ in 0..k {
+        if tok::is_name(texts, wanted, word_at(functions, entry)) {
+            found = Some(entry + 1);
         }
-        entry += 3 + 2 * wide(word_at(functions, entry + 1));
-        rest -= 1;
+        entry += 3 + 2 * word_at(functions, entry + 1) as usize;
     }
     found
 }
@@ -125,10 +97,7 @@ pub fn find_own<'a>(
 fn held_size(w: u32) -> usize
     ensures { result ≡ held_size w }
 {
-    if w < 8192 {
-        return 1;
-    }
-    wide(w) - 8192
+    if w < 8192 { 1 } else { w as usize - 8192 }
 }
 
 // Which package is held at a word of scratch.
@@ -138,7 +107,7 @@ fn held_at(scratch: &[u32], at: usize) -> Held
 {
     let w = word_at(scratch, at);
     if w < 8192 {
-        return Held::Library(wide(w));
+        return Held::Library(w as usize);
     }
     Held::Extern(at + 1)
 }
@@ -150,15 +119,14 @@ fn held_name(words: &[u32], scratch: &[u32], at: usize) -> u32
 {
     let w = word_at(scratch, at);
     if w < 8192 {
-        return word_at(words, wide(w));
+        return word_at(words, w as usize);
     }
     word_at(scratch, at + 1)
 }
 
 // The newest package of a name, among k packages held from a word of scratch on.
-pub fn find_held<'a>(
-    script: &'a [u8],
-    library: &'a [u8],
+pub fn find_held(
+    texts: &Texts,
     words: &[u32],
     scratch: &[u32],
     from: usize,
@@ -166,23 +134,20 @@ pub fn find_held<'a>(
     name: u32,
 ) -> Held
     requires { held_end scratch.now from k ≤ 16384 }
-    ensures { let T : Texts = texts_of script.now library.now in
-        held_of words.now scratch.now result ≡ find_package T (name_bytes T name) (held_from words.now scratch.now from k) }
+    ensures { held_of words.now scratch.now result ≡ find_package texts.now (name_bytes texts.now name) (held_from words.now scratch.now from k) }
 {
-    let wanted = name_bytes(script, library, name);
+    let wanted = name_bytes(texts, name);
     let mut at = from;
-    let mut left = k;
     let mut part = 0;
-    while left > 0 {
+    for _ in 0..k {
         let own = held_name(words, scratch, at);
-        if !tok::differs_in(script, library, wanted, own, part) {
-            if tok::is_name(script, library, wanted, own) {
+        if !tok::differs_in(texts, wanted, own, part) {
+            if tok::is_name(texts, wanted, own) {
                 return held_at(scratch, at);
             }
             part = tok::next_part(part);
         }
         at += held_size(word_at(scratch, at));
-        left -= 1;
     }
     Held::Nothing
 }

@@ -1,4 +1,5 @@
 -- Selection as the code has it, one law for each way out. Assumes nothing.
+use Rattle.std.specs.Prelude.{Some, None, Option as Found}
 use Prim.Native.Nat.{ℕ, zero, suc, ◌+◌, ◌-◌, ◌≤◌, ◌<◌}
 use mathlib.Core.Path.{◌≡◌, refl, sym, ap, ◌∙◌}
 use mathlib.Core.Bool.{Bool, true, false, ◌&&◌, not}
@@ -22,7 +23,6 @@ use Rattle.state.specs.Context.{ctx}
 use Rattle.state.specs.Signatures.{signature_at, entries_from}
 use Rattle.state.specs.World.{Rest, world, stepped, Steps}
 use Rattle.signatures.specs.declared.Entry.{Entry}
-use Rattle.signatures.specs.declared.Entry.TheVariants.{One, Over}
 use Rattle.signatures.specs.Entries.{entries_of, Finds}
 use Rattle.selection.specs.Candidates.{group, param_types, position_of, all_return_of, CommonReturn}
 use Rattle.selection.proofs.Read.{returns-are}
@@ -36,15 +36,15 @@ module _ (texts : Texts) (name words : List ℕ) (flags : ℕ) where
       let e : left ≡ 0 = omega arith in
       rw e refl
 
-  module _ {first left : ℕ} {r : Entry} (h : Finds texts name words flags first left r) where
-    pub over-is : r ≡ Over → group texts name words flags first left ≡ []
+  module _ {first left : ℕ} {r : Found Entry} (h : Finds texts name words flags first left r) where
+    pub over-is : r ≡ None → group texts name words flags first left ≡ []
     over-is e = h.is ∙ ap (entries_of texts name words flags) e
 
-    module _ {slotted : Bool} {at next after : ℕ} (e : r ≡ One slotted at next after) where
-      pub one-is : group texts name words flags first left ≡ signature_at words at slotted ∷ group texts name words flags next after
+    module _ {x : Entry} (e : r ≡ Some x) where
+      pub one-is : group texts name words flags first left ≡ signature_at words x.at x.slotted ∷ group texts name words flags x.next x.left
       one-is = h.is ∙ ap (entries_of texts name words flags) e
 
-      pub one_less : 0 < left → after < left
+      pub one_less : 0 < left → x.left < left
       one_less l = omega (arith, rw e at h.fewer)
 
 -- ── The types of one candidate ──
@@ -100,42 +100,42 @@ module _ (texts : Texts) (name words : List ℕ) (flags : ℕ) (U : ℕ → Ty) 
     unfolding position_of
     position-none l = h.rest ∙ rw (none_left_lem texts name words flags first left l) refl
 
-    module _ {r : Entry} (found : Finds texts name words flags first left r) where
-      pub position-over : r ≡ Over → position_of U (map U provided) (group texts name words flags from k) ≡ none
+    module _ {r : Found Entry} (found : Finds texts name words flags first left r) where
+      pub position-over : r ≡ None → position_of U (map U provided) (group texts name words flags from k) ≡ none
       unfolding position_of
       position-over e = h.rest ∙ rw (over-is texts name words flags found e) refl
 
-      module _ {slotted : Bool} {at next after : ℕ} (e : r ≡ One slotted at next after) where
+      module _ {x : Entry} (e : r ≡ Some x) where
         is : position_of U (map U provided) (group texts name words flags from k)
-            ≡ elim (overload_matches (param_types U (signature_at words at slotted).params) (map U provided)) [
-              | true ↦ some (signature_at words at slotted)
-              | false ↦ position_of U (map U provided) (group texts name words flags next after)
+            ≡ elim (overload_matches (param_types U (signature_at words x.at x.slotted).params) (map U provided)) [
+              | true ↦ some (signature_at words x.at x.slotted)
+              | false ↦ position_of U (map U provided) (group texts name words flags x.next x.left)
             ]
         unfolding position_of
         is = h.rest ∙ rw (one-is texts name words flags found e) refl
 
-        past : overload_matches (param_types U (signature_at words at slotted).params) (map U provided) ≡ false → Ahead next after
+        past : overload_matches (param_types U (signature_at words x.at x.slotted).params) (map U provided) ≡ false → Ahead x.next x.left
         past n = record { rest = is ∙ rw n refl }
 
-        module _ {n : ℕ} (en : (f : Bool) → n ≡ length (signature_at words at f).params) where
-          pub count-differs : (n ≡ length provided → ⊥) → Ahead next after
+        module _ {n : ℕ} (en : (f : Bool) → n ≡ length (signature_at words x.at f).params) where
+          pub count-differs : (n ≡ length provided → ⊥) → Ahead x.next x.left
           count-differs d =
-              past (lengths_differ (param_types U (signature_at words at slotted).params) (map U provided)
-              (λ z. d (en slotted ∙ sym (length-map (signature_at words at slotted).params (λ p. U p.type)) ∙ z ∙ length-map provided U)))
+              past (lengths_differ (param_types U (signature_at words x.at x.slotted).params) (map U provided)
+              (λ z. d (en x.slotted ∙ sym (length-map (signature_at words x.at x.slotted).params (λ p. U p.type)) ∙ z ∙ length-map provided U)))
 
-          pub alike-begin : n ≡ length provided → Alike U (signature_at words at slotted).params provided 0
-          alike-begin z = record { long = sym (en slotted) ∙ z; so = refl }
+          pub alike-begin : n ≡ length provided → Alike U (signature_at words x.at x.slotted).params provided 0
+          alike-begin z = record { long = sym (en x.slotted) ∙ z; so = refl }
 
-        module _ {i : ℕ} (a : Alike U (signature_at words at slotted).params provided i) where
-          pub type-differs : i < length provided → {w v : ℕ} {q : Bool} → ((f : Bool) → w ≡ (get_or (signature_at words at f).params i (param 0 0)).type) → v ≡ get_or provided i 0
-              → q ≡ same_ty (U w) (U v) → q ≡ false → Ahead next after
-          type-differs l ew ev eq n = past (alike-not U a l (ew slotted) ev eq n)
+        module _ {i : ℕ} (a : Alike U (signature_at words x.at x.slotted).params provided i) where
+          pub type-differs : i < length provided → {w v : ℕ} {q : Bool} → ((f : Bool) → w ≡ (get_or (signature_at words x.at f).params i (param 0 0)).type) → v ≡ get_or provided i 0
+              → q ≡ same_ty (U w) (U v) → q ≡ false → Ahead x.next x.left
+          type-differs l ew ev eq n = past (alike-not U a l (ew x.slotted) ev eq n)
 
-          pub alike_next : i < length provided → {w v : ℕ} {q : Bool} → ((f : Bool) → w ≡ (get_or (signature_at words at f).params i (param 0 0)).type) → v ≡ get_or provided i 0
-              → q ≡ same_ty (U w) (U v) → q ≡ true → Alike U (signature_at words at slotted).params provided (i + 1)
-          alike_next l ew ev eq y = alike-more U a l (ew slotted) ev eq y
+          pub alike_next : i < length provided → {w v : ℕ} {q : Bool} → ((f : Bool) → w ≡ (get_or (signature_at words x.at f).params i (param 0 0)).type) → v ≡ get_or provided i 0
+              → q ≡ same_ty (U w) (U v) → q ≡ true → Alike U (signature_at words x.at x.slotted).params provided (i + 1)
+          alike_next l ew ev eq y = alike-more U a l (ew x.slotted) ev eq y
 
-          pub position_at : length provided ≤ i → position_of U (map U provided) (group texts name words flags from k) ≡ some (signature_at words at slotted)
+          pub position_at : length provided ≤ i → position_of U (map U provided) (group texts name words flags from k) ≡ some (signature_at words x.at x.slotted)
           position_at l = is ∙ rw (alike_all U a l) refl
 
 -- ── What all return ──
@@ -152,20 +152,20 @@ module _ (texts : Texts) (name words : List ℕ) (flags : ℕ) (U : ℕ → Ty) 
     unfolding all_return_of
     return-none l = sym (h.rest ∙ rw (none_left_lem texts name words flags first left l) refl)
 
-    module _ {r : Entry} (found : Finds texts name words flags first left r) where
-      pub return-over : r ≡ Over → true ≡ all_return_of U (U ret) (group texts name words flags from k)
+    module _ {r : Found Entry} (found : Finds texts name words flags first left r) where
+      pub return-over : r ≡ None → true ≡ all_return_of U (U ret) (group texts name words flags from k)
       unfolding all_return_of
       return-over e = sym (h.rest ∙ rw (over-is texts name words flags found e) refl)
 
-      module _ {slotted : Bool} {at next after : ℕ} (e : r ≡ One slotted at next after) {w : ℕ} {q : Bool} (ew : (f : Bool) → w ≡ (signature_at words at f).ret) (eq : q ≡ same_ty (U w) (U ret)) where
-        owed-is : all_return_of U (U ret) (group texts name words flags from k) ≡ (q && all_return_of U (U ret) (group texts name words flags next after))
+      module _ {x : Entry} (e : r ≡ Some x) {w : ℕ} {q : Bool} (ew : (f : Bool) → w ≡ (signature_at words x.at f).ret) (eq : q ≡ same_ty (U w) (U ret)) where
+        owed-is : all_return_of U (U ret) (group texts name words flags from k) ≡ (q && all_return_of U (U ret) (group texts name words flags x.next x.left))
         unfolding all_return_of
-        owed-is = h.rest ∙ rw (one-is texts name words flags found e, eq, ew slotted) refl
+        owed-is = h.rest ∙ rw (one-is texts name words flags found e, eq, ew x.slotted) refl
 
         pub return-differs : q ≡ false → false ≡ all_return_of U (U ret) (group texts name words flags from k)
         return-differs n = sym (owed-is ∙ rw n refl)
 
-        pub owed-less : q ≡ true → Owed next after
+        pub owed-less : q ≡ true → Owed x.next x.left
         owed-less y = record { rest = owed-is ∙ rw y refl }
 
 -- ── The common return type ──

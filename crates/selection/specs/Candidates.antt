@@ -1,5 +1,5 @@
 -- The candidates of a group, and the rules of selection as functions of the types buffer: they only read. Definitions.
-use Rattle.std.specs.Prelude.{ℕ, ◌≡◌, Bool, true, false, ◌&&◌, List, [], ◌∷◌, map}
+use Rattle.std.specs.Prelude.{ℕ, ◌≡◌, Bool, true, false, ◌&&◌, List, [], ◌∷◌, map, Some, None, Option as Found}
 use Rattle.std.proofs.Math.Option.{Option, none, some}
 use Rattle.tok.specs.Text.{Texts}
 use Rattle.ptype.specs.Ty.{Ty, same_ty}
@@ -10,8 +10,7 @@ use Rattle.state.specs.declared.Step.{Step}
 use Rattle.state.specs.Context.{ctx}
 use Rattle.state.specs.Signatures.{signature_at, entries_from}
 use Rattle.state.specs.World.{Steps}
-use Rattle.selection.specs.declared.Taken.{Taken}
-use Rattle.selection.specs.declared.Taken.TheVariants.{At, Nothing}
+use Rattle.signatures.specs.declared.Entry.{Entry}
 
 -- the candidates: the entries of a name
 abbrev pub group : Texts → (name words : List ℕ) → (flags from k : ℕ) → List Signature
@@ -32,9 +31,9 @@ all_return_of U t [] = true
 all_return_of U t (f ∷ fs) = same_ty (U f.ret) t && all_return_of U t fs
 
 -- the candidate at a place
-abbrev pub position_in : (words : List ℕ) → Taken → Option Signature
-position_in words (At slotted at) = some (signature_at words at slotted)
-position_in words Nothing = none
+abbrev pub position_in : (words : List ℕ) → Found Entry → Option Signature
+position_in words (Some e) = some (signature_at words e.at e.slotted)
+position_in words None = none
 
 -- `common_return` of a group that is not empty
 pub record CommonReturn (texts : Texts) (slot : ℕ) (fs : List Signature) (s t : List ℕ) (u : Used) (s' : List ℕ) (r : Step) : Type 0 where

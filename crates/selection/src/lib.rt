@@ -3,7 +3,6 @@
 #![tactic(auto)]
 
 ghost use Rattle.std.specs.Prelude.{◌≡◌, map, ℕ};
-ghost use Rattle.tok.specs.Text.{Texts, texts_of};
 ghost use Rattle.ptype.specs.Ty.{Ty};
 ghost use Rattle.ptype.specs.Words.{ty_of};
 ghost use Rattle.signatures.specs.Entries.{flag_words};
@@ -11,64 +10,48 @@ ghost use Rattle.selection.specs.Candidates.{group, position_of, all_return_of, 
 
 use signatures::Entry;
 use state::{Step, Used};
-
-// The candidate that was taken: whether it has slots, and the place of its argument count; or none.
-#[derive(Clone, Copy)]
-pub enum Taken {
-    At(bool, usize),
-    Nothing,
-}
+use tok::Texts;
 
 // The first candidate whose every argument type is equal to the provided one, counts alike.
-pub fn position<'a>(
+pub fn position(
     types: &[u32],
-    script: &'a [u8],
-    library: &'a [u8],
+    texts: &Texts,
     words: &[u32],
     flagged: bool,
     from: usize,
     k: usize,
     name: &[u8],
     provided: &[u32],
-) -> Taken
-    ensures { let T : Texts = texts_of script.now library.now in let U : ℕ → Ty = ty_of T types.now in
-        position_of U (map U provided.now) (group T name.now words.now (flag_words flagged) from k) ≡ position_in words.now result }
+) -> Option<Entry>
+    ensures { let U : ℕ → Ty = ty_of texts.now types.now in
+        position_of U (map U provided.now) (group texts.now name.now words.now (flag_words flagged) from k) ≡ position_in words.now result }
 {
     let mut first = from;
     let mut left = k;
     'candidates: while left > 0 {
-        let Entry::One {
-            slotted,
-            at,
-            next,
-            left: after,
-        } = signatures::find_entry(script, library, words, flagged, first, left, name)
-        else {
-            return Taken::Nothing;
+        let Some(entry) = signatures::find_entry(texts, words, flagged, first, left, name) else {
+            return None;
         };
-        first = next;
-        left = after;
-        if signatures::argument_count(words, at) != provided.len() {
+        first = entry.next;
+        left = entry.left;
+        if signatures::argument_count(words, entry.at) != provided.len() {
             continue 'candidates;
         }
-        let mut i = 0;
-        while i < provided.len() {
-            let expected = signatures::argument_type(words, at, i);
-            if !ptype::same_type(types, script, library, expected, tok::word_at(provided, i)) {
+        for i in 0..provided.len() {
+            let expected = signatures::argument_type(words, entry.at, i);
+            if !ptype::same_type(types, texts, expected, tok::word_at(provided, i)) {
                 continue 'candidates;
             }
-            i += 1;
         }
-        return Taken::At(slotted, at);
+        return Some(entry);
     }
-    Taken::Nothing
+    None
 }
 
 // Whether all candidates return a type equal to that of `ret`.
-fn all_return<'a>(
+fn all_return(
     types: &[u32],
-    script: &'a [u8],
-    library: &'a [u8],
+    texts: &Texts,
     words: &[u32],
     flagged: bool,
     from: usize,
@@ -76,37 +59,30 @@ fn all_return<'a>(
     name: &[u8],
     ret: u32,
 ) -> bool
-    ensures { let T : Texts = texts_of script.now library.now in let U : ℕ → Ty = ty_of T types.now in
-        result ≡ all_return_of U (U ret) (group T name.now words.now (flag_words flagged) from k) }
+    ensures { let U : ℕ → Ty = ty_of texts.now types.now in
+        result ≡ all_return_of U (U ret) (group texts.now name.now words.now (flag_words flagged) from k) }
 {
     let mut first = from;
     let mut left = k;
     while left > 0 {
-        let Entry::One {
-            slotted: _,
-            at,
-            next,
-            left: after,
-        } = signatures::find_entry(script, library, words, flagged, first, left, name)
-        else {
+        let Some(entry) = signatures::find_entry(texts, words, flagged, first, left, name) else {
             return true;
         };
-        let other = signatures::return_type(words, at);
-        if !ptype::same_type(types, script, library, other, ret) {
+        let other = signatures::return_type(words, entry.at);
+        if !ptype::same_type(types, texts, other, ret) {
             return false;
         }
-        first = next;
-        left = after;
+        first = entry.next;
+        left = entry.left;
     }
     true
 }
 
 // What all candidates return, else Poison.
-pub fn common_return<'a>(
+pub fn common_return(
     slots: &mut [u32],
     types: &[u32],
-    script: &'a [u8],
-    library: &'a [u8],
+    texts: &Texts,
     used: Used,
     slot: u32,
     words: &[u32],
@@ -115,21 +91,14 @@ pub fn common_return<'a>(
     k: usize,
     name: &[u8],
 ) -> Step
-    ensures { let T : Texts = texts_of script.now library.now in
-        CommonReturn T slot (group T name.now words.now (flag_words flagged) from k) slots.old types.now used slots.new result }
+    ensures { CommonReturn texts.now slot (group texts.now name.now words.now (flag_words flagged) from k) slots.old types.now used slots.new result }
 {
-    let Entry::One {
-        slotted: _,
-        at,
-        next,
-        left,
-    } = signatures::find_entry(script, library, words, flagged, from, k, name)
-    else {
+    let Some(entry) = signatures::find_entry(texts, words, flagged, from, k, name) else {
         return Step::Poison(used);
     };
-    let ret = signatures::return_type(words, at);
+    let ret = signatures::return_type(words, entry.at);
     if all_return(
-        types, script, library, words, flagged, next, left, name, ret,
+        types, texts, words, flagged, entry.next, entry.left, name, ret,
     ) {
         return operators::set_known(slots, used, slot, ret);
     }

@@ -1,4 +1,5 @@
 -- Access to signatures as the code has it, one law for each way out. Assumes nothing.
+use Rattle.std.specs.Prelude.{Some, None}
 use Prim.Native.Nat.{ℕ, zero, suc, ◌+◌, ◌*◌, ◌-◌, ◌≤◌, ◌<◌, min}
 use mathlib.Core.Path.{◌≡◌, refl, sym, ap, ◌∙◌}
 use mathlib.Core.Bool.{Bool, true, false}
@@ -10,7 +11,6 @@ use lib.Dec.{eqb}
 use Rattle.tok.specs.Text.{Texts, name_bytes, same_bytes}
 use Rattle.library.specs.Package.{param, Signature, params_from, group_of}
 use Rattle.state.specs.Signatures.{signature_at, slotted, entry_at, entry_end, entries_from}
-use Rattle.signatures.specs.declared.Entry.TheVariants.{One, Over}
 use Rattle.signatures.specs.Entries.{flag_words, Finds}
 use Rattle.signatures.specs.EntryLaws.{entries-held}
 
@@ -131,7 +131,7 @@ module _ (t : Texts) (name words : List ℕ) (flagged : Bool) (from k : ℕ) whe
 
       pub group-found : {f : Bool} {flags next : ℕ} → r ≡ true → f ≡ slotted words (flag_words flagged) at → flags ≡ flag_words flagged
           → next ≡ min (entry_end words (flag_words flagged) at) (length words)
-          → Finds t name words (flag_words flagged) from k (One f (at + 1 + flags) next (left - 1))
+          → Finds t name words (flag_words flagged) from k (Some (record { slotted = f; at = at + 1 + flags; next = next; left = left - 1 }))
       group-found y ef e en = record {
         is = first ∙ rw (y, others en, ef, e) refl;
         near = omega (arith, h.within, flag_low flagged);
@@ -141,7 +141,7 @@ module _ (t : Texts) (name words : List ℕ) (flagged : Bool) (from k : ℕ) whe
       pub group-past : {next : ℕ} → r ≡ false → next ≡ min (entry_end words (flag_words flagged) at) (length words) → Left next (left - 1)
       group-past n en = record { within = omega arith; fewer = omega (arith, h.fewer); rest = first ∙ rw (n, others en) refl }
 
-    pub group-none : left ≤ 0 → Finds t name words (flag_words flagged) from k Over
+    pub group-none : left ≤ 0 → Finds t name words (flag_words flagged) from k None
     unfolding group_of entries_from
     group-none l =
         let s : left ≡ 0 = omega arith in

@@ -3,12 +3,11 @@
 #![tactic(auto)]
 
 ghost use Rattle.std.specs.Prelude.{◌≡◌, Bool, ◌+◌, min, length, get_or};
-ghost use Rattle.tok.specs.Text.{Texts, texts_of};
 ghost use Rattle.library.specs.Package.{param};
 ghost use Rattle.state.specs.Signatures.{signature_at, slotted, entry_end};
 ghost use Rattle.signatures.specs.Entries.{flag_words, Finds};
 
-use tok::least;
+use tok::Texts;
 
 // The word that stands n after a place, and 0 past the end.
 fn word_after(words: &[u32], at: usize, n: usize) -> u32
@@ -86,52 +85,41 @@ fn entry_end(words: &[u32], flagged: bool, at: usize) -> usize
         return words.len();
     }
     let flags = flag_words(flagged);
-    least(
-        at + 3 + flags + 2 * tok::wide(word_after(words, at, 1 + flags)),
-        words.len(),
-    )
+    (at + 3 + flags + 2 * word_after(words, at, 1 + flags) as usize).min(words.len())
 }
 
-// An entry of a name: whether it has slots, the place of its argument count, the place after it, and how many entries follow; or that there
-// is no more.
+// An entry of a name: whether it has slots, the place of its argument count, the place after it, and how many entries follow.
 #[derive(Clone, Copy)]
-pub enum Entry {
-    One {
-        slotted: bool,
-        at: usize,
-        next: usize,
-        left: usize,
-    },
-    Over,
+pub struct Entry {
+    pub slotted: bool,
+    pub at: usize,
+    pub next: usize,
+    pub left: usize,
 }
 
 // The first of a name among k entries from a place on.
-pub fn find_entry<'a>(
-    script: &'a [u8],
-    library: &'a [u8],
+pub fn find_entry(
+    texts: &Texts,
     words: &[u32],
     flagged: bool,
     from: usize,
     k: usize,
     name: &[u8],
-) -> Entry
-    ensures { let T : Texts = texts_of script.now library.now in
-        Finds T name.now words.now (flag_words flagged) from k result }
+) -> Option<Entry>
+    ensures { Finds texts.now name.now words.now (flag_words flagged) from k result }
 {
-    let mut at = least(from, words.len());
-    let mut left = k;
-    while left > 0 {
+    let mut at = from.min(words.len());
+    for i in 0..k {
         let w = tok::word_at(words, at);
-        if tok::is_name(script, library, name, w) {
-            return Entry::One {
+        if tok::is_name(texts, name, w) {
+            return Some(Entry {
                 slotted: has_slots(words, flagged, at),
                 at: at + 1 + flag_words(flagged),
                 next: entry_end(words, flagged, at),
-                left: left - 1,
-            };
+                left: k - i - 1,
+            });
         }
         at = entry_end(words, flagged, at);
-        left -= 1;
     }
-    Entry::Over
+    None
 }

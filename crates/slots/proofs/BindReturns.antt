@@ -6,7 +6,8 @@ use mathlib.Core.Logic.{⊎_elim}
 use mathlib.Core.Bool.{Bool, true, false, true≢false}
 use mathlib.Core.Option.{none, some}
 use mathlib.Core.List.{List, [], ◌∷◌}
-use Prim.Native.Nat.{ℕ, ◌+◌, ◌-◌, ◌<◌, ◌≤◌}
+use Prim.Native.Nat.{ℕ, ◌+◌, ◌-◌, ◌<◌, ◌≤◌, min}
+use Rattle.std.proofs.Math.Decide.{ℕ_discrete}
 use native.Mathlib.Omega.{arith}
 use lib.Dec.{leb}
 use lib.ListN.{get_or, length}
@@ -136,6 +137,11 @@ module _ (t : Texts) (types l : List ℕ) (go : ℕ → Ty) (i j count m n : ℕ
         (rw (fields-more go t types i (one_less p))
         (bind-short t types (name_bytes t (get_or types i 0)) (go (get_or types (i + 1) 0)) (fields_from go t types (i + 2) (m - 1)) j n (bindings_in t l count) e))
 
+  -- one of the lists is at its end
+  pub fields-over : min m n ≡ 0 → Binds t (bind_fields t types (fields_from go t types i m) j n) l count (Done count) l
+  fields-over h = elim (ℕ_discrete m 0) [ yes e ↦ fields-end e | no p ↦ fields-short p (omega arith) ]
+
+  module _ (p : m ≡ 0 → ⊥) where
     module _ (q : n ≡ 0 → ⊥) {x y : ℕ} (hx : x ≡ get_or types (i + 1) 0) (hy : y ≡ get_or types (j + 1) 0) where
       fields-are : bind_fields t types (fields_from go t types i m) j n (bindings_in t l count) ≡ and_then (bind_slots t types (go x) y (bindings_in t l count)) (others t types go i j m n)
       fields-are =
@@ -171,15 +177,16 @@ pub record Left (t : Texts) (types : List ℕ) (go : ℕ → Ty) (i m j n : ℕ)
   pub leads : (r : Bind) (l'' : List ℕ) → Binds t (bind_fields t types (fields_from go t types i' m') j' n') l' count' r l''
       → Binds t (bind_fields t types (fields_from go t types i m) j n) l count r l''
 
-pub left-all : (t : Texts) (types : List ℕ) (go : ℕ → Ty) (i m j n : ℕ) (l : List ℕ) (count : ℕ) → Left t types go i m j n l count i m j n l count
-left-all t types go i m j n l count = record { keeps = refl; leads = λ r l'' b. b }
+pub left-all : (t : Texts) (types : List ℕ) (go : ℕ → Ty) (i m j n : ℕ) (l : List ℕ) (count : ℕ) {i' m' j' n' : ℕ} → i' ≡ i → m' ≡ m → j' ≡ j → n' ≡ n
+    → Left t types go i m j n l count i' m' j' n' l count
+left-all t types go i m j n l count ei em ej en = rw (ei, em, ej, en) (record { keeps = refl; leads = λ r l'' b. b })
 
 module _ {t : Texts} {types : List ℕ} {go : ℕ → Ty} {i m j n : ℕ} {l : List ℕ} {count i' m' j' n' : ℕ} {l' : List ℕ} {count' : ℕ}
     (h : Left t types go i m j n l count i' m' j' n' l' count') where
-  pub left-next : {x y c : ℕ} {r : Bind} {l₁ : List ℕ} → (m' ≡ 0 → ⊥) → (n' ≡ 0 → ⊥) → x ≡ get_or types (i' + 1) 0 → y ≡ get_or types (j' + 1) 0
+  pub left-next : {x y c i₁ m₁ j₁ n₁ : ℕ} {r : Bind} {l₁ : List ℕ} → i₁ ≡ i' + 2 → m₁ ≡ m' - 1 → j₁ ≡ j' + 2 → n₁ ≡ n' - 1 → (m' ≡ 0 → ⊥) → (n' ≡ 0 → ⊥) → x ≡ get_or types (i' + 1) 0 → y ≡ get_or types (j' + 1) 0
       → Binds t (bind_slots t types (go x) y) l' count' r l₁ → r ≡ Done c → length l₁ ≡ length l'
-      → Left t types go i m j n l count (i' + 2) (m' - 1) (j' + 2) (n' - 1) l₁ c
-  left-next p q hx hy b e k = record {
+      → Left t types go i m j n l count i₁ m₁ j₁ n₁ l₁ c
+  left-next ei em ej en p q hx hy b e k = rw (ei, em, ej, en) (record {
     keeps = k ∙ h.keeps;
     leads = λ s l₂ g. h.leads s l₂ (fields-next t types l' go i' j' count' m' n' p q hx hy b e k g);
-  }
+  })

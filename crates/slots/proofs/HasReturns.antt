@@ -1,5 +1,6 @@
 -- Each return of `has_bound_slot_within` and `any_bound_slot`, by the kind of the word and by the fields that are left.
 -- By the laws of unfolding. Assumes nothing.
+use Rattle.std.specs.Prelude.{Option as Found, Some, None}
 use mathlib.Core.Path.{◌≡◌, sym, ◌∙◌}
 use mathlib.Core.Bool.{Bool, true, false, true≢false}
 use mathlib.Core.Option.{Option}
@@ -15,17 +16,15 @@ use Rattle.ptype.specs.Words.{inner_word, field_count, fields_from, unfolded}
 use Rattle.ptype.specs.Kinds.{wraps, shape, is_plain, is_wrap, is_record, is_named}
 use Rattle.ptype.proofs.UnfoldLaws.{one_less, unfolded-none, unfolded-plain, unfolded-wrap, unfolded_record, unfolded-named, fields-none, fields-more}
 use Rattle.ptype.specs.Slots.{Binding, bound_to, is_some, has_bound_slot, any_bound_slot}
-use Rattle.slots.specs.declared.Found.{Found}
-use Rattle.slots.specs.declared.Found.TheVariants.{At, Nothing}
 use Rattle.slots.specs.Bindings.{found_of}
 use Rattle.slots.specs.BindLaws.{if_true, if_false}
 
 -- whether a slot is bound
-module _ (f : Found) {o : Option ℕ} (h : found_of f ≡ o) where
-  pub found-bound : {w : ℕ} → f ≡ At w → true ≡ is_some o
+module _ (f : Found ℕ) {o : Option ℕ} (h : found_of f ≡ o) where
+  pub found-bound : {w : ℕ} → f ≡ Some w → true ≡ is_some o
   found-bound e = rw (← h, e)
 
-  pub found_none : f ≡ Nothing → false ≡ is_some o
+  pub found_none : f ≡ None → false ≡ is_some o
   found_none e = rw (← h, e)
 
 -- k, i, q, n are what the calls gave, each with what its contract says of it; r is the result
@@ -67,6 +66,6 @@ module _ (t : Texts) (types : List ℕ) (bs : List Binding) (go : ℕ → Ty) (a
     unfolding has_bound_slot
     any_first e = rw (fields-more go t types at (one_less p), ← hw, ← hq, e)
 
-    pub any_rest : q ≡ false → any_bound_slot bs (fields_from go t types at n) ≡ any_bound_slot bs (fields_from go t types (at + 2) (n - 1))
+    pub any_rest : {at' n' : ℕ} → at' ≡ at + 2 → n' ≡ n - 1 → q ≡ false → any_bound_slot bs (fields_from go t types at n) ≡ any_bound_slot bs (fields_from go t types at' n')
     unfolding has_bound_slot
-    any_rest e = rw (fields-more go t types at (one_less p), ← hw, ← hq, e)
+    any_rest ea en e = rw (ea, en, fields-more go t types at (one_less p), ← hw, ← hq, e)

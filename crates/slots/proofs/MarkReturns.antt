@@ -1,8 +1,8 @@
 -- Bound slots and marks of field lists: in fewer levels no more bound slots stand. By induction on the levels. Assumes nothing.
 use Prim.Native.Nat.{ℕ, zero, suc, ◌+◌, ◌-◌, ◌≤◌, ◌<◌}
 use native.Mathlib.Omega.{arith}
-use mathlib.Core.Path.{◌≡◌, refl, sym, ◌∙◌}
-use mathlib.Core.Bool.{Bool, true, false, ◌||◌, true≢false}
+use mathlib.Core.Path.{◌≡◌, refl, sym}
+use mathlib.Core.Bool.{false}
 use mathlib.Core.List.{List}
 use lib.ListN.{get_or}
 use Rattle.facts.specs.Tests.{neither}
@@ -50,6 +50,6 @@ module _ (bs : List Binding) (t : Texts) (types : List ℕ) where
       sym (rw ea at (any_keeps (unfolded t types g) (unfolded t types f) (λ v. has-keeps g f v (omega arith)) (at + 1) (payload_of (get_or types at 0)) e))
 
 -- the fields left, n from an index on: at first all
-pub any_all : (t : Texts) (types : List ℕ) (bs : List Binding) (go : ℕ → Ty) (w : ℕ) {q n : ℕ} → q ≡ payload_of w → n ≡ field_count types w
-    → any_bound_slot bs (fields_of go t types w) ≡ any_bound_slot bs (fields_from go t types (q + 1) n)
-any_all t types bs go w eq en = rw (en, eq)
+pub any_all : (t : Texts) (types : List ℕ) (bs : List Binding) (go : ℕ → Ty) (w : ℕ) {at n : ℕ} → at ≡ payload_of w + 1 → n ≡ field_count types w
+    → any_bound_slot bs (fields_of go t types w) ≡ any_bound_slot bs (fields_from go t types at n)
+any_all t types bs go w ea en = rw (en, ea)

@@ -1,5 +1,6 @@
 -- Each return of the functions, over variables for what the calls gave: looking in the pairs, one pair more, and one slot.
 -- By the laws of the definitions. Assumes nothing.
+use Rattle.std.specs.Prelude.{Option, Some, None}
 use mathlib.Core.Path.{◌≡◌, refl, sym, ap, ◌∙◌}
 use mathlib.Core.Bool.{Bool, true, false}
 use mathlib.Core.Option.{none, some}
@@ -16,8 +17,6 @@ use Rattle.ptype.specs.Words.{ty_of}
 use Rattle.ptype.specs.Slots.{Binding, binding, bound_to, Bound, all_bound, conflict, void_slot, bind_found, bind_one}
 use Rattle.slots.specs.declared.Bind.{Bind}
 use Rattle.slots.specs.declared.Bind.TheVariants.{Done, Conflict, Void, NoRoom}
-use Rattle.slots.specs.declared.Found.{Found}
-use Rattle.slots.specs.declared.Found.TheVariants.{At, Nothing}
 use Rattle.slots.specs.Bindings.{first_pairs, pair_room, bindings_in, found_of, bindings_after, fitted, Binds}
 use Rattle.slots.specs.BindLaws.{if_true, if_false, bind_one-void, bind_one-found, bound-here, bound-after}
 
@@ -112,16 +111,16 @@ module _ (t : Texts) (types l : List ℕ) (slot ty count : ℕ) {k : ℕ} (hk : 
         (fitted-some (pair_room l) (void_slot (bindings_in t l count) (name_bytes t slot)) (bindings-fit t l count));
   }
 
-  module _ (f : Found) (p : k ≡ 1 → ⊥) (hf : found_of f ≡ bound_to (name_bytes t slot) (bindings_in t l count)) where
+  module _ (f : Option ℕ) (p : k ≡ 1 → ⊥) (hf : found_of f ≡ bound_to (name_bytes t slot) (bindings_in t l count)) where
     one-is : bind_one t types (name_bytes t slot) ty (bindings_in t l count) ≡ bind_found t types (name_bytes t slot) ty (bindings_in t l count) (found_of f)
     one-is = rw hf (bind_one-found t types (name_bytes t slot) ty (bindings_in t l count) (λ e. p (hk ∙ e)))
 
-    pub one-new : {r : Bind} {l' : List ℕ} → f ≡ Nothing → Binds t (λ bs. all_bound (binding (name_bytes t slot) ty ∷ bs)) l count r l'
+    pub one-new : {r : Bind} {l' : List ℕ} → f ≡ None → Binds t (λ bs. all_bound (binding (name_bytes t slot) ty ∷ bs)) l count r l'
         → Binds t (bind_one t types (name_bytes t slot) ty) l count r l'
     unfolding bind_found
     one-new e h = same-binds (one-is ∙ rw e) h
 
-    module _ {e : ℕ} {q : Bool} (he : f ≡ At e) (hq : q ≡ same_ty (ty_of t types e) (ty_of t types ty)) where
+    module _ {e : ℕ} {q : Bool} (he : f ≡ Some e) (hq : q ≡ same_ty (ty_of t types e) (ty_of t types ty)) where
       pub one_same : q ≡ true → Binds t (bind_one t types (name_bytes t slot) ty) l count (Done count) l
       unfolding bind_found
       one_same h =

@@ -1,12 +1,10 @@
 -- Bindings in a lent part of scratch, and what binding answers ("`HashMap` becomes lists in scratch"). Definitions.
-use Rattle.std.specs.Prelude.{◌≡◌, cond, List, [], ◌∷◌, ℕ, zero, suc, ◌+◌, ◌*◌, ◌/◌, min, length, get_or, leb}
+use Rattle.std.specs.Prelude.{◌≡◌, cond, List, [], ◌∷◌, ℕ, zero, suc, ◌+◌, ◌*◌, ◌/◌, min, length, get_or, leb, Option as Found, Some, None}
 use Rattle.std.proofs.Math.Option.{Option, none, some}
 use Rattle.tok.specs.Text.{Texts, name_bytes}
 use Rattle.ptype.specs.Slots.{Binding, binding, Bound, all_bound, conflict, void_slot}
 use Rattle.slots.specs.declared.Bind.{Bind}
 use Rattle.slots.specs.declared.Bind.TheVariants.{Done, Conflict, Void, NoRoom}
-use Rattle.slots.specs.declared.Found.{Found}
-use Rattle.slots.specs.declared.Found.TheVariants.{At, Nothing}
 
 -- Pairs of words, a slot's and its type's: the first k of them as bindings, the newest first.
 unfoldable pub first_pairs : Texts → (pairs : List ℕ) → (k : ℕ) → List Binding
@@ -22,9 +20,9 @@ abbrev pub bindings_in : Texts → (pairs : List ℕ) → (count : ℕ) → List
 bindings_in texts pairs count = first_pairs texts pairs (min count (pair_room pairs))
 
 -- bindings.get(slot)
-abbrev pub found_of : Found → Option ℕ
-found_of (At w) = some w
-found_of Nothing = none
+abbrev pub found_of : Found ℕ → Option ℕ
+found_of (Some w) = some w
+found_of None = none
 
 -- "what was bound before an error stays"
 unfoldable pub bindings_after : Bound → List Binding

@@ -1,4 +1,5 @@
 -- The steps of one argument of a function with slots, one law for each way out of the code. Assumes nothing.
+use Rattle.std.specs.Prelude.{Option as Found}
 use Prim.Native.Nat.{ℕ, ◌≤◌}
 use mathlib.Core.Path.{◌≡◌, refl, sym, ap, ◌∙◌}
 use mathlib.Core.Bool.{Bool, true, false}
@@ -24,7 +25,6 @@ use Rattle.slots.specs.declared.Bind.TheVariants.{Done, Conflict, Void, NoRoom}
 use Rattle.slots.specs.Bindings.{pair_room, bindings_in, bindings_after, fitted, bound_of, Binds}
 use Rattle.apply.specs.Apply.{apply_word}
 use Rattle.apply.specs.TreeLaws.{apply-tree, apply_grows}
-use Rattle.err.specs.declared.Reported.{Reported}
 use Rattle.err.specs.Message.{slot_conflict, slot_void}
 use Rattle.err.specs.Report.{Reports}
 use Rattle.library.specs.Package.{Package, param}
@@ -41,6 +41,7 @@ use Rattle.slotted.specs.declared.Argued.{Argued}
 use Rattle.slotted.specs.declared.Argued.TheVariants as A
 use Rattle.slotted.specs.Argued.{argued, count_of, counted_of, AfterBinding, Argues}
 use Rattle.slotted.specs.Meant.{Meant, ArgumentMeant}
+use Rattle.err.specs.declared.Counts.{Counts}
 
 -- a step that only writes, and then the bindings
 went-left : (bs : List Binding) (rest : Rest) (s t d m : List ℕ) (r : Went) → next (gone rest s t d m r) (λ _. return bs) ≡ left bs rest s t d m r
@@ -91,7 +92,7 @@ module _ (texts : Texts) (n : ℕ) (call_name : List ℕ) (name expected : ℕ) 
       → AfterBinding texts n call_name name expected span provided t d m u pairs b t' d' m' r
   after-bound p q = rw p q
 
-  pub after-conflict : {count slot existing new : ℕ} {d' m' : List ℕ} {r : Reported} {went : Went} → b ≡ Conflict count slot existing new
+  pub after-conflict : {count slot existing new : ℕ} {d' m' : List ℕ} {r : Found Counts} {went : Went} → b ≡ Conflict count slot existing new
       → Reports (slot_conflict span call_name (name_bytes texts slot) (ty_of texts t existing) (ty_of texts t new)) d m u.told d' m' r → went ≡ told_of n u r
       → AfterBinding texts n call_name name expected span provided t d m u pairs b t d' m' went
   unfolding after_binding tree bindings_after
@@ -101,7 +102,7 @@ module _ (texts : Texts) (n : ℕ) (call_name : List ℕ) (name expected : ℕ) 
         (went-left (bindings_in texts pairs count) rest s t d' m' went);
   }
 
-  pub after-void : {count slot : ℕ} {d' m' : List ℕ} {r : Reported} {went : Went} → b ≡ Void count slot
+  pub after-void : {count slot : ℕ} {d' m' : List ℕ} {r : Found Counts} {went : Went} → b ≡ Void count slot
       → Reports (slot_void span call_name (name_bytes texts slot)) d m u.told d' m' r → went ≡ told_of n u r
       → AfterBinding texts n call_name name expected span provided t d m u pairs b t d' m' went
   unfolding after_binding bindings_after

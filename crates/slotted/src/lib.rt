@@ -3,7 +3,6 @@
 #![tactic(auto)]
 
 ghost use Rattle.std.specs.Prelude.{◌≡◌, true};
-ghost use Rattle.tok.specs.Text.{Texts, texts_of};
 ghost use Rattle.slots.specs.declared.Bind.TheVariants.{Done};
 ghost use Rattle.err.specs.Message.{call_name};
 ghost use Rattle.library.specs.Package.{param};
@@ -16,7 +15,7 @@ use add::Added;
 use err::CallName;
 use slots::Bind;
 use state::{Used, Went};
-use tok::Span;
+use tok::{Span, Texts};
 
 // What an argument of a function with slots answers: how many pairs there are then, and what is used; or a refusal's number and place.
 #[derive(Clone, Copy)]
@@ -26,13 +25,12 @@ pub enum Argued {
 }
 
 // The argument bound without an error: the expected type with its slots applied is compared.
-fn applied<'a>(
+fn applied(
     types: &mut [u32],
     diagnostics: &mut [u32],
     messages: &mut [u8],
     pairs: &[u32],
-    script: &'a [u8],
-    library: &'a [u8],
+    texts: &Texts,
     used: Used,
     count: usize,
     n: u32,
@@ -42,23 +40,20 @@ fn applied<'a>(
     provided: u32,
     span: Span,
 ) -> Went
-    requires { let T : Texts = texts_of script.now library.now in
-        Meant T types.old used.types expected × Meant T types.old used.types provided }
-    ensures { let T : Texts = texts_of script.now library.now in
-        AfterBinding T n (call_name T callee) name expected span provided types.old diagnostics.old messages.old used pairs.now (Done count)
+    requires { Meant texts.now types.old used.types expected × Meant texts.now types.old used.types provided }
+    ensures { AfterBinding texts.now n (call_name texts.now callee) name expected span provided types.old diagnostics.old messages.old used pairs.now (Done count)
         types.new diagnostics.new messages.new result }
 {
     let told = used.told;
     let kept = used.kept;
-    let r = apply::apply_slot_binding(types, used.types, script, library, pairs, count, expected);
+    let r = apply::apply_slot_binding(types, used.types, texts, pairs, count, expected);
     match r {
         Added::Put(w, u) => {
             return arguments::compared(
                 &types[..],
                 diagnostics,
                 messages,
-                script,
-                library,
+                texts,
                 Used {
                     types: u,
                     told,
@@ -82,13 +77,12 @@ fn applied<'a>(
 }
 
 // What a binding leads to: an error is reported, 21 or 22, and the argument left; else the types are compared.
-fn after_binding<'a>(
+fn after_binding(
     types: &mut [u32],
     diagnostics: &mut [u32],
     messages: &mut [u8],
     pairs: &[u32],
-    script: &'a [u8],
-    library: &'a [u8],
+    texts: &Texts,
     used: Used,
     bound: Bind,
     n: u32,
@@ -98,10 +92,8 @@ fn after_binding<'a>(
     provided: u32,
     span: Span,
 ) -> Went
-    requires { let T : Texts = texts_of script.now library.now in
-        Meant T types.old used.types expected × Meant T types.old used.types provided }
-    ensures { let T : Texts = texts_of script.now library.now in
-        AfterBinding T n (call_name T callee) name expected span provided types.old diagnostics.old messages.old used pairs.now bound
+    requires { Meant texts.now types.old used.types expected × Meant texts.now types.old used.types provided }
+    ensures { AfterBinding texts.now n (call_name texts.now callee) name expected span provided types.old diagnostics.old messages.old used pairs.now bound
         types.new diagnostics.new messages.new result }
 {
     match bound {
@@ -111,8 +103,7 @@ fn after_binding<'a>(
                 diagnostics,
                 messages,
                 pairs,
-                script,
-                library,
+                texts,
                 used,
                 count,
                 n,
@@ -135,8 +126,7 @@ fn after_binding<'a>(
                 &mut messages[free..],
                 used.told,
                 &types[..],
-                script,
-                library,
+                texts,
                 span,
                 callee,
                 slot,
@@ -151,8 +141,7 @@ fn after_binding<'a>(
                 diagnostics,
                 &mut messages[free..],
                 used.told,
-                script,
-                library,
+                texts,
                 span,
                 callee,
                 slot,
@@ -205,14 +194,13 @@ fn counted(count: usize, went: Went) -> Argued
 }
 
 // An argument of a function with slots. One that contains a Slot is passed over.
-pub fn slotted_argument<'a>(
+pub fn slotted_argument(
     slots: &[u32],
     types: &mut [u32],
     diagnostics: &mut [u32],
     messages: &mut [u8],
     pairs: &mut [u32],
-    script: &'a [u8],
-    library: &'a [u8],
+    texts: &Texts,
     used: Used,
     count: usize,
     n: u32,
@@ -222,10 +210,8 @@ pub fn slotted_argument<'a>(
     slot: u32,
     span: Span,
 ) -> Argued
-    requires { let T : Texts = texts_of script.now library.now in
-        ArgumentMeant T slots.now types.old used.types expected slot pairs.old count }
-    ensures { let T : Texts = texts_of script.now library.now in
-        Argues T (λ c. argument c n (call_name T callee) true (param name expected) (given slot span)) slots.now types.old diagnostics.old
+    requires { ArgumentMeant texts.now slots.now types.old used.types expected slot pairs.old count }
+    ensures { Argues texts.now (λ c. argument c n (call_name texts.now callee) true (param name expected) (given slot span)) slots.now types.old diagnostics.old
         messages.old used pairs.old count types.new diagnostics.new messages.new pairs.new result }
 {
     let w = tok::word_at(slots, tok::wide(slot));
@@ -235,14 +221,13 @@ pub fn slotted_argument<'a>(
     if ptype::contains_slot(&types[..], w) {
         return Argued::On(count, used);
     }
-    let bound = slots::bind_slots(&types[..], script, library, expected, w, pairs, count);
+    let bound = slots::bind_slots(&types[..], texts, expected, w, pairs, count);
     let went = after_binding(
         types,
         diagnostics,
         messages,
         &pairs[..],
-        script,
-        library,
+        texts,
         used,
         bound,
         n,

@@ -1,4 +1,5 @@
 -- A call of a function with slots, one law for each way out of the code. Assumes nothing.
+use Rattle.std.specs.Prelude.{Option}
 use Prim.Native.Nat.{ℕ, zero, suc, ◌+◌, ◌*◌, ◌-◌, ◌≤◌, ◌<◌, min}
 use mathlib.Core.Path.{◌≡◌, refl, sym, ap, ◌∙◌}
 use mathlib.Core.Bool.{Bool, true, false, ◌||◌}
@@ -30,7 +31,6 @@ use Rattle.apply.specs.Apply.{apply_word}
 use Rattle.apply.specs.TreeLaws.{apply-tree}
 use Rattle.ast.specs.Node.{nodes_from, tree_of, slot_of}
 use Rattle.ast.specs.Span.{span_of}
-use Rattle.err.specs.declared.Reported.{Reported}
 use Rattle.err.specs.Message.{argument_count}
 use Rattle.err.specs.Report.{Reports}
 use Rattle.library.specs.Package.{Param, param, Package}
@@ -54,6 +54,7 @@ use Rattle.slotted.specs.Argued.{argued, Argues}
 use Rattle.slotted.specs.Meant.{Meant, ArgumentMeant}
 use Rattle.call_args.specs.Given.{given_from}
 use Rattle.slotted_call.specs.Bindable.{Bindable, none, more, GrownTo, Arguments, Returns}
+use Rattle.err.specs.declared.Counts.{Counts}
 
 -- ── Growing ──
 
@@ -254,7 +255,7 @@ length-given image (suc k) at = ap suc (length-given image k (at + 1))
 
 module _ (texts : Texts) (n slot token : ℕ) (call_name words : List ℕ) (at : ℕ) (image : List ℕ) (args count : ℕ) (s t d m : List ℕ) (u : Used) {required : ℕ}
     (en : (f : Bool) → required ≡ length (signature_at words at f).params) where
-  pub miscounted : {d' m' : List ℕ} {x : Reported} {r : Step} → (count ≡ required → ⊥) → Reports (argument_count token call_name required count) d m u.told d' m' x → r ≡ poison_of n u x
+  pub miscounted : {d' m' : List ℕ} {x : Option Counts} {r : Step} → (count ≡ required → ⊥) → Reports (argument_count token call_name required count) d m u.told d' m' x → r ≡ poison_of n u x
       → (library : List Package) (void : ℕ) → Steps (check_call_args (ctx texts library void) n slot token call_name (signature_at words at true) (given_from image args count)) s t d m u s t d' m' r
   unfolding check_call_args signature_at when poison
   miscounted differ p w library void = record {

@@ -4,7 +4,6 @@
 #![tactic(auto)]
 
 ghost use Rattle.std.specs.Prelude.{true, List, ℕ};
-ghost use Rattle.tok.specs.Text.{Texts, texts_of};
 ghost use Rattle.err.specs.Message.{call_name};
 ghost use Rattle.library.specs.Package.{Package};
 ghost use Rattle.rules.specs.Calls.{check_call_args};
@@ -19,16 +18,16 @@ use add::Added;
 use err::CallName;
 use slotted::Argued;
 use state::{Step, Used};
+use tok::Texts;
 
 // Each argument, in order.
-fn slotted_arguments<'a>(
+fn slotted_arguments(
     slots: &[u32],
     types: &mut [u32],
     diagnostics: &mut [u32],
     messages: &mut [u8],
     pairs: &mut [u32],
-    script: &'a [u8],
-    library: &'a [u8],
+    texts: &Texts,
     image: &[u32],
     places: &[u16],
     used: Used,
@@ -39,10 +38,8 @@ fn slotted_arguments<'a>(
     args: usize,
     count: usize,
 ) -> Argued
-    requires { let T : Texts = texts_of script.now library.now in
-        Counted T image.now places.now n args count slots.now types.old used.types words.now at pairs.old }
-    ensures { let T : Texts = texts_of script.now library.now in
-        Arguments T n (call_name T callee) (signature_at words.now at true).params image.now args count slots.now types.old
+    requires { Counted texts.now image.now places.now n args count slots.now types.old used.types words.now at pairs.old }
+    ensures { Arguments texts.now n (call_name texts.now callee) (signature_at words.now at true).params image.now args count slots.now types.old
         diagnostics.old messages.old used types.new diagnostics.new messages.new pairs.new result }
 {
     let mut used = used;
@@ -56,8 +53,7 @@ fn slotted_arguments<'a>(
             diagnostics,
             messages,
             pairs,
-            script,
-            library,
+            texts,
             used,
             bound,
             n,
@@ -78,25 +74,23 @@ fn slotted_arguments<'a>(
 }
 
 // The return type, with its slots applied.
-fn returned<'a>(
+fn returned(
     slots: &mut [u32],
     types: &mut [u32],
     pairs: &[u32],
-    script: &'a [u8],
-    library: &'a [u8],
+    texts: &Texts,
     used: Used,
     bound: usize,
     n: u32,
     slot: u32,
     ret: u32,
 ) -> Step
-    requires { let T : Texts = texts_of script.now library.now in Meant T types.old used.types ret }
-    ensures { let T : Texts = texts_of script.now library.now in
-        ((d m : List ℕ) → Returns T n slot ret pairs.now bound slots.old types.old d m used slots.new types.new result) }
+    requires { Meant texts.now types.old used.types ret }
+    ensures { ((d m : List ℕ) → Returns texts.now n slot ret pairs.now bound slots.old types.old d m used slots.new types.new result) }
 {
     let told = used.told;
     let kept = used.kept;
-    let r = apply::apply_slot_binding(types, used.types, script, library, pairs, bound, ret);
+    let r = apply::apply_slot_binding(types, used.types, texts, pairs, bound, ret);
     match r {
         Added::Put(w, u) => {
             return operators::set_known(
@@ -121,14 +115,13 @@ fn returned<'a>(
 
 // Typechecker::check_call_args, of a function with slots whose signature stands at a place of `words`. Another number of arguments is 19, and
 // the call is poisoned.
-pub fn check_slotted<'a>(
+pub fn check_slotted(
     slots: &mut [u32],
     types: &mut [u32],
     diagnostics: &mut [u32],
     messages: &mut [u8],
     pairs: &mut [u32],
-    script: &'a [u8],
-    library: &'a [u8],
+    texts: &Texts,
     image: &[u32],
     places: &[u16],
     used: Used,
@@ -141,11 +134,9 @@ pub fn check_slotted<'a>(
     args: usize,
     count: usize,
 ) -> Step
-    requires { let T : Texts = texts_of script.now library.now in
-        SlottedReady T image.now places.now n args count slots.old types.old used.types words.now at pairs.old }
-    ensures { let T : Texts = texts_of script.now library.now in
-        ((ls : List Package) (v : ℕ) → Steps
-        (check_call_args (ctx T ls v) n slot token (call_name T callee) (signature_at words.now at true) (given_from image.now args count)) slots.old
+    requires { SlottedReady texts.now image.now places.now n args count slots.old types.old used.types words.now at pairs.old }
+    ensures { ((ls : List Package) (v : ℕ) → Steps
+        (check_call_args (ctx texts.now ls v) n slot token (call_name texts.now callee) (signature_at words.now at true) (given_from image.now args count)) slots.old
         types.old diagnostics.old messages.old used slots.new types.new diagnostics.new messages.new result) }
 {
     let required = signatures::argument_count(words, at);
@@ -155,8 +146,7 @@ pub fn check_slotted<'a>(
             diagnostics,
             &mut messages[free..],
             used.told,
-            script,
-            library,
+            texts,
             token,
             callee,
             required,
@@ -170,8 +160,7 @@ pub fn check_slotted<'a>(
         diagnostics,
         messages,
         pairs,
-        script,
-        library,
+        texts,
         image,
         places,
         used,
@@ -185,18 +174,7 @@ pub fn check_slotted<'a>(
     match argued {
         Argued::On(bound, after) => {
             let ret = signatures::return_type(words, at);
-            return returned(
-                slots,
-                types,
-                &pairs[..],
-                script,
-                library,
-                after,
-                bound,
-                n,
-                slot,
-                ret,
-            );
+            return returned(slots, types, &pairs[..], texts, after, bound, n, slot, ret);
         }
         Argued::Refused(number, place) => {
             return Step::Refused(number, place);

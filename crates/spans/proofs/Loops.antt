@@ -14,6 +14,17 @@ use Rattle.spans.specs.Covers.{cover_from, cover-append}
 use Rattle.spans.specs.Lists.{spans_at, value_spans_at, case_spans_at, token_spans_at, arg_spans_at, extern_spans_at, spans_first, values-first, cases-first, tokens_first, args-first, externs_first}
 use Rattle.spans.specs.Ready.{NodesReady, ValuesReady, CasesReady, ArgsReady, ExternsReady, nodes-rest, values-rest, args-rest, case-rest, extern-rest}
 
+-- how many are left of k where i are done
+module _ {k i : ℕ} where
+  pub some-left : i < k → 0 < k - i
+  some-left h = omega arith
+
+  pub none-left : k ≤ i → k - i ≤ 0
+  none-left h = omega arith
+
+pub one-less : (k i : ℕ) → k - (i + 1) ≡ k - i - 1
+one-less k i = omega arith
+
 less : {k : ℕ} → 0 < k → k ≡ suc (k - 1)
 less l = omega arith
 

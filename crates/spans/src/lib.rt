@@ -55,11 +55,9 @@ fn cover_tokens(image: &[u32], span: Span, at: usize, k: usize) -> Span
 {
     let mut covered = span;
     let mut i = at;
-    let mut left = k;
-    while left > 0 {
+    for _ in 0..k {
         covered = cover_spans(covered, token_span(word_at(image, i)));
         i += 1;
-        left -= 1;
     }
     covered
 }
@@ -71,12 +69,10 @@ fn cover_args(image: &[u32], places: &[u16], span: Span, at: usize, k: usize) ->
 {
     let mut covered = span;
     let mut i = at;
-    let mut left = k;
-    while left > 0 {
+    for _ in 0..k {
         let named = cover_spans(covered, token_span(word_at(image, i)));
         covered = cover_spans(named, type_span(image, places, word_at(image, i + 1)));
         i += 2;
-        left -= 1;
     }
     covered
 }
@@ -88,14 +84,12 @@ fn cover_externs(image: &[u32], places: &[u16], span: Span, at: usize, k: usize)
 {
     let mut covered = span;
     let mut i = at;
-    let mut left = k;
-    while left > 0 {
+    for _ in 0..k {
         let count = wide(word_at(image, i + 2));
         let named = cover_spans(covered, token_span(word_at(image, i)));
         let args = cover_args(image, places, named, i + 3, count);
         covered = cover_spans(args, type_span(image, places, word_at(image, i + 1)));
         i = i + 3 + 2 * count;
-        left -= 1;
     }
     covered
 }
@@ -106,10 +100,8 @@ fn cases_end(image: &[u32], places: &[u16], owner: u32, at: usize, k: usize) -> 
     ensures { result ≡ cases_end image.now at k }
 {
     let mut i = at;
-    let mut left = k;
-    while left > 0 {
+    for _ in 0..k {
         i = i + 3 + wide(word_at(image, i + 2));
-        left -= 1;
     }
     i
 }
@@ -122,11 +114,9 @@ fn cover_nodes(image: &[u32], places: &[u16], owner: u32, span: Span, at: usize,
 {
     let mut covered = span;
     let mut i = at;
-    let mut left = k;
-    while left > 0 {
+    for _ in 0..k {
         covered = cover_spans(covered, span_of(image, places, word_at(image, i)));
         i += 1;
-        left -= 1;
     }
     covered
 }
@@ -139,12 +129,10 @@ fn cover_values(image: &[u32], places: &[u16], owner: u32, span: Span, at: usize
 {
     let mut covered = span;
     let mut i = at;
-    let mut left = k;
-    while left > 0 {
+    for _ in 0..k {
         let named = cover_spans(covered, token_span(word_at(image, i)));
         covered = cover_spans(named, span_of(image, places, word_at(image, i + 1)));
         i += 2;
-        left -= 1;
     }
     covered
 }
@@ -157,14 +145,12 @@ fn cover_cases(image: &[u32], places: &[u16], owner: u32, span: Span, at: usize,
 {
     let mut covered = span;
     let mut i = at;
-    let mut left = k;
-    while left > 0 {
+    for _ in 0..k {
         let count = wide(word_at(image, i + 2));
         let begun = cover_spans(covered, token_span(word_at(image, i)));
         let tested = cover_spans(begun, span_of(image, places, word_at(image, i + 1)));
         covered = cover_nodes(image, places, owner, tested, i + 3, count);
         i = i + 3 + count;
-        left -= 1;
     }
     covered
 }

@@ -33,12 +33,10 @@ fn arguments_are_shallow(types: &[u32], words: &[u32], at: usize, known: &mut [u
         ((t : Texts) → result ≡ all_shallow t types.now (param_types (function_at words.now at).sig.params)) × D }
 {
     let count = library::argument_count(words, at);
-    let mut i = 0;
-    while i < count {
+    for i in 0..count {
         if !add::is_shallow_known(types, library::argument_type(words, at, i), known) {
             return false;
         }
-        i += 1;
     }
     true
 }
@@ -66,13 +64,11 @@ fn functions_are_shallow(
     ensures { ((t : Texts) → result ≡ all_shallow t types.now (function_types (functions_from words.now from k))) × Depths types.now known.new }
 {
     let mut at = from;
-    let mut left = k;
-    while left > 0 {
+    for _ in 0..k {
         if !function_is_shallow(types, words, at, known) {
             return false;
         }
         at = library::function_end(words, at);
-        left -= 1;
     }
     true
 }
@@ -83,14 +79,13 @@ fn packages_are_shallow(types: &[u32], words: &[u32], known: &mut [u8]) -> bool
     ensures { ((t : Texts) → result ≡ all_shallow t types.now (package_types (packages_of words.now))) × Depths types.now known.new }
 {
     let mut at = library::packages_place(words);
-    let mut left = library::package_count(words);
-    while left > 0 {
+    let count = library::package_count(words);
+    for _ in 0..count {
         let k = library::function_count(words, at);
         if !functions_are_shallow(types, words, at + 2, k, known) {
             return false;
         }
         at = library::package_end(words, at);
-        left -= 1;
     }
     true
 }

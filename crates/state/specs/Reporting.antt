@@ -1,10 +1,8 @@
 -- From a writer of a diagnostic (`Reports`) to the rules' steps `report` and `poison`, and steps one after the other. By cases. Assumes nothing.
-use Rattle.std.specs.Prelude.{ℕ, ◌≡◌, List}
+use Rattle.std.specs.Prelude.{ℕ, ◌≡◌, List, Option, Some, None}
 use Rattle.std.proofs.Math.Path.{refl}
 use Rattle.tok.specs.Step.{next, return, ◌>>◌}
 use Rattle.err.specs.declared.Counts.{Counts}
-use Rattle.err.specs.declared.Reported.{Reported}
-use Rattle.err.specs.declared.Reported.TheVariants.{Told, NoRoom}
 use Rattle.err.specs.Message.{Diagnostic}
 use Rattle.err.specs.Report.{ended, Reports}
 use Rattle.rules.specs.declared.Answer.{Answer}
@@ -19,28 +17,28 @@ use Rattle.state.specs.declared.Went.TheVariants as W
 use Rattle.state.specs.World.{Rest, world, stepped, gone, Steps, Goes}
 
 -- what a step of node n answers after a diagnostic: what is used then; or refusal 9
-unfoldable pub told_of : (n : ℕ) → Used → Reported → Went
-told_of n u (Told c) = W.On (record { types = u.types; told = c; kept = u.kept })
-told_of n u NoRoom = W.Refused 9 n
+unfoldable pub told_of : (n : ℕ) → Used → Option Counts → Went
+told_of n u (Some c) = W.On (record { types = u.types; told = c; kept = u.kept })
+told_of n u None = W.Refused 9 n
 
 -- the same, where the rule ends poisoned
-unfoldable pub poison_of : (n : ℕ) → Used → Reported → Step
-poison_of n u (Told c) = S.Poison (record { types = u.types; told = c; kept = u.kept })
-poison_of n u NoRoom = S.Refused 9 n
+unfoldable pub poison_of : (n : ℕ) → Used → Option Counts → Step
+poison_of n u (Some c) = S.Poison (record { types = u.types; told = c; kept = u.kept })
+poison_of n u None = S.Refused 9 n
 
 -- ---- a diagnostic written is the rules' `report`, and `poison`
 module _ (n : ℕ) (rest : Rest) (s t : List ℕ) (u : Used) (ds ms ds' ms' : List ℕ) where
-  told : (r : Reported) → raised_told (world rest s t ds ms u) (ended n ds' ms' r) ≡ gone rest s t ds' ms' (told_of n u r)
+  told : (r : Option Counts) → raised_told (world rest s t ds ms u) (ended n ds' ms' r) ≡ gone rest s t ds' ms' (told_of n u r)
   unfolding raised_told ended gone told_of
-  told (Told c) = refl
-  told NoRoom = refl
+  told (Some c) = refl
+  told None = refl
 
-  poisoned : (r : Reported) → next (raised_told (world rest s t ds ms u) (ended n ds' ms' r)) (λ _. return Poison) ≡ stepped rest s t ds' ms' (poison_of n u r)
+  poisoned : (r : Option Counts) → next (raised_told (world rest s t ds ms u) (ended n ds' ms' r)) (λ _. return Poison) ≡ stepped rest s t ds' ms' (poison_of n u r)
   unfolding raised_told ended stepped poison_of
-  poisoned (Told c) = refl
-  poisoned NoRoom = refl
+  poisoned (Some c) = refl
+  poisoned None = refl
 
-module _ (n : ℕ) {d : Diagnostic} {s t ds ms ds' ms' : List ℕ} {u : Used} {r : Reported} where
+module _ (n : ℕ) {d : Diagnostic} {s t ds ms ds' ms' : List ℕ} {u : Used} {r : Option Counts} where
   pub reports_step : Reports d ds ms u.told ds' ms' r → Goes (report n d) s t ds ms u s t ds' ms' (told_of n u r)
   unfolding report
   reports_step p = record { step = λ rest. rw (p.step n) (told n rest s t u ds ms ds' ms' r) }
@@ -50,12 +48,12 @@ module _ (n : ℕ) {d : Diagnostic} {s t ds ms ds' ms' : List ℕ} {u : Used} {r
   poisons-step p = record { step = λ rest. rw (p.step n) (poisoned n rest s t u ds ms ds' ms' r) }
 
 -- the same where the answer is known: told, or no room for it
-module _ (n : ℕ) {d : Diagnostic} {s t ds ms ds' ms' : List ℕ} {u : Used} {r : Reported} where
-  pub told-goes : {c : Counts} → r ≡ Told c → Reports d ds ms u.told ds' ms' r → Goes (report n d) s t ds ms u s t ds' ms' (W.On (record { types = u.types; told = c; kept = u.kept }))
+module _ (n : ℕ) {d : Diagnostic} {s t ds ms ds' ms' : List ℕ} {u : Used} {r : Option Counts} where
+  pub told-goes : {c : Counts} → r ≡ Some c → Reports d ds ms u.told ds' ms' r → Goes (report n d) s t ds ms u s t ds' ms' (W.On (record { types = u.types; told = c; kept = u.kept }))
   unfolding told_of
   told-goes e p = reports_step n (rw e at p)
 
-  pub full-goes : r ≡ NoRoom → Reports d ds ms u.told ds' ms' r → Goes (report n d) s t ds ms u s t ds' ms' (W.Refused 9 n)
+  pub full-goes : r ≡ None → Reports d ds ms u.told ds' ms' r → Goes (report n d) s t ds ms u s t ds' ms' (W.Refused 9 n)
   unfolding told_of
   full-goes e p = reports_step n (rw e at p)
 

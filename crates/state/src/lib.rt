@@ -4,7 +4,7 @@
 ghost use Rattle.std.specs.Prelude.{◌≡◌};
 ghost use Rattle.state.specs.Reporting.{told_of, poison_of};
 
-use err::{Counts, Reported};
+use err::Counts;
 
 // What is used of what later requests add: nothing yet.
 #[derive(Clone, Copy)]
@@ -42,39 +42,21 @@ pub enum Typed {
 }
 
 // What a step of node n answers after a diagnostic: what is used then, or refusal 9.
-pub fn told(n: u32, used: Used, reported: Reported) -> Went
+pub fn told(n: u32, used: Used, reported: Option<Counts>) -> Went
     ensures { result ≡ told_of n used reported }
 {
     match reported {
-        Reported::Told(counts) => {
-            let kept = used.kept;
-            return Went::On(Used {
-                types: used.types,
-                told: counts,
-                kept,
-            });
-        }
-        Reported::NoRoom => {
-            return Went::Refused(9, n);
-        }
+        Some(told) => Went::On(Used { told, ..used }),
+        None => Went::Refused(9, n),
     }
 }
 
 // The same, where the rule ends poisoned.
-pub fn poisoned(n: u32, used: Used, reported: Reported) -> Step
+pub fn poisoned(n: u32, used: Used, reported: Option<Counts>) -> Step
     ensures { result ≡ poison_of n used reported }
 {
     match reported {
-        Reported::Told(counts) => {
-            let kept = used.kept;
-            return Step::Poison(Used {
-                types: used.types,
-                told: counts,
-                kept,
-            });
-        }
-        Reported::NoRoom => {
-            return Step::Refused(9, n);
-        }
+        Some(told) => Step::Poison(Used { told, ..used }),
+        None => Step::Refused(9, n),
     }
 }

@@ -3,7 +3,6 @@
 use mathlib.Core.Path.{◌≡◌, refl}
 use mathlib.Core.List.{[]}
 use Prim.Native.Nat.{◌-◌, ◌^◌}
-use Rattle.tok.specs.declared.Span.{Span}
 use Rattle.tok.specs.Word.{kind_of, payload_of}
 use Rattle.tok.specs.Text.{texts_of, name_bytes, text}
 use Rattle.tok.specs.Token.{token_bytes}

@@ -1,25 +1,19 @@
 -- Comparing byte strings of one length: from the end; many bytes at a time, by an or of exclusive ors, which is 0 exactly where no byte
 -- differs; and part by part. Assumes nothing.
-use Prim.Native.Nat.{ℕ, suc, ◌+◌, ◌-◌, ◌≤◌, ◌<◌, min}
-use mathlib.Core.Path.{◌≡◌, refl, sym, ap, ◌∙◌, subst}
-use mathlib.Core.Logic.{⊎_elim}
+use Prim.Native.Nat.{ℕ, suc, ◌+◌, ◌-◌, ◌≤◌, ◌<◌}
+use mathlib.Core.Path.{◌≡◌, refl, sym, ap, ◌∙◌}
 use mathlib.Core.Bool.{Bool, true, false, ◌&&◌, and-true, and_assoc, and-eq-true_iff}
-use mathlib.Core.List.{List, [], ◌∷◌}
-use native.Mathlib.Nat.{eq-or-lt_of_le}
+use mathlib.Core.List.{List}
 use native.Mathlib.Numerals.{add-one}
 use native.Mathlib.Omega.{arith}
 use lib.Dec.{eqb, ltb}
 use lib.Bits.{bit_or, bit_xor, or_add_and, xor_add_and, and_le_l, and_le_r, xor_self}
-use lib.ListN.{length, get_or, take, drop, length-take, length-drop, drop_of_length-le}
+use lib.ListN.{length, get_or, take, drop, length-take, drop_of_length-le}
 use lib.Seq.{drop-cons, get_or-take, get_or-drop, ext_get_or}
 use borrow.Author.Tests.{eqb-true, eq-eqb, ltb-true, ltb-false}
 use Rattle.tok.specs.Word.{name_length}
 use Rattle.tok.specs.Text.{Texts, same_bytes, name_bytes}
 use Rattle.tok.proofs.TextLaws.{same_bytes-true, same_bytes-false, eq_same_bytes, ne_same_bytes}
-
--- what holds from i on, and at the index before it, holds from there on
-pub from_more : {n : ℕ} (P : ℕ → Type 0) (i : ℕ) → ((k : ℕ) → i ≤ k → k < n → P k) → 0 < i → P (i - 1) → (k : ℕ) → i - 1 ≤ k → k < n → P k
-from_more P i all l here k h below = ⊎_elim (λ e. subst P e here) (λ lt. all k (omega arith) below) (eq-or-lt_of_le h)
 
 both_true : (p q : Bool) → (p ≡ true → q ≡ true) → (q ≡ true → p ≡ true) → p ≡ q
 both_true true q f g = sym (f refl)
@@ -77,9 +71,6 @@ at_part l i m k h below =
     get_or-take m (drop i l) (k - i) 0 (omega arith) ∙ get_or-drop i l (k - i) 0 ∙ ap (λ j. get_or l j 0) e
 
 module _ (a b : List ℕ) (i m : ℕ) where
-  pub part-long : length a ≡ length b → length (take m (drop i a)) ≡ length (take m (drop i b))
-  part-long e = simp (length-take, length-drop) (ap (λ n. min m (n - i)) e)
-
   part_equal : same_bytes (take m (drop i a)) (take m (drop i b)) ≡ true → (k : ℕ) → i ≤ k → k < i + m → get_or a k 0 ≡ get_or b k 0
   part_equal e k h below =
       sym (at_part a i m k h below) ∙ ap (λ s. get_or s (k - i) 0) (same_bytes-true (take m (drop i a)) (take m (drop i b)) e) ∙ at_part b i m k h below
@@ -112,10 +103,6 @@ module _ (a b : List ℕ) (i : ℕ) (before : (k : ℕ) → k < i → get_or a k
 -- equal words stand for one name
 pub same_word : (t : Texts) (a b : ℕ) → a ≡ b → true ≡ same_bytes (name_bytes t a) (name_bytes t b)
 same_word t a b e = sym (eq_same_bytes (name_bytes t a) (name_bytes t b) (ap (name_bytes t) e))
-
--- a name of another length
-pub other_length : (t : Texts) (w : ℕ) (name : List ℕ) {own : List ℕ} → own ≡ name_bytes t w → (length name ≡ length own → ⊥) → false ≡ same_bytes name (name_bytes t w)
-other_length t w name e d = sym (ne_same_bytes name (name_bytes t w) (λ q. d (ap length (q ∙ sym e))))
 
 -- a name that is too short
 short-bytes : (n : ℕ) (l : List ℕ) → length (take n l) ≤ n

@@ -1,16 +1,14 @@
 -- Laws of byte strings and of parts of a text: `same_bytes` decides equality, and a part that lies in its text is neither cut
 -- short nor changed when the text is lengthened. By induction on the lists. Assumes nothing.
-use mathlib.Core.Path.{◌≡◌, refl, ap, sym, ◌∙◌}
+use mathlib.Core.Path.{◌≡◌, refl, sym, ◌∙◌}
 use mathlib.Core.List.{List, [], ◌∷◌, ◌++◌}
 use mathlib.Core.Bool.{Bool, true, false, true≢false, and-eq-true_iff}
-use Prim.Native.Nat.{ℕ, zero, suc, ◌+◌, ◌-◌, ◌≤◌, min}
-use native.Mathlib.Nat.{zero-min, suc-min-suc}
+use Prim.Native.Nat.{ℕ, ◌+◌, ◌≤◌}
 use native.Mathlib.Omega.{arith}
 use lib.Dec.{eqb}
-use lib.ListN.{length, take, drop, length-take, length-drop}
-use lib.Seq.{take-nil, drop-nil, take-append-le, drop-append-le}
+use lib.ListN.{length, drop, length-take, length-drop}
+use lib.Seq.{take-append-le, drop-append-le}
 use borrow.Author.Tests.{eqb-true, eq-eqb}
-use Rattle.facts.specs.Lists.{take_within, drop-within}
 use Rattle.tok.specs.Word.{name_length, name_start}
 use Rattle.tok.specs.Text.{same_bytes, bytes_in}
 
@@ -41,13 +39,6 @@ ne_same_bytes s t d = go (same_bytes s t) refl
     go : (b : Bool) → same_bytes s t ≡ b → b ≡ false
     go true e = absurd (d (same_bytes-true s t e))
     go false e = refl
-
--- A name's bytes are the part from its start to its end, each taken no further than the end of the text.
-pub bytes_in-within : (text : List ℕ) (w : ℕ) {s n start end : ℕ} → s ≡ name_start w → start ≡ min s (length text)
-    → n ≡ name_length w → end ≡ min (start + n) (length text) → take (end - start) (drop start text) ≡ bytes_in text w
-bytes_in-within text w {s} {n} {start} {end} hs h hn k =
-    let e : end - start ≡ min n (length (drop s text)) = rw length-drop (omega arith) in
-    rw (e, h, drop-within s text, take_within n (drop s text), hs, hn)
 
 -- A name or token that lies in its text
 module _ (text : List ℕ) (w : ℕ) (lies : name_start w + name_length w ≤ length text) where

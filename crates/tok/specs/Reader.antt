@@ -3,7 +3,7 @@
 -- own field, given the words before it; and a count or length offends where the words owed cannot lie within 8,192.
 use Rattle.std.specs.Prelude.{ℕ, zero, suc, ◌+◌, Bool, true, false, ◌&&◌, cond, List, [], ◌∷◌, leb, ltb}
 use Rattle.std.proofs.Math.Option.{Option, none, some}
-use Rattle.tok.specs.Step.{Result, ok, refused, Step, next, ◌>>=◌, ◌>>◌, return}
+use Rattle.tok.specs.Step.{Result, ok, refused, Step, ◌>>=◌, return}
 
 -- The reader stands before word number `at`; `rest` are the words from there on. `least` is the fewest words that the
 -- whole can have, by the counts and lengths read so far: `at` plus the words still owed.

@@ -1,6 +1,6 @@
 -- Each return of `fields_from_exprs`, over variables for what the calls gave: by the fields that are left; and the pairs that are set. By
 -- unfolding the definitions, the laws of a Record added in parts, and that of sizes. Assumes nothing.
-use mathlib.Core.Path.{◌≡◌, refl, sym, ap, ◌∙◌}
+use mathlib.Core.Path.{◌≡◌, refl, ◌∙◌}
 use mathlib.Core.Logic.{⊎_elim}
 use mathlib.Core.List.{List, [], ◌∷◌}
 use Prim.Native.Nat.{ℕ, zero, suc, ◌+◌, ◌-◌, ◌*◌, ◌≤◌}

@@ -1,3 +1,4 @@
 mod Returns
 mod FieldReturns
 mod DeepReturns
+mod Left

@@ -6,7 +6,7 @@ use Rattle.std.proofs.Math.Path.{refl, ap}
 use Rattle.std.proofs.Common.{sym, ◌∙◌, arith, leb-true}
 use Rattle.tok.specs.Word.{word_of}
 use Rattle.tok.specs.Text.{Texts}
-use Rattle.tok.specs.Step.{Result, ok, Step, Refusal, refusal, next, return, give, refuse, when}
+use Rattle.tok.specs.Step.{ok, Step, Refusal, refusal, next, return, give, refuse, when}
 use Rattle.ptype.specs.Ty.{depth_of}
 use Rattle.ptype.specs.Words.{ty_of}
 use Rattle.ptype.proofs.UnfoldLaws.{one_less}

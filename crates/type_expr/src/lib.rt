@@ -127,8 +127,7 @@ fn deep_field(
 {
     let mut u = used;
     let mut here = at;
-    let mut left = fields;
-    while left > 0 {
+    for _ in 0..fields {
         let t = word_at(image, here + 1);
         if type_levels(places, t) > 32 {
             return Added::Put(t, u);
@@ -139,7 +138,6 @@ fn deep_field(
         };
         u = more;
         here += 2;
-        left -= 1;
     }
     Added::TooDeep
 }
@@ -192,15 +190,13 @@ fn fields_from_exprs(
 {
     let mut u = used;
     let mut here = at;
-    let mut left = fields;
-    while left > 0 {
+    for _ in 0..fields {
         let a = build(types, u, image, places, word_at(image, here + 1));
         let Added::Put(_, more) = a else {
             return a;
         };
         u = more;
         here += 2;
-        left -= 1;
     }
     let r = add::open_record(types, u, fields);
     let Added::Put(record, _) = r else {
@@ -237,9 +233,8 @@ fn set_pairs(
 {
     let mut end = used;
     let mut here = at;
-    let mut left = fields;
     let mut to = place;
-    while left > 0 {
+    for _ in 0..fields {
         let t = word_at(image, here + 1);
         end += type_size(image, places, t);
         add::set_pair(
@@ -249,7 +244,6 @@ fn set_pairs(
             type_word(image, places, end, t),
         );
         here += 2;
-        left -= 1;
         to += 2;
     }
 }
@@ -317,11 +311,9 @@ fn sizes(image: &[u32], places: &[u16], owner: u32, at: usize, fields: usize) ->
 {
     let mut sum: usize = 0;
     let mut here = at;
-    let mut left = fields;
-    while left > 0 {
+    for _ in 0..fields {
         sum += type_size(image, places, word_at(image, here + 1));
         here += 2;
-        left -= 1;
     }
     sum
 }

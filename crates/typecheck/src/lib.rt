@@ -4,7 +4,6 @@
 // words, the places of the image's records, the state.
 #![tactic(auto)]
 
-ghost use Rattle.tok.specs.Text.{Texts, texts_of};
 ghost use Rattle.state.specs.World.{no_more};
 ghost use Rattle.visit.specs.Whole.{Lent, lent};
 ghost use Rattle.ready.specs.Ready.{NodeVisit};
@@ -13,7 +12,7 @@ ghost use Rattle.walking.specs.Visited.{ClassVisit, ListVisit, CaseVisit, NodeVi
 
 use bodies::Begun;
 use rules::Answer;
-use tok::{kind, payload, wide, word_at};
+use tok::{Texts, kind, payload, wide, word_at};
 use visit::{Gave, State, Visit, Walked};
 use visiting::Onward;
 
@@ -32,28 +31,25 @@ const RECORD: u32 = 12;
 
 // Typechecker::node: a node, by its kind.
 #[cycle(array_bin_block_call_case_cases_cast_func_listed_node_one_operand_part_record_node_sequence)]
-pub fn node<'a>(
+pub fn node(
     slots: &mut [u32],
     functions: &mut [u32],
     types: &mut [u32],
     diagnostics: &mut [u32],
     messages: &mut [u8],
     scratch: &mut [u32],
-    script: &'a [u8],
-    library: &'a [u8],
+    texts: &Texts,
     image: &[u32],
     words: &[u32],
     places: &[u16],
     st: State,
     n: u32,
 ) -> Visit
-    requires { let T : Texts = texts_of script.now library.now in
-        let b : Lent = lent slots.old functions.old types.old diagnostics.old messages.old scratch.old no_more in
-        NodeVisit T image.now places.now words.now n st b }
-    ensures { let T : Texts = texts_of script.now library.now in
-        let b : Lent = lent slots.old functions.old types.old diagnostics.old messages.old scratch.old no_more in
+    requires { let b : Lent = lent slots.old functions.old types.old diagnostics.old messages.old scratch.old no_more in
+        NodeVisit texts.now image.now places.now words.now n st b }
+    ensures { let b : Lent = lent slots.old functions.old types.old diagnostics.old messages.old scratch.old no_more in
         let b' : Lent = lent slots.new functions.new types.new diagnostics.new messages.new scratch.new no_more in
-        NodeVisited T image.now words.now n st b b' result }
+        NodeVisited texts.now image.now words.now n st b b' result }
 {
     let k = kind(word_at(image, places::node_place(places, n)));
     if walking::is_leaf(k) {
@@ -63,8 +59,7 @@ pub fn node<'a>(
             diagnostics,
             messages,
             scratch,
-            script,
-            library,
+            texts,
             image,
             words,
             places,
@@ -80,8 +75,7 @@ pub fn node<'a>(
             diagnostics,
             messages,
             scratch,
-            script,
-            library,
+            texts,
             image,
             words,
             places,
@@ -96,8 +90,7 @@ pub fn node<'a>(
         diagnostics,
         messages,
         scratch,
-        script,
-        library,
+        texts,
         image,
         words,
         places,
@@ -109,28 +102,25 @@ pub fn node<'a>(
 // A part of a node: `node` of it. It only hands over. The compiler puts it into each rule in place of its calls, and what several visits in one
 // rule copy of the lent slices then shares its room in the rule's frame (docs/PERFORMANCE.md, "Stack").
 #[cycle(array_bin_block_call_case_cases_cast_func_listed_node_one_operand_part_record_node_sequence)]
-fn part<'a>(
+fn part(
     slots: &mut [u32],
     functions: &mut [u32],
     types: &mut [u32],
     diagnostics: &mut [u32],
     messages: &mut [u8],
     scratch: &mut [u32],
-    script: &'a [u8],
-    library: &'a [u8],
+    texts: &Texts,
     image: &[u32],
     words: &[u32],
     places: &[u16],
     st: State,
     n: u32,
 ) -> Visit
-    requires { let T : Texts = texts_of script.now library.now in
-        let b : Lent = lent slots.old functions.old types.old diagnostics.old messages.old scratch.old no_more in
-        NodeVisit T image.now places.now words.now n st b }
-    ensures { let T : Texts = texts_of script.now library.now in
-        let b : Lent = lent slots.old functions.old types.old diagnostics.old messages.old scratch.old no_more in
+    requires { let b : Lent = lent slots.old functions.old types.old diagnostics.old messages.old scratch.old no_more in
+        NodeVisit texts.now image.now places.now words.now n st b }
+    ensures { let b : Lent = lent slots.old functions.old types.old diagnostics.old messages.old scratch.old no_more in
         let b' : Lent = lent slots.new functions.new types.new diagnostics.new messages.new scratch.new no_more in
-        NodeVisited T image.now words.now n st b b' result }
+        NodeVisited texts.now image.now words.now n st b b' result }
 {
     node(
         slots,
@@ -139,8 +129,7 @@ fn part<'a>(
         diagnostics,
         messages,
         scratch,
-        script,
-        library,
+        texts,
         image,
         words,
         places,
@@ -151,28 +140,25 @@ fn part<'a>(
 
 // A node of one or two operands.
 #[cycle(array_bin_block_call_case_cases_cast_func_listed_node_one_operand_part_record_node_sequence)]
-fn operand<'a>(
+fn operand(
     slots: &mut [u32],
     functions: &mut [u32],
     types: &mut [u32],
     diagnostics: &mut [u32],
     messages: &mut [u8],
     scratch: &mut [u32],
-    script: &'a [u8],
-    library: &'a [u8],
+    texts: &Texts,
     image: &[u32],
     words: &[u32],
     places: &[u16],
     st: State,
     n: u32,
 ) -> Visit
-    requires { let T : Texts = texts_of script.now library.now in
-        let b : Lent = lent slots.old functions.old types.old diagnostics.old messages.old scratch.old no_more in
-        ClassVisit Operand T image.now places.now words.now n st b }
-    ensures { let T : Texts = texts_of script.now library.now in
-        let b : Lent = lent slots.old functions.old types.old diagnostics.old messages.old scratch.old no_more in
+    requires { let b : Lent = lent slots.old functions.old types.old diagnostics.old messages.old scratch.old no_more in
+        ClassVisit Operand texts.now image.now places.now words.now n st b }
+    ensures { let b : Lent = lent slots.old functions.old types.old diagnostics.old messages.old scratch.old no_more in
         let b' : Lent = lent slots.new functions.new types.new diagnostics.new messages.new scratch.new no_more in
-        NodeVisited T image.now words.now n st b b' result }
+        NodeVisited texts.now image.now words.now n st b b' result }
 {
     let k = kind(word_at(image, places::node_place(places, n)));
     if k == BIN {
@@ -183,8 +169,7 @@ fn operand<'a>(
             diagnostics,
             messages,
             scratch,
-            script,
-            library,
+            texts,
             image,
             words,
             places,
@@ -200,8 +185,7 @@ fn operand<'a>(
             diagnostics,
             messages,
             scratch,
-            script,
-            library,
+            texts,
             image,
             words,
             places,
@@ -216,8 +200,7 @@ fn operand<'a>(
         diagnostics,
         messages,
         scratch,
-        script,
-        library,
+        texts,
         image,
         words,
         places,
@@ -228,28 +211,25 @@ fn operand<'a>(
 
 // Node::Bin: both sides are visited, whatever the left answers.
 #[cycle(array_bin_block_call_case_cases_cast_func_listed_node_one_operand_part_record_node_sequence)]
-fn bin<'a>(
+fn bin(
     slots: &mut [u32],
     functions: &mut [u32],
     types: &mut [u32],
     diagnostics: &mut [u32],
     messages: &mut [u8],
     scratch: &mut [u32],
-    script: &'a [u8],
-    library: &'a [u8],
+    texts: &Texts,
     image: &[u32],
     words: &[u32],
     places: &[u16],
     st: State,
     n: u32,
 ) -> Visit
-    requires { let T : Texts = texts_of script.now library.now in
-        let b : Lent = lent slots.old functions.old types.old diagnostics.old messages.old scratch.old no_more in
-        ClassVisit (Is 2) T image.now places.now words.now n st b }
-    ensures { let T : Texts = texts_of script.now library.now in
-        let b : Lent = lent slots.old functions.old types.old diagnostics.old messages.old scratch.old no_more in
+    requires { let b : Lent = lent slots.old functions.old types.old diagnostics.old messages.old scratch.old no_more in
+        ClassVisit (Is 2) texts.now image.now places.now words.now n st b }
+    ensures { let b : Lent = lent slots.old functions.old types.old diagnostics.old messages.old scratch.old no_more in
         let b' : Lent = lent slots.new functions.new types.new diagnostics.new messages.new scratch.new no_more in
-        NodeVisited T image.now words.now n st b b' result }
+        NodeVisited texts.now image.now words.now n st b b' result }
 {
     let at = places::node_place(places, n);
     let left = part(
@@ -259,8 +239,7 @@ fn bin<'a>(
         diagnostics,
         messages,
         scratch,
-        script,
-        library,
+        texts,
         image,
         words,
         places,
@@ -277,8 +256,7 @@ fn bin<'a>(
         diagnostics,
         messages,
         scratch,
-        script,
-        library,
+        texts,
         image,
         words,
         places,
@@ -293,8 +271,7 @@ fn bin<'a>(
         &types[..],
         diagnostics,
         messages,
-        script,
-        library,
+        texts,
         image,
         at,
         end,
@@ -306,28 +283,25 @@ fn bin<'a>(
 
 // Node::Unary, Node::Let and Node::Field.
 #[cycle(array_bin_block_call_case_cases_cast_func_listed_node_one_operand_part_record_node_sequence)]
-fn one<'a>(
+fn one(
     slots: &mut [u32],
     functions: &mut [u32],
     types: &mut [u32],
     diagnostics: &mut [u32],
     messages: &mut [u8],
     scratch: &mut [u32],
-    script: &'a [u8],
-    library: &'a [u8],
+    texts: &Texts,
     image: &[u32],
     words: &[u32],
     places: &[u16],
     st: State,
     n: u32,
 ) -> Visit
-    requires { let T : Texts = texts_of script.now library.now in
-        let b : Lent = lent slots.old functions.old types.old diagnostics.old messages.old scratch.old no_more in
-        ClassVisit OneOperand T image.now places.now words.now n st b }
-    ensures { let T : Texts = texts_of script.now library.now in
-        let b : Lent = lent slots.old functions.old types.old diagnostics.old messages.old scratch.old no_more in
+    requires { let b : Lent = lent slots.old functions.old types.old diagnostics.old messages.old scratch.old no_more in
+        ClassVisit OneOperand texts.now image.now places.now words.now n st b }
+    ensures { let b : Lent = lent slots.old functions.old types.old diagnostics.old messages.old scratch.old no_more in
         let b' : Lent = lent slots.new functions.new types.new diagnostics.new messages.new scratch.new no_more in
-        NodeVisited T image.now words.now n st b b' result }
+        NodeVisited texts.now image.now words.now n st b b' result }
 {
     let at = places::node_place(places, n);
     let value = operands::operand_of(image, at);
@@ -338,8 +312,7 @@ fn one<'a>(
         diagnostics,
         messages,
         scratch,
-        script,
-        library,
+        texts,
         image,
         words,
         places,
@@ -355,8 +328,7 @@ fn one<'a>(
         diagnostics,
         messages,
         scratch,
-        script,
-        library,
+        texts,
         image,
         at,
         end,
@@ -367,28 +339,25 @@ fn one<'a>(
 
 // Node::Cast: the type is made before the value is visited.
 #[cycle(array_bin_block_call_case_cases_cast_func_listed_node_one_operand_part_record_node_sequence)]
-fn cast<'a>(
+fn cast(
     slots: &mut [u32],
     functions: &mut [u32],
     types: &mut [u32],
     diagnostics: &mut [u32],
     messages: &mut [u8],
     scratch: &mut [u32],
-    script: &'a [u8],
-    library: &'a [u8],
+    texts: &Texts,
     image: &[u32],
     words: &[u32],
     places: &[u16],
     st: State,
     n: u32,
 ) -> Visit
-    requires { let T : Texts = texts_of script.now library.now in
-        let b : Lent = lent slots.old functions.old types.old diagnostics.old messages.old scratch.old no_more in
-        ClassVisit (Is 9) T image.now places.now words.now n st b }
-    ensures { let T : Texts = texts_of script.now library.now in
-        let b : Lent = lent slots.old functions.old types.old diagnostics.old messages.old scratch.old no_more in
+    requires { let b : Lent = lent slots.old functions.old types.old diagnostics.old messages.old scratch.old no_more in
+        ClassVisit (Is 9) texts.now image.now places.now words.now n st b }
+    ensures { let b : Lent = lent slots.old functions.old types.old diagnostics.old messages.old scratch.old no_more in
         let b' : Lent = lent slots.new functions.new types.new diagnostics.new messages.new scratch.new no_more in
-        NodeVisited T image.now words.now n st b b' result }
+        NodeVisited texts.now image.now words.now n st b b' result }
 {
     let at = places::node_place(places, n);
     let made = operands::cast_begin(types, image, places, at, st, n);
@@ -402,8 +371,7 @@ fn cast<'a>(
         diagnostics,
         messages,
         scratch,
-        script,
-        library,
+        texts,
         image,
         words,
         places,
@@ -418,8 +386,7 @@ fn cast<'a>(
         &types[..],
         diagnostics,
         messages,
-        script,
-        library,
+        texts,
         image,
         at,
         end,
@@ -431,15 +398,14 @@ fn cast<'a>(
 
 // The roots, one after the other. As `block`, but a function of its own: the compiler puts `block` in place of its one call, and it takes no
 // frame.
-pub fn nodes<'a>(
+pub fn nodes(
     slots: &mut [u32],
     functions: &mut [u32],
     types: &mut [u32],
     diagnostics: &mut [u32],
     messages: &mut [u8],
     scratch: &mut [u32],
-    script: &'a [u8],
-    library: &'a [u8],
+    texts: &Texts,
     image: &[u32],
     words: &[u32],
     places: &[u16],
@@ -448,13 +414,11 @@ pub fn nodes<'a>(
     at: usize,
     k: usize,
 ) -> Visit
-    requires { let T : Texts = texts_of script.now library.now in
-        let b : Lent = lent slots.old functions.old types.old diagnostics.old messages.old scratch.old no_more in
-        ListVisit T image.now places.now words.now owner at k st b }
-    ensures { let T : Texts = texts_of script.now library.now in
-        let b : Lent = lent slots.old functions.old types.old diagnostics.old messages.old scratch.old no_more in
+    requires { let b : Lent = lent slots.old functions.old types.old diagnostics.old messages.old scratch.old no_more in
+        ListVisit texts.now image.now places.now words.now owner at k st b }
+    ensures { let b : Lent = lent slots.old functions.old types.old diagnostics.old messages.old scratch.old no_more in
         let b' : Lent = lent slots.new functions.new types.new diagnostics.new messages.new scratch.new no_more in
-        ListVisited T image.now words.now at k st b b' result }
+        ListVisited texts.now image.now words.now at k st b b' result }
 {
     let mut answer = Answer::Known(word_at(image, 3));
     let mut here = st;
@@ -468,8 +432,7 @@ pub fn nodes<'a>(
             diagnostics,
             messages,
             scratch,
-            script,
-            library,
+            texts,
             image,
             words,
             places,
@@ -489,15 +452,14 @@ pub fn nodes<'a>(
 
 // Typechecker::block_type: parts of the node `owner`, one after the other; the last one's answer, or slot V where there is none.
 #[cycle(array_bin_block_call_case_cases_cast_func_listed_node_one_operand_part_record_node_sequence)]
-fn block<'a>(
+fn block(
     slots: &mut [u32],
     functions: &mut [u32],
     types: &mut [u32],
     diagnostics: &mut [u32],
     messages: &mut [u8],
     scratch: &mut [u32],
-    script: &'a [u8],
-    library: &'a [u8],
+    texts: &Texts,
     image: &[u32],
     words: &[u32],
     places: &[u16],
@@ -506,13 +468,11 @@ fn block<'a>(
     at: usize,
     k: usize,
 ) -> Visit
-    requires { let T : Texts = texts_of script.now library.now in
-        let b : Lent = lent slots.old functions.old types.old diagnostics.old messages.old scratch.old no_more in
-        ListVisit T image.now places.now words.now owner at k st b }
-    ensures { let T : Texts = texts_of script.now library.now in
-        let b : Lent = lent slots.old functions.old types.old diagnostics.old messages.old scratch.old no_more in
+    requires { let b : Lent = lent slots.old functions.old types.old diagnostics.old messages.old scratch.old no_more in
+        ListVisit texts.now image.now places.now words.now owner at k st b }
+    ensures { let b : Lent = lent slots.old functions.old types.old diagnostics.old messages.old scratch.old no_more in
         let b' : Lent = lent slots.new functions.new types.new diagnostics.new messages.new scratch.new no_more in
-        ListVisited T image.now words.now at k st b b' result }
+        ListVisited texts.now image.now words.now at k st b b' result }
 {
     let mut answer = Answer::Known(word_at(image, 3));
     let mut here = st;
@@ -526,8 +486,7 @@ fn block<'a>(
             diagnostics,
             messages,
             scratch,
-            script,
-            library,
+            texts,
             image,
             words,
             places,
@@ -547,28 +506,25 @@ fn block<'a>(
 
 // A node with a list.
 #[cycle(array_bin_block_call_case_cases_cast_func_listed_node_one_operand_part_record_node_sequence)]
-fn listed<'a>(
+fn listed(
     slots: &mut [u32],
     functions: &mut [u32],
     types: &mut [u32],
     diagnostics: &mut [u32],
     messages: &mut [u8],
     scratch: &mut [u32],
-    script: &'a [u8],
-    library: &'a [u8],
+    texts: &Texts,
     image: &[u32],
     words: &[u32],
     places: &[u16],
     st: State,
     n: u32,
 ) -> Visit
-    requires { let T : Texts = texts_of script.now library.now in
-        let b : Lent = lent slots.old functions.old types.old diagnostics.old messages.old scratch.old no_more in
-        ClassVisit Listed T image.now places.now words.now n st b }
-    ensures { let T : Texts = texts_of script.now library.now in
-        let b : Lent = lent slots.old functions.old types.old diagnostics.old messages.old scratch.old no_more in
+    requires { let b : Lent = lent slots.old functions.old types.old diagnostics.old messages.old scratch.old no_more in
+        ClassVisit Listed texts.now image.now places.now words.now n st b }
+    ensures { let b : Lent = lent slots.old functions.old types.old diagnostics.old messages.old scratch.old no_more in
         let b' : Lent = lent slots.new functions.new types.new diagnostics.new messages.new scratch.new no_more in
-        NodeVisited T image.now words.now n st b b' result }
+        NodeVisited texts.now image.now words.now n st b b' result }
 {
     let k = kind(word_at(image, places::node_place(places, n)));
     if k == FN {
@@ -579,8 +535,7 @@ fn listed<'a>(
             diagnostics,
             messages,
             scratch,
-            script,
-            library,
+            texts,
             image,
             words,
             places,
@@ -596,8 +551,7 @@ fn listed<'a>(
             diagnostics,
             messages,
             scratch,
-            script,
-            library,
+            texts,
             image,
             words,
             places,
@@ -612,8 +566,7 @@ fn listed<'a>(
         diagnostics,
         messages,
         scratch,
-        script,
-        library,
+        texts,
         image,
         words,
         places,
@@ -624,28 +577,25 @@ fn listed<'a>(
 
 // Node::Fn.
 #[cycle(array_bin_block_call_case_cases_cast_func_listed_node_one_operand_part_record_node_sequence)]
-fn func<'a>(
+fn func(
     slots: &mut [u32],
     functions: &mut [u32],
     types: &mut [u32],
     diagnostics: &mut [u32],
     messages: &mut [u8],
     scratch: &mut [u32],
-    script: &'a [u8],
-    library: &'a [u8],
+    texts: &Texts,
     image: &[u32],
     words: &[u32],
     places: &[u16],
     st: State,
     n: u32,
 ) -> Visit
-    requires { let T : Texts = texts_of script.now library.now in
-        let b : Lent = lent slots.old functions.old types.old diagnostics.old messages.old scratch.old no_more in
-        ClassVisit (Is 5) T image.now places.now words.now n st b }
-    ensures { let T : Texts = texts_of script.now library.now in
-        let b : Lent = lent slots.old functions.old types.old diagnostics.old messages.old scratch.old no_more in
+    requires { let b : Lent = lent slots.old functions.old types.old diagnostics.old messages.old scratch.old no_more in
+        ClassVisit (Is 5) texts.now image.now places.now words.now n st b }
+    ensures { let b : Lent = lent slots.old functions.old types.old diagnostics.old messages.old scratch.old no_more in
         let b' : Lent = lent slots.new functions.new types.new diagnostics.new messages.new scratch.new no_more in
-        NodeVisited T image.now words.now n st b b' result }
+        NodeVisited texts.now image.now words.now n st b b' result }
 {
     let at = places::node_place(places, n);
     let count = wide(word_at(image, at + 4));
@@ -656,8 +606,7 @@ fn func<'a>(
         diagnostics,
         messages,
         scratch,
-        script,
-        library,
+        texts,
         image,
         places,
         at,
@@ -677,8 +626,7 @@ fn func<'a>(
                 diagnostics,
                 messages,
                 scratch,
-                script,
-                library,
+                texts,
                 image,
                 words,
                 places,
@@ -695,8 +643,7 @@ fn func<'a>(
                 &types[..],
                 diagnostics,
                 messages,
-                script,
-                library,
+                texts,
                 image,
                 places,
                 at,
@@ -712,15 +659,14 @@ fn func<'a>(
 
 // A case of a Match, which stands at a word of the image: its condition, then its body.
 #[cycle(array_bin_block_call_case_cases_cast_func_listed_node_one_operand_part_record_node_sequence)]
-fn case<'a>(
+fn case(
     slots: &mut [u32],
     functions: &mut [u32],
     types: &mut [u32],
     diagnostics: &mut [u32],
     messages: &mut [u8],
     scratch: &mut [u32],
-    script: &'a [u8],
-    library: &'a [u8],
+    texts: &Texts,
     image: &[u32],
     words: &[u32],
     places: &[u16],
@@ -728,13 +674,11 @@ fn case<'a>(
     n: u32,
     at: usize,
 ) -> Visit
-    requires { let T : Texts = texts_of script.now library.now in
-        let b : Lent = lent slots.old functions.old types.old diagnostics.old messages.old scratch.old no_more in
-        CaseVisit T image.now places.now words.now n at st b }
-    ensures { let T : Texts = texts_of script.now library.now in
-        let b : Lent = lent slots.old functions.old types.old diagnostics.old messages.old scratch.old no_more in
+    requires { let b : Lent = lent slots.old functions.old types.old diagnostics.old messages.old scratch.old no_more in
+        CaseVisit texts.now image.now places.now words.now n at st b }
+    ensures { let b : Lent = lent slots.old functions.old types.old diagnostics.old messages.old scratch.old no_more in
         let b' : Lent = lent slots.new functions.new types.new diagnostics.new messages.new scratch.new no_more in
-        CaseVisited T image.now words.now n at st b b' result }
+        CaseVisited texts.now image.now words.now n at st b b' result }
 {
     let v = part(
         slots,
@@ -743,8 +687,7 @@ fn case<'a>(
         diagnostics,
         messages,
         scratch,
-        script,
-        library,
+        texts,
         image,
         words,
         places,
@@ -759,8 +702,7 @@ fn case<'a>(
         &types[..],
         diagnostics,
         messages,
-        script,
-        library,
+        texts,
         image,
         at,
         tested,
@@ -782,8 +724,7 @@ fn case<'a>(
             diagnostics,
             messages,
             scratch,
-            script,
-            library,
+            texts,
             image,
             words,
             places,
@@ -803,28 +744,25 @@ fn case<'a>(
 
 // Node::Match: each case, then the default's body; then the cases are compared with it.
 #[cycle(array_bin_block_call_case_cases_cast_func_listed_node_one_operand_part_record_node_sequence)]
-fn cases<'a>(
+fn cases(
     slots: &mut [u32],
     functions: &mut [u32],
     types: &mut [u32],
     diagnostics: &mut [u32],
     messages: &mut [u8],
     scratch: &mut [u32],
-    script: &'a [u8],
-    library: &'a [u8],
+    texts: &Texts,
     image: &[u32],
     words: &[u32],
     places: &[u16],
     st: State,
     n: u32,
 ) -> Visit
-    requires { let T : Texts = texts_of script.now library.now in
-        let b : Lent = lent slots.old functions.old types.old diagnostics.old messages.old scratch.old no_more in
-        ClassVisit (Is 6) T image.now places.now words.now n st b }
-    ensures { let T : Texts = texts_of script.now library.now in
-        let b : Lent = lent slots.old functions.old types.old diagnostics.old messages.old scratch.old no_more in
+    requires { let b : Lent = lent slots.old functions.old types.old diagnostics.old messages.old scratch.old no_more in
+        ClassVisit (Is 6) texts.now image.now places.now words.now n st b }
+    ensures { let b : Lent = lent slots.old functions.old types.old diagnostics.old messages.old scratch.old no_more in
         let b' : Lent = lent slots.new functions.new types.new diagnostics.new messages.new scratch.new no_more in
-        NodeVisited T image.now words.now n st b b' result }
+        NodeVisited texts.now image.now words.now n st b b' result }
 {
     let at = places::node_place(places, n);
     let count = wide(word_at(image, at + 2));
@@ -839,8 +777,7 @@ fn cases<'a>(
             diagnostics,
             messages,
             scratch,
-            script,
-            library,
+            texts,
             image,
             words,
             places,
@@ -867,8 +804,7 @@ fn cases<'a>(
             diagnostics,
             messages,
             scratch,
-            script,
-            library,
+            texts,
             image,
             words,
             places,
@@ -888,8 +824,7 @@ fn cases<'a>(
         &types[..],
         diagnostics,
         messages,
-        script,
-        library,
+        texts,
         image,
         places,
         at,
@@ -901,28 +836,25 @@ fn cases<'a>(
 
 // Call, Record and Array.
 #[cycle(array_bin_block_call_case_cases_cast_func_listed_node_one_operand_part_record_node_sequence)]
-fn sequence<'a>(
+fn sequence(
     slots: &mut [u32],
     functions: &mut [u32],
     types: &mut [u32],
     diagnostics: &mut [u32],
     messages: &mut [u8],
     scratch: &mut [u32],
-    script: &'a [u8],
-    library: &'a [u8],
+    texts: &Texts,
     image: &[u32],
     words: &[u32],
     places: &[u16],
     st: State,
     n: u32,
 ) -> Visit
-    requires { let T : Texts = texts_of script.now library.now in
-        let b : Lent = lent slots.old functions.old types.old diagnostics.old messages.old scratch.old no_more in
-        ClassVisit Sequence T image.now places.now words.now n st b }
-    ensures { let T : Texts = texts_of script.now library.now in
-        let b : Lent = lent slots.old functions.old types.old diagnostics.old messages.old scratch.old no_more in
+    requires { let b : Lent = lent slots.old functions.old types.old diagnostics.old messages.old scratch.old no_more in
+        ClassVisit Sequence texts.now image.now places.now words.now n st b }
+    ensures { let b : Lent = lent slots.old functions.old types.old diagnostics.old messages.old scratch.old no_more in
         let b' : Lent = lent slots.new functions.new types.new diagnostics.new messages.new scratch.new no_more in
-        NodeVisited T image.now words.now n st b b' result }
+        NodeVisited texts.now image.now words.now n st b b' result }
 {
     let k = kind(word_at(image, places::node_place(places, n)));
     if k == CALL {
@@ -933,8 +865,7 @@ fn sequence<'a>(
             diagnostics,
             messages,
             scratch,
-            script,
-            library,
+            texts,
             image,
             words,
             places,
@@ -950,8 +881,7 @@ fn sequence<'a>(
             diagnostics,
             messages,
             scratch,
-            script,
-            library,
+            texts,
             image,
             words,
             places,
@@ -966,8 +896,7 @@ fn sequence<'a>(
         diagnostics,
         messages,
         scratch,
-        script,
-        library,
+        texts,
         image,
         words,
         places,
@@ -978,28 +907,25 @@ fn sequence<'a>(
 
 // Node::Call: every argument is visited before the function is looked up. A call through a field visits none.
 #[cycle(array_bin_block_call_case_cases_cast_func_listed_node_one_operand_part_record_node_sequence)]
-fn call<'a>(
+fn call(
     slots: &mut [u32],
     functions: &mut [u32],
     types: &mut [u32],
     diagnostics: &mut [u32],
     messages: &mut [u8],
     scratch: &mut [u32],
-    script: &'a [u8],
-    library: &'a [u8],
+    texts: &Texts,
     image: &[u32],
     words: &[u32],
     places: &[u16],
     st: State,
     n: u32,
 ) -> Visit
-    requires { let T : Texts = texts_of script.now library.now in
-        let b : Lent = lent slots.old functions.old types.old diagnostics.old messages.old scratch.old no_more in
-        ClassVisit (Is 7) T image.now places.now words.now n st b }
-    ensures { let T : Texts = texts_of script.now library.now in
-        let b : Lent = lent slots.old functions.old types.old diagnostics.old messages.old scratch.old no_more in
+    requires { let b : Lent = lent slots.old functions.old types.old diagnostics.old messages.old scratch.old no_more in
+        ClassVisit (Is 7) texts.now image.now places.now words.now n st b }
+    ensures { let b : Lent = lent slots.old functions.old types.old diagnostics.old messages.old scratch.old no_more in
         let b' : Lent = lent slots.new functions.new types.new diagnostics.new messages.new scratch.new no_more in
-        NodeVisited T image.now words.now n st b b' result }
+        NodeVisited texts.now image.now words.now n st b b' result }
 {
     let at = places::node_place(places, n);
     if calls::through_field(image, places, at) {
@@ -1017,8 +943,7 @@ fn call<'a>(
             diagnostics,
             messages,
             scratch,
-            script,
-            library,
+            texts,
             image,
             words,
             places,
@@ -1039,8 +964,7 @@ fn call<'a>(
         diagnostics,
         messages,
         scratch,
-        script,
-        library,
+        texts,
         image,
         words,
         places,
@@ -1054,28 +978,25 @@ fn call<'a>(
 
 // Node::Record.
 #[cycle(array_bin_block_call_case_cases_cast_func_listed_node_one_operand_part_record_node_sequence)]
-fn record_node<'a>(
+fn record_node(
     slots: &mut [u32],
     functions: &mut [u32],
     types: &mut [u32],
     diagnostics: &mut [u32],
     messages: &mut [u8],
     scratch: &mut [u32],
-    script: &'a [u8],
-    library: &'a [u8],
+    texts: &Texts,
     image: &[u32],
     words: &[u32],
     places: &[u16],
     st: State,
     n: u32,
 ) -> Visit
-    requires { let T : Texts = texts_of script.now library.now in
-        let b : Lent = lent slots.old functions.old types.old diagnostics.old messages.old scratch.old no_more in
-        ClassVisit (Is 12) T image.now places.now words.now n st b }
-    ensures { let T : Texts = texts_of script.now library.now in
-        let b : Lent = lent slots.old functions.old types.old diagnostics.old messages.old scratch.old no_more in
+    requires { let b : Lent = lent slots.old functions.old types.old diagnostics.old messages.old scratch.old no_more in
+        ClassVisit (Is 12) texts.now image.now places.now words.now n st b }
+    ensures { let b : Lent = lent slots.old functions.old types.old diagnostics.old messages.old scratch.old no_more in
         let b' : Lent = lent slots.new functions.new types.new diagnostics.new messages.new scratch.new no_more in
-        NodeVisited T image.now words.now n st b b' result }
+        NodeVisited texts.now image.now words.now n st b b' result }
 {
     let at = places::node_place(places, n);
     let count = (payload(word_at(image, at)) - 3) / 2;
@@ -1089,8 +1010,7 @@ fn record_node<'a>(
             diagnostics,
             messages,
             scratch,
-            script,
-            library,
+            texts,
             image,
             words,
             places,
@@ -1108,28 +1028,25 @@ fn record_node<'a>(
 
 // Node::Array: the members are compared with the first, each when it is visited; one that differs ends the visits.
 #[cycle(array_bin_block_call_case_cases_cast_func_listed_node_one_operand_part_record_node_sequence)]
-fn array<'a>(
+fn array(
     slots: &mut [u32],
     functions: &mut [u32],
     types: &mut [u32],
     diagnostics: &mut [u32],
     messages: &mut [u8],
     scratch: &mut [u32],
-    script: &'a [u8],
-    library: &'a [u8],
+    texts: &Texts,
     image: &[u32],
     words: &[u32],
     places: &[u16],
     st: State,
     n: u32,
 ) -> Visit
-    requires { let T : Texts = texts_of script.now library.now in
-        let b : Lent = lent slots.old functions.old types.old diagnostics.old messages.old scratch.old no_more in
-        ClassVisit (Is 13) T image.now places.now words.now n st b }
-    ensures { let T : Texts = texts_of script.now library.now in
-        let b : Lent = lent slots.old functions.old types.old diagnostics.old messages.old scratch.old no_more in
+    requires { let b : Lent = lent slots.old functions.old types.old diagnostics.old messages.old scratch.old no_more in
+        ClassVisit (Is 13) texts.now image.now places.now words.now n st b }
+    ensures { let b : Lent = lent slots.old functions.old types.old diagnostics.old messages.old scratch.old no_more in
         let b' : Lent = lent slots.new functions.new types.new diagnostics.new messages.new scratch.new no_more in
-        NodeVisited T image.now words.now n st b b' result }
+        NodeVisited texts.now image.now words.now n st b b' result }
 {
     let at = places::node_place(places, n);
     let count = payload(word_at(image, at)) - 3;
@@ -1143,8 +1060,7 @@ fn array<'a>(
         diagnostics,
         messages,
         scratch,
-        script,
-        library,
+        texts,
         image,
         words,
         places,
@@ -1166,8 +1082,7 @@ fn array<'a>(
             diagnostics,
             messages,
             scratch,
-            script,
-            library,
+            texts,
             image,
             words,
             places,
@@ -1182,8 +1097,7 @@ fn array<'a>(
             &types[..],
             diagnostics,
             messages,
-            script,
-            library,
+            texts,
             image,
             places,
             next,

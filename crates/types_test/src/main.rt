@@ -11,9 +11,9 @@ ghost use Rattle.std.specs.Prelude.{◌≡◌};
 
 use add::Added;
 use display::Wrote;
-use slots::{Bind, Found};
+use slots::Bind;
 use std::io;
-use tok::least;
+use tok::{Texts, least};
 
 // Commands: the top four bits of a command's first word. 1 copies, 6 puts types for slots, 14 only prints.
 const PAIR: u32 = 0;
@@ -90,8 +90,8 @@ fn sum(text: &[u8], n: usize) -> usize {
 
 // Printing.
 
-fn say<'a>(rt: &impl Print, script: &'a [u8], library: &'a [u8], name: u32) -> io::Result<()> {
-    commands::print(rt, tok::name_bytes(script, library, name))?;
+fn say(rt: &impl Print, texts: &Texts, name: u32) -> io::Result<()> {
+    commands::print(rt, tok::name_bytes(texts, name))?;
     Ok(())
 }
 
@@ -123,16 +123,9 @@ fn length(at: Wrote, how: u32) -> usize {
 
 // Bytes of the buffer, as told: the text itself up to 640 bytes; else its length, a number that any single wrong byte changes, and its front; or only
 // its length.
-fn told<'a>(
-    rt: &impl Print,
-    out: &[u8; ROOM],
-    script: &'a [u8],
-    library: &'a [u8],
-    n: usize,
-    how: u32,
-) -> io::Result<()> {
+fn told(rt: &impl Print, out: &[u8; ROOM], texts: &Texts, n: usize, how: u32) -> io::Result<()> {
     if n > ROOM {
-        say(rt, script, library, FULL)
+        say(rt, texts, FULL)
     } else if how == 2 {
         number(rt, n)
     } else if how == 1 || n > 640 {
@@ -145,72 +138,57 @@ fn told<'a>(
 }
 
 // Writes what a word stands for: a type, or a number, or a list that stands behind the types.
-fn write<'a>(
-    out: &mut [u8],
-    types: &[u32],
-    script: &'a [u8],
-    library: &'a [u8],
-    what: u32,
-    w: u32,
-) -> Wrote {
+fn write(out: &mut [u8], types: &[u32], texts: &Texts, what: u32, w: u32) -> Wrote {
     let at = Wrote::All(0);
     if what == 0 {
-        return display::show_type(out, at, types, script, library, w);
+        return display::show_type(out, at, types, texts, w);
     }
     if what == 1 {
         return display::put_decimal(out, at, tok::wide(w));
     }
     let list = part(types, w);
     if what == 2 {
-        return display::show_signature(out, at, types, script, library, list);
+        return display::show_signature(out, at, types, texts, list);
     }
     if what == 3 {
-        return display::show_arg_types(out, at, types, script, library, list);
+        return display::show_arg_types(out, at, types, texts, list);
     }
-    display::show_types(out, at, types, script, library, list)
+    display::show_types(out, at, types, texts, list)
 }
 
 // Writes into so many bytes of a buffer of dots, and tells of it.
-fn show<'a>(
+fn show(
     rt: &impl Print,
     types: &[u32],
-    script: &'a [u8],
-    library: &'a [u8],
+    texts: &Texts,
     form: u32,
     room: usize,
     w: u32,
 ) -> io::Result<()> {
     let mut out = [b'.'; ROOM];
     let end = least(room, ROOM);
-    let at = write(&mut out[0..end], types, script, library, form % 8, w);
-    told(rt, &out, script, library, length(at, form / 8), form / 8)
+    let at = write(&mut out[0..end], types, texts, form % 8, w);
+    told(rt, &out, texts, length(at, form / 8), form / 8)
 }
 
-fn text<'a>(
-    rt: &impl Print,
-    types: &[u32],
-    script: &'a [u8],
-    library: &'a [u8],
-    w: u32,
-) -> io::Result<()> {
-    show(rt, types, script, library, 0, ROOM, w)
+fn text(rt: &impl Print, types: &[u32], texts: &Texts, w: u32) -> io::Result<()> {
+    show(rt, types, texts, 0, ROOM, w)
 }
 
 // Commands that write nothing.
 
 // What a slot is bound to.
-fn bound<'a>(
+fn bound(
     rt: &impl Print,
     types: &[u32],
     lists: &[u32],
-    script: &'a [u8],
-    library: &'a [u8],
+    texts: &Texts,
     count: usize,
     slot: u32,
 ) -> io::Result<()> {
-    match slots::bound_to(script, library, lists, count, slot) {
-        Found::At(w) => text(rt, types, script, library, w),
-        Found::Nothing => say(rt, script, library, UNBOUND),
+    match slots::bound_to(texts, lists, count, slot) {
+        Some(w) => text(rt, types, texts, w),
+        None => say(rt, texts, UNBOUND),
     }
 }
 
@@ -219,14 +197,7 @@ fn shallow(types: &[u32], pool: &[u32]) -> bool {
     add::pool_is_shallow(types, pool, &mut known)
 }
 
-fn whether<'a>(
-    types: &[u32],
-    script: &'a [u8],
-    library: &'a [u8],
-    a: u32,
-    b: u32,
-    what: u32,
-) -> bool {
+fn whether(types: &[u32], texts: &Texts, a: u32, b: u32, what: u32) -> bool {
     if what == 0 {
         return ptype::contains_unknown(types, a);
     }
@@ -234,7 +205,7 @@ fn whether<'a>(
         return ptype::contains_slot(types, a);
     }
     if what == 2 {
-        return ptype::same_type(types, script, library, a, b);
+        return ptype::same_type(types, texts, a, b);
     }
     if what == 3 {
         return ptype::field_type(types, tok::wide(a)) == ptype::field_type(types, tok::wide(b));
@@ -242,22 +213,21 @@ fn whether<'a>(
     shallow(types, part(types, a))
 }
 
-fn tell<'a>(
+fn tell(
     rt: &impl Print,
     types: &[u32],
-    script: &'a [u8],
-    library: &'a [u8],
+    texts: &Texts,
     kind: u32,
     a: u32,
     b: u32,
     c: u32,
 ) -> io::Result<()> {
     if kind == SHOW {
-        show(rt, types, script, library, a, tok::wide(b), c)?;
+        show(rt, types, texts, a, tok::wide(b), c)?;
     } else if kind == DEPTH {
         commands::print_number(rt, ptype::depth(types, a))?;
     } else if kind == ASK {
-        commands::print_number(rt, bit(whether(types, script, library, a, b, c)))?;
+        commands::print_number(rt, bit(whether(types, texts, a, b, c)))?;
     }
     Ok(())
 }
@@ -265,16 +235,10 @@ fn tell<'a>(
 // Binding.
 
 // What binding answered; how many pairs there are.
-fn answered<'a>(
-    rt: &impl Print,
-    types: &[u32],
-    script: &'a [u8],
-    library: &'a [u8],
-    r: Bind,
-) -> io::Result<usize> {
+fn answered(rt: &impl Print, types: &[u32], texts: &Texts, r: Bind) -> io::Result<usize> {
     match r {
         Bind::Done(count) => {
-            say(rt, script, library, DONE)?;
+            say(rt, texts, DONE)?;
             Ok(count)
         }
         Bind::Conflict {
@@ -283,19 +247,19 @@ fn answered<'a>(
             existing,
             new,
         } => {
-            say(rt, script, library, CONFLICT)?;
-            text(rt, types, script, library, slot)?;
-            text(rt, types, script, library, existing)?;
-            text(rt, types, script, library, new)?;
+            say(rt, texts, CONFLICT)?;
+            text(rt, types, texts, slot)?;
+            text(rt, types, texts, existing)?;
+            text(rt, types, texts, new)?;
             Ok(count)
         }
         Bind::Void { count, slot } => {
-            say(rt, script, library, VOID)?;
-            text(rt, types, script, library, slot)?;
+            say(rt, texts, VOID)?;
+            text(rt, types, texts, slot)?;
             Ok(count)
         }
         Bind::NoRoom => {
-            say(rt, script, library, FULL)?;
+            say(rt, texts, FULL)?;
             Ok(0)
         }
     }
@@ -303,12 +267,11 @@ fn answered<'a>(
 
 // Commands that write into the lists: puts two words there, or binds slots after the pairs that are there, in so many words. How many pairs there are
 // then.
-fn relist<'a>(
+fn relist(
     rt: &impl Print,
     types: &[u32],
     lists: &mut [u32],
-    script: &'a [u8],
-    library: &'a [u8],
+    texts: &Texts,
     count: usize,
     kind: u32,
     a: u32,
@@ -321,8 +284,8 @@ fn relist<'a>(
     }
     if kind == BIND {
         let end = least(tok::wide(c), lists.len());
-        let r = slots::bind_slots(types, script, library, a, b, &mut lists[0..end], count);
-        return answered(rt, types, script, library, r);
+        let r = slots::bind_slots(types, texts, a, b, &mut lists[0..end], count);
+        return answered(rt, types, texts, r);
     }
     if kind == COUNT {
         return Ok(tok::wide(a));
@@ -333,24 +296,23 @@ fn relist<'a>(
 // Adding.
 
 // What adding answered, where so many words were used before, and a word that it may be the same as.
-fn added<'a>(
+fn added(
     rt: &impl Print,
     types: &[u32],
-    script: &'a [u8],
-    library: &'a [u8],
+    texts: &Texts,
     r: Added,
     used: usize,
     old: u32,
 ) -> io::Result<()> {
     match r {
         Added::Put(w, u) => {
-            say(rt, script, library, PUT)?;
+            say(rt, texts, PUT)?;
             number(rt, more(u, used))?;
             number(rt, bit(w == old))?;
-            text(rt, types, script, library, w)
+            text(rt, types, texts, w)
         }
-        Added::Full => say(rt, script, library, FULL),
-        Added::TooDeep => say(rt, script, library, DEEP),
+        Added::Full => say(rt, texts, FULL),
+        Added::TooDeep => say(rt, texts, DEEP),
     }
 }
 
@@ -367,11 +329,10 @@ fn wrap(types: &mut [u32], kind: u32, w: u32, used: usize) -> Added {
     add::close_record(types, Added::Put(w, used))
 }
 
-fn grow<'a>(
+fn grow(
     types: &mut [u32],
     lists: &[u32],
-    script: &'a [u8],
-    library: &'a [u8],
+    texts: &Texts,
     count: usize,
     kind: u32,
     w: u32,
@@ -380,16 +341,15 @@ fn grow<'a>(
     if kind <= CLOSE {
         return wrap(types, kind, w, used);
     }
-    apply::apply_slot_binding(types, used, script, library, lists, count, w)
+    apply::apply_slot_binding(types, used, texts, lists, count, w)
 }
 
 // Adds to the words that are lent, and tells of it where a word is given.
-fn grown<'a>(
+fn grown(
     rt: &impl Print,
     types: &mut [u32],
     lists: &[u32],
-    script: &'a [u8],
-    library: &'a [u8],
+    texts: &Texts,
     count: usize,
     kind: u32,
     a: u32,
@@ -400,8 +360,7 @@ fn grown<'a>(
     let r = grow(
         &mut types[0..end],
         lists,
-        script,
-        library,
+        texts,
         count,
         kind,
         a,
@@ -409,7 +368,7 @@ fn grown<'a>(
     );
     if old != 0 {
         let used = tok::wide(tok::word_at(lists, BEFORE));
-        added(rt, types, script, library, r, used, old)?;
+        added(rt, types, texts, r, used, old)?;
     }
     Ok(())
 }
@@ -433,12 +392,11 @@ fn put(
 }
 
 // Commands that leave the lists as they are.
-fn obey<'a>(
+fn obey(
     rt: &impl Print,
     types: &mut [u32],
     lists: &[u32],
-    script: &'a [u8],
-    library: &'a [u8],
+    texts: &Texts,
     count: usize,
     kind: u32,
     a: u32,
@@ -448,34 +406,25 @@ fn obey<'a>(
     if kind < OPTION {
         put(rt, types, lists, kind, a, b, c)
     } else if kind < BOUND {
-        grown(rt, types, lists, script, library, count, kind, a, b, c)
+        grown(rt, types, lists, texts, count, kind, a, b, c)
     } else if kind == BOUND {
-        bound(rt, types, lists, script, library, count, a)
+        bound(rt, types, lists, texts, count, a)
     } else {
-        tell(rt, types, script, library, kind, a, b, c)
+        tell(rt, types, texts, kind, a, b, c)
     }
 }
 
 // Each command goes to both functions, so that neither is lent more than one buffer to write; one of them has nothing to do.
-fn run<'a>(
-    rt: &(impl Input + Print),
-    script: &'a [u8],
-    library: &'a [u8],
-    commands: usize,
-) -> io::Result<()> {
+fn run(rt: &(impl Input + Print), texts: &Texts, commands: usize) -> io::Result<()> {
     let mut types = [0u32; 8448];
     let mut lists = [0u32; 256];
     let mut count = 0;
     for _ in 0..commands {
         let c = commands::next_command(rt)?;
         let kind = tok::kind(c.op);
-        say(rt, script, library, c.op)?;
-        count = relist(
-            rt, &types, &mut lists, script, library, count, kind, c.a, c.b, c.c,
-        )?;
-        obey(
-            rt, &mut types, &lists, script, library, count, kind, c.a, c.b, c.c,
-        )?;
+        say(rt, texts, c.op)?;
+        count = relist(rt, &types, &mut lists, texts, count, kind, c.a, c.b, c.c)?;
+        obey(rt, &mut types, &lists, texts, count, kind, c.a, c.b, c.c)?;
     }
     Ok(())
 }
@@ -486,5 +435,9 @@ fn main(rt: HostRuntime) -> io::Result<()> {
     let mut library = [0u8; 512];
     commands::read_full(&rt, &mut library)?;
     let first = commands::next_command(&rt)?;
-    run(&rt, &script, &library, tok::wide(first.a))
+    let texts = Texts {
+        script: &script,
+        library: &library,
+    };
+    run(&rt, &texts, tok::wide(first.a))
 }

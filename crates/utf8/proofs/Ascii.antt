@@ -1,12 +1,12 @@
 -- A turn of `is_ascii`: the or of octets is in the ASCII range exactly where each of them is, since it is no less than each, and has no
 -- more digits than the longest. Assumes nothing.
-use Prim.Native.Nat.{ℕ, suc, ◌+◌, ◌≤◌, ◌<◌}
-use mathlib.Core.Path.{◌≡◌, refl, sym, ap, ◌∙◌}
-use mathlib.Core.Bool.{Bool, true, false, ◌&&◌, and-true, and_assoc}
-use mathlib.Core.List.{List, [], ◌∷◌}
+use Prim.Native.Nat.{ℕ, suc, ◌+◌, ◌<◌}
+use mathlib.Core.Path.{◌≡◌, sym, ap, ◌∙◌}
+use mathlib.Core.Bool.{true, ◌&&◌, and_assoc}
+use mathlib.Core.List.{List}
 use native.Mathlib.Omega.{arith}
 use native.Mathlib.Numerals.{add-one}
-use lib.ListN.{length, get_or, drop, drop_of_length-le}
+use lib.ListN.{length, get_or, drop}
 use lib.Seq.{drop-cons}
 use lib.Dec.{leb}
 use lib.Bits.{bit_or, or_lt, or_add_and, and_le_l, and_le_r}
@@ -43,6 +43,3 @@ module _ (s : List ℕ) (i all : ℕ) (so_far : ascii s ≡ (utf8_1 all && ascii
       ∙ sym (and_assoc (utf8_1 all) (utf8_1 (get_or s i 0)) (ascii (drop (suc i) s)))
       ∙ ap (λ b. b && ascii (drop (suc i) s)) (or_ascii all (get_or s i 0))
       ∙ ap (λ j. utf8_1 (bit_or all (get_or s i 0)) && ascii (drop j s)) (sym (add-one i))
-
-  pub all-passed : length s ≤ i → utf8_1 all ≡ ascii s
-  all-passed h = sym (so_far ∙ ap (λ l. utf8_1 all && ascii l) (drop_of_length-le s h) ∙ and-true (utf8_1 all))

@@ -1,18 +1,14 @@
--- What `char_len` returns, a law for each `return`, and what a turn of `well_formed` makes of it. By `front`: a character at the front
--- is taken off. Assumes nothing.
-use Prim.Native.Nat.{ℕ, ◌+◌, ◌-◌, ◌≤◌, ◌<◌, zero-le}
+-- What `char_len` returns, a law for each `return`. By `front`: a character at the front is taken off. Assumes nothing.
+use Prim.Native.Nat.{ℕ, ◌<◌, zero-le}
 use mathlib.Core.Path.{◌≡◌, ◌∙◌}
 use mathlib.Core.Bool.{Bool, true, false}
 use mathlib.Core.List.{List, [], ◌∷◌}
 use native.Mathlib.Omega.{arith}
 use native.Mathlib.Nat.{not-suc-le-zero}
-use lib.ListN.{length, get_or, take, drop, length-drop, drop_of_length-le}
-use lib.Seq.{take_all, drop-drop}
-use borrow.Author.Tests.{lt-ltb}
+use lib.ListN.{length, get_or}
 use Rattle.utf8.specs.Rfc3629.{utf8_1, utf8_2, utf8_3, utf8_4, well_formed, one, two, three, four}
 use Rattle.utf8.specs.Front.{Front}
 use Rattle.utf8.proofs.Laws.Tests.{in_2, tails_3, tails_4, in_tail}
-use Rattle.utf8.proofs.Laws.{empty}
 use Rattle.utf8.proofs.Laws.Decides.{goes_1, goes_2, goes_3, stops_4, front}
 
 -- ---- on the octets of the string; where they are not there, 0 is read, which is no tail
@@ -75,21 +71,3 @@ module _ (t : List ℕ) (some : 0 < length t) {a : ℕ} (ea : a ≡ get_or t 0 0
                   no_octets t some (rw (← ea, ← e1) h1) (rw (← ea, ← eb, ← e2) h2)
                   (rw (← ea, ← eb, ← ec, ← e3) h3) (rw (← ea, ← eb, ← ec, ← ed, ← e4) h);
             }
-
--- ---- a turn of the loop: n octets are taken off the part of s that begins at i
-module _ (s : List ℕ) (i n : ℕ) (f : Front (take (length s - i) (drop i s)) n) where
-  here : Front (drop i s) n
-  here = rw (take_all (length s - i) (drop i s) (rw length-drop (omega arith))) at f
-
-  pub stops : n ≡ 0 → well_formed (drop i s) ≡ false
-  stops e = rw e at here.well
-
-  pub goes_on : (n ≡ 0 → ⊥) → well_formed (drop i s) ≡ well_formed (drop (i + n) s)
-  goes_on e = here.well ∙ rw (lt-ltb 0 n (omega arith), drop-drop n i s)
-
-  pub stays_within : i ≤ length s → i + n ≤ length s
-  stays_within h = omega (arith, rw length-drop at here.within)
-
--- ---- at the end nothing is left
-pub at-end : (s : List ℕ) (i : ℕ) → length s ≤ i → well_formed (drop i s) ≡ true
-at-end s i h = rw (drop_of_length-le s h) empty

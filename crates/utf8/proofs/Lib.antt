@@ -1,4 +1,3 @@
-mod Rules
 mod Fronts
 mod Ascii
 pub mod Examples

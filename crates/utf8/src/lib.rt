@@ -11,7 +11,7 @@ ghost use Rattle.utf8.specs.Front.{Front};
 fn range(lo: u8, hi: u8, a: u8) -> bool
     ensures { result ≡ range lo hi a }
 {
-    lo <= a && a <= hi
+    (lo..=hi).contains(&a)
 }
 
 fn utf8_tail(a: u8) -> bool
@@ -26,6 +26,7 @@ fn utf8_1(a: u8) -> bool
     range(0x00, 0x7F, a)
 }
 
+#[tactic(auto, unfolding(crate::specs::Rfc3629::utf8_2))]
 fn utf8_2(a: u8, b: u8) -> bool
     ensures { result ≡ utf8_2 a b }
 {
@@ -51,38 +52,30 @@ fn four(al: u8, ah: u8, bl: u8, bh: u8, a: u8, b: u8, c: u8, d: u8) -> bool
     three(al, ah, bl, bh, a, b, c) && utf8_tail(d)
 }
 
+#[tactic(auto, unfolding(crate::specs::Rfc3629::utf8_3))]
 fn utf8_3(a: u8, b: u8, c: u8) -> bool
     ensures { result ≡ utf8_3 a b c }
 {
-    if three(0xE0, 0xE0, 0xA0, 0xBF, a, b, c) {
-        return true;
-    }
-    if three(0xE1, 0xEC, 0x80, 0xBF, a, b, c) {
-        return true;
-    }
-    if three(0xED, 0xED, 0x80, 0x9F, a, b, c) {
-        return true;
-    }
-    three(0xEE, 0xEF, 0x80, 0xBF, a, b, c)
+    three(0xE0, 0xE0, 0xA0, 0xBF, a, b, c)
+        || three(0xE1, 0xEC, 0x80, 0xBF, a, b, c)
+        || three(0xED, 0xED, 0x80, 0x9F, a, b, c)
+        || three(0xEE, 0xEF, 0x80, 0xBF, a, b, c)
 }
 
+#[tactic(auto, unfolding(crate::specs::Rfc3629::utf8_4))]
 fn utf8_4(a: u8, b: u8, c: u8, d: u8) -> bool
     ensures { result ≡ utf8_4 a b c d }
 {
-    if four(0xF0, 0xF0, 0x90, 0xBF, a, b, c, d) {
-        return true;
-    }
-    if four(0xF1, 0xF3, 0x80, 0xBF, a, b, c, d) {
-        return true;
-    }
-    four(0xF4, 0xF4, 0x80, 0x8F, a, b, c, d)
+    four(0xF0, 0xF0, 0x90, 0xBF, a, b, c, d)
+        || four(0xF1, 0xF3, 0x80, 0xBF, a, b, c, d)
+        || four(0xF4, 0xF4, 0x80, 0x8F, a, b, c, d)
 }
 
 // The octet at i; past the end 0, which is no tail, so that a character that is cut short is none.
 fn octet(t: &[u8], i: usize) -> u8
     ensures { result ≡ get_or t.now i 0 }
 {
-    if i < t.len() { t[i] } else { 0 }
+    t.get(i).copied().unwrap_or(0)
 }
 
 // How many octets the character has that t begins with; 0 where it begins with none.
@@ -114,10 +107,8 @@ fn is_ascii(s: &[u8]) -> bool
     ensures { result ≡ ascii s.now }
 {
     let mut all = 0u8;
-    let mut i = 0;
-    while i < s.len() {
-        all = all | s[i];
-        i += 1;
+    for octet in s {
+        all |= *octet;
     }
     utf8_1(all)
 }
@@ -129,13 +120,13 @@ pub fn well_formed(s: &[u8]) -> bool
     if is_ascii(s) {
         return true;
     }
-    let mut i = 0;
-    while i < s.len() {
-        let n = char_len(&s[i..]);
+    let mut rest = s;
+    while !rest.is_empty() {
+        let n = char_len(rest);
         if n == 0 {
             return false;
         }
-        i += n;
+        rest = &rest[n..];
     }
     true
 }

@@ -10,28 +10,18 @@
 use std::io;
 
 // What the strings of a row came to.
-#[derive(Clone, Copy)]
+#[derive(Clone, Copy, Default)]
 struct Tally {
     count: u64,
     sum: u64,
 }
 
-fn none() -> Tally {
-    Tally { count: 0, sum: 0 }
-}
-
 // One more answer. The sum is kept by a prime modulus, to which 31 has an inverse, so that no later answer hides a wrong one.
 fn counted(t: Tally, ok: bool) -> Tally {
-    let sum = t.sum % 4294967291 * 31;
-    if ok {
-        return Tally {
-            count: std::num::wrapping_add_u64(t.count, 1),
-            sum: sum + 1,
-        };
-    }
+    let one = u64::from(ok);
     Tally {
-        count: t.count,
-        sum,
+        count: t.count.wrapping_add(one),
+        sum: t.sum % 4294967291 * 31 + one,
     }
 }
 
@@ -39,7 +29,7 @@ fn counted(t: Tally, ok: bool) -> Tally {
 fn edge(i: usize) -> u8 {
     let edges =
         b"\x00\x41\x7F\x80\x8F\x90\x9F\xA0\xBF\xC0\xC1\xC2\xDF\xE0\xE1\xEC\xED\xEE\xEF\xF0\xF1\xF3\xF4\xF5\xFF";
-    if i < 25 { edges[i] } else { 0 }
+    edges.get(i).copied().unwrap_or(0)
 }
 
 fn byte(i: usize) -> u8 {
@@ -48,20 +38,15 @@ fn byte(i: usize) -> u8 {
 
 // Whether the k-th of the strings of len bytes that begin with a is well formed.
 fn answer(len: usize, a: u8, k: usize) -> bool {
-    if len == 2 {
-        let s = [a, byte(k)];
-        return utf8::well_formed(&s);
+    match len {
+        2 => utf8::well_formed(&[a, byte(k)]),
+        3 => utf8::well_formed(&[a, edge(k / 25), edge(k % 25)]),
+        _ => utf8::well_formed(&[a, edge(k / 625), edge(k / 25 % 25), edge(k % 25)]),
     }
-    if len == 3 {
-        let s = [a, edge(k / 25), edge(k % 25)];
-        return utf8::well_formed(&s);
-    }
-    let s = [a, edge(k / 625), edge(k / 25 % 25), edge(k % 25)];
-    utf8::well_formed(&s)
 }
 
 fn strings(len: usize, count: usize, a: u8) -> Tally {
-    let mut t = none();
+    let mut t = Tally::default();
     for k in 0..count {
         t = counted(t, answer(len, a, k));
     }
@@ -69,11 +54,9 @@ fn strings(len: usize, count: usize, a: u8) -> Tally {
 }
 
 fn parts(text: &[u8], i: usize) -> Tally {
-    let mut t = none();
-    let mut j = i;
-    while j <= text.len() {
+    let mut t = Tally::default();
+    for j in i..=text.len() {
         t = counted(t, utf8::well_formed(&text[i..j]));
-        j += 1;
     }
     t
 }

@@ -1,4 +1,5 @@
 -- Each return of the functions of arrays, over variables for what the calls gave. By rewriting with the tests. Assumes nothing.
+use Rattle.std.specs.Prelude.{Option, Some, None}
 use Prim.Native.Nat.{ℕ}
 use mathlib.Core.Path.{◌≡◌, refl, sym, ap, ◌∙◌}
 use mathlib.Core.Bool.{Bool, true, false, ◌||◌}
@@ -15,8 +16,6 @@ use Rattle.add.specs.declared.Added.TheVariants.{Put, Full, TooDeep}
 use Rattle.add.specs.Answer.{result_of, Adds}
 use Rattle.library.specs.Package.{Package}
 use Rattle.err.specs.declared.Counts.{Counts}
-use Rattle.err.specs.declared.Reported.{Reported}
-use Rattle.err.specs.declared.Reported.TheVariants.{Told, NoRoom}
 use Rattle.err.specs.Message.{empty_array, members_differ}
 use Rattle.err.specs.Report.{Reports}
 use Rattle.rules.specs.declared.Answer.{Answer}
@@ -38,7 +37,7 @@ or_right true = refl
 or_right false = refl
 
 -- ---- an array of no members
-pub no_member : (n token : ℕ) {u : Used} {d m d' m' : List ℕ} {x : Reported} {q : Step} → Reports (empty_array token) d m u.told d' m' x → q ≡ poison_of n u x → (s t : List ℕ) → Steps (poison n (empty_array token)) s t d m u s t d' m' q
+pub no_member : (n token : ℕ) {u : Used} {d m d' m' : List ℕ} {x : Option Counts} {q : Step} → Reports (empty_array token) d m u.told d' m' x → q ≡ poison_of n u x → (s t : List ℕ) → Steps (poison n (empty_array token)) s t d m u s t d' m' q
 no_member n token p e s t = rw e (poisons-step n p)
 
 -- ---- two members' types
@@ -69,13 +68,13 @@ module _ (T : Texts) (s t d m : List ℕ) (u : Used) (n : ℕ) (span : Span) (fi
         unfolding when compared
         member_alike e ls v = record { step = λ rest. types-is ls v rest ∙ rw (← ha T, za, ← hb T, zb, ← hs, e) }
 
-        module _ {d' m' : List ℕ} {x : Reported} (e : same ≡ false) (p : Reports (members_differ span (ty_of T t f) (ty_of T t y)) d m u.told d' m' x) where
-          pub member-full : x ≡ NoRoom → (ls : List Package) (v : ℕ) → Compares (member_types (ctx T ls v) n span first member) s t d m u d' m' (C.Refused 9 n)
+        module _ {d' m' : List ℕ} {x : Option Counts} (e : same ≡ false) (p : Reports (members_differ span (ty_of T t f) (ty_of T t y)) d m u.told d' m' x) where
+          pub member-full : x ≡ None → (ls : List Package) (v : ℕ) → Compares (member_types (ctx T ls v) n span first member) s t d m u d' m' (C.Refused 9 n)
           unfolding when compared gone
           member-full hx ls v = record { step = λ rest. types-is ls v rest ∙ rw (← ha T, za, ← hb T, zb, ← hs, e, (full-goes n {s = s} {t = t} {u = u} hx p).step rest) }
 
           pub member-differs :
-              {c : Counts} → x ≡ Told c → (ls : List Package) (v : ℕ) →
+              {c : Counts} → x ≡ Some c → (ls : List Package) (v : ℕ) →
               Compares (member_types (ctx T ls v) n span first member) s t d m u d' m' (C.Differs (record { types = u.types; told = c; kept = u.kept }))
           unfolding when compared gone
           member-differs hx ls v = record { step = λ rest. types-is ls v rest ∙ rw (← ha T, za, ← hb T, zb, ← hs, e, (told-goes n {s = s} {t = t} {u = u} hx p).step rest) }

@@ -1,4 +1,5 @@
 -- Each return of the functions that hold a type against another (condition, case, return), and of let bindings. By rewriting with the tests. Assumes nothing.
+use Rattle.std.specs.Prelude.{Option, Some, None}
 use Prim.Native.Nat.{ℕ}
 use mathlib.Core.Path.{◌≡◌, refl, sym, ap, ◌∙◌}
 use mathlib.Core.Bool.{Bool, true, false}
@@ -15,8 +16,6 @@ use Rattle.ptype.specs.Words.{ways, unfolded, ty_of}
 use Rattle.library.specs.Package.{Package}
 use Rattle.ast.specs.TypeExpr.{TypeExpr, type_token}
 use Rattle.err.specs.declared.Counts.{Counts}
-use Rattle.err.specs.declared.Reported.{Reported}
-use Rattle.err.specs.declared.Reported.TheVariants.{Told, NoRoom}
 use Rattle.err.specs.Message.{Diagnostic, bad_condition, match_cases, bad_return, let_void}
 use Rattle.err.specs.Report.{Reports}
 use Rattle.rules.specs.declared.Answer.{Answer}
@@ -43,7 +42,7 @@ module _ {rule : Walk Done} {s t d m : List ℕ} {u : Used} {same : Bool} {n : �
   unfolding when gone
   check_same e = record { step = λ rest. k.is rest ∙ rw e }
 
-  check_differs : {d' m' : List ℕ} {x : Reported} {q : Went} → same ≡ false → Reports dg d m u.told d' m' x → q ≡ told_of n u x → Goes rule s t d m u s t d' m' q
+  check_differs : {d' m' : List ℕ} {x : Option Counts} {q : Went} → same ≡ false → Reports dg d m u.told d' m' x → q ≡ told_of n u x → Goes rule s t d m u s t d' m' q
   unfolding when
   check_differs e p hq = record { step = λ rest. k.is rest ∙ rw (e, hq) ((reports_step n p).step rest) }
 
@@ -62,7 +61,7 @@ module _ (T : Texts) (s t d m : List ℕ) (u : Used) (n token : ℕ) (a : Answer
     condition-bool e ls v = check_same (condition-is ls v) e
 
     pub condition_bad :
-        {d' m' : List ℕ} {x : Reported} {q : Went} → same ≡ false → Reports (bad_condition token (ty_of T t w)) d m u.told d' m' x → q ≡ told_of n u x →
+        {d' m' : List ℕ} {x : Option Counts} {q : Went} → same ≡ false → Reports (bad_condition token (ty_of T t w)) d m u.told d' m' x → q ≡ told_of n u x →
         (ls : List Package) (v : ℕ) → Goes (condition (ctx T ls v) n token a) s t d m u s t d' m' q
     condition_bad e p hq ls v = check_differs (condition-is ls v) e p hq
 
@@ -81,7 +80,7 @@ module _ (T : Texts) (s t d m : List ℕ) (u : Used) (n default token : ℕ) (a 
     branch_same e ls v = check_same (branch-is ls v) e
 
     pub branch-differs :
-        {d' m' : List ℕ} {x : Reported} {q : Went} → same ≡ false → Reports (match_cases token (ty_of T t y) (ty_of T t w)) d m u.told d' m' x → q ≡ told_of n u x →
+        {d' m' : List ℕ} {x : Option Counts} {q : Went} → same ≡ false → Reports (match_cases token (ty_of T t y) (ty_of T t w)) d m u.told d' m' x → q ≡ told_of n u x →
         (ls : List Package) (v : ℕ) → Goes (compare_branch (ctx T ls v) n default token a) s t d m u s t d' m' q
     branch-differs e p hq ls v = check_differs (branch-is ls v) e p hq
 
@@ -109,7 +108,7 @@ module _ (T : Texts) (s t d m : List ℕ) (u : Used) (n name token ret : ℕ) (a
     return-same h ls v e ht = check_same (return-is ls v e ht) h
 
     pub return-differs :
-        {d' m' : List ℕ} {x : Reported} {q : Went} → same ≡ false → Reports (bad_return token (name_bytes T name) (ty_of T t ret) (ty_of T t w)) d m u.told d' m' x → q ≡ told_of n u x →
+        {d' m' : List ℕ} {x : Option Counts} {q : Went} → same ≡ false → Reports (bad_return token (name_bytes T name) (ty_of T t ret) (ty_of T t w)) d m u.told d' m' x → q ≡ told_of n u x →
         (ls : List Package) (v : ℕ) (e : TypeExpr) → type_token e ≡ token → Goes (check_return (ctx T ls v) n name e ret a) s t d m u s t d' m' q
     return-differs h p hq ls v e ht = check_differs (return-is ls v e ht) h p hq
 
@@ -124,11 +123,11 @@ module _ (s d m : List ℕ) (u : Used) (n name : ℕ) (a : Answer) where
     unfolding let_binding ty when bound
     let_bound h t = record { step = λ rest. rw (ha, ← hi, ← hw, ← hk, ne_eqb k 1 h) }
 
-    module _ {d' m' : List ℕ} {x : Reported} (h : k ≡ 1) (p : Reports (let_void name) d m u.told d' m' x) where
-      pub let_full : x ≡ NoRoom → (t : List ℕ) → Binds (let_binding n name a) s t d m u d' m' (B.Refused 9 n)
+    module _ {d' m' : List ℕ} {x : Option Counts} (h : k ≡ 1) (p : Reports (let_void name) d m u.told d' m' x) where
+      pub let_full : x ≡ None → (t : List ℕ) → Binds (let_binding n name a) s t d m u d' m' (B.Refused 9 n)
       unfolding let_binding ty when bound gone
       let_full e t = record { step = λ rest. rw (ha, ← hi, ← hw, ← hk, eq-eqb k 1 h, (full-goes n {s = s} {t = t} {u = u} e p).step rest) }
 
-      pub let_void_lem : {c : Counts} → x ≡ Told c → (t : List ℕ) → Binds (let_binding n name a) s t d m u d' m' (B.Nothing (record { types = u.types; told = c; kept = u.kept }))
+      pub let_void_lem : {c : Counts} → x ≡ Some c → (t : List ℕ) → Binds (let_binding n name a) s t d m u d' m' (B.Nothing (record { types = u.types; told = c; kept = u.kept }))
       unfolding let_binding ty when bound gone
       let_void_lem e t = record { step = λ rest. rw (ha, ← hi, ← hw, ← hk, eq-eqb k 1 h, (told-goes n {s = s} {t = t} {u = u} e p).step rest) }

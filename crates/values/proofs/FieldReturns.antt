@@ -1,4 +1,5 @@
 -- Each return of the functions of fields, over variables for what the calls gave. By rewriting with the tests. Assumes nothing.
+use Rattle.std.specs.Prelude.{Some, None, Option as Found}
 use Prim.Native.Nat.{ℕ, zero, suc, ◌+◌, ◌-◌, ◌<◌, ◌≤◌}
 use mathlib.Core.Path.{◌≡◌, refl, sym, ap, ◌∙◌}
 use mathlib.Core.Bool.{Bool, true, false}
@@ -13,7 +14,6 @@ use Rattle.tok.specs.Text.{Texts, name_bytes, same_name}
 use Rattle.tok.specs.Step.{ok, when}
 use Rattle.ptype.specs.Words.{ty_of, unknown_word, field_count}
 use Rattle.library.specs.Package.{Package}
-use Rattle.err.specs.declared.Reported.{Reported}
 use Rattle.err.specs.Message.{no_record, no_field_of}
 use Rattle.err.specs.Report.{Reports}
 use Rattle.rules.specs.declared.Answer.{Answer}
@@ -26,9 +26,8 @@ use Rattle.state.specs.declared.Step.TheVariants as S
 use Rattle.state.specs.Context.{ctx}
 use Rattle.state.specs.World.{Rest, world, stepped, Steps}
 use Rattle.state.specs.Reporting.{poison_of, poisons-step}
-use Rattle.values.specs.declared.Found.{Found}
-use Rattle.values.specs.declared.Found.TheVariants as F
 use Rattle.values.specs.Answers.{found_of}
+use Rattle.err.specs.declared.Counts.{Counts}
 
 -- ---- the fields one after the other
 module _ (T : Texts) (W : List ℕ) (name at : ℕ) where
@@ -46,14 +45,14 @@ module _ (T : Texts) (W : List ℕ) (name at : ℕ) where
       rw (e, find_field) (ap (λ j. find_field T W (name_bytes T name) (at + 2) j) z)
 
   module _ {left w : ℕ} {same : Bool} {start : Option ℕ} (inv : start ≡ find_field T W (name_bytes T name) at left) where
-    pub find_here : {x : ℕ} → 0 < left → w ≡ get_or W at 0 → same ≡ same_name T name w → same ≡ true → x ≡ get_or W (at + 1) 0 → found_of (F.Type x) ≡ start
+    pub find_here : {x : ℕ} → 0 < left → w ≡ get_or W at 0 → same ≡ same_name T name w → same ≡ true → x ≡ get_or W (at + 1) 0 → found_of (Some x) ≡ start
     unfolding found_of
     find_here h hw hs e hx = sym (inv ∙ find_named left h (rw (← hw, ← hs) e) ∙ ap some (sym hx))
 
     pub find_later : 0 < left → w ≡ get_or W at 0 → same ≡ same_name T name w → same ≡ false → start ≡ find_field T W (name_bytes T name) (at + 2) (left - 1)
     find_later h hw hs e = inv ∙ find_other left h (rw (← hw, ← hs) e)
 
-  pub find_none : {left : ℕ} {start : Option ℕ} → start ≡ find_field T W (name_bytes T name) at left → left ≤ 0 → found_of F.Nothing ≡ start
+  pub find_none : {left : ℕ} {start : Option ℕ} → start ≡ find_field T W (name_bytes T name) at left → left ≤ 0 → found_of None ≡ start
   unfolding found_of find_field
   find_none {left} inv h =
       let z : left ≡ 0 = omega arith in
@@ -84,7 +83,7 @@ module _ (T : Texts) (s t d m : List ℕ) (u : Used) (n slot name target : ℕ) 
   unfolding field ty tree
   field_is ls v rest = rw (hk, hw, hi)
 
-  module _ {d' m' : List ℕ} {x : Reported} {q : Step} where
+  module _ {d' m' : List ℕ} {x : Found Counts} {q : Step} where
     pub field-other :
         (k ≡ 8 → ⊥) → Reports (no_record name (ty_of T t w)) d m u.told d' m' x → q ≡ poison_of n u x →
         (ls : List Package) (v : ℕ) → Steps (field (ctx T ls v) n slot name target) s t d m u s t d' m' q
@@ -92,14 +91,14 @@ module _ (T : Texts) (s t d m : List ℕ) (u : Used) (n slot name target : ℕ) 
     field-other h p hq ls v = record { step = λ rest. field_is ls v rest ∙ rw (ne_eqb k 8 h, hq) ((poisons-step n p).step rest) }
 
     pub field-none :
-        {f : Found} → k ≡ 8 → found_of f ≡ find_field T t (name_bytes T name) (payload_of w + 1) (field_count t w) → f ≡ F.Nothing →
+        {f : Found ℕ} → k ≡ 8 → found_of f ≡ find_field T t (name_bytes T name) (payload_of w + 1) (field_count t w) → f ≡ None →
         Reports (no_field_of name (ty_of T t w) (name_bytes T name)) d m u.told d' m' x → q ≡ poison_of n u x →
         (ls : List Package) (v : ℕ) → Steps (field (ctx T ls v) n slot name target) s t d m u s t d' m' q
     unfolding when on_option found_of
     field-none h hf e p hq ls v = record { step = λ rest. field_is ls v rest ∙ rw (eq-eqb k 8 h, ← hf, e, hq) ((poisons-step n p).step rest) }
 
   pub field_found :
-      {f : Found} {y : ℕ} {s' : List ℕ} {q : Step} → k ≡ 8 → found_of f ≡ find_field T t (name_bytes T name) (payload_of w + 1) (field_count t w) → f ≡ F.Type y →
+      {f : Found ℕ} {y : ℕ} {s' : List ℕ} {q : Step} → k ≡ 8 → found_of f ≡ find_field T t (name_bytes T name) (payload_of w + 1) (field_count t w) → f ≡ Some y →
       ((t d m : List ℕ) → Steps (field_type slot y) s t d m u s' t d m q) →
       (ls : List Package) (v : ℕ) → Steps (field (ctx T ls v) n slot name target) s t d m u s' t d m q
   unfolding when on_option found_of

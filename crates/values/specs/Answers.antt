@@ -1,5 +1,5 @@
 -- What the answers mean: of looking a field up, of an array's member, of a let's binding; and parts of rules that are functions of the code. Definitions.
-use Rattle.std.specs.Prelude.{ℕ, ◌≡◌, refl, List, ◌∷◌}
+use Rattle.std.specs.Prelude.{ℕ, ◌≡◌, refl, List, ◌∷◌, Some, None, Option as Found}
 use Rattle.std.proofs.Math.Option.{Option, none, some}
 use Rattle.tok.specs.Step.{Result, ok, refused, Refusal, refusal, ◌>>=◌, ◌>>◌, when}
 use Rattle.ptype.specs.Ty.{same_ty}
@@ -11,17 +11,15 @@ use Rattle.rules.specs.Steps.{Done, skip, known, if_known, ty, ty_tree, set_know
 use Rattle.rules.specs.Rules.{Member, alike, silent, differs, Branch, compare_branches, matched}
 use Rattle.state.specs.declared.Used.{Used}
 use Rattle.state.specs.World.{Rest, world}
-use Rattle.values.specs.declared.Found.{Found}
-use Rattle.values.specs.declared.Found.TheVariants as F
 use Rattle.values.specs.declared.Compared.{Compared}
 use Rattle.values.specs.declared.Compared.TheVariants as C
 use Rattle.values.specs.declared.Binding.{Binding}
 use Rattle.values.specs.declared.Binding.TheVariants as B
 
 -- a field's type word, or none
-unfoldable pub found_of : Found → Option ℕ
-found_of (F.Type w) = some w
-found_of F.Nothing = none
+unfoldable pub found_of : Found ℕ → Option ℕ
+found_of (Some w) = some w
+found_of None = none
 
 -- The paper's number and values for each case, with the buffers as they are then. After a refusal the rules say nothing of them.
 unfoldable pub compared : Rest → (slots types diagnostics messages : List ℕ) → Compared → Result World Refusal Member

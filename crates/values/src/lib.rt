@@ -4,7 +4,7 @@
 
 ghost use Rattle.std.specs.Prelude.{◌≡◌, List, ℕ, ◌+◌};
 ghost use Rattle.tok.specs.Word.{payload_of};
-ghost use Rattle.tok.specs.Text.{Texts, texts_of, name_bytes};
+ghost use Rattle.tok.specs.Text.{Texts, name_bytes};
 ghost use Rattle.tok.specs.Step.{ok};
 ghost use Rattle.ptype.specs.Words.{field_count};
 ghost use Rattle.library.specs.Package.{Package};
@@ -18,19 +18,11 @@ ghost use Rattle.state.specs.World.{Rest, world, Steps, Goes};
 ghost use Rattle.values.specs.Answers.{found_of, Compares, Binds, alias, compare_branch};
 
 use add::Added;
-use err::Reported;
 use operators::{set_known, store};
 use ptype::{contains_unknown, same_type};
 use rules::Answer;
 use state::{Step, Used, Went};
-use tok::{Span, kind, wide, word_at};
-
-// The type word of a record's field, if the record has it.
-#[derive(Clone, Copy)]
-pub enum Found {
-    Type(u32),
-    Nothing,
-}
+use tok::{Span, Texts, kind, wide, word_at};
 
 // What an array's member after the first is: of the first's type; silent, where a value is poisoned or an Unknown stands in a type; or of
 // another type, which was reported. With what is used then; or a refusal's number and place.
@@ -60,26 +52,19 @@ const UNKNOWN_WORD: u32 = 0xB000_0000;
 // Fields.
 
 // Looks up the first field of a name in a record, by the record's type word.
-pub fn find_field<'a>(
-    types: &[u32],
-    script: &'a [u8],
-    library: &'a [u8],
-    name: u32,
-    word: u32,
-) -> Found
-    ensures { let T : Texts = texts_of script.now library.now in let W : List ℕ = types.now in
-        found_of result ≡ find_field T W (name_bytes T name) (payload_of word + 1) (field_count W word) }
+pub fn find_field(types: &[u32], texts: &Texts, name: u32, word: u32) -> Option<u32>
+    ensures { let W : List ℕ = types.now in
+        found_of result ≡ find_field texts.now W (name_bytes texts.now name) (payload_of word + 1) (field_count W word) }
 {
-    let mut left = ptype::field_count(types, word);
+    let count = ptype::field_count(types, word);
     let mut at = tok::payload(word) + 1;
-    while left > 0 {
-        if tok::same_name(script, library, name, word_at(types, at)) {
-            return Found::Type(ptype::field_type(types, at));
+    for _ in 0..count {
+        if tok::same_name(texts, name, word_at(types, at)) {
+            return Some(ptype::field_type(types, at));
         }
         at += 2;
-        left -= 1;
     }
-    Found::Nothing
+    None
 }
 
 // A field's type, in the slot of the Field node: Unknown is recorded, and poisons.
@@ -94,21 +79,19 @@ pub fn field_type(slots: &mut [u32], used: Used, slot: u32, word: u32) -> Step
 }
 
 // Node::Field, of the target's slot: 12 where the target is no record, 13 where it has no such field.
-pub fn field<'a>(
+pub fn field(
     slots: &mut [u32],
     types: &[u32],
     diagnostics: &mut [u32],
     messages: &mut [u8],
-    script: &'a [u8],
-    library: &'a [u8],
+    texts: &Texts,
     used: Used,
     n: u32,
     slot: u32,
     name: u32,
     target: u32,
 ) -> Step
-    ensures { let T : Texts = texts_of script.now library.now in
-        ((ls : List Package) (v : ℕ) → Steps (field (ctx T ls v) n slot name target) slots.old types.now diagnostics.old messages.old used
+    ensures { ((ls : List Package) (v : ℕ) → Steps (field (ctx texts.now ls v) n slot name target) slots.old types.now diagnostics.old messages.old used
         slots.new types.now diagnostics.new messages.new result) }
 {
     let w = word_at(slots, wide(target));
@@ -120,23 +103,21 @@ pub fn field<'a>(
             &mut messages[free..],
             counts,
             types,
-            script,
-            library,
+            texts,
             name,
             w,
         );
         return state::poisoned(n, used, other);
     }
-    let found = find_field(types, script, library, name, w);
-    let Found::Type(t) = found else {
+    let found = find_field(types, texts, name, w);
+    let Some(t) = found else {
         let free = err_text::first_free(messages, counts);
         let none = err_values::no_field(
             diagnostics,
             &mut messages[free..],
             counts,
             types,
-            script,
-            library,
+            texts,
             name,
             w,
         );
@@ -164,21 +145,19 @@ pub fn empty_array(
 }
 
 // An array's member against the first, of their slots: 2 where their types differ.
-fn member_types<'a>(
+fn member_types(
     slots: &[u32],
     types: &[u32],
     diagnostics: &mut [u32],
     messages: &mut [u8],
-    script: &'a [u8],
-    library: &'a [u8],
+    texts: &Texts,
     used: Used,
     n: u32,
     span: Span,
     first: u32,
     member: u32,
 ) -> Compared
-    ensures { let T : Texts = texts_of script.now library.now in
-        ((ls : List Package) (v : ℕ) → Compares (member_types (ctx T ls v) n span first member) slots.now types.now diagnostics.old
+    ensures { ((ls : List Package) (v : ℕ) → Compares (member_types (ctx texts.now ls v) n span first member) slots.now types.now diagnostics.old
         messages.old used diagnostics.new messages.new result) }
 {
     let f = word_at(slots, wide(first));
@@ -189,7 +168,7 @@ fn member_types<'a>(
     if contains_unknown(types, f) {
         return Compared::Silent(used);
     }
-    if same_type(types, script, library, t, f) {
+    if same_type(types, texts, t, f) {
         return Compared::Alike(used);
     }
     let counts = used.told;
@@ -199,13 +178,12 @@ fn member_types<'a>(
         &mut messages[free..],
         counts,
         types,
-        script,
-        library,
+        texts,
         span,
         f,
         t,
     );
-    let Reported::Told(after) = reported else {
+    let Some(after) = reported else {
         return Compared::Refused(9, n);
     };
     let kept = used.kept;
@@ -217,21 +195,19 @@ fn member_types<'a>(
 }
 
 // The same, of their answers: a poisoned one is silent.
-pub fn member<'a>(
+pub fn member(
     slots: &[u32],
     types: &[u32],
     diagnostics: &mut [u32],
     messages: &mut [u8],
-    script: &'a [u8],
-    library: &'a [u8],
+    texts: &Texts,
     used: Used,
     n: u32,
     span: Span,
     first: Answer,
     second: Answer,
 ) -> Compared
-    ensures { let T : Texts = texts_of script.now library.now in
-        ((ls : List Package) (v : ℕ) → Compares (member (ctx T ls v) n span first second) slots.now types.now diagnostics.old messages.old
+    ensures { ((ls : List Package) (v : ℕ) → Compares (member (ctx texts.now ls v) n span first second) slots.now types.now diagnostics.old messages.old
         used diagnostics.new messages.new result) }
 {
     let Answer::Known(f) = first else {
@@ -245,8 +221,7 @@ pub fn member<'a>(
         types,
         diagnostics,
         messages,
-        script,
-        library,
+        texts,
         used,
         n,
         span,
@@ -303,27 +278,25 @@ pub fn array_of(
 // Matches.
 
 // A match case's condition: 23 where it is not Bool.
-pub fn condition<'a>(
+pub fn condition(
     slots: &[u32],
     types: &[u32],
     diagnostics: &mut [u32],
     messages: &mut [u8],
-    script: &'a [u8],
-    library: &'a [u8],
+    texts: &Texts,
     used: Used,
     n: u32,
     token: u32,
     answer: Answer,
 ) -> Went
-    ensures { let T : Texts = texts_of script.now library.now in
-        ((ls : List Package) (v : ℕ) → Goes (condition (ctx T ls v) n token answer) slots.now types.now diagnostics.old messages.old used
+    ensures { ((ls : List Package) (v : ℕ) → Goes (condition (ctx texts.now ls v) n token answer) slots.now types.now diagnostics.old messages.old used
         slots.now types.now diagnostics.new messages.new result) }
 {
     let Answer::Known(slot) = answer else {
         return Went::On(used);
     };
     let w = word_at(slots, wide(slot));
-    if same_type(types, script, library, w, BOOL_WORD) {
+    if same_type(types, texts, w, BOOL_WORD) {
         return Went::On(used);
     }
     let counts = used.told;
@@ -333,8 +306,7 @@ pub fn condition<'a>(
         &mut messages[free..],
         counts,
         types,
-        script,
-        library,
+        texts,
         token,
         w,
     );
@@ -342,21 +314,19 @@ pub fn condition<'a>(
 }
 
 // A match case against the default's slot: 24 where their types differ; a poisoned one is passed over.
-pub fn compare_branch<'a>(
+pub fn compare_branch(
     slots: &[u32],
     types: &[u32],
     diagnostics: &mut [u32],
     messages: &mut [u8],
-    script: &'a [u8],
-    library: &'a [u8],
+    texts: &Texts,
     used: Used,
     n: u32,
     default: u32,
     token: u32,
     answer: Answer,
 ) -> Went
-    ensures { let T : Texts = texts_of script.now library.now in
-        ((ls : List Package) (v : ℕ) → Goes (compare_branch (ctx T ls v) n default token answer) slots.now types.now diagnostics.old
+    ensures { ((ls : List Package) (v : ℕ) → Goes (compare_branch (ctx texts.now ls v) n default token answer) slots.now types.now diagnostics.old
         messages.old used slots.now types.now diagnostics.new messages.new result) }
 {
     let Answer::Known(slot) = answer else {
@@ -364,7 +334,7 @@ pub fn compare_branch<'a>(
     };
     let w = word_at(slots, wide(slot));
     let d = word_at(slots, wide(default));
-    if same_type(types, script, library, w, d) {
+    if same_type(types, texts, w, d) {
         return Went::On(used);
     }
     let counts = used.told;
@@ -374,8 +344,7 @@ pub fn compare_branch<'a>(
         &mut messages[free..],
         counts,
         types,
-        script,
-        library,
+        texts,
         token,
         d,
         w,
@@ -416,7 +385,7 @@ pub fn let_binding(
     let counts = used.told;
     let free = err_text::first_free(messages, counts);
     let reported = err_names::let_void(diagnostics, &mut messages[free..], counts, name);
-    let Reported::Told(after) = reported else {
+    let Some(after) = reported else {
         return Binding::Refused(9, n);
     };
     let kept = used.kept;
@@ -428,13 +397,12 @@ pub fn let_binding(
 }
 
 // A function's body against its return type, whose token is given: 9 where they differ.
-pub fn check_return<'a>(
+pub fn check_return(
     slots: &[u32],
     types: &[u32],
     diagnostics: &mut [u32],
     messages: &mut [u8],
-    script: &'a [u8],
-    library: &'a [u8],
+    texts: &Texts,
     used: Used,
     n: u32,
     name: u32,
@@ -442,15 +410,14 @@ pub fn check_return<'a>(
     ret: u32,
     computed: Answer,
 ) -> Went
-    ensures { let T : Texts = texts_of script.now library.now in
-        ((ls : List Package) (v : ℕ) (e : TypeExpr) → type_token e ≡ token → Goes (check_return (ctx T ls v) n name e ret computed) slots.now types.now
+    ensures { ((ls : List Package) (v : ℕ) (e : TypeExpr) → type_token e ≡ token → Goes (check_return (ctx texts.now ls v) n name e ret computed) slots.now types.now
         diagnostics.old messages.old used slots.now types.now diagnostics.new messages.new result) }
 {
     let Answer::Known(slot) = computed else {
         return Went::On(used);
     };
     let w = word_at(slots, wide(slot));
-    if same_type(types, script, library, w, ret) {
+    if same_type(types, texts, w, ret) {
         return Went::On(used);
     }
     let counts = used.told;
@@ -460,8 +427,7 @@ pub fn check_return<'a>(
         &mut messages[free..],
         counts,
         types,
-        script,
-        library,
+        texts,
         token,
         name,
         ret,

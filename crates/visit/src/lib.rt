@@ -41,17 +41,10 @@ pub enum Gave {
 }
 
 // The state with other used counts.
-fn with_used(st: State, used: Used) -> State
+pub fn with_used(st: State, used: Used) -> State
     ensures { result ≡ with_used st used }
 {
-    State {
-        used: used,
-        base: st.base,
-        depth: st.depth,
-        held: st.held,
-        packages: st.packages,
-        functions: st.functions,
-    }
+    State { used, ..st }
 }
 
 // The answer of a plain step, which leaves names in scope, packages held and own functions as they are.
@@ -59,15 +52,9 @@ pub fn answered(st: State, step: Step) -> Visit
     ensures { result ≡ visit_of st step }
 {
     match step {
-        Step::Known(slot, used) => {
-            return Visit::Known(slot, with_used(st, used));
-        }
-        Step::Poison(used) => {
-            return Visit::Poison(with_used(st, used));
-        }
-        Step::Refused(number, place) => {
-            return Visit::Refused(number, place);
-        }
+        Step::Known(slot, used) => Visit::Known(slot, with_used(st, used)),
+        Step::Poison(used) => Visit::Poison(with_used(st, used)),
+        Step::Refused(number, place) => Visit::Refused(number, place),
     }
 }
 
@@ -76,11 +63,7 @@ pub fn went_on(st: State, went: Went) -> Walked
     ensures { result ≡ walked_of st went }
 {
     match went {
-        Went::On(used) => {
-            return Walked::On(with_used(st, used));
-        }
-        Went::Refused(number, place) => {
-            return Walked::Refused(number, place);
-        }
+        Went::On(used) => Walked::On(with_used(st, used)),
+        Went::Refused(number, place) => Walked::Refused(number, place),
     }
 }

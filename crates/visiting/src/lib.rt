@@ -19,15 +19,9 @@ pub fn after(v: Visit) -> Onward
     ensures { result ≡ after_of v }
 {
     match v {
-        Visit::Known(slot, st) => {
-            return Onward::Goes(Answer::Known(slot), st);
-        }
-        Visit::Poison(st) => {
-            return Onward::Goes(Answer::Poison, st);
-        }
-        Visit::Refused(_, _) => {
-            return Onward::Stops;
-        }
+        Visit::Known(slot, st) => Onward::Goes(Answer::Known(slot), st),
+        Visit::Poison(st) => Onward::Goes(Answer::Poison, st),
+        Visit::Refused(_, _) => Onward::Stops,
     }
 }
 
@@ -36,12 +30,8 @@ pub fn came(answer: Answer, st: State) -> Visit
     ensures { result ≡ came_of answer st }
 {
     match answer {
-        Answer::Known(slot) => {
-            return Visit::Known(slot, st);
-        }
-        Answer::Poison => {
-            return Visit::Poison(st);
-        }
+        Answer::Known(slot) => Visit::Known(slot, st),
+        Answer::Poison => Visit::Poison(st),
     }
 }
 
@@ -49,14 +39,10 @@ pub fn came(answer: Answer, st: State) -> Visit
 pub fn left(st: State, before: State) -> State
     ensures { result ≡ left_of st before }
 {
-    let used = st.used;
     State {
-        used: used,
         base: before.base,
         depth: before.depth,
-        held: st.held,
-        packages: st.packages,
-        functions: st.functions,
+        ..st
     }
 }
 
@@ -65,13 +51,9 @@ pub fn inner(st: State) -> State
     requires { st.base + st.depth < 2 ^ 40 }
     ensures { result ≡ inner_of st }
 {
-    let used = st.used;
     State {
-        used: used,
         base: st.base + st.depth,
         depth: 0,
-        held: st.held,
-        packages: st.packages,
-        functions: st.functions,
+        ..st
     }
 }

@@ -12,12 +12,8 @@ pub fn refused(gave: Gave) -> Visit
     ensures { result ≡ refused_of gave }
 {
     match gave {
-        Gave::Word(_, _) => {
-            return Visit::Refused(0, 0);
-        }
-        Gave::Refused(number, place) => {
-            return Visit::Refused(number, place);
-        }
+        Gave::Word(_, _) => Visit::Refused(0, 0),
+        Gave::Refused(number, place) => Visit::Refused(number, place),
     }
 }
 
@@ -26,53 +22,31 @@ pub fn halted(went: Walked) -> Visit
     ensures { result ≡ halted_of went }
 {
     match went {
-        Walked::On(_) => {
-            return Visit::Refused(0, 0);
-        }
-        Walked::Refused(number, node) => {
-            return Visit::Refused(number, node);
-        }
+        Walked::On(_) => Visit::Refused(0, 0),
+        Walked::Refused(number, node) => Visit::Refused(number, node),
     }
 }
 
 // Whether nothing is visited below a node of this kind: Atom, Ident, Import, Extern.
+#[tactic(auto, unfolding(crate::specs::Kinds::is_leaf))]
 pub fn is_leaf(kind: u32) -> bool
     ensures { result ≡ is_leaf kind }
 {
-    if kind == 0 {
-        return true;
-    }
-    if kind == 1 {
-        return true;
-    }
-    if kind == 10 {
-        return true;
-    }
-    kind == 11
+    matches!(kind, 0 | 1 | 10 | 11)
 }
 
 // Whether a node of this kind has one operand, and nothing is done before it: Unary, Let, Field.
+#[tactic(auto, unfolding(crate::specs::Kinds::has_one))]
 fn has_one(kind: u32) -> bool
     ensures { result ≡ has_one kind }
 {
-    if kind == 3 {
-        return true;
-    }
-    if kind == 4 {
-        return true;
-    }
-    kind == 8
+    matches!(kind, 3 | 4 | 8)
 }
 
 // Whether a node of this kind has one or two operands: Bin, Unary, Let, Field, Cast.
+#[tactic(auto, unfolding(crate::specs::Kinds::has_operands))]
 pub fn has_operands(kind: u32) -> bool
     ensures { result ≡ has_operands kind }
 {
-    if kind == 2 {
-        return true;
-    }
-    if kind == 9 {
-        return true;
-    }
-    has_one(kind)
+    matches!(kind, 2 | 9) || has_one(kind)
 }

@@ -1,6 +1,4 @@
 -- `add::add_wrap` meets its contract: one law for each return. Assumes nothing.
-use native.Mathlib.Omega.{arith}
-use lib.ListN.{length-set}
 use Rattle.add.proofs.Returns.{wrap-full, wrap-put, wrap-deep}
 use Rattle.add.proofs.add_wrap.Goals as goal
 
@@ -10,8 +8,5 @@ returns-then-used-type_room c = wrap-full _ _ _ _ c.type_room.ensures c.if-used-
 pub returns-then-is_shallow : goal.returns-then-is_shallow
 returns-then-is_shallow c = wrap-put _ _ _ _ c.type_room.ensures c.if-used-type_room.false c.word_of-word.ensures c.is_shallow.ensures c.if-is_shallow.true
 
-pub bounds-types-used-3 : goal.bounds-types-used-3
-bounds-types-used-3 c = simp length-set (omega arith)
-
-pub returns : goal.returns
-returns c = wrap-deep _ _ _ _ c.type_room.ensures c.if-used-type_room.false c.word_of-word.ensures c.is_shallow.ensures c.if-is_shallow.false
+pub returns-else-is_shallow : goal.returns-else-is_shallow
+returns-else-is_shallow c = wrap-deep _ _ _ _ c.type_room.ensures c.if-used-type_room.false c.word_of-word.ensures c.is_shallow.ensures c.if-is_shallow.false

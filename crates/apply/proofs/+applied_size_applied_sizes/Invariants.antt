@@ -4,7 +4,7 @@ use mathlib.Core.Path.{◌≡◌}
 use Rattle.tok.specs.Text.{texts_of}
 use Rattle.slots.specs.Bindings.{bindings_in}
 use Rattle.apply.specs.Sizes.{sizes_of, size_within}
-use Prim.Native.Nat.{◌+◌, ◌*◌, ◌^◌, ◌<◌}
+use Prim.Native.Nat.{◌+◌, ◌-◌, ◌*◌}
 use Rattle.apply.proofs.+applied_size_applied_sizes.Given as goal
 
 abbrev pub decreases-applied_size : goal.decreases-applied_size
@@ -13,9 +13,6 @@ decreases-applied_size l = l.depth * 2
 abbrev pub decreases-applied_sizes : goal.decreases-applied_sizes
 decreases-applied_sizes l = l.depth * 2 + 1
 
-abbrev pub invariant-applied_sizes-loop-left : goal.invariant-applied_sizes-loop-left
-invariant-applied_sizes-loop-left l = (l.here + 2 * l.left < 2 ^ 40) × (sizes_of (size_within (texts_of l.script l.library) (bindings_in (texts_of l.script l.library) l.pairs l.count) l.old l.depth) l.old l.at l.fields
-    ≡ l.sum + sizes_of (size_within (texts_of l.script l.library) (bindings_in (texts_of l.script l.library) l.pairs l.count) l.old l.depth) l.old l.here l.left)
-
-abbrev pub decreases-applied_sizes-loop-left : goal.decreases-applied_sizes-loop-left
-decreases-applied_sizes-loop-left l = l.left
+abbrev pub invariant-applied_sizes-loop-i : goal.invariant-applied_sizes-loop-i
+invariant-applied_sizes-loop-i l = sizes_of (size_within l.texts (bindings_in l.texts l.pairs l.count) l.old l.depth) l.old l.at l.fields
+    ≡ l.sum + sizes_of (size_within l.texts (bindings_in l.texts l.pairs l.count) l.old l.depth) l.old (l.at + 2 * l.i) (l.fields - l.i)

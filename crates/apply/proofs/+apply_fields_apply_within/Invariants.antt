@@ -4,7 +4,7 @@
 use Rattle.tok.specs.Text.{texts_of}
 use Rattle.slots.specs.Bindings.{bindings_in}
 use Rattle.apply.proofs.FieldReturns.{Applying}
-use Prim.Native.Nat.{◌+◌, ◌*◌}
+use Prim.Native.Nat.{◌+◌, ◌-◌, ◌*◌}
 use Rattle.apply.proofs.+apply_fields_apply_within.Given as goal
 
 abbrev pub decreases-apply_fields : goal.decreases-apply_fields
@@ -13,8 +13,5 @@ decreases-apply_fields l = l.depth * 2 + 1
 abbrev pub decreases-apply_within : goal.decreases-apply_within
 decreases-apply_within l = l.depth * 2
 
-abbrev pub invariant-apply_fields-loop-left : goal.invariant-apply_fields-loop-left
-invariant-apply_fields-loop-left l = Applying (texts_of l.script l.library) (bindings_in (texts_of l.script l.library) l.pairs l.count) l.depth l.base l.initial.types l.used l.at l.fields l.types l.u l.here l.left
-
-abbrev pub decreases-apply_fields-loop-left : goal.decreases-apply_fields-loop-left
-decreases-apply_fields-loop-left l = l.left
+abbrev pub invariant-apply_fields-loop-i : goal.invariant-apply_fields-loop-i
+invariant-apply_fields-loop-i l = Applying l.texts (bindings_in l.texts l.pairs l.count) l.depth l.base l.initial.types l.used l.at l.fields l.types l.u (l.at + 2 * l.i) (l.fields - l.i)

@@ -5,5 +5,5 @@ use Rattle.apply.proofs.add_wrap.Goals as goal
 pub returns-then-k-eq-OPTION : goal.returns-then-k-eq-OPTION
 returns-then-k-eq-OPTION c = rw c.if-k-eq-OPTION.true c.add_option.ensures
 
-pub returns : goal.returns
-returns c = rw (array_kind c.args.k c.if-k-eq-OPTION.false c.requires) c.add_array.ensures
+pub returns-else-k-eq-OPTION : goal.returns-else-k-eq-OPTION
+returns-else-k-eq-OPTION c = rw (array_kind c.args.k c.if-k-eq-OPTION.false c.requires) c.add_array.ensures

@@ -4,7 +4,7 @@ use Rattle.apply.proofs.Returns.{apply-start}
 use Rattle.apply.proofs.apply_slot_binding.Goals as goal
 
 pub apply_within-requires : goal.apply_within-requires
-apply_within-requires c = (omega (arith, c.least-base.ensures), omega (arith, c.least-base.ensures))
+apply_within-requires c = (omega (arith, c.min-base.ensures), omega (arith, c.min-base.ensures))
 
 pub returns : goal.returns
-returns c = λ n. apply-start _ _ _ _ _ _ _ c.least-base.ensures (c.apply_within.ensures n)
+returns c = λ n. apply-start _ _ _ _ _ _ _ c.min-base.ensures (c.apply_within.ensures n)

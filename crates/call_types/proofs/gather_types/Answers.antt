@@ -10,25 +10,19 @@ pub loop-i-init : goal.loop-i-init
 loop-i-init c = (none-gathered _ _ _ _ _, refl)
 
 pub overflow_add-args : goal.overflow_add-args
-overflow_add-args c = omega (arith, c.requires.nodes.room, c.loop-i-test.true)
+overflow_add-args c = omega (arith, c.requires.nodes.room)
 
 pub slot_of-slot-requires : goal.slot_of-slot-requires
-slot_of-slot-requires c = number-ready c.requires.nodes c.loop-i-test.true c.word_at-number.ensures
+slot_of-slot-requires c = number-ready c.requires.nodes (omega arith) c.word_at-number.ensures
 
 pub offset_bounds-provided-i : goal.offset_bounds-provided-i
-offset_bounds-provided-i c = omega (arith, c.requires.room, c.loop-i-test.true, c.loop-i.invariant.1)
+offset_bounds-provided-i c = omega (arith, c.requires.room, c.loop-i.invariant.1)
 
 pub bounds-provided-i : goal.bounds-provided-i
-bounds-provided-i c = omega (arith, c.requires.room, c.loop-i-test.true, c.loop-i.invariant.1)
-
-pub overflow_add-i : goal.overflow_add-i
-overflow_add-i c = omega (arith, c.requires.nodes.room, c.loop-i-test.true)
-
-pub loop-i-smaller : goal.loop-i-smaller
-loop-i-smaller c = omega (arith, c.loop-i-test.true)
+bounds-provided-i c = omega (arith, c.requires.room, c.loop-i.invariant.1)
 
 pub loop-i-preserved : goal.loop-i-preserved
-loop-i-preserved c = (more-gathered _ _ _ _ c.loop-i.invariant.0 c.loop-i-test.true (omega (arith, c.requires.room, c.loop-i.invariant.1)) c.word_at-number.ensures c.slot_of-slot.ensures c.wide.ensures c.word_at.ensures, simp length-set c.loop-i.invariant.1)
+loop-i-preserved c = (more-gathered _ _ _ _ c.loop-i.invariant.0 (omega arith) (omega (arith, c.requires.room, c.loop-i.invariant.1)) c.word_at-number.ensures c.slot_of-slot.ensures refl c.word_at.ensures, simp length-set c.loop-i.invariant.1)
 
 pub returns : goal.returns
-returns c = all-gathered _ _ _ _ c.loop-i.invariant.0 c.loop-i-test.false
+returns c = all-gathered _ _ _ _ c.loop-i.invariant.0 (omega arith)

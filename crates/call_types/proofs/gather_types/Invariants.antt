@@ -1,6 +1,4 @@
--- `call_types::gather_types` meets its contract. The loop's invariant: i words are gathered, the others are owed; the measure is how many are.
--- Assumes nothing.
-use Prim.Native.Nat.{◌-◌}
+-- `call_types::gather_types` meets its contract. The loop's invariant: i words are gathered, the others are owed. Assumes nothing.
 use mathlib.Core.Path.{◌≡◌}
 use lib.ListN.{length}
 use Rattle.call_types.proofs.Turns.{Gathered}
@@ -8,6 +6,3 @@ use Rattle.call_types.proofs.gather_types.Given as goal
 
 abbrev pub invariant-loop-i : goal.invariant-loop-i
 invariant-loop-i l = Gathered l.slots l.image l.args l.count l.provided l.i × (length l.provided ≡ length l.initial.provided)
-
-abbrev pub decreases-loop-i : goal.decreases-loop-i
-decreases-loop-i l = l.count - l.i

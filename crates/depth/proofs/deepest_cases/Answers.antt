@@ -1,43 +1,40 @@
-use mathlib.Core.Path.{◌∙◌}
 use native.Mathlib.Omega.{arith}
+use native.Mathlib.Nat.{sub-zero}
 use Rattle.depth.proofs.PartWays.{cases-to-measure, case-more, default_end}
 use Rattle.depth.proofs.deepest_cases.Goals as goal
 
-pub loop-k-init : goal.loop-k-init
-loop-k-init c = cases-to-measure c.requires.0
+pub loop-init : goal.loop-init
+loop-init c = rw sub-zero (cases-to-measure c.requires.0)
 
 pub overflow_add-at : goal.overflow_add-at
-overflow_add-at c = omega (arith, c.loop-k.invariant.left.place)
+overflow_add-at c = omega (arith, c.loop.invariant.left.place)
 
-pub overflow_add-at-in-loop-k : goal.overflow_add-at-in-loop-k
-overflow_add-at-in-loop-k c = omega (arith, c.loop-k.invariant.left.place)
+pub overflow_add-at-in-loop : goal.overflow_add-at-in-loop
+overflow_add-at-in-loop c = omega (arith, c.loop.invariant.left.place)
 
-pub overflow_add-at-in-loop-k-2 : goal.overflow_add-at-in-loop-k-2
-overflow_add-at-in-loop-k-2 c = omega (arith, c.loop-k.invariant.left.place)
+pub overflow_add-at-in-loop-2 : goal.overflow_add-at-in-loop-2
+overflow_add-at-in-loop-2 c = omega (arith, c.loop.invariant.left.place)
 
 pub deepest_words-requires : goal.deepest_words-requires
-deepest_words-requires c = omega (arith, c.loop-k.invariant.left.place)
+deepest_words-requires c = omega (arith, c.loop.invariant.left.place)
 
-pub overflow_add-at-in-loop-k-3 : goal.overflow_add-at-in-loop-k-3
-overflow_add-at-in-loop-k-3 c = omega (arith, c.loop-k.invariant.left.place)
+pub overflow_add-at-in-loop-3 : goal.overflow_add-at-in-loop-3
+overflow_add-at-in-loop-3 c = omega (arith, c.loop.invariant.left.place)
 
-pub overflow_add-at-in-loop-k-4 : goal.overflow_add-at-in-loop-k-4
-overflow_add-at-in-loop-k-4 c = omega (arith, c.loop-k.invariant.left.place)
+pub overflow_add-at-in-loop-4 : goal.overflow_add-at-in-loop-4
+overflow_add-at-in-loop-4 c = omega (arith, c.loop.invariant.left.place)
 
-pub loop-k-smaller : goal.loop-k-smaller
-loop-k-smaller c = omega arith
-
-pub loop-k-preserved : goal.loop-k-preserved
-loop-k-preserved c = case-more c.loop-k.invariant c.loop-k-test.true (c.wide.ensures ∙ c.word_at.ensures) c.depth_at.ensures c.greater-d.ensures (c.wide-n.ensures ∙ c.word_at-in-loop-k.ensures) (omega arith) c.deepest_words.ensures c.greater-d-in-loop-k.ensures
+pub loop-preserved : goal.loop-preserved
+loop-preserved c = case-more c.loop.invariant (omega arith) (omega arith) c.word_at.ensures c.depth_at.ensures c.max-d.ensures c.word_at-n.ensures (omega arith) c.deepest_words.ensures c.max-d-in-loop.ensures
 
 pub overflow_add-at-2 : goal.overflow_add-at-2
-overflow_add-at-2 c = omega (arith, c.loop-k.invariant.left.place)
+overflow_add-at-2 c = omega (arith, c.loop.invariant.left.place)
 
 pub overflow_add-at-3 : goal.overflow_add-at-3
-overflow_add-at-3 c = omega (arith, c.loop-k.invariant.left.place)
+overflow_add-at-3 c = omega (arith, c.loop.invariant.left.place)
 
 pub deepest_words-requires-2 : goal.deepest_words-requires-2
-deepest_words-requires-2 c = omega (arith, c.loop-k.invariant.left.place, c.less.ensures)
+deepest_words-requires-2 c = omega (arith, c.loop.invariant.left.place, c.saturating_sub-n.ensures)
 
 pub returns : goal.returns
-returns c = default_end c.loop-k.invariant c.loop-k-test.false c.less.ensures c.deepest_words-2.ensures c.greater.ensures
+returns c = default_end c.loop.invariant (omega arith) c.saturating_sub-n.ensures c.deepest_words-2.ensures c.max.ensures

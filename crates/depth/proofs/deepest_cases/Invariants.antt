@@ -1,10 +1,8 @@
--- `depth::deepest_cases` meets its contract. The loop's invariant, `CasesToMeasure`: the depth so far and those that are left give the whole. The
--- measure is how many cases are left. Assumes nothing.
+-- `depth::deepest_cases` meets its contract. The loop's invariant, `CasesToMeasure`: the depth so far and those that are left give the whole.
+-- Assumes nothing.
+use Prim.Native.Nat.{◌-◌}
 use Rattle.depth.proofs.PartWays.{CasesToMeasure}
 use Rattle.depth.proofs.deepest_cases.Given as goal
 
-abbrev pub invariant-loop-k : goal.invariant-loop-k
-invariant-loop-k l = CasesToMeasure l.words l.depths l.end l.from l.count l.at l.k l.d
-
-abbrev pub decreases-loop-k : goal.decreases-loop-k
-decreases-loop-k l = l.k
+abbrev pub invariant-loop : goal.invariant-loop
+invariant-loop l = CasesToMeasure l.words l.depths l.end l.from l.count l.at (l.count - l.counter) l.d

@@ -1,19 +1,16 @@
-use mathlib.Core.Path.{◌∙◌}
 use native.Mathlib.Omega.{arith}
+use native.Mathlib.Nat.{sub-zero}
 use Rattle.depth.proofs.PartWays.{to-measure, run_more, run_end}
 use Rattle.depth.proofs.deepest_run.Goals as goal
 
-pub loop-left-init : goal.loop-left-init
-loop-left-init c = to-measure
+pub loop-init : goal.loop-init
+loop-init c = rw sub-zero to-measure
 
 pub overflow_add-i : goal.overflow_add-i
-overflow_add-i c = omega (arith, c.loop-left.invariant.place)
+overflow_add-i c = omega (arith, c.loop.invariant.place)
 
-pub loop-left-smaller : goal.loop-left-smaller
-loop-left-smaller c = omega arith
-
-pub loop-left-preserved : goal.loop-left-preserved
-loop-left-preserved c = run_more c.loop-left.invariant c.loop-left-test.true c.requires.0 (c.wide.ensures ∙ c.word_at.ensures) c.depth_at.ensures c.greater-d.ensures
+pub loop-preserved : goal.loop-preserved
+loop-preserved c = run_more c.loop.invariant (omega arith) (omega arith) c.requires.0 c.word_at.ensures c.depth_at.ensures c.max-d.ensures
 
 pub returns : goal.returns
-returns c = run_end c.loop-left.invariant c.loop-left-test.false
+returns c = run_end c.loop.invariant (omega arith)

@@ -13,5 +13,5 @@ returns-then-n-lt10 t c = writes_as (digits-one _ _ c.if-most-eq0.false c.if-n-l
 pub put_digits-a-requires : goal.put_digits-a-requires
 put_digits-a-requires t c = (omega (arith, c.decreases, c.if-most-eq0.false), tt)
 
-pub returns : goal.returns
-returns t c = writes_as (digits_more _ _ c.if-most-eq0.false c.if-n-lt10.false) (c.put_digits-a.ensures and_then c.put_digit-2.ensures)
+pub returns-else-n-lt10 : goal.returns-else-n-lt10
+returns-else-n-lt10 t c = writes_as (digits_more _ _ c.if-most-eq0.false c.if-n-lt10.false) (c.put_digits-a.ensures and_then c.put_digit-else-n-lt10.ensures)

@@ -2,7 +2,6 @@ use Rattle.display.specs.WritingLaws.{◌and_then◌}
 use native.Mathlib.Omega.{arith}
 use mathlib.Core.Path.{refl, sym, ◌∙◌}
 use Rattle.tok.specs.Text.{text}
-use Rattle.ptype.specs.Show.{show_fields}
 use Rattle.display.specs.WritingLaws.{owes-all, owes-less, writes_as, writes-full}
 use Rattle.display.proofs.ShownLaws.{is_leaf, shown-none, shown-wrap, shown_record, shown-leaf, fields-end, fields-turn}
 use borrow.Author.Rules.{rules}
@@ -57,7 +56,7 @@ pub show_within-show_leaf-requires : goal.show_within-show_leaf-requires
 show_within-show_leaf-requires t c =
     is_leaf c.args.w c.kind-k.ensures (sym c.wraps.ensures ∙ c.if-wraps.false) c.if-k-eq-RECORD.false
 
-pub show_within-returns : goal.show_within-returns
-show_within-returns t c =
+pub show_within-returns-else-k-eq-RECORD : goal.show_within-returns-else-k-eq-RECORD
+show_within-returns-else-k-eq-RECORD t c =
     writes_as (shown-leaf _ _ _ c.if-depth-eq0.false c.kind-k.ensures (is_leaf c.args.w c.kind-k.ensures (sym c.wraps.ensures ∙ c.if-wraps.false)
     c.if-k-eq-RECORD.false)) c.show_leaf.ensures

@@ -3,7 +3,7 @@
 use lib.ListN.{length}
 use mathlib.Core.Path.{◌≡◌}
 use mathlib.Core.List.{◌++◌}
-use Rattle.tok.specs.Text.{Texts, texts_of, text}
+use Rattle.tok.specs.Text.{Texts, texts_of}
 use Rattle.ptype.specs.Ty.{Fields}
 use Rattle.ptype.specs.Words.{fields_from, unfolded}
 use Rattle.ptype.specs.Show.{show_fields}
@@ -18,9 +18,6 @@ abbrev pub decreases-show_within : goal.decreases-show_within
 decreases-show_within l = 2 * l.depth
 
 abbrev pub invariant-show_fields-loop-left : goal.invariant-show_fields-loop-left
-invariant-show_fields-loop-left l = let T : Texts = texts_of l.script l.library in
+invariant-show_fields-loop-left l = let T : Texts = l.texts in
     let F : ℕ → ℕ → Fields = fields_from (unfolded T l.types l.depth) T l.words in
     Owes l.initial.out l.initial.at (show_fields (F l.i-2 l.n) ++ l.after) l.out l.at (show_fields (F l.i l.left) ++ l.after) × (l.i + 2 * l.left < 2 ^ 40) × (length l.out ≡ length l.initial.out)
-
-abbrev pub decreases-show_fields-loop-left : goal.decreases-show_fields-loop-left
-decreases-show_fields-loop-left l = l.left

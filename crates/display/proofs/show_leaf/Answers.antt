@@ -12,5 +12,5 @@ returns-then-k-eq-FOREIGN c = writes_as (shown-foreign _ _ c.kind-k.ensures c.if
 pub returns-then-k-eq-SLOT : goal.returns-then-k-eq-SLOT
 returns-then-k-eq-SLOT c = writes_as (shown-slot _ _ c.kind-k.ensures c.if-k-eq-SLOT.true c.name_bytes-then-k-eq-SLOT.ensures) c.put_at-then-k-eq-SLOT.ensures
 
-pub returns : goal.returns
-returns c = writes_as (shown-plain _ _ c.kind-k.ensures c.requires c.if-k-eq-FOREIGN.false c.if-k-eq-SLOT.false) c.put_plain.ensures
+pub returns-else-k-eq-SLOT : goal.returns-else-k-eq-SLOT
+returns-else-k-eq-SLOT c = writes_as (shown-plain _ _ c.kind-k.ensures c.requires c.if-k-eq-FOREIGN.false c.if-k-eq-SLOT.false) c.put_plain.ensures

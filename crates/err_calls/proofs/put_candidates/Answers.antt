@@ -8,11 +8,11 @@ use borrow.Author.Rules.{rules}
 use Rattle.err_calls.proofs.put_candidates.Goals as goal
 
 pub loop-i-init : goal.loop-i-init
-loop-i-init c = (owes-all (candidates-start (texts_of c.args.script.now c.args.library.now) c.args.types.now c.args.words.now c.args.starts.now), omega arith, search rules)
+loop-i-init c = (owes-all (candidates-start c.args.texts.now c.args.types.now c.args.words.now c.args.starts.now), search rules)
 
 pub loop-i-preserved : goal.loop-i-preserved
 unfolding text
-loop-i-preserved c = (owes-less c.loop-i.invariant.0 (candidates-turn (texts_of c.args.script.now c.args.library.now) c.args.types.now c.args.words.now c.args.starts.now (omega arith) c.word_at-start.ensures) (c.put_separator-at.ensures and_then c.put_candidate-at.ensures), omega arith, search rules)
+loop-i-preserved c = (owes-less c.loop-i.invariant.0 (candidates-turn c.args.texts.now c.args.types.now c.args.words.now c.args.starts.now (omega arith) c.word_at-start.ensures) (c.put_separator-at.ensures and_then c.put_candidate-at.ensures), search rules)
 
 pub returns : goal.returns
-returns c = c.loop-i.invariant.0.ends (writes_as (candidates-end (texts_of c.args.script.now c.args.library.now) c.args.types.now c.args.words.now c.args.starts.now (omega arith)) c.put_at.ensures)
+returns c = c.loop-i.invariant.0.ends (writes_as (candidates-end c.args.texts.now c.args.types.now c.args.words.now c.args.starts.now (omega arith)) c.put_at.ensures)

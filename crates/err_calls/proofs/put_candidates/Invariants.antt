@@ -1,5 +1,4 @@
 -- `err_calls::put_candidates` meets its contract. The loop's invariant: i candidates are written, the others are owed. Assumes nothing.
-use Prim.Native.Nat.{◌-◌, ◌≤◌}
 use mathlib.Core.Path.{◌≡◌}
 use mathlib.Core.List.{map}
 use lib.ListN.{length}
@@ -11,8 +10,5 @@ use Rattle.err_calls.proofs.CandidateLaws.{owed}
 use Rattle.err_calls.proofs.put_candidates.Given as goal
 
 abbrev pub invariant-loop-i : goal.invariant-loop-i
-invariant-loop-i l = let t = texts_of l.script l.library in
-    Owes l.initial.rest l.initial.at (joined (text " | ") (map sig (candidates_at t l.types l.words l.starts))) l.rest l.at (owed t l.types l.words l.starts l.i) × (l.i ≤ length l.starts) × (length l.rest ≡ length l.initial.rest)
-
-abbrev pub decreases-loop-i : goal.decreases-loop-i
-decreases-loop-i l = length l.starts - l.i
+invariant-loop-i l = let t = l.texts in
+    Owes l.initial.rest l.initial.at (joined (text " | ") (map sig (candidates_at t l.types l.words l.starts))) l.rest l.at (owed t l.types l.words l.starts l.i) × (length l.rest ≡ length l.initial.rest)

@@ -6,7 +6,7 @@ use Rattle.group_select.proofs.Candidates.{Listing}
 use Rattle.group_select.proofs.put_candidates.Given as goal
 
 abbrev pub invariant-loop-left : goal.invariant-loop-left
-invariant-loop-left l = Listing (texts_of l.script l.library) l.types l.name l.words (flag_words l.flagged) l.from l.k l.initial.rest l.initial.to l.rest l.to l.first l.left l.count
+invariant-loop-left l = Listing l.texts l.types l.name l.words (flag_words l.flagged) l.from l.k l.initial.rest l.initial.to l.rest l.to l.first l.left l.count
 
 abbrev pub decreases-loop-left : goal.decreases-loop-left
 decreases-loop-left l = l.left

@@ -5,8 +5,8 @@ use Rattle.group_select.proofs.select.Goals as goal
 pub returns-then-poisoned : goal.returns-then-poisoned
 returns-then-poisoned c = select-poisoned _ _ _ _ _ _ _ _ _ _ _ c.if-poisoned.true c.common_return.ensures
 
-pub returns-in-At : goal.returns-in-At
-returns-in-At c = select-taken _ _ _ _ _ _ _ _ _ _ _ c.if-poisoned.false _ c.position-taken.ensures c.in-At.is c.return_type-ret.ensures c.set_known.ensures
+pub returns-in-Some : goal.returns-in-Some
+returns-in-Some c = select-taken _ _ _ _ _ _ _ _ _ _ _ c.if-poisoned.false _ c.position-taken.ensures c.in-Some.is c.return_type-ret.ensures c.set_known.ensures
 
-pub returns-in-Nothing : goal.returns-in-Nothing
-returns-in-Nothing c = select-none _ _ _ _ _ _ _ _ _ _ _ c.if-poisoned.false _ c.position-taken.ensures c.in-Nothing.is c.none_fits.ensures
+pub returns-in-None : goal.returns-in-None
+returns-in-None c = select-none _ _ _ _ _ _ _ _ _ _ _ c.if-poisoned.false _ c.position-taken.ensures c.in-None.is c.none_fits.ensures

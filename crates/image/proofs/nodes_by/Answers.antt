@@ -1,8 +1,7 @@
-use Prim.Native.Nat.{◌-◌}
 use mathlib.Core.Path.{refl, ◌∙◌}
 use mathlib.Core.List.{[]}
 use native.Mathlib.Omega.{arith}
-use lib.ListN.{length, length-set}
+use lib.ListN.{length-set}
 use Rattle.image_words.specs.Leads.{leads-fault}
 use Rattle.image.proofs.NodeRows.{at_first, one_more, at_last}
 use Rattle.image.proofs.nodes_by.Goals as goal

@@ -1,5 +1,4 @@
--- `image::nodes_by` meets its contract: the invariant `Before`: the outlines so far, their kinds kept, and what the other nodes lead to. The measure is how many are left. Assumes nothing.
-use Prim.Native.Nat.{◌-◌}
+-- `image::nodes_by` meets its contract: the invariant `Before`: the outlines so far, their kinds kept, and what the other nodes lead to. Assumes nothing.
 use mathlib.Core.Path.{◌≡◌}
 use lib.ListN.{length}
 use Rattle.image_nodes.specs.Site.{counts_of}
@@ -7,7 +6,4 @@ use Rattle.image.proofs.NodeRows.{Before}
 use Rattle.image.proofs.nodes_by.Given as goal
 
 abbrev pub invariant-loop-i : goal.invariant-loop-i
-invariant-loop-i l = (length l.kinds ≡ length l.initial.kinds) × Before l.words l.initial.to (counts_of l.script l.sizes) l.n l.kinds l.to l.i
-
-abbrev pub decreases-loop-i : goal.decreases-loop-i
-decreases-loop-i l = l.n - l.i
+invariant-loop-i l = (length l.kinds ≡ length l.initial.kinds) × Before l.words l.initial.to (counts_of l.script l.sizes) l.sizes.nodes l.kinds l.to l.i

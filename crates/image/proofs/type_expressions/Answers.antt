@@ -1,4 +1,3 @@
-use Prim.Native.Nat.{◌-◌}
 use native.Mathlib.Nat.{sub-zero}
 use Rattle.image_words.specs.Leads.{leads-fault}
 use Rattle.image.proofs.TypeRows.{types-one, types-none}

@@ -1,4 +1,4 @@
--- `image::type_expressions` meets its contract: what the records that are left lead to, all lead to (`TypeRows`). The measure is how many are left. Assumes nothing.
+-- `image::type_expressions` meets its contract: what the records that are left lead to, all lead to (`TypeRows`). Assumes nothing.
 use Prim.Native.Nat.{ℕ, ◌-◌}
 use Rattle.reader.specs.declared.Reading.{Reading}
 use Rattle.ast.specs.TypeRecords.{type_expressions}
@@ -8,6 +8,3 @@ use Rattle.image.proofs.type_expressions.Given as goal
 
 abbrev pub invariant-loop-i : goal.invariant-loop-i
 invariant-loop-i l = (n t v : ℕ) (end : Reading) → Leads l.words l.to (type_expressions (counted l.script n t v) (l.count - l.i) l.i) end → Leads l.words l.initial.to (type_expressions (counted l.script n t v) l.count 0) end
-
-abbrev pub decreases-loop-i : goal.decreases-loop-i
-decreases-loop-i l = l.count - l.i

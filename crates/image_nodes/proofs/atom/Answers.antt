@@ -1,8 +1,7 @@
 -- `image_nodes::atom` meets its contract: its words one after the other (`Rows`). Assumes nothing.
-use mathlib.Core.Path.{◌∙◌}
 use Rattle.image_words.specs.Leads.{tried}
 use Rattle.image_nodes.proofs.Rows.{atom-leads}
 use Rattle.image_nodes.proofs.atom.Goals as goal
 
 pub returns : goal.returns
-returns c = λ before. atom-leads _ _ _ _ c.token-at.ensures (tried _ _ _ _ _ _ (c.wide-kind.ensures ∙ c.next_word.ensures) c.between.ensures c.word.ensures)
+returns c = λ before. atom-leads _ _ _ _ c.token-at.ensures (tried _ _ _ _ _ _ c.next_word-kind.ensures c.between.ensures c.word.ensures)

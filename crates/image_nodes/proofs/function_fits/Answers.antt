@@ -8,5 +8,5 @@ returns-then-n-room c = function-over _ _ _ c.if-n-room.true
 pub returns-then-others-eq0 : goal.returns-then-others-eq0
 returns-then-others-eq0 c = function-last _ _ _ c.if-n-room.false c.if-others-eq0.true
 
-pub returns : goal.returns
-returns c = function-within _ _ _ c.if-n-room.false c.if-others-eq0.false
+pub returns-else-others-eq0 : goal.returns-else-others-eq0
+returns-else-others-eq0 c = function-within _ _ _ c.if-n-room.false c.if-others-eq0.false

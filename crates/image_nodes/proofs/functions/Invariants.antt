@@ -1,4 +1,4 @@
--- `image_nodes::functions` meets its contract: what the functions that are left lead to, all lead to (`Loops`). The measure is how many are left. Assumes nothing.
+-- `image_nodes::functions` meets its contract: what the functions that are left lead to, all lead to (`Loops`). Assumes nothing.
 use mathlib.Core.List.{List}
 use Rattle.reader.specs.declared.Reading.{Reading}
 use Rattle.ast.specs.Outline.{Outline}
@@ -7,8 +7,5 @@ use Rattle.image_words.specs.Leads.{Leads}
 use Rattle.image_nodes.specs.Site.{here_of}
 use Rattle.image_nodes.proofs.functions.Given as goal
 
-abbrev pub invariant-loop-k : goal.invariant-loop-k
-invariant-loop-k l = (before : List Outline) (end : Reading) → Leads l.words l.to (extern_functions (here_of l.script before l.site) l.k l.room) end → Leads l.words l.initial.to (extern_functions (here_of l.script before l.site) l.count l.left) end
-
-abbrev pub decreases-loop-k : goal.decreases-loop-k
-decreases-loop-k l = l.k
+abbrev pub invariant-loop-others : goal.invariant-loop-others
+invariant-loop-others l = (before : List Outline) (end : Reading) → Leads l.words l.to (extern_functions (here_of l.script before l.site) l.others l.room) end → Leads l.words l.initial.to (extern_functions (here_of l.script before l.site) l.count l.left) end

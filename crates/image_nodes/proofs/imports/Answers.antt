@@ -3,4 +3,4 @@ use Rattle.image_nodes.proofs.Rows.{imports-leads}
 use Rattle.image_nodes.proofs.imports.Goals as goal
 
 pub returns : goal.returns
-returns c = λ before. imports-leads _ _ _ _ c.token-at.ensures c.less.ensures c.names.ensures
+returns c = λ before. imports-leads _ _ _ _ c.token-at.ensures c.saturating_sub.ensures c.names.ensures

@@ -12,8 +12,8 @@ pub returns : goal.returns
 returns c = λ before kept.
     gives-there _ _ _ _ _ _ _ _ (any_node _ before _ _ _)
     (node-leads _ before _ _ _ _ _ _ _
-    (owed _ _ _ _ _ _ _ _ c.next_word-head.ensures c.good_head.ensures (c.less.ensures ∙ ap (λ n. n - 3) c.payload-long.ensures) c.owing-at.ensures)
-    (c.below-at.ensures ∙ ap (λ a. gave c.args.words.now a c.below-at.result) (sym (c.wide-slot.ensures ∙ c.next_word.ensures)))
-    (c.wide.ensures ∙ c.kind.ensures)
-    (c.less-2.ensures ∙ ap (λ n. n - 2) c.payload-long.ensures)
-    (c.rest.ensures _ before (sym (c.wide.ensures ∙ c.kind.ensures)) kept)).led
+    (owed _ _ _ _ _ _ _ _ c.next_word-head.ensures c.good_head.ensures (c.saturating_sub.ensures ∙ ap (λ n. n - 3) c.payload-long.ensures) c.owing-at.ensures)
+    (c.below-at.ensures ∙ ap (λ a. gave c.args.words.now a c.below-at.result) (sym c.next_word-slot.ensures))
+    (c.kind.ensures)
+    (c.saturating_sub-2.ensures ∙ ap (λ n. n - 2) c.payload-long.ensures)
+    (c.rest.ensures _ before (sym (c.kind.ensures)) kept)).led

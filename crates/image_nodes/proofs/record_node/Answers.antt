@@ -3,4 +3,4 @@ use Rattle.image_nodes.proofs.Rows.{record_leads}
 use Rattle.image_nodes.proofs.record_node.Goals as goal
 
 pub returns : goal.returns
-returns c = λ before. record_leads _ _ _ _ c.token-at.ensures c.less.ensures c.pairs.ensures
+returns c = λ before. record_leads _ _ _ _ c.token-at.ensures c.saturating_sub.ensures c.pairs.ensures

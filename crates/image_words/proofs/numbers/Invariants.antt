@@ -1,10 +1,8 @@
--- `image_words::numbers` meets its contract: what those that are left lead to, all lead to (`Lists`). The measure is how many are left. Assumes nothing.
+-- `image_words::numbers` meets its contract: what those that are left lead to, all lead to (`Lists`). Assumes nothing.
+use Prim.Native.Nat.{◌-◌}
 use Rattle.tok.specs.Reader.{below}
 use Rattle.image_words.proofs.Lists.{Rest}
 use Rattle.image_words.proofs.numbers.Given as goal
 
-abbrev pub invariant-loop-k : goal.invariant-loop-k
-invariant-loop-k l = Rest l.words l.initial.to l.n (below l.most) l.to l.k
-
-abbrev pub decreases-loop-k : goal.decreases-loop-k
-decreases-loop-k l = l.k
+abbrev pub invariant-loop : goal.invariant-loop
+invariant-loop l = Rest l.words l.initial.to l.n (below l.most) l.to (l.n - l.counter)

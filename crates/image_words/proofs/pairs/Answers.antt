@@ -1,16 +1,18 @@
 use mathlib.Core.List.{[]}
+use native.Mathlib.Omega.{arith}
+use native.Mathlib.Numerals.{unary_clauses}
 use Rattle.image_words.specs.Leads.{leads-fault, leads-word}
 use Rattle.image_words.proofs.Lists.{many-none, many-one}
 use Rattle.image_words.proofs.pairs.Goals as goal
 
-pub loop-k-init : goal.loop-k-init
-loop-k-init c = λ end l. l
+pub loop-init : goal.loop-init
+loop-init c = λ end l. simp unary_clauses at l
 
 pub returns-then-stopped : goal.returns-then-stopped
-returns-then-stopped c = c.loop-k.invariant _ (leads-fault [] _ _ c.stopped.ensures c.if-stopped.true)
+returns-then-stopped c = c.loop.invariant _ (leads-fault [] _ _ c.stopped.ensures c.if-stopped.true)
 
-pub loop-k-preserved : goal.loop-k-preserved
-loop-k-preserved c = λ end l. c.loop-k.invariant end (many-one _ _ c.loop-k-test.true (leads-word _ _ _ c.token-at.ensures (record { answer = _; led = c.below-to.ensures })) l)
+pub loop-preserved : goal.loop-preserved
+loop-preserved c = λ end l. c.loop.invariant end (many-one _ _ _ (omega arith) (leads-word _ _ _ c.token-at.ensures (record { answer = _; led = c.below-to.ensures })) l)
 
 pub returns : goal.returns
-returns c = c.loop-k.invariant _ (many-none _ _ c.loop-k-test.false)
+returns c = c.loop.invariant _ (many-none _ _ (omega arith))

@@ -21,16 +21,16 @@ overflow_sub-st c = some-room c.requires.free
 
 -- src/lib.rt:59:52
 pub overflow_cast-at : goal.overflow_cast-at
-overflow_cast-at c = omega (arith, place-low _ _ c.args.n c.args.path c.args.st _ c.requires c.find_held-held.result c.find_held-held.ensures c.in-Nothing.is c.name_bytes-name.ensures c.find_package-found.result c.find_package-found.ensures c.in-At.is)
+overflow_cast-at c = omega (arith, place-low _ _ c.args.n c.args.path c.args.st _ c.requires c.find_held-held.result c.find_held-held.ensures c.in-Nothing.is c.name_bytes-name.ensures c.find_package-found.result c.find_package-found.ensures c.in-Some.is)
 
 -- src/lib.rt:60:31
 pub one_held-requires : goal.one_held-requires
 one_held-requires c = (some-room c.requires.free, few-packages c.requires.free)
 
 -- src/lib.rt:60:13
-pub returns-in-At : goal.returns-in-At
-returns-in-At c = λ v s f t. import_found_lem _ _ c.args.n c.args.path c.args.st _ c.requires c.find_held-held.result c.find_held-held.ensures c.in-Nothing.is c.name_bytes-name.ensures c.find_package-found.result c.find_package-found.ensures c.in-At.is refl c.store.ensures c.one_held.ensures v s f t _ _
+pub returns-in-Some : goal.returns-in-Some
+returns-in-Some c = λ v s f t. import_found_lem _ _ c.args.n c.args.path c.args.st _ c.requires c.find_held-held.result c.find_held-held.ensures c.in-Nothing.is c.name_bytes-name.ensures c.find_package-found.result c.find_package-found.ensures c.in-Some.is refl c.store.ensures c.one_held.ensures v s f t _ _
 
 -- src/lib.rt:66:13
-pub returns-in-Nothing-found : goal.returns-in-Nothing-found
-returns-in-Nothing-found c = import_none _ _ c.args.n c.args.path c.args.st _ c.requires c.find_held-held.result c.find_held-held.ensures c.in-Nothing.is c.name_bytes-name.ensures c.find_package-found.result c.find_package-found.ensures c.in-Nothing-found.is (told_in_whole c.args.messages.now c.first_free-free.ensures c.no_import-none.ensures) c.told.ensures c.went_on.ensures
+pub returns-in-None : goal.returns-in-None
+returns-in-None c = import_none _ _ c.args.n c.args.path c.args.st _ c.requires c.find_held-held.result c.find_held-held.ensures c.in-Nothing.is c.name_bytes-name.ensures c.find_package-found.result c.find_package-found.ensures c.in-None.is (told_in_whole c.args.messages.now c.first_free-free.ensures c.no_import-none.ensures) c.told.ensures c.went_on.ensures

@@ -1,7 +1,6 @@
 -- `library::return_type` meets its contract: it stands after the pairs. Assumes nothing.
-use mathlib.Core.Path.{◌∙◌}
 use Rattle.library.proofs.AccessWays.{return-is}
 use Rattle.library.proofs.return_type.Goals as goal
 
 pub returns : goal.returns
-returns c = return-is _ _ (c.wide.ensures ∙ c.word_after.ensures) c.word_after-2.ensures
+returns c = return-is _ _ c.word_after.ensures c.word_after-2.ensures

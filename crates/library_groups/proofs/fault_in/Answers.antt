@@ -1,4 +1,3 @@
-use Prim.Native.Nat.{◌-◌}
 use Rattle.library_groups.proofs.FaultWays.{faults-none, faults-more, faults-done}
 use Rattle.library_groups.proofs.fault_in.Goals as goal
 

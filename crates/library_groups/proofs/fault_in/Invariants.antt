@@ -1,11 +1,7 @@
--- `library_groups::fault_in` meets its contract. The loop's invariant: the ranks before i are looked at. The measure is how many are left.
+-- `library_groups::fault_in` meets its contract. The loop's invariant: the ranks before i are looked at.
 -- Assumes nothing.
-use Prim.Native.Nat.{◌-◌}
 use Rattle.library_groups.specs.Kept.{FaultsFrom}
 use Rattle.library_groups.proofs.fault_in.Given as goal
 
 abbrev pub invariant-loop-i : goal.invariant-loop-i
 invariant-loop-i l = FaultsFrom l.words l.order l.at l.i l.low l.most l.best
-
-abbrev pub decreases-loop-i : goal.decreases-loop-i
-decreases-loop-i l = l.end - l.i

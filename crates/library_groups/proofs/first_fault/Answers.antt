@@ -1,4 +1,3 @@
-use Prim.Native.Nat.{◌-◌}
 use native.Mathlib.Omega.{arith}
 use Rattle.library_groups.proofs.FaultWays.{all-begin, all_more, all_done}
 use Rattle.library_groups.proofs.first_fault.Goals as goal

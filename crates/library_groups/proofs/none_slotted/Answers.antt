@@ -1,5 +1,3 @@
-use Prim.Native.Nat.{◌-◌}
-use mathlib.Core.Bool.{false}
 use native.Mathlib.Omega.{arith}
 use Rattle.library_groups.proofs.PlaceWays.{none-past, none-yes, none-no}
 use Rattle.library_groups.proofs.none_slotted.Goals as goal

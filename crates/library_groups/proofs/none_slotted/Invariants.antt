@@ -1,6 +1,6 @@
--- `library_groups::none_slotted` meets its contract. The loop's invariant: the first i have no slots. The measure is how many are left.
+-- `library_groups::none_slotted` meets its contract. The loop's invariant: the first i have no slots.
 -- Assumes nothing.
-use Prim.Native.Nat.{ℕ, ◌-◌, ◌<◌}
+use Prim.Native.Nat.{ℕ, ◌<◌}
 use mathlib.Core.Path.{◌≡◌}
 use mathlib.Core.Bool.{false}
 use lib.ListN.{get_or}
@@ -10,6 +10,3 @@ use Rattle.library_groups.proofs.none_slotted.Given as goal
 
 abbrev pub invariant-loop-i : goal.invariant-loop-i
 invariant-loop-i l = (j : ℕ) → j < l.i → slotted l.words (place_in (get_or l.order j 0)) ≡ false
-
-abbrev pub decreases-loop-i : goal.decreases-loop-i
-decreases-loop-i l = l.n - l.i

@@ -1,6 +1,6 @@
 -- `library_pool::pool_words` meets its contract. The loop's invariant, `PoolLeft`: the pool is read as what is left of it is, from where the loop stands.
 -- The measure is what is left of the size. Assumes nothing.
-use Prim.Native.Nat.{◌-◌}
+use Rattle.std.proofs.Common.{◌-◌}
 use Rattle.library_pool.proofs.PoolWays.{PoolLeft}
 use Rattle.library_pool.proofs.pool_words.Given as goal
 

@@ -1,6 +1,5 @@
--- `library_read::arguments` meets its contract. The loop's invariant, `ArgumentsRead`: the first i are read. The measure is how many are left.
+-- `library_read::arguments` meets its contract. The loop's invariant, `ArgumentsRead`: so many are read as turns are done.
 -- Assumes nothing.
-use Prim.Native.Nat.{◌-◌, ◌≤◌}
 use mathlib.Core.List.{List}
 use Prim.Native.Nat.{ℕ}
 use Rattle.tok.specs.Text.{texts_of}
@@ -9,8 +8,5 @@ use Rattle.library_read.specs.Ready.{Ready}
 use Rattle.library_read.proofs.RecordWays.{ArgumentsRead}
 use Rattle.library_read.proofs.arguments.Given as goal
 
-abbrev pub invariant-loop-i : goal.invariant-loop-i
-invariant-loop-i l = (l.i ≤ l.count) × ((script : List ℕ) → Ready (texts_of script l.library) l.pool l.sums → ArgumentsRead (pool_in (texts_of script l.library) l.pool) l.words l.flag l.initial.c l.c l.i)
-
-abbrev pub decreases-loop-i : goal.decreases-loop-i
-decreases-loop-i l = l.count - l.i
+abbrev pub invariant-loop : goal.invariant-loop
+invariant-loop l = (script : List ℕ) → Ready (texts_of script l.library) l.pool l.sums → ArgumentsRead (pool_in (texts_of script l.library) l.pool) l.words l.flag l.initial.c l.c l.counter

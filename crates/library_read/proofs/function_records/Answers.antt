@@ -1,4 +1,3 @@
-use Prim.Native.Nat.{◌-◌}
 use mathlib.Core.Path.{refl}
 use native.Mathlib.Omega.{arith}
 use borrow.Author.Tests.{ltb-true}
@@ -9,22 +8,17 @@ pub returns-in_default : goal.returns-in_default
 returns-in_default c = λ r o. functions-ended functions-begin _ _ (omega arith) c.in_default.is
 
 pub loop-k-init : goal.loop-k-init
-loop-k-init c = (omega arith, λ r o. functions-begin)
+loop-k-init c = λ r o. functions-begin
 
 pub returns-in_default-c : goal.returns-in_default-c
 returns-in_default-c c =
-    λ r o. functions-from _ _ _ _ _ _ c.in-At.is (functions-ended (c.loop-k.invariant.1 r o) _ _ (omega (arith, c.wide-end.ensures)) c.in_default-c.is)
-
-pub loop-k-smaller : goal.loop-k-smaller
-loop-k-smaller c = omega arith
+    λ r o. functions-from _ _ _ _ _ _ c.in-At.is (functions-ended (c.loop-k.invariant r o) _ _ (omega arith) c.in_default-c.is)
 
 pub loop-k-preserved : goal.loop-k-preserved
-loop-k-preserved c = (
-  omega arith,
-  λ r o. functions-turn (functions-at c.in-At-c.is (c.loop-k.invariant.1 r o)) _ _ _ refl
-      (c.function_record-c.ensures r o (λ y. functions-kept (functions-at c.in-At-c.is (c.loop-k.invariant.1 r o)) _ _ _ _ _ _ refl refl refl c.kept_up_to-kept.ensures (ltb-true _ _ y))),
-)
+loop-k-preserved c =
+    λ r o. functions-turn (functions-at c.in-At-c.is (c.loop-k.invariant r o)) _ _ _ refl
+    (c.function_record-c.ensures r o (λ y. functions-kept (functions-at c.in-At-c.is (c.loop-k.invariant r o)) _ _ _ _ _ _ refl refl refl c.kept_up_to-kept.ensures (ltb-true _ _ y)))
 
 pub returns : goal.returns
 returns c =
-    λ r o. functions-from _ _ _ _ _ _ c.in-At.is (functions-done (c.loop-k.invariant.1 r o) _ (omega (arith, c.wide-end.ensures)))
+    λ r o. functions-from _ _ _ _ _ _ c.in-At.is (functions-done (c.loop-k.invariant r o) _ (omega arith))

@@ -6,8 +6,8 @@ use Rattle.library.specs.Package.{functions_from, group_of}
 use Rattle.library_read.proofs.GroupWays.{SlotsLeft}
 use Rattle.library_read.proofs.group_slotted.Given as goal
 
-abbrev pub invariant-loop-f : goal.invariant-loop-f
-invariant-loop-f l = SlotsLeft (texts_of l.script l.library) l.group l.words l.from l.k l.name l.at l.left
+abbrev pub invariant-loop-found : goal.invariant-loop-found
+invariant-loop-found l = SlotsLeft l.texts l.group l.words l.from l.k l.name l.at l.left
 
-abbrev pub decreases-loop-f : goal.decreases-loop-f
-decreases-loop-f l = length (group_of (texts_of l.script l.library) l.name (functions_from l.words l.at l.left))
+abbrev pub decreases-loop-found : goal.decreases-loop-found
+decreases-loop-found l = length (group_of l.texts l.name (functions_from l.words l.at l.left))

@@ -1,5 +1,5 @@
 -- `library_slots::any_missing` meets its contract. The loop's invariant: the index lies in the pool, and no marked word from it on is
--- missing. The measure is the index. Assumes nothing.
+-- missing. Assumes nothing.
 use Prim.Native.Nat.{ℕ, ◌≤◌}
 use mathlib.Core.Path.{◌≡◌}
 use mathlib.Core.Bool.{Bool}
@@ -10,8 +10,5 @@ use Rattle.library.specs.ReturnSlots.{missing}
 use Rattle.library_slots.proofs.any_missing.Given as goal
 
 abbrev pub invariant-loop-i : goal.invariant-loop-i
-invariant-loop-i l = let test : ℕ → Bool = λ j. missing (texts_of l.script l.library) l.pool (types_in l.pairs) l.args (get_or l.pool j 0) in
+invariant-loop-i l = let test : ℕ → Bool = λ j. missing l.texts l.pool (types_in l.pairs) l.args (get_or l.pool j 0) in
     (l.i ≤ length l.pool) × (any_marked l.marks test (length l.pool) ≡ any_marked l.marks test l.i)
-
-abbrev pub decreases-loop-i : goal.decreases-loop-i
-decreases-loop-i l = l.i

@@ -1,6 +1,6 @@
--- `library_slots::any_reached` meets its contract. The loop's invariant: the test fails at the ranks before i. The measure is how many are left.
+-- `library_slots::any_reached` meets its contract. The loop's invariant: the test fails at the ranks before i.
 -- Assumes nothing.
-use Prim.Native.Nat.{ℕ, ◌-◌, ◌≤◌, ◌<◌}
+use Prim.Native.Nat.{ℕ, ◌≤◌, ◌<◌}
 use mathlib.Core.Path.{◌≡◌}
 use mathlib.Core.Bool.{false}
 use lib.ListN.{get_or}
@@ -10,6 +10,3 @@ use Rattle.library_slots.proofs.any_reached.Given as goal
 
 abbrev pub invariant-loop-i : goal.invariant-loop-i
 invariant-loop-i l = (l.from ≤ l.i) × ((j : ℕ) → l.from ≤ j → j < l.i → reached l.returned l.size l.marks l.first l.end (place_in (get_or l.order j 0)) ≡ false)
-
-abbrev pub decreases-loop-i : goal.decreases-loop-i
-decreases-loop-i l = l.to - l.i

@@ -1,10 +1,8 @@
 -- `library_slots::mark_fields` meets its contract. The loop's invariant, `FieldsToMark`: what is left to mark gives the whole.
--- The measure is how many fields are left. Assumes nothing.
+-- Assumes nothing.
+use Rattle.std.proofs.Common.{◌+◌, ◌-◌, ◌*◌}
 use Rattle.library_slots.proofs.MarkWays.{FieldsToMark}
 use Rattle.library_slots.proofs.mark_fields.Given as goal
 
-abbrev pub invariant-loop-left : goal.invariant-loop-left
-invariant-loop-left l = FieldsToMark l.initial.marks l.marks l.at l.n l.i l.left
-
-abbrev pub decreases-loop-left : goal.decreases-loop-left
-decreases-loop-left l = l.left
+abbrev pub invariant-loop-k : goal.invariant-loop-k
+invariant-loop-k l = FieldsToMark l.initial.marks l.marks l.at l.n (l.at + 2 * l.k) (l.n - l.k)

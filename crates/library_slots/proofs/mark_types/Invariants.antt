@@ -1,12 +1,8 @@
 -- `library_slots::mark_types` meets its contract. The loop's invariant, `TypesToMark`: what is left to mark gives the whole.
--- The measure is how many words are left. Assumes nothing.
-use Prim.Native.Nat.{◌-◌}
-use lib.ListN.{length}
+-- Assumes nothing.
+use Rattle.std.proofs.Common.{◌*◌}
 use Rattle.library_slots.proofs.MarkWays.{TypesToMark}
 use Rattle.library_slots.proofs.mark_types.Given as goal
 
 abbrev pub invariant-loop-i : goal.invariant-loop-i
-invariant-loop-i l = TypesToMark l.pool l.initial.marks l.marks l.pairs l.i
-
-abbrev pub decreases-loop-i : goal.decreases-loop-i
-decreases-loop-i l = length l.pairs - l.i
+invariant-loop-i l = TypesToMark l.pool l.initial.marks l.marks l.pairs (2 * l.i)

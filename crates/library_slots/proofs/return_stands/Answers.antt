@@ -14,7 +14,7 @@ returns-then-kind-eq-SLOT c =
     asked-slot _ _ _ _ _ _ _ _ _ _ _ _ _ _ _ zeros-are c.mark_types.ensures c.spread.ensures zeros-are c.mark_inside.ensures c.spread-2.ensures c.if-n-gt0.false
     c.kind.ensures c.if-kind-eq-SLOT.true c.among.ensures
 
-pub returns : goal.returns
-returns c =
+pub returns-else-kind-eq-SLOT : goal.returns-else-kind-eq-SLOT
+returns-else-kind-eq-SLOT c =
     asked-other _ _ _ _ _ _ _ _ _ _ _ _ _ _ _ zeros-are c.mark_types.ensures c.spread.ensures zeros-are c.mark_inside.ensures c.spread-2.ensures c.if-n-gt0.false
     c.kind.ensures c.if-kind-eq-SLOT.false c.any_missing.ensures refl

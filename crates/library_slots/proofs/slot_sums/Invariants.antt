@@ -1,11 +1,7 @@
 -- `library_slots::slot_sums` meets its contract. The loop's invariant, `Summed`: the counts up to index i are filled in.
--- The measure is how many words are left. Assumes nothing.
-use Prim.Native.Nat.{◌-◌}
+-- Assumes nothing.
 use Rattle.library_slots.proofs.SumWays.{Summed}
 use Rattle.library_slots.proofs.slot_sums.Given as goal
 
 abbrev pub invariant-loop-i : goal.invariant-loop-i
-invariant-loop-i l = Summed l.pool l.sums l.end l.i
-
-abbrev pub decreases-loop-i : goal.decreases-loop-i
-decreases-loop-i l = l.end - l.i
+invariant-loop-i l = Summed l.pool l.sums l.i-end l.i

@@ -1,4 +1,4 @@
--- `name_order::make_heap` meets its contract. The loop's invariant: no place is lost so far. The measure is the index. Assumes nothing.
+-- `name_order::make_heap` meets its contract. The loop's invariant: no place is lost so far. Assumes nothing.
 use Prim.Native.Nat.{ℕ, ◌≤◌}
 use mathlib.Core.Path.{◌≡◌}
 use lib.ListN.{length}
@@ -7,6 +7,3 @@ use Rattle.name_order.proofs.make_heap.Given as goal
 
 abbrev pub invariant-loop-i : goal.invariant-loop-i
 invariant-loop-i l = (length l.order ≡ length l.initial.order) × ((n : ℕ) → l.end ≤ n → n ≤ length l.initial.order → Rearranged l.initial.order l.order n)
-
-abbrev pub decreases-loop-i : goal.decreases-loop-i
-decreases-loop-i l = l.i

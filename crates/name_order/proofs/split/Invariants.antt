@@ -1,6 +1,6 @@
--- `name_order::split` meets its contract. The loop's invariant, `Telling`: the entries before rank i are told. The measure is how many are left.
+-- `name_order::split` meets its contract. The loop's invariant, `Telling`: the entries before rank i are told.
 -- Assumes nothing.
-use Prim.Native.Nat.{◌-◌, ◌≤◌, ◌<◌}
+use Prim.Native.Nat.{◌≤◌}
 use mathlib.Core.Path.{◌≡◌}
 use lib.ListN.{length}
 use Rattle.tok.specs.Text.{texts_of}
@@ -8,7 +8,4 @@ use Rattle.name_order.proofs.SplitWays.{Telling}
 use Rattle.name_order.proofs.split.Given as goal
 
 abbrev pub invariant-loop-i : goal.invariant-loop-i
-invariant-loop-i l = (0 < l.i) × (length l.order ≡ length l.initial.order) × (l.end ≤ length l.initial.order → Telling (texts_of l.script l.library) l.words l.initial.order l.order l.i)
-
-abbrev pub decreases-loop-i : goal.decreases-loop-i
-decreases-loop-i l = l.end - l.i
+invariant-loop-i l = (length l.order ≡ length l.initial.order) × (l.end ≤ length l.initial.order → Telling l.texts l.words l.initial.order l.order l.i)

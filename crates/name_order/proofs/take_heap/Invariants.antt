@@ -1,4 +1,4 @@
--- `name_order::take_heap` meets its contract. The loop's invariant: no place is lost so far. The measure is the heap's size. Assumes nothing.
+-- `name_order::take_heap` meets its contract. The loop's invariant: no place is lost so far. Assumes nothing.
 use Prim.Native.Nat.{ℕ, ◌≤◌}
 use mathlib.Core.Path.{◌≡◌}
 use lib.ListN.{length}
@@ -6,7 +6,4 @@ use Rattle.name_order.specs.Order.{Rearranged}
 use Rattle.name_order.proofs.take_heap.Given as goal
 
 abbrev pub invariant-loop-left : goal.invariant-loop-left
-invariant-loop-left l = (l.left ≤ l.end) × (length l.order ≡ length l.initial.order) × ((n : ℕ) → l.end ≤ n → n ≤ length l.initial.order → Rearranged l.initial.order l.order n)
-
-abbrev pub decreases-loop-left : goal.decreases-loop-left
-decreases-loop-left l = l.left
+invariant-loop-left l = (length l.order ≡ length l.initial.order) × ((n : ℕ) → l.end ≤ n → n ≤ length l.initial.order → Rearranged l.initial.order l.order n)

@@ -9,10 +9,10 @@ pub plain_word-requires : goal.plain_word-requires
 plain_word-requires c = kind-below c.args.op _ _ c.result_kind-k.ensures
 
 pub returns-then-k-ne0 : goal.returns-then-k-ne0
-returns-then-k-ne0 c = fuse-known (texts_of c.args.script.now c.args.library.now) c.args.slots.now c.args.types.now c.args.diagnostics.now c.args.messages.now c.args.used c.args.n c.args.slot c.args.token c.args.op c.args.left c.args.right c.wide.ensures c.word_at-l.ensures c.wide-2.ensures c.word_at-r.ensures c.kind.ensures c.kind-2.ensures c.result_kind-k.ensures c.if-k-ne0.true c.plain_word.ensures c.set_known.ensures
+returns-then-k-ne0 c = fuse-known c.args.texts.now c.args.slots.now c.args.types.now c.args.diagnostics.now c.args.messages.now c.args.used c.args.n c.args.slot c.args.token c.args.op c.args.left c.args.right c.wide.ensures c.word_at-l.ensures c.wide-2.ensures c.word_at-r.ensures c.kind.ensures c.kind-2.ensures c.result_kind-k.ensures c.if-k-ne0.true c.plain_word.ensures c.set_known.ensures
 
 pub returns-then-same_type : goal.returns-then-same_type
-returns-then-same_type c = fuse-unsupported (texts_of c.args.script.now c.args.library.now) c.args.slots.now c.args.types.now c.args.diagnostics.now c.args.messages.now c.args.used c.args.n c.args.slot c.args.token c.args.op c.args.left c.args.right c.wide.ensures c.word_at-l.ensures c.wide-2.ensures c.word_at-r.ensures c.kind.ensures c.kind-2.ensures c.result_kind-k.ensures c.if-k-ne0.false c.same_type.ensures c.poisoned.ensures c.if-same_type.true (told_in_whole c.args.messages.now c.first_free-free.ensures c.unsupported-told.ensures)
+returns-then-same_type c = fuse-unsupported c.args.texts.now c.args.slots.now c.args.types.now c.args.diagnostics.now c.args.messages.now c.args.used c.args.n c.args.slot c.args.token c.args.op c.args.left c.args.right c.wide.ensures c.word_at-l.ensures c.wide-2.ensures c.word_at-r.ensures c.kind.ensures c.kind-2.ensures c.result_kind-k.ensures c.if-k-ne0.false c.same_type.ensures c.poisoned.ensures c.if-same_type.true (told_in_whole c.args.messages.now c.first_free-free.ensures c.unsupported-told.ensures)
 
 pub returns : goal.returns
-returns c = fuse-incompatible (texts_of c.args.script.now c.args.library.now) c.args.slots.now c.args.types.now c.args.diagnostics.now c.args.messages.now c.args.used c.args.n c.args.slot c.args.token c.args.op c.args.left c.args.right c.wide.ensures c.word_at-l.ensures c.wide-2.ensures c.word_at-r.ensures c.kind.ensures c.kind-2.ensures c.result_kind-k.ensures c.if-k-ne0.false c.same_type.ensures c.poisoned-2.ensures c.if-same_type.false (told_in_whole c.args.messages.now c.first_free-free.ensures c.incompatible-told.ensures)
+returns c = fuse-incompatible c.args.texts.now c.args.slots.now c.args.types.now c.args.diagnostics.now c.args.messages.now c.args.used c.args.n c.args.slot c.args.token c.args.op c.args.left c.args.right c.wide.ensures c.word_at-l.ensures c.wide-2.ensures c.word_at-r.ensures c.kind.ensures c.kind-2.ensures c.result_kind-k.ensures c.if-k-ne0.false c.same_type.ensures c.poisoned-2.ensures c.if-same_type.false (told_in_whole c.args.messages.now c.first_free-free.ensures c.incompatible-told.ensures)

@@ -7,12 +7,12 @@ returns-in_default c = none_found _ _ _ _ _ _ c.name_bytes-wanted.ensures c.find
 
 pub returns-in_default-second : goal.returns-in_default-second
 returns-in_default-second c =
-    several_found _ _ _ _ _ _ c.name_bytes-wanted.ensures c.find_entry-first.ensures c.in-One.is c.find_entry-second.ensures c.in_default-second.is
+    several_found _ _ _ _ _ _ c.name_bytes-wanted.ensures c.find_entry-first.ensures c.in-Some.is c.find_entry-second.ensures c.in_default-second.is
 
-pub returns-then-slotted : goal.returns-then-slotted
-returns-then-slotted c =
-    slotted-found _ _ _ _ _ _ c.name_bytes-wanted.ensures c.find_entry-first.ensures c.in-One.is c.find_entry-second.ensures c.in-Over.is c.if-slotted.true
+pub returns-then-entry : goal.returns-then-entry
+returns-then-entry c =
+    slotted-found _ _ _ _ _ _ c.name_bytes-wanted.ensures c.find_entry-first.ensures c.in-Some.is c.find_entry-second.ensures c.in-None.is c.if-entry.true
 
 pub returns : goal.returns
 returns c =
-    plain-found _ _ _ _ _ _ c.name_bytes-wanted.ensures c.find_entry-first.ensures c.in-One.is c.find_entry-second.ensures c.in-Over.is c.if-slotted.false
+    plain-found _ _ _ _ _ _ c.name_bytes-wanted.ensures c.find_entry-first.ensures c.in-Some.is c.find_entry-second.ensures c.in-None.is c.if-entry.false

@@ -1,14 +1,17 @@
+use Prim.Native.Nat.{◌+◌, ◌-◌}
+use mathlib.Core.Path.{◌≡◌}
+use native.Mathlib.Omega.{arith}
 use Rattle.places.proofs.Filling.{filling-none, filling-more, filling-all}
 use Rattle.places.proofs.fill.Goals as goal
 
-pub loop-left-init : goal.loop-left-init
-loop-left-init c = filling-none
+pub loop-i-init : goal.loop-i-init
+loop-i-init c = let whole : c.args.index + c.args.count - c.args.index ≡ c.args.count = omega arith in rw whole filling-none
 
-pub loop-left-preserved : goal.loop-left-preserved
-loop-left-preserved c = filling-more c.loop-left.invariant c.loop-left-test.true c.store.ensures c.place_after-at.ensures
+pub loop-i-preserved : goal.loop-i-preserved
+loop-i-preserved c = filling-more c.loop-i.invariant (omega arith) c.store.ensures c.place_after-at.ensures
 
 pub shape_of-places : goal.shape_of-places
-shape_of-places c = c.loop-left.invariant.long
+shape_of-places c = c.loop-i.invariant.long
 
 pub returns : goal.returns
-returns c = filling-all c.loop-left.invariant c.loop-left-test.false
+returns c = filling-all c.loop-i.invariant (omega arith)

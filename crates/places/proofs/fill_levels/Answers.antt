@@ -1,4 +1,3 @@
-use Prim.Native.Nat.{◌-◌}
 use Rattle.places.proofs.Levelling.{levelling_none, levelling_more, levelling_all}
 use Rattle.places.proofs.fill_levels.Goals as goal
 

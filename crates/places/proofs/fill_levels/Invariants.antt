@@ -1,10 +1,6 @@
 -- `places::fill_levels` meets its contract. The loop's invariant, `Levelling`: what is left to fill gives the whole. Assumes nothing.
-use Prim.Native.Nat.{◌-◌}
 use Rattle.places.proofs.Levelling.{Levelling}
 use Rattle.places.proofs.fill_levels.Given as goal
 
 abbrev pub invariant-loop-t : goal.invariant-loop-t
 invariant-loop-t l = Levelling l.image l.types l.initial.places l.t l.places
-
-abbrev pub decreases-loop-t : goal.decreases-loop-t
-decreases-loop-t l = l.types - l.t

@@ -2,22 +2,23 @@
 use Rattle.places.proofs.Levelling.{inside-option, inside-array, inside_record, inside-none}
 use Rattle.places.proofs.levels_inside.Goals as goal
 
-pub returns-then-k-eq-OPTION : goal.returns-then-k-eq-OPTION
-returns-then-k-eq-OPTION c =
+pub returns-in-2 : goal.returns-in-2
+returns-in-2 c =
     let a = c.args in
-    inside-option a.image.now a.places.now a.at c.word_at-head.ensures c.kind-k.ensures c.if-k-eq-OPTION.true c.word_at.ensures c.levels.ensures
+    inside-option a.image.now a.places.now a.at c.word_at-head.ensures c.kind.ensures c.in-2.is c.word_at.ensures c.levels.ensures
 
-pub returns-then-k-eq-ARRAY : goal.returns-then-k-eq-ARRAY
-returns-then-k-eq-ARRAY c =
+pub returns-in-3 : goal.returns-in-3
+returns-in-3 c =
     let a = c.args in
-    inside-array a.image.now a.places.now a.at c.word_at-head.ensures c.kind-k.ensures c.if-k-eq-ARRAY.true c.word_at-then-k-eq-ARRAY.ensures c.levels-then-k-eq-ARRAY.ensures
+    inside-array a.image.now a.places.now a.at c.word_at-head.ensures c.kind.ensures c.in-3.is c.word_at-in-3.ensures c.levels-in-3.ensures
 
-pub returns-then-k-eq-RECORD : goal.returns-then-k-eq-RECORD
-returns-then-k-eq-RECORD c =
+pub returns-in-4 : goal.returns-in-4
+returns-in-4 c =
     let a = c.args in
-    inside_record a.image.now a.places.now a.at c.word_at-head.ensures c.kind-k.ensures c.if-k-eq-RECORD.true c.fields_in.ensures.0 c.most_levels.ensures
+    inside_record a.image.now a.places.now a.at c.word_at-head.ensures c.kind.ensures c.in-4.is c.fields_in.ensures.0 c.most_levels.ensures
 
-pub returns : goal.returns
-returns c =
+pub returns-in_default : goal.returns-in_default
+returns-in_default c =
     let a = c.args in
-    inside-none a.image.now a.places.now a.at c.word_at-head.ensures c.kind-k.ensures c.if-k-eq-OPTION.false c.if-k-eq-ARRAY.false c.if-k-eq-RECORD.false
+    let none = c.in_default.in_default-own.rest in
+    inside-none a.image.now a.places.now a.at c.word_at-head.ensures c.kind.ensures none.0.0.1 none.0.1 none.1

@@ -1,9 +1,7 @@
 -- `places::most_levels` meets its contract. The loop's invariant, `Most`: what is left gives the whole. Assumes nothing.
+use Prim.Native.Nat.{◌+◌, ◌*◌, ◌-◌}
 use Rattle.places.proofs.Levelling.{Most}
 use Rattle.places.proofs.most_levels.Given as goal
 
-abbrev pub invariant-loop-left : goal.invariant-loop-left
-invariant-loop-left l = Most l.image l.places l.at l.fields l.most l.here l.left
-
-abbrev pub decreases-loop-left : goal.decreases-loop-left
-decreases-loop-left l = l.left
+abbrev pub invariant-loop-field : goal.invariant-loop-field
+invariant-loop-field l = Most l.image l.places l.at l.fields l.most (l.at + 2 * l.field) (l.fields - l.field)

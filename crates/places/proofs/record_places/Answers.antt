@@ -1,11 +1,12 @@
 -- `places::record_places` meets its contract: the nodes, then the types, and then their levels, counted and begun as the image's head says.
 -- Assumes nothing.
+use mathlib.Core.Path.{refl}
 use Rattle.places.proofs.Filling.{all-filled}
 use Rattle.places.proofs.record_places.Goals as goal
 
 pub returns : goal.returns
 returns c =
-    all-filled _ c.word_at.ensures c.wide.ensures c.least-nodes.ensures
-    c.word_at-2.ensures c.wide-2.ensures c.least-types.ensures
-    c.word_at-3.ensures c.wide-3.ensures c.clipped-first.ensures
+    all-filled _ c.word_at.ensures refl c.min-nodes.ensures
+    c.word_at-2.ensures refl c.min-types.ensures
+    c.word_at-3.ensures refl c.clipped-first.ensures
     c.fill-first_type.ensures c.fill.ensures c.fill_levels.ensures

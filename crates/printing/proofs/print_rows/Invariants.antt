@@ -7,9 +7,9 @@ use Rattle.printing.specs.Loop.{left}
 use Rattle.printing.proofs.print_rows.Given as goal
 
 abbrev pub invariant-loop-begun : goal.invariant-loop-begun
-invariant-loop-begun g l = let a : Answer = answer_of (texts_of l.script l.library) l.slots l.types l.functions l.diagnostics l.messages l.last l.words l.count in
+invariant-loop-begun g l = let a : Answer = answer_of l.texts l.slots l.types l.functions l.diagnostics l.messages l.last l.words l.count in
     (l.skip ≤ length (row_of a l.row)) × ((l.total + length (rest_from a l.row l.skip)) % 2 ^ 64 ≡ length (rest_from a l.initial.row 0) % 2 ^ 64)
     × (l.total % 2 ^ 64 ≡ l.total)
 
 abbrev pub decreases-loop-begun : goal.decreases-loop-begun
-decreases-loop-begun g l = left (answer_of (texts_of l.script l.library) l.slots l.types l.functions l.diagnostics l.messages l.last l.words l.count) l.row l.skip
+decreases-loop-begun g l = left (answer_of l.texts l.slots l.types l.functions l.diagnostics l.messages l.last l.words l.count) l.row l.skip

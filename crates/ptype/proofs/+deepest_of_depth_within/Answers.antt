@@ -1,41 +1,34 @@
 use mathlib.Core.Path.{refl, sym, ◌∙◌}
 use native.Mathlib.Omega.{arith}
-use Rattle.ptype.specs.Words.{field_count}
-use Rattle.ptype.specs.Gauge.{gauge}
 use Rattle.ptype.proofs.GaugeReturns.{gauge-none, gauge-wrap, gauge_record, gauge-flat, list_hit, list-noted, list-cut, list-past, fields-first, fields-next}
 use Rattle.ptype.proofs.GaugeLaws.{gauge-counts, list_counts}
 use borrow.Author.Rules.{rules}
 use Prim.Native.Nat.{◌-◌}
+use Rattle.ptype.proofs.+deepest_of_depth_within.Goals.{deepest_of-else-at-known-via-else-at-known, deepest_of-else-at-known-via-then-at-known+else-most-levels}
 use Rattle.ptype.proofs.+deepest_of_depth_within.Goals as goal
 
-pub deepest_of-returns-then-k-gt0 : goal.deepest_of-returns-then-k-gt0
-deepest_of-returns-then-k-gt0 t c =
-    list_hit _ _ _ _ _ c.payload-at.ensures c.mark_at-k.ensures c.if-k-gt0.true c.least.ensures
+pub deepest_of-returns-then-mark-gt0 : goal.deepest_of-returns-then-mark-gt0
+deepest_of-returns-then-mark-gt0 t c =
+    list_hit _ _ _ _ _ c.payload-at.ensures c.mark_at-mark.ensures c.if-mark-gt0.true c.min.ensures
 
-pub deepest_of-loop-left-init : goal.deepest_of-loop-left-init
-deepest_of-loop-left-init t c = (fields-first _ _ _ _ c.payload-at.ensures c.field_count-left.ensures, omega arith, refl)
+pub deepest_of-loop-k-init : goal.deepest_of-loop-k-init
+deepest_of-loop-k-init t c = (fields-first _ _ _ _ (omega arith) (omega arith), refl)
 
-pub deepest_of-depth_within-requires : goal.deepest_of-depth_within-requires
-deepest_of-depth_within-requires t c = (search rules, search rules)
-
-pub deepest_of-loop-left-preserved : goal.deepest_of-loop-left-preserved
-deepest_of-loop-left-preserved t c = (
-  c.loop-left.invariant.0 ∙ fields-next _ _ _ _ _ (omega arith) c.field_type.ensures c.depth_within.ensures c.greatest-most.ensures,
-  omega arith,
-  c.depth_within.auto.known ∙ c.loop-left.invariant.2,
+pub deepest_of-loop-k-preserved : goal.deepest_of-loop-k-preserved
+deepest_of-loop-k-preserved t c = (
+  c.loop-k.invariant.0 ∙ fields-next _ _ _ _ _ (omega arith) (omega arith) (omega arith) c.field_type.ensures c.depth_within-deep.ensures c.max-most.ensures,
+  c.depth_within-deep.auto.known ∙ c.loop-k.invariant.1,
 )
 
 pub deepest_of-returns-then-most-levels : goal.deepest_of-returns-then-most-levels
 deepest_of-returns-then-most-levels t c =
-    list-noted _ _ _ _ _ c.payload-at.ensures c.mark_at-k.ensures c.if-k-gt0.false _ _ _ _ c.loop-left.invariant.0 c.loop-left-test.false c.if-most-levels.true
-
-pub deepest_of-returns-else-most-levels : goal.deepest_of-returns-else-most-levels
-deepest_of-returns-else-most-levels t c =
-    list-cut _ _ _ _ _ c.payload-at.ensures c.mark_at-k.ensures c.if-k-gt0.false _ _ _ _ c.loop-left.invariant.0 c.loop-left-test.false c.if-most-levels.false
+    list-noted _ _ _ _ _ c.payload-at.ensures c.mark_at-mark.ensures (omega arith) _ _ _ _ c.loop-k.invariant.0 (omega arith) c.if-most-levels.true
 
 pub deepest_of-returns-else-at-known : goal.deepest_of-returns-else-at-known
-deepest_of-returns-else-at-known t c =
-    list-past _ _ _ _ _ c.payload-at.ensures c.mark_at-k.ensures c.if-k-gt0.false _ _ _ _ c.loop-left.invariant.0 c.loop-left-test.false c.if-at-known.false
+deepest_of-returns-else-at-known t c = elim c.else-at-known.branch [
+  | deepest_of-else-at-known-via-else-at-known w ↦ list-past _ _ _ _ _ c.payload-at.ensures c.mark_at-mark.ensures (omega arith) _ _ _ _ c.loop-k.invariant.0 (omega arith) w.if-at-known.false
+  | deepest_of-else-at-known-via-then-at-known+else-most-levels w ↦ list-cut _ _ _ _ _ c.payload-at.ensures c.mark_at-mark.ensures (omega arith) _ _ _ _ c.loop-k.invariant.0 (omega arith) w.if-most-levels.false
+]
 
 pub depth_within-returns-then-levels-eq0 : goal.depth_within-returns-then-levels-eq0
 depth_within-returns-then-levels-eq0 t c = gauge-none _ _ _ c.if-levels-eq0.true
@@ -62,6 +55,6 @@ pub depth_within-returns-then-k-eq-RECORD : goal.depth_within-returns-then-k-eq-
 depth_within-returns-then-k-eq-RECORD t c =
     gauge_record _ _ _ c.if-levels-eq0.false c.kind-k.ensures (sym c.wraps.ensures ∙ c.if-wraps.false) c.if-k-eq-RECORD.true c.deepest_of.ensures
 
-pub depth_within-returns : goal.depth_within-returns
-depth_within-returns t c =
+pub depth_within-returns-else-k-eq-RECORD : goal.depth_within-returns-else-k-eq-RECORD
+depth_within-returns-else-k-eq-RECORD t c =
     gauge-flat _ _ _ c.if-levels-eq0.false c.kind-k.ensures (sym c.wraps.ensures ∙ c.if-wraps.false) c.if-k-eq-RECORD.false

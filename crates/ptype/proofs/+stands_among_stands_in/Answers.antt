@@ -1,6 +1,5 @@
 use mathlib.Core.Path.{refl, sym, ◌∙◌}
 use native.Mathlib.Omega.{arith}
-use Rattle.ptype.specs.Stands.{stands_among}
 use Rattle.ptype.proofs.MarkLaws.{free-hit, free_more}
 use Rattle.ptype.proofs.StandsReturns.{stands-none, stands-wrap, stands_record, stands_here, among-all, among_none, among_first, among-rest}
 use borrow.Author.Rules.{rules}
@@ -10,36 +9,35 @@ pub stands_among-returns-then-is_free : goal.stands_among-returns-then-is_free
 stands_among-returns-then-is_free t c =
     ((λ x. free-hit _ x _ _ _ (c.requires.1 x) c.payload-at.ensures c.mark_at.ensures (c.is_free.ensures c.if-is_free.true)), c.requires.1)
 
-pub stands_among-loop-left-init : goal.stands_among-loop-left-init
-stands_among-loop-left-init t c =
-    ((λ x. among-all x _ _ _ _ c.payload-at.ensures c.field_count-left.ensures), omega arith, c.requires.1, refl)
+pub stands_among-loop-i-init : goal.stands_among-loop-i-init
+stands_among-loop-i-init t c =
+    ((λ x. among-all x _ _ _ _ (omega arith) (omega arith)), c.requires.1, refl)
 
 pub stands_among-stands_in-requires : goal.stands_among-stands_in-requires
 stands_among-stands_in-requires t c =
-    (search rules, (c.requires.0, c.loop-left.invariant.2))
+    (search rules, (c.requires.0, c.loop-i.invariant.1))
 
 pub stands_among-returns-then-stands_in : goal.stands_among-returns-then-stands_in
 stands_among-returns-then-stands_in t c =
-    ((λ x. among_first x _ _ _ _ (c.loop-left.invariant.0 x) (omega arith) c.field_type.ensures (c.stands_in.ensures.0 x) c.if-stands_in.true), c.stands_in.ensures.1)
+    ((λ x. among_first x _ _ _ _ (c.loop-i.invariant.0 x) (omega arith) c.field_type.ensures (c.stands_in.ensures.0 x) c.if-stands_in.true), c.stands_in.ensures.1)
 
-pub stands_among-loop-left-preserved : goal.stands_among-loop-left-preserved
-stands_among-loop-left-preserved t c = (
-  (λ x. among-rest x _ _ _ _ (c.loop-left.invariant.0 x) (omega arith) c.field_type.ensures (c.stands_in.ensures.0 x)
-      c.if-stands_in.false),
-  omega arith,
+pub stands_among-loop-i-preserved : goal.stands_among-loop-i-preserved
+stands_among-loop-i-preserved t c = (
+  (λ x. among-rest x _ _ _ _ (c.loop-i.invariant.0 x) (omega arith) c.field_type.ensures (c.stands_in.ensures.0 x)
+      (omega arith) (omega arith) c.if-stands_in.false),
   c.stands_in.ensures.1,
-  c.stands_in.auto.free ∙ c.loop-left.invariant.3,
+  c.stands_in.auto.free ∙ c.loop-i.invariant.2,
 )
 
 pub stands_among-returns-then-at-free : goal.stands_among-returns-then-at-free
 stands_among-returns-then-at-free t c = (
-  (λ x. among_none x _ _ _ _ (c.loop-left.invariant.0 x) (omega arith)),
-  λ x. free_more c.args.w _ (c.loop-left.invariant.2 x) c.payload-at.ensures
-      c.if-at-free.true (among_none x _ _ _ _ (c.loop-left.invariant.0 x) (omega arith)),
+  (λ x. among_none x _ _ _ _ (c.loop-i.invariant.0 x) (omega arith)),
+  λ x. free_more c.args.w _ (c.loop-i.invariant.1 x) c.payload-at.ensures
+      c.if-at-free.true (among_none x _ _ _ _ (c.loop-i.invariant.0 x) (omega arith)),
 )
 
 pub stands_among-returns-else-at-free : goal.stands_among-returns-else-at-free
-stands_among-returns-else-at-free t c = ((λ x. among_none x _ _ _ _ (c.loop-left.invariant.0 x) (omega arith)), c.loop-left.invariant.2)
+stands_among-returns-else-at-free t c = ((λ x. among_none x _ _ _ _ (c.loop-i.invariant.0 x) (omega arith)), c.loop-i.invariant.1)
 
 pub stands_in-returns-then-depth-eq0 : goal.stands_in-returns-then-depth-eq0
 stands_in-returns-then-depth-eq0 t c = ((λ x. stands-none x _ _ _ c.if-depth-eq0.true), c.requires.1)
@@ -58,6 +56,6 @@ pub stands_in-returns-then-j-eq-RECORD : goal.stands_in-returns-then-j-eq-RECORD
 stands_in-returns-then-j-eq-RECORD t c =
     ((λ x. stands_record x _ _ _ c.if-depth-eq0.false c.kind-j.ensures c.if-j-eq-RECORD.true (c.stands_among.ensures.0 x)), c.stands_among.ensures.1)
 
-pub stands_in-returns : goal.stands_in-returns
-stands_in-returns t c =
+pub stands_in-returns-else-j-eq-RECORD : goal.stands_in-returns-else-j-eq-RECORD
+stands_in-returns-else-j-eq-RECORD t c =
     ((λ x. stands_here x _ _ _ c.if-depth-eq0.false c.kind-j.ensures (sym c.wraps.ensures ∙ c.if-wraps.false) c.if-j-eq-RECORD.false), c.requires.1)

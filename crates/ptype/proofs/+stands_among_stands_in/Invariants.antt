@@ -6,7 +6,7 @@ use Rattle.tok.specs.Text.{Texts}
 use Rattle.ptype.specs.Words.{fields_from, fields_of, unfolded}
 use Rattle.ptype.specs.Stands.{stands_among}
 use Rattle.ptype.specs.Marks.{Free}
-use Prim.Native.Nat.{◌+◌, ◌*◌, ◌^◌, ◌<◌}
+use Prim.Native.Nat.{◌+◌, ◌-◌, ◌*◌}
 use Rattle.ptype.proofs.+stands_among_stands_in.Given as goal
 
 abbrev pub decreases-stands_among : goal.decreases-stands_among
@@ -15,9 +15,6 @@ decreases-stands_among l = 2 * l.depth + 1
 abbrev pub decreases-stands_in : goal.decreases-stands_in
 decreases-stands_in l = 2 * l.depth
 
-abbrev pub invariant-stands_among-loop-left : goal.invariant-stands_among-loop-left
-invariant-stands_among-loop-left l = ((t : Texts) → stands_among l.k (fields_of (unfolded t l.types l.depth) t l.types l.w) ≡ stands_among l.k (fields_from (unfolded t l.types l.depth) t l.types l.i l.left))
-    × (l.i + 2 * l.left < 2 ^ 40) × ((t : Texts) → Free (stands_among l.k) t l.types l.free) × (length l.free ≡ length l.initial.free)
-
-abbrev pub decreases-stands_among-loop-left : goal.decreases-stands_among-loop-left
-decreases-stands_among-loop-left l = l.left
+abbrev pub invariant-stands_among-loop-i : goal.invariant-stands_among-loop-i
+invariant-stands_among-loop-i l = ((t : Texts) → stands_among l.k (fields_of (unfolded t l.types l.depth) t l.types l.w) ≡ stands_among l.k (fields_from (unfolded t l.types l.depth) t l.types (l.at + 1 + 2 * l.i) (l.i-end - l.i)))
+    × ((t : Texts) → Free (stands_among l.k) t l.types l.free) × (length l.free ≡ length l.initial.free)

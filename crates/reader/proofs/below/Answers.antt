@@ -5,4 +5,4 @@ use Rattle.reader.specs.Laws.{by-rule}
 use Rattle.reader.proofs.below.Goals as goal
 
 pub returns : goal.returns
-returns c = by-rule _ _ c.args.words.now c.args.from _ _ (ap (λ w. ltb w c.args.n) (sym (c.wide-w.ensures ∙ c.next_word.ensures))) refl ∙ c.word.ensures
+returns c = by-rule _ _ c.args.words.now c.args.from _ _ (ap (λ w. ltb w c.args.n) (sym c.next_word.ensures)) refl ∙ c.word.ensures

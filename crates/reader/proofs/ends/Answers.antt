@@ -8,5 +8,5 @@ returns-in_default c = ended _ _ _ _ _ c.in_default.is
 pub returns-then-end-words : goal.returns-then-end-words
 returns-then-end-words c = from-ends-left _ _ _ _ c.in-At.is c.if-end-words.true
 
-pub returns : goal.returns
-returns c = from-ends-here _ _ _ _ c.in-At.is c.if-end-words.false
+pub returns-else-end-words : goal.returns-else-end-words
+returns-else-end-words c = from-ends-here _ _ _ _ c.in-At.is c.if-end-words.false

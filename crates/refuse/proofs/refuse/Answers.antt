@@ -1,13 +1,28 @@
--- `refuse::refuse` meets its contract. Assumes nothing.
-use mathlib.Core.Path.{refl}
-use Rattle.refuse.proofs.Ways.{scratch-short, library-refused, library-accepted}
+-- `refuse::refuse` meets its contract: a law for each way out (`Ways`). Assumes nothing.
+use Rattle.refuse.proofs.Ways.{scratch-short, library-refused, image-refused, claims-refused, depth-refused, room-short, room-enough}
 use Rattle.refuse.proofs.refuse.Goals as goal
 
 pub returns-then-scratch-lt-SCRATCH_WORDS : goal.returns-then-scratch-lt-SCRATCH_WORDS
 returns-then-scratch-lt-SCRATCH_WORDS c = scratch-short _ _ c.if-scratch-lt-SCRATCH_WORDS.true
 
-pub returns-in-Offends : goal.returns-in-Offends
-returns-in-Offends c = library-refused _ _ c.if-scratch-lt-SCRATCH_WORDS.false _ c.library_fault.ensures _ c.in-Offends.is
+pub returns-in-Err : goal.returns-in-Err
+returns-in-Err c = library-refused _ _ c.if-scratch-lt-SCRATCH_WORDS.false _ c.in-Err.ensures
 
-pub returns-in-Accepted : goal.returns-in-Accepted
-returns-in-Accepted c = library-accepted _ _ c.if-scratch-lt-SCRATCH_WORDS.false _ c.library_fault.ensures c.in-Accepted.is (c.of_image.ensures _ _ refl refl)
+pub returns-in-Err-read : goal.returns-in-Err-read
+returns-in-Err-read c = image-refused _ _ c.if-scratch-lt-SCRATCH_WORDS.false c.in_default.ensures _ (c.in-Err-read.ensures _)
+
+pub returns-in-Err-claims : goal.returns-in-Err-claims
+returns-in-Err-claims c = claims-refused _ _ c.if-scratch-lt-SCRATCH_WORDS.false c.in_default.ensures (c.in_default-read.ensures _) _ c.in-Err-claims.ensures
+
+pub returns-in-Err-depth : goal.returns-in-Err-depth
+returns-in-Err-depth c = depth-refused _ _ c.if-scratch-lt-SCRATCH_WORDS.false c.in_default.ensures (c.in_default-read.ensures _) c.in_default-claims.ensures _ c.in-Err-depth.ensures
+
+pub returns-in-Err-room : goal.returns-in-Err-room
+returns-in-Err-room c =
+    room-short _ _ c.if-scratch-lt-SCRATCH_WORDS.false c.in_default.ensures (c.in_default-read.ensures _) c.in_default-claims.ensures c.in_default-depth.ensures _
+    c.in-Err-room.ensures
+
+pub returns : goal.returns
+returns c =
+    room-enough _ _ c.if-scratch-lt-SCRATCH_WORDS.false c.in_default.ensures (c.in_default-read.ensures _) c.in_default-claims.ensures c.in_default-depth.ensures
+    c.in_default-room.ensures

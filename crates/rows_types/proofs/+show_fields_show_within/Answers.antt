@@ -2,10 +2,9 @@ use Rattle.rows_window.specs.ShowingLaws.{◌and_then◌}
 use Rattle.rows_types.proofs.Texts.{shows_length, record_shown, leaf-shown, turn-behind}
 use Rattle.display.proofs.ShownLaws.{is_leaf, shown-none, shown-wrap, fields-end}
 use Rattle.rows_window.specs.ShowingLaws.{owes-all, owes-less, shows_as, shows_full}
-use Rattle.ptype.specs.Show.{plain_names, show_fields}
+use Rattle.ptype.specs.Show.{plain_names}
 use Rattle.tok.specs.Text.{text}
 use mathlib.Core.Path.{refl, sym, ◌∙◌}
-use lib.ListN.{length}
 use native.Mathlib.Omega.{arith}
 use borrow.Author.Rules.{rules}
 use Rattle.rows_types.proofs.+show_fields_show_within.Goals as goal
@@ -16,14 +15,11 @@ show_fields-loop-left-init t c = (owes-all refl, search rules)
 pub show_fields-show_within-w-requires : goal.show_fields-show_within-w-requires
 show_fields-show_within-w-requires t c = (omega (arith, c.decreases), tt)
 
-pub show_fields-loop-left-smaller : goal.show_fields-loop-left-smaller
-show_fields-loop-left-smaller t c = omega (arith, c.loop-left-test.true)
-
 pub show_fields-loop-left-preserved : goal.show_fields-loop-left-preserved
 unfolding text
 show_fields-loop-left-preserved t c =
     let turn = c.put-w.ensures and_then c.put-w-in-loop-left.ensures and_then c.show_within-w.ensures and_then c.put_gap-w.ensures in
-    (owes-less c.loop-left.invariant.0 (turn-behind _ _ _ _ _ (omega (arith, c.loop-left-test.true)) c.field_name.ensures c.field_type.ensures c.behind-i.ensures) turn, shows_length turn ∙ c.loop-left.invariant.1)
+    (owes-less c.loop-left.invariant.0 (turn-behind _ _ _ _ _ (omega arith) c.field_name.ensures c.field_type.ensures c.behind-i.ensures) turn, shows_length turn ∙ c.loop-left.invariant.1)
 
 pub show_fields-returns : goal.show_fields-returns
 show_fields-returns t c = c.loop-left.invariant.0.ends (shows_as (fields-end _ _ _ _ _ (omega arith)) c.put.ensures)
@@ -58,6 +54,6 @@ pub show_within-put_leaf-requires : goal.show_within-put_leaf-requires
 show_within-put_leaf-requires t c =
     is_leaf c.args.word c.kind-k.ensures (sym c.wraps.ensures ∙ c.if-wraps.false) c.if-k-eq-RECORD.false
 
-pub show_within-returns : goal.show_within-returns
-show_within-returns t c =
+pub show_within-returns-else-k-eq-RECORD : goal.show_within-returns-else-k-eq-RECORD
+show_within-returns-else-k-eq-RECORD t c =
     shows_as (leaf-shown _ _ _ c.if-depth-eq0.false c.kind-k.ensures (is_leaf c.args.word c.kind-k.ensures (sym c.wraps.ensures ∙ c.if-wraps.false) c.if-k-eq-RECORD.false)) c.put_leaf.ensures

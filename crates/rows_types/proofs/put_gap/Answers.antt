@@ -8,6 +8,6 @@ pub returns-then-count-eq0 : goal.returns-then-count-eq0
 unfolding text
 returns-then-count-eq0 c = shows_as (separated-none (text " ") c.if-count-eq0.true) c.put.ensures
 
-pub returns : goal.returns
+pub returns-else-count-eq0 : goal.returns-else-count-eq0
 unfolding text
-returns c = shows_as (separated-some (text " ") _ c.if-count-eq0.false) c.put-2.ensures
+returns-else-count-eq0 c = shows_as (separated-some (text " ") _ c.if-count-eq0.false) c.put-else-count-eq0.ensures

@@ -8,6 +8,6 @@ pub returns-then-kind-eq-OPTION : goal.returns-then-kind-eq-OPTION
 unfolding text
 returns-then-kind-eq-OPTION c = shows_as (opening_option c.if-kind-eq-OPTION.true) c.put.ensures
 
-pub returns : goal.returns
+pub returns-else-kind-eq-OPTION : goal.returns-else-kind-eq-OPTION
 unfolding text
-returns c = shows_as (opening_array c.requires.wraps c.if-kind-eq-OPTION.false) c.put-2.ensures
+returns-else-kind-eq-OPTION c = shows_as (opening_array c.requires.wraps c.if-kind-eq-OPTION.false) c.put-else-kind-eq-OPTION.ensures

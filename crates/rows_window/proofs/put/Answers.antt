@@ -3,4 +3,4 @@ use Rattle.rows_window.proofs.Pieces.{put_shows}
 use Rattle.rows_window.proofs.put.Goals as goal
 
 pub returns : goal.returns
-returns c = put_shows c.least-passed.ensures c.put_at-place.ensures c.reached.ensures
+returns c = put_shows c.min-passed.ensures c.put_at-place.ensures c.reached.ensures

@@ -1,12 +1,9 @@
--- `rows_window::reached` meets its contract, by the three ways out. Assumes nothing.
-use Rattle.rows_window.proofs.Pieces.{reached-cut, reached-past, reached-all}
+-- `rows_window::reached` meets its contract, by the two answers. Assumes nothing.
+use Rattle.rows_window.proofs.Pieces.{reached_full, reached-all}
 use Rattle.rows_window.proofs.reached.Goals as goal
 
-pub returns-then-at-end : goal.returns-then-at-end
-returns-then-at-end c = reached-cut _ _ c.in_default.is c.if-at-end.true
+pub returns-in-Full : goal.returns-in-Full
+returns-in-Full c = reached_full _ _ c.in-Full.is c.max.ensures
 
-pub returns-else-at-end : goal.returns-else-at-end
-returns-else-at-end c = reached-past _ _ c.in_default.is c.if-at-end.false
-
-pub returns : goal.returns
-returns c = reached-all _ _ c.in-All.is
+pub returns-in-All : goal.returns-in-All
+returns-in-All c = reached-all _ _ c.in-All.is

@@ -1,35 +1,32 @@
 use mathlib.Core.Logic.{⊎_elim}
-use mathlib.Core.Path.{refl, sym, ◌∙◌}
-use native.Mathlib.Omega.{arith}
+use Rattle.std.proofs.Common.{◌≡◌, ◌+◌, ◌-◌, refl, sym, ◌∙◌, arith}
 use Rattle.tok.specs.Text.{name_bytes}
 use Rattle.scope.proofs.HeldWays.{left-begin, left-place, left_over, held_found, held-past}
 use Rattle.tok.proofs.PartLaws.{differs-other}
 use borrow.Author.Tests.{not-false}
 use Rattle.scope.proofs.find_held.Goals as goal
 
-pub loop-left-init : goal.loop-left-init
-loop-left-init c = (c.name_bytes-wanted.ensures, left-begin)
+pub loop-init : goal.loop-init
+loop-init c = let e : c.args.k - 0 ≡ c.args.k = omega arith in rw e (c.name_bytes-wanted.ensures, left-begin)
 
 pub held_name-own-requires : goal.held_name-own-requires
-held_name-own-requires c = omega (arith, left-place c.loop-left.invariant.1, c.requires)
+held_name-own-requires c = omega (arith, left-place c.loop.invariant.1, c.requires)
 
 pub held_at-requires : goal.held_at-requires
-held_at-requires c = omega (arith, left-place c.loop-left.invariant.1, c.requires)
+held_at-requires c = omega (arith, left-place c.loop.invariant.1, c.requires)
 
 pub returns-then-is_name : goal.returns-then-is_name
 returns-then-is_name c =
-    rw (← c.loop-left.invariant.0) (held_found c.loop-left.invariant.1 c.loop-left-test.true c.held_name-own.ensures refl c.is_name.ensures (c.held_at.ensures _) c.if-is_name.true)
+    rw (← c.loop.invariant.0) (held_found c.loop.invariant.1 (omega arith) c.held_name-own.ensures refl c.is_name.ensures (c.held_at.ensures _) c.if-is_name.true)
 
 pub overflow_add-at : goal.overflow_add-at
 overflow_add-at c =
-    omega (arith, left-place (held-past c.loop-left.invariant.1 c.loop-left-test.true c.held_name-own.ensures refl refl c.word_at.ensures c.held_size-at.ensures (elim c.if-not-differs_in.branch [ goal.then-not-differs_in+else-is_name w ↦ sym w.is_name.ensures ∙ w.if-is_name.false | goal.else-not-differs_in w ↦ differs-other _ _ _ _ (sym c.differs_in.ensures ∙ w.if-not-differs_in.false) ])), c.requires)
+    omega (arith, left-place (held-past c.loop.invariant.1 (omega arith) c.held_name-own.ensures refl refl c.word_at.ensures c.held_size-at.ensures (elim c.if-not-differs_in.branch [ goal.then-not-differs_in+else-is_name w ↦ sym w.is_name.ensures ∙ w.if-is_name.false | goal.else-not-differs_in w ↦ differs-other _ _ _ _ (sym c.differs_in.ensures ∙ w.if-not-differs_in.false) ])), c.requires)
 
-pub loop-left-smaller : goal.loop-left-smaller
-loop-left-smaller c = omega arith
-
-pub loop-left-preserved : goal.loop-left-preserved
-loop-left-preserved c =
-    (c.loop-left.invariant.0, held-past c.loop-left.invariant.1 c.loop-left-test.true c.held_name-own.ensures refl refl c.word_at.ensures c.held_size-at.ensures (elim c.if-not-differs_in.branch [ goal.then-not-differs_in+else-is_name w ↦ sym w.is_name.ensures ∙ w.if-is_name.false | goal.else-not-differs_in w ↦ differs-other _ _ _ _ (sym c.differs_in.ensures ∙ w.if-not-differs_in.false) ]))
+pub loop-preserved : goal.loop-preserved
+loop-preserved c =
+    let e : c.args.k - (c.loop.counter + 1) ≡ c.args.k - c.loop.counter - 1 = omega arith in
+    rw e (c.loop.invariant.0, held-past c.loop.invariant.1 (omega arith) c.held_name-own.ensures refl refl c.word_at.ensures c.held_size-at.ensures (elim c.if-not-differs_in.branch [ goal.then-not-differs_in+else-is_name w ↦ sym w.is_name.ensures ∙ w.if-is_name.false | goal.else-not-differs_in w ↦ differs-other _ _ _ _ (sym c.differs_in.ensures ∙ w.if-not-differs_in.false) ]))
 
 pub returns : goal.returns
-returns c = rw (← c.loop-left.invariant.0) (left_over c.loop-left.invariant.1 c.loop-left-test.false)
+returns c = rw (← c.loop.invariant.0) (left_over c.loop.invariant.1 (omega arith))

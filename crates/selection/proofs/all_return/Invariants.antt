@@ -7,7 +7,7 @@ use Rattle.tok.specs.Text.{texts_of}
 use Rattle.selection.proofs.all_return.Given as goal
 
 abbrev pub invariant-loop-left : goal.invariant-loop-left
-invariant-loop-left l = Owed (texts_of l.script l.library) l.name l.words (flag_words l.flagged) (ty_of (texts_of l.script l.library) l.types) l.ret l.from l.k l.first l.left
+invariant-loop-left l = Owed l.texts l.name l.words (flag_words l.flagged) (ty_of l.texts l.types) l.ret l.from l.k l.first l.left
 
 abbrev pub decreases-loop-left : goal.decreases-loop-left
 decreases-loop-left l = l.left

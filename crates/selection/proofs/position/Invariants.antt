@@ -1,7 +1,5 @@
 -- `selection::position` meets its contract. The outer loop's invariant: the first that fits is among the candidates that are left; its measure
--- is how many entries are left. The inner loop's: the types so far are equal; its measure is how many follow. Assumes nothing.
-use Prim.Native.Nat.{◌-◌}
-use lib.ListN.{length}
+-- is how many entries are left. The inner loop's: the types so far are equal. Assumes nothing.
 use Rattle.selection.proofs.Ways.{Alike, Ahead}
 use Rattle.signatures.specs.Entries.{flag_words}
 use Rattle.state.specs.Signatures.{signature_at}
@@ -10,13 +8,10 @@ use Rattle.tok.specs.Text.{texts_of}
 use Rattle.selection.proofs.position.Given as goal
 
 abbrev pub invariant-loop-i : goal.invariant-loop-i
-invariant-loop-i l = Alike (ty_of (texts_of l.script l.library) l.types) (signature_at l.words l.at l.slotted).params l.provided l.i
-
-abbrev pub decreases-loop-i : goal.decreases-loop-i
-decreases-loop-i l = length l.provided - l.i
+invariant-loop-i l = Alike (ty_of l.texts l.types) (signature_at l.words l.entry.at l.entry.slotted).params l.provided l.i
 
 abbrev pub invariant-candidates : goal.invariant-candidates
-invariant-candidates l = Ahead (texts_of l.script l.library) l.name l.words (flag_words l.flagged) (ty_of (texts_of l.script l.library) l.types) l.provided l.from l.k l.first l.left
+invariant-candidates l = Ahead l.texts l.name l.words (flag_words l.flagged) (ty_of l.texts l.types) l.provided l.from l.k l.first l.left
 
 abbrev pub decreases-candidates : goal.decreases-candidates
 decreases-candidates l = l.left

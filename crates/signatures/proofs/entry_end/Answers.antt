@@ -1,5 +1,5 @@
 -- `signatures::entry_end` meets its contract: name, flag where there is one, count, pairs, return type. Assumes nothing.
-use native.Mathlib.Omega.{arith}
+use Rattle.std.proofs.Common.{refl, arith}
 use Rattle.signatures.proofs.Ways.{flag_low, end_is}
 use Rattle.signatures.proofs.entry_end.Goals as goal
 
@@ -13,4 +13,4 @@ pub overflow_add-at-3 : goal.overflow_add-at-3
 overflow_add-at-3 c = omega (arith, flag_low c.args.flagged)
 
 pub returns : goal.returns
-returns c = end_is c.args.words.now c.args.flagged c.args.at c.flag_words-flags.ensures c.word_after.ensures c.wide.ensures c.least.ensures
+returns c = end_is c.args.words.now c.args.flagged c.args.at c.flag_words-flags.ensures c.word_after.ensures refl c.min.ensures

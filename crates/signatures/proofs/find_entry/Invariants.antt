@@ -1,11 +1,8 @@
--- `signatures::find_entry` meets its contract. The loop's invariant: the group is looked for among the entries that are left. The measure is
--- how many are left. Assumes nothing.
+-- `signatures::find_entry` meets its contract. The loop's invariant: the group is looked for among the entries that are left. Assumes nothing.
+use Rattle.std.proofs.Common.{◌-◌}
 use Rattle.signatures.proofs.Ways.{Left}
 use Rattle.tok.specs.Text.{texts_of}
 use Rattle.signatures.proofs.find_entry.Given as goal
 
-abbrev pub invariant-loop-left : goal.invariant-loop-left
-invariant-loop-left l = Left (texts_of l.script l.library) l.name l.words l.flagged l.from l.k l.at l.left
-
-abbrev pub decreases-loop-left : goal.decreases-loop-left
-decreases-loop-left l = l.left
+abbrev pub invariant-loop-i : goal.invariant-loop-i
+invariant-loop-i l = Left l.texts l.name l.words l.flagged l.from l.k l.at (l.k - l.i)

@@ -7,7 +7,7 @@ use Rattle.ptype.specs.Slots.{any_bound_slot}
 use Rattle.ptype.specs.Words.{unfolded, fields_from, fields_of}
 use Rattle.ptype.specs.Marks.{Free}
 use Rattle.slots.specs.Bindings.{bindings_in}
-use Prim.Native.Nat.{◌+◌, ◌*◌, ◌^◌, ◌<◌}
+use Prim.Native.Nat.{◌+◌, ◌-◌, ◌*◌}
 use Rattle.slots.proofs.+any_bound_slot_bound_slot_in.Given as goal
 
 abbrev pub decreases-any_bound_slot : goal.decreases-any_bound_slot
@@ -16,10 +16,7 @@ decreases-any_bound_slot l = l.depth * 2 + 1
 abbrev pub decreases-bound_slot_in : goal.decreases-bound_slot_in
 decreases-bound_slot_in l = l.depth * 2
 
-abbrev pub invariant-any_bound_slot-loop-left : goal.invariant-any_bound_slot-loop-left
-invariant-any_bound_slot-loop-left l = (any_bound_slot (bindings_in (texts_of l.script l.library) l.pairs l.count) (fields_of (unfolded (texts_of l.script l.library) l.types l.depth) (texts_of l.script l.library) l.types l.w)
-    ≡ any_bound_slot (bindings_in (texts_of l.script l.library) l.pairs l.count) (fields_from (unfolded (texts_of l.script l.library) l.types l.depth) (texts_of l.script l.library) l.types l.i l.left))
-    × (l.i + 2 * l.left < 2 ^ 40) × Free (any_bound_slot (bindings_in (texts_of l.script l.library) l.pairs l.count)) (texts_of l.script l.library) l.types l.free × (length l.free ≡ length l.initial.free)
-
-abbrev pub decreases-any_bound_slot-loop-left : goal.decreases-any_bound_slot-loop-left
-decreases-any_bound_slot-loop-left l = l.left
+abbrev pub invariant-any_bound_slot-loop-i : goal.invariant-any_bound_slot-loop-i
+invariant-any_bound_slot-loop-i l = (any_bound_slot (bindings_in l.texts l.pairs l.count) (fields_of (unfolded l.texts l.types l.depth) l.texts l.types l.w)
+    ≡ any_bound_slot (bindings_in l.texts l.pairs l.count) (fields_from (unfolded l.texts l.types l.depth) l.texts l.types (l.at + 1 + 2 * l.i) (l.i-end - l.i)))
+    × Free (any_bound_slot (bindings_in l.texts l.pairs l.count)) l.texts l.types l.free × (length l.free ≡ length l.initial.free)

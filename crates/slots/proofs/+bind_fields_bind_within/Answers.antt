@@ -2,26 +2,24 @@ use borrow.Enum.Refused.{opened}
 use mathlib.Core.Path.{sym, ◌∙◌}
 use native.Mathlib.Omega.{arith}
 use borrow.Author.Rules.{rules}
-use Rattle.slots.proofs.BindReturns.{within_none, within-slot, within-differ, within-rest, within-wrap, within_record, fields-end, fields-short, fields-stop, left-all, left-next}
+use Rattle.slots.proofs.BindReturns.{within_none, within-slot, within-differ, within-rest, within-wrap, within_record, fields-over, fields-stop, left-all, left-next}
 use Rattle.slots.proofs.+bind_fields_bind_within.Goals as goal
 
-pub bind_fields-loop-expected_left-init : goal.bind_fields-loop-expected_left-init
-bind_fields-loop-expected_left-init t c = (left-all _ _ _ _ _ _ _ _ _, c.requires)
-
-pub bind_fields-returns-then-provided_left-eq0 : goal.bind_fields-returns-then-provided_left-eq0
-bind_fields-returns-then-provided_left-eq0 t c = c.loop-expected_left.invariant.0.leads _ _ (fields-short _ _ _ _ _ _ _ _ _ (λ z. omega arith) c.if-provided_left-eq0.true)
+pub bind_fields-loop-k-init : goal.bind_fields-loop-k-init
+bind_fields-loop-k-init t c = left-all _ _ _ _ _ _ _ _ _ (omega arith) (omega arith) (omega arith) (omega arith)
 
 pub bind_fields-bind_within-r-requires : goal.bind_fields-bind_within-r-requires
 bind_fields-bind_within-r-requires t c = omega (arith, c.requires)
 
 pub bind_fields-returns-in_default : goal.bind_fields-returns-in_default
-bind_fields-returns-in_default t c = c.loop-expected_left.invariant.0.leads _ _ (fields-stop _ _ _ _ _ _ _ _ _ (λ z. omega arith) c.if-provided_left-eq0.false c.field_type.ensures c.field_type-in-loop-expected_left.ensures c.bind_within-r.ensures (opened c.in_default.in_default-own.keys2))
+bind_fields-returns-in_default t c = c.loop-k.invariant.leads _ _ (fields-stop _ _ _ _ _ _ _ _ _ (λ z. omega (arith, c.min-k-end.ensures)) (λ z. omega (arith, c.min-k-end.ensures)) c.field_type.ensures c.field_type-in-loop-k.ensures c.bind_within-r.ensures (opened c.in_default.in_default-own.keys2))
 
-pub bind_fields-loop-expected_left-preserved : goal.bind_fields-loop-expected_left-preserved
-bind_fields-loop-expected_left-preserved t c = (left-next c.loop-expected_left.invariant.0 (λ z. omega arith) c.if-provided_left-eq0.false c.field_type.ensures c.field_type-in-loop-expected_left.ensures c.bind_within-r.ensures c.in-Done.is (search rules), (omega arith, omega arith))
+pub bind_fields-loop-k-preserved : goal.bind_fields-loop-k-preserved
+bind_fields-loop-k-preserved t c =
+    left-next c.loop-k.invariant (omega arith) (omega arith) (omega arith) (omega arith) (λ z. omega (arith, c.min-k-end.ensures)) (λ z. omega (arith, c.min-k-end.ensures)) c.field_type.ensures c.field_type-in-loop-k.ensures c.bind_within-r.ensures c.in-Done.is (search rules)
 
 pub bind_fields-returns : goal.bind_fields-returns
-bind_fields-returns t c = c.loop-expected_left.invariant.0.leads _ _ (fields-end _ _ _ _ _ _ _ _ _ (omega arith))
+bind_fields-returns t c = c.loop-k.invariant.leads _ _ (fields-over _ _ _ _ _ _ _ _ _ (omega (arith, c.min-k-end.ensures)))
 
 pub bind_within-returns-then-depth-eq0 : goal.bind_within-returns-then-depth-eq0
 bind_within-returns-then-depth-eq0 t c = within_none _ _ _ _ _ _ c.if-depth-eq0.true
@@ -44,5 +42,5 @@ bind_within-bind_fields-requires t c = omega (arith, c.requires, c.if-depth-eq0.
 pub bind_within-returns-then-k-eq-RECORD : goal.bind_within-returns-then-k-eq-RECORD
 bind_within-returns-then-k-eq-RECORD t c = within_record _ _ _ _ _ _ c.if-depth-eq0.false c.kind-k.ensures c.if-k-eq-SLOT.false c.kind.ensures c.if-k-kind.false c.if-k-eq-RECORD.true c.payload.ensures c.field_count.ensures c.payload-then-k-eq-RECORD.ensures c.field_count-then-k-eq-RECORD.ensures c.bind_fields.ensures
 
-pub bind_within-returns : goal.bind_within-returns
-bind_within-returns t c = within-rest _ _ _ _ _ _ c.if-depth-eq0.false c.kind-k.ensures c.if-k-eq-SLOT.false c.kind.ensures (sym c.wraps.ensures ∙ c.if-wraps.false) c.if-k-eq-RECORD.false
+pub bind_within-returns-else-k-eq-RECORD : goal.bind_within-returns-else-k-eq-RECORD
+bind_within-returns-else-k-eq-RECORD t c = within-rest _ _ _ _ _ _ c.if-depth-eq0.false c.kind-k.ensures c.if-k-eq-SLOT.false c.kind.ensures (sym c.wraps.ensures ∙ c.if-wraps.false) c.if-k-eq-RECORD.false

@@ -1,6 +1,6 @@
 -- `slots::bind_within` and `slots::bind_fields` meet their contracts: one law for each return. The depth falls. The loop's
 -- invariant: what binds the fields that are left binds them all. Assumes nothing.
-use Prim.Native.Nat.{◌+◌, ◌*◌, ◌^◌, ◌<◌}
+use Prim.Native.Nat.{◌+◌, ◌-◌, ◌*◌}
 use Rattle.tok.specs.Text.{texts_of}
 use Rattle.ptype.specs.Words.{unfolded}
 use Rattle.slots.proofs.BindReturns.{Left}
@@ -12,9 +12,5 @@ decreases-bind_fields l = l.depth * 2 + 1
 abbrev pub decreases-bind_within : goal.decreases-bind_within
 decreases-bind_within l = l.depth * 2
 
-abbrev pub invariant-bind_fields-loop-expected_left : goal.invariant-bind_fields-loop-expected_left
-invariant-bind_fields-loop-expected_left l = Left (texts_of l.script l.library) l.types (unfolded (texts_of l.script l.library) l.types l.depth) l.i l.m l.j l.n l.initial.pairs l.count l.at l.expected_left l.to l.provided_left l.pairs l.bound
-    × ((l.at + 2 * l.expected_left < 2 ^ 40) × (l.to + 2 * l.provided_left < 2 ^ 40))
-
-abbrev pub decreases-bind_fields-loop-expected_left : goal.decreases-bind_fields-loop-expected_left
-decreases-bind_fields-loop-expected_left l = l.expected_left
+abbrev pub invariant-bind_fields-loop-k : goal.invariant-bind_fields-loop-k
+invariant-bind_fields-loop-k l = Left l.texts l.types (unfolded l.texts l.types l.depth) l.i l.m l.j l.n l.initial.pairs l.count (l.i + 2 * l.k) (l.m - l.k) (l.j + 2 * l.k) (l.n - l.k) l.pairs l.bound

@@ -7,10 +7,10 @@ pub returns-then-kind-eq-VOID : goal.returns-then-kind-eq-VOID
 returns-then-kind-eq-VOID c = one-void _ _ _ _ _ _ c.kind.ensures c.if-kind-eq-VOID.true
 
 pub returns-in_default : goal.returns-in_default
-returns-in_default c = one-new _ _ _ _ _ _ c.kind.ensures _ c.if-kind-eq-VOID.false c.bound_to.ensures c.in_default.is (c.push_pair.ensures (texts_of c.args.script.now c.args.library.now))
+returns-in_default c = one-new _ _ _ _ _ _ c.kind.ensures _ c.if-kind-eq-VOID.false c.bound_to.ensures c.in_default.is (c.push_pair.ensures c.args.texts.now)
 
 pub returns-then-same_type : goal.returns-then-same_type
-returns-then-same_type c = one_same _ _ _ _ _ _ c.kind.ensures _ c.if-kind-eq-VOID.false c.bound_to.ensures c.in-At.is c.same_type.ensures c.if-same_type.true
+returns-then-same_type c = one_same _ _ _ _ _ _ c.kind.ensures _ c.if-kind-eq-VOID.false c.bound_to.ensures c.in-Some.is c.same_type.ensures c.if-same_type.true
 
-pub returns : goal.returns
-returns c = one-conflict _ _ _ _ _ _ c.kind.ensures _ c.if-kind-eq-VOID.false c.bound_to.ensures c.in-At.is c.same_type.ensures c.if-same_type.false
+pub returns-else-same_type : goal.returns-else-same_type
+returns-else-same_type c = one-conflict _ _ _ _ _ _ c.kind.ensures _ c.if-kind-eq-VOID.false c.bound_to.ensures c.in-Some.is c.same_type.ensures c.if-same_type.false

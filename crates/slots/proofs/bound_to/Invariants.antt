@@ -1,16 +1,11 @@
 -- `slots::bound_to` meets its contract. The loop's invariant: what the slot is bound to is what it is bound to among the first k pairs.
 -- Assumes nothing.
 use mathlib.Core.Path.{◌≡◌}
-use Prim.Native.Nat.{◌≤◌, ◌/◌}
-use lib.ListN.{length}
 use Rattle.tok.specs.Text.{texts_of, name_bytes}
 use Rattle.ptype.specs.Slots.{bound_to}
 use Rattle.slots.specs.Bindings.{first_pairs, bindings_in}
 use Rattle.slots.proofs.bound_to.Given as goal
 
 abbrev pub invariant-loop-k : goal.invariant-loop-k
-invariant-loop-k l = (bound_to (name_bytes (texts_of l.script l.library) l.slot) (bindings_in (texts_of l.script l.library) l.pairs l.count)
-    ≡ bound_to (name_bytes (texts_of l.script l.library) l.slot) (first_pairs (texts_of l.script l.library) l.pairs l.k)) × (l.k ≤ length l.pairs / 2)
-
-abbrev pub decreases-loop-k : goal.decreases-loop-k
-decreases-loop-k l = l.k
+invariant-loop-k l = bound_to (name_bytes l.texts l.slot) (bindings_in l.texts l.pairs l.count)
+    ≡ bound_to (name_bytes l.texts l.slot) (first_pairs l.texts l.pairs l.k)

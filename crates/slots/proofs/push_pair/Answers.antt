@@ -1,14 +1,10 @@
 -- `slots::push_pair` meets its contract: one law for each return. Assumes nothing.
-use native.Mathlib.Omega.{arith}
-use lib.ListN.{length-set}
+use Rattle.std.proofs.Common.{refl, arith}
 use Rattle.slots.proofs.PairReturns.{push_put, push_full}
 use Rattle.slots.proofs.push_pair.Goals as goal
 
-pub bounds-pairs-n-then-n-pairs : goal.bounds-pairs-n-then-n-pairs
-bounds-pairs-n-then-n-pairs c = simp length-set (omega arith)
+pub returns-then-count-pairs : goal.returns-then-count-pairs
+returns-then-count-pairs c = λ t. push_put c.args.pairs.now c.args.count c.args.slot c.args.ty (omega arith) t c.if-count-pairs.true
 
-pub returns-then-n-pairs : goal.returns-then-n-pairs
-returns-then-n-pairs c = λ t. push_put c.args.pairs.now c.args.count c.args.slot c.args.ty c.least-n.ensures t c.if-n-pairs.true
-
-pub returns : goal.returns
-returns c = λ t. push_full c.args.pairs.now c.args.count c.args.slot c.args.ty c.least-n.ensures t c.if-n-pairs.false
+pub returns-else-count-pairs : goal.returns-else-count-pairs
+returns-else-count-pairs c = λ t. push_full c.args.pairs.now c.args.count c.args.slot c.args.ty refl t (omega arith)

@@ -1,5 +1,7 @@
 use native.Mathlib.Omega.{arith}
 use Rattle.spans.specs.Ready.{values-part}
+use native.Mathlib.Nat.{sub-zero}
+use Rattle.spans.proofs.Loops.{some-left, none-left, one-less}
 use Rattle.spans.proofs.Loops.{values-all, values-less, values-done}
 use Rattle.spans.proofs.ListsAt.{room}
 use mathlib.Core.Path.{subst}
@@ -20,26 +22,23 @@ use Rattle.spans.specs.Ready.{case-condition, case-room, case-body}
 use Rattle.spans.proofs.Loops.{cases-all, cases-less, cases_done}
 use Rattle.spans.proofs.+cover_cases_cover_nodes_cover_values_list_span_match_span_span_of.Goals as goal
 
-pub cover_values-loop-left-init : goal.cover_values-loop-left-init
-cover_values-loop-left-init t c = values-all c.requires
+pub cover_values-loop-init : goal.cover_values-loop-init
+cover_values-loop-init t c = rw sub-zero (values-all c.requires)
 
 pub cover_values-overflow_add-i : goal.cover_values-overflow_add-i
-cover_values-overflow_add-i t c = omega (arith, c.loop-left.invariant.ready.room, c.loop-left-test.true)
+cover_values-overflow_add-i t c = omega (arith, c.loop.invariant.ready.room, (some-left c.loop-test.true))
 
 pub cover_values-span_of-requires : goal.cover_values-span_of-requires
-cover_values-span_of-requires t c = let p = values-part c.loop-left-test.true c.loop-left.invariant.ready c.word_at-in-loop-left.ensures in (omega (arith, c.decreases, p.under), p.ready)
+cover_values-span_of-requires t c = let p = values-part (some-left c.loop-test.true) c.loop.invariant.ready c.word_at-in-loop.ensures in (omega (arith, c.decreases, p.under), p.ready)
 
-pub cover_values-overflow_add-i-in-loop-left : goal.cover_values-overflow_add-i-in-loop-left
-cover_values-overflow_add-i-in-loop-left t c = omega (arith, c.loop-left.invariant.ready.room, c.loop-left-test.true)
+pub cover_values-overflow_add-i-in-loop : goal.cover_values-overflow_add-i-in-loop
+cover_values-overflow_add-i-in-loop t c = omega (arith, c.loop.invariant.ready.room, (some-left c.loop-test.true))
 
-pub cover_values-loop-left-smaller : goal.cover_values-loop-left-smaller
-cover_values-loop-left-smaller t c = omega arith
-
-pub cover_values-loop-left-preserved : goal.cover_values-loop-left-preserved
-cover_values-loop-left-preserved t c = values-less c.loop-left.invariant c.loop-left-test.true c.word_at.ensures c.token_span.ensures c.cover_spans-named.ensures c.word_at-in-loop-left.ensures c.span_of.ensures c.cover_spans-covered.ensures
+pub cover_values-loop-preserved : goal.cover_values-loop-preserved
+cover_values-loop-preserved t c = rw one-less (values-less c.loop.invariant (some-left c.loop-test.true) c.word_at.ensures c.token_span.ensures c.cover_spans-named.ensures c.word_at-in-loop.ensures c.span_of.ensures c.cover_spans-covered.ensures)
 
 pub cover_values-returns : goal.cover_values-returns
-cover_values-returns t c = values-done c.loop-left.invariant c.loop-left-test.false
+cover_values-returns t c = values-done c.loop.invariant (none-left c.loop-test.false)
 
 pub span_of-overflow_add-at : goal.span_of-overflow_add-at
 span_of-overflow_add-at t c = omega (arith, record_room c.requires c.node_place-at.ensures)
@@ -215,23 +214,20 @@ list_span-cover_nodes-requires-2 t c = (omega (arith, c.decreases), array-ready 
 pub list_span-returns : goal.list_span-returns
 list_span-returns t c = span-array c.requires.ready c.requires.place c.requires.word c.kind-k.ensures c.word_at.ensures c.token_span-first.ensures c.payload-long.ensures (is-array (subst Listed (sym c.kind-k.ensures) c.requires.listed) c.if-k-eq-FN.false c.if-k-eq-MATCH.false c.if-k-eq-CALL.false c.if-k-eq-IMPORT.false c.if-k-eq-EXTERN.false c.if-k-eq-RECORD.false) c.cover_nodes-2.ensures
 
-pub cover_nodes-loop-left-init : goal.cover_nodes-loop-left-init
-cover_nodes-loop-left-init t c = nodes-all c.requires
+pub cover_nodes-loop-init : goal.cover_nodes-loop-init
+cover_nodes-loop-init t c = rw sub-zero (nodes-all c.requires)
 
 pub cover_nodes-span_of-requires : goal.cover_nodes-span_of-requires
-cover_nodes-span_of-requires t c = let p = nodes-part c.loop-left-test.true c.loop-left.invariant.ready c.word_at.ensures in (omega (arith, c.decreases, p.under), p.ready)
+cover_nodes-span_of-requires t c = let p = nodes-part (some-left c.loop-test.true) c.loop.invariant.ready c.word_at.ensures in (omega (arith, c.decreases, p.under), p.ready)
 
 pub cover_nodes-overflow_add-i : goal.cover_nodes-overflow_add-i
-cover_nodes-overflow_add-i t c = omega (arith, c.loop-left.invariant.ready.room)
+cover_nodes-overflow_add-i t c = omega (arith, c.loop.invariant.ready.room)
 
-pub cover_nodes-loop-left-smaller : goal.cover_nodes-loop-left-smaller
-cover_nodes-loop-left-smaller t c = omega arith
-
-pub cover_nodes-loop-left-preserved : goal.cover_nodes-loop-left-preserved
-cover_nodes-loop-left-preserved t c = nodes-less c.loop-left.invariant c.loop-left-test.true c.word_at.ensures c.span_of.ensures c.cover_spans-covered.ensures
+pub cover_nodes-loop-preserved : goal.cover_nodes-loop-preserved
+cover_nodes-loop-preserved t c = rw one-less (nodes-less c.loop.invariant (some-left c.loop-test.true) c.word_at.ensures c.span_of.ensures c.cover_spans-covered.ensures)
 
 pub cover_nodes-returns : goal.cover_nodes-returns
-cover_nodes-returns t c = nodes-done c.loop-left.invariant c.loop-left-test.false
+cover_nodes-returns t c = nodes-done c.loop.invariant (none-left c.loop-test.false)
 
 -- `spans::match_span` meets its contract. Assumes nothing.
 pub match_span-overflow_add-at : goal.match_span-overflow_add-at
@@ -264,35 +260,32 @@ match_span-cover_nodes-requires t c = (omega (arith, c.decreases), default_ready
 pub match_span-returns : goal.match_span-returns
 match_span-returns t c = span-match c.requires (c.wide-count.ensures ∙ c.word_at.ensures) c.cases_end-default.ensures c.word_at-2.ensures c.token_span-first.ensures c.cover_cases-cases.ensures c.cover_nodes.ensures
 
-pub cover_cases-loop-left-init : goal.cover_cases-loop-left-init
-cover_cases-loop-left-init t c = cases-all c.requires
+pub cover_cases-loop-init : goal.cover_cases-loop-init
+cover_cases-loop-init t c = rw sub-zero (cases-all c.requires)
 
 pub cover_cases-overflow_add-i : goal.cover_cases-overflow_add-i
-cover_cases-overflow_add-i t c = omega (arith, case-room c.loop-left-test.true c.loop-left.invariant.ready refl)
+cover_cases-overflow_add-i t c = omega (arith, case-room (some-left c.loop-test.true) c.loop.invariant.ready refl)
 
-pub cover_cases-overflow_add-i-in-loop-left : goal.cover_cases-overflow_add-i-in-loop-left
-cover_cases-overflow_add-i-in-loop-left t c = omega (arith, case-room c.loop-left-test.true c.loop-left.invariant.ready refl)
+pub cover_cases-overflow_add-i-in-loop : goal.cover_cases-overflow_add-i-in-loop
+cover_cases-overflow_add-i-in-loop t c = omega (arith, case-room (some-left c.loop-test.true) c.loop.invariant.ready refl)
 
 pub cover_cases-span_of-requires : goal.cover_cases-span_of-requires
-cover_cases-span_of-requires t c = let p = case-condition c.loop-left-test.true c.loop-left.invariant.ready c.word_at-in-loop-left-2.ensures in (omega (arith, c.decreases, p.under), p.ready)
+cover_cases-span_of-requires t c = let p = case-condition (some-left c.loop-test.true) c.loop.invariant.ready c.word_at-in-loop-2.ensures in (omega (arith, c.decreases, p.under), p.ready)
 
-pub cover_cases-overflow_add-i-in-loop-left-2 : goal.cover_cases-overflow_add-i-in-loop-left-2
-cover_cases-overflow_add-i-in-loop-left-2 t c = omega (arith, case-room c.loop-left-test.true c.loop-left.invariant.ready refl)
+pub cover_cases-overflow_add-i-in-loop-2 : goal.cover_cases-overflow_add-i-in-loop-2
+cover_cases-overflow_add-i-in-loop-2 t c = omega (arith, case-room (some-left c.loop-test.true) c.loop.invariant.ready refl)
 
 pub cover_cases-cover_nodes-covered-requires : goal.cover_cases-cover_nodes-covered-requires
-cover_cases-cover_nodes-covered-requires t c = (omega (arith, c.decreases), case-body c.loop-left-test.true c.loop-left.invariant.ready (c.wide-count.ensures ∙ c.word_at.ensures))
+cover_cases-cover_nodes-covered-requires t c = (omega (arith, c.decreases), case-body (some-left c.loop-test.true) c.loop.invariant.ready (c.wide-count.ensures ∙ c.word_at.ensures))
 
-pub cover_cases-overflow_add-i-in-loop-left-3 : goal.cover_cases-overflow_add-i-in-loop-left-3
-cover_cases-overflow_add-i-in-loop-left-3 t c = omega (arith, case-room c.loop-left-test.true c.loop-left.invariant.ready refl)
+pub cover_cases-overflow_add-i-in-loop-3 : goal.cover_cases-overflow_add-i-in-loop-3
+cover_cases-overflow_add-i-in-loop-3 t c = omega (arith, case-room (some-left c.loop-test.true) c.loop.invariant.ready refl)
 
-pub cover_cases-overflow_add-i-in-loop-left-4 : goal.cover_cases-overflow_add-i-in-loop-left-4
-cover_cases-overflow_add-i-in-loop-left-4 t c = omega (arith, case-room c.loop-left-test.true c.loop-left.invariant.ready (c.wide-count.ensures ∙ c.word_at.ensures))
+pub cover_cases-overflow_add-i-in-loop-4 : goal.cover_cases-overflow_add-i-in-loop-4
+cover_cases-overflow_add-i-in-loop-4 t c = omega (arith, case-room (some-left c.loop-test.true) c.loop.invariant.ready (c.wide-count.ensures ∙ c.word_at.ensures))
 
-pub cover_cases-loop-left-smaller : goal.cover_cases-loop-left-smaller
-cover_cases-loop-left-smaller t c = omega arith
-
-pub cover_cases-loop-left-preserved : goal.cover_cases-loop-left-preserved
-cover_cases-loop-left-preserved t c = cases-less c.loop-left.invariant c.loop-left-test.true (c.wide-count.ensures ∙ c.word_at.ensures) c.word_at-in-loop-left.ensures c.token_span.ensures c.cover_spans-begun.ensures c.word_at-in-loop-left-2.ensures c.span_of.ensures c.cover_spans-tested.ensures c.cover_nodes-covered.ensures
+pub cover_cases-loop-preserved : goal.cover_cases-loop-preserved
+cover_cases-loop-preserved t c = rw one-less (cases-less c.loop.invariant (some-left c.loop-test.true) (c.wide-count.ensures ∙ c.word_at.ensures) c.word_at-in-loop.ensures c.token_span.ensures c.cover_spans-begun.ensures c.word_at-in-loop-2.ensures c.span_of.ensures c.cover_spans-tested.ensures c.cover_nodes-covered.ensures)
 
 pub cover_cases-returns : goal.cover_cases-returns
-cover_cases-returns t c = cases_done c.loop-left.invariant c.loop-left-test.false
+cover_cases-returns t c = cases_done c.loop.invariant (none-left c.loop-test.false)

@@ -1,6 +1,6 @@
 -- `spans::span_of` and what it calls to cover lists meet their contracts: one law for each return and each turn of a loop. The number of
 -- the node falls. Assumes nothing.
-use Prim.Native.Nat.{◌+◌, ◌*◌}
+use Prim.Native.Nat.{◌+◌, ◌*◌, ◌-◌}
 use Rattle.spans.proofs.Loops.{ValuesLeft}
 use Rattle.spans.proofs.Loops.{NodesLeft}
 use Rattle.spans.proofs.Loops.{CasesLeft}
@@ -25,22 +25,13 @@ abbrev pub decreases-span_of : goal.decreases-span_of
 decreases-span_of l = l.n * 8 + 7
 
 -- `spans::cover_values` meets its contract. The loop's invariant, `ValuesLeft`: what is left to cover gives the whole. Assumes nothing.
-abbrev pub invariant-cover_values-loop-left : goal.invariant-cover_values-loop-left
-invariant-cover_values-loop-left l = ValuesLeft l.image l.places l.owner l.initial.covered l.at l.k l.covered l.i l.left
-
-abbrev pub decreases-cover_values-loop-left : goal.decreases-cover_values-loop-left
-decreases-cover_values-loop-left l = l.left
+abbrev pub invariant-cover_values-loop : goal.invariant-cover_values-loop
+invariant-cover_values-loop l = ValuesLeft l.image l.places l.owner l.initial.covered l.at l.k l.covered l.i (l.k - l.counter)
 
 -- `spans::cover_nodes` meets its contract. The loop's invariant, `NodesLeft`: what is left to cover gives the whole. Assumes nothing.
-abbrev pub invariant-cover_nodes-loop-left : goal.invariant-cover_nodes-loop-left
-invariant-cover_nodes-loop-left l = NodesLeft l.image l.places l.owner l.initial.covered l.at l.k l.covered l.i l.left
-
-abbrev pub decreases-cover_nodes-loop-left : goal.decreases-cover_nodes-loop-left
-decreases-cover_nodes-loop-left l = l.left
+abbrev pub invariant-cover_nodes-loop : goal.invariant-cover_nodes-loop
+invariant-cover_nodes-loop l = NodesLeft l.image l.places l.owner l.initial.covered l.at l.k l.covered l.i (l.k - l.counter)
 
 -- `spans::cover_cases` meets its contract. The loop's invariant, `CasesLeft`: what is left to cover gives the whole. Assumes nothing.
-abbrev pub invariant-cover_cases-loop-left : goal.invariant-cover_cases-loop-left
-invariant-cover_cases-loop-left l = CasesLeft l.image l.places l.owner l.initial.covered l.at l.k l.covered l.i l.left
-
-abbrev pub decreases-cover_cases-loop-left : goal.decreases-cover_cases-loop-left
-decreases-cover_cases-loop-left l = l.left
+abbrev pub invariant-cover_cases-loop : goal.invariant-cover_cases-loop
+invariant-cover_cases-loop l = CasesLeft l.image l.places l.owner l.initial.covered l.at l.k l.covered l.i (l.k - l.counter)

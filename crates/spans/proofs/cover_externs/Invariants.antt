@@ -1,10 +1,7 @@
--- `spans::cover_externs` meets its contract. The loop's invariant, `ExternsLeft`: what is left to cover gives the whole. The measure is how
--- many are left. Assumes nothing.
+-- `spans::cover_externs` meets its contract. The loop's invariant, `ExternsLeft`: what is left to cover gives the whole. Assumes nothing.
+use Prim.Native.Nat.{◌-◌}
 use Rattle.spans.proofs.Loops.{ExternsLeft}
 use Rattle.spans.proofs.cover_externs.Given as goal
 
-abbrev pub invariant-loop-left : goal.invariant-loop-left
-invariant-loop-left l = ExternsLeft l.image l.places l.initial.covered l.at l.k l.covered l.i l.left
-
-abbrev pub decreases-loop-left : goal.decreases-loop-left
-decreases-loop-left l = l.left
+abbrev pub invariant-loop : goal.invariant-loop
+invariant-loop l = ExternsLeft l.image l.places l.initial.covered l.at l.k l.covered l.i (l.k - l.counter)

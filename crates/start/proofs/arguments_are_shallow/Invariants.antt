@@ -1,7 +1,5 @@
--- `start::arguments_are_shallow` meets its contract. The loop's invariant: whether all are shallow is whether those from argument i on are.
--- The measure is how many are left. Assumes nothing.
+-- `start::arguments_are_shallow` meets its contract. The loop's invariant: whether all are shallow is whether those from argument i on are. Assumes nothing.
 use mathlib.Core.Path.{◌≡◌}
-use Prim.Native.Nat.{◌-◌, ◌≤◌}
 use lib.ListN.{length, drop}
 use Rattle.tok.specs.Text.{Texts}
 use Rattle.add.specs.Pool.{all_shallow}
@@ -12,7 +10,4 @@ use Rattle.start.proofs.arguments_are_shallow.Given as goal
 
 abbrev pub invariant-loop-i : goal.invariant-loop-i
 invariant-loop-i l = ((t : Texts) → all_shallow t l.types (param_types (function_at l.words l.at).sig.params) ≡ all_shallow t l.types (param_types (drop l.i (function_at l.words l.at).sig.params)))
-    × ((l.i ≤ l.count) × (l.count ≡ length (function_at l.words l.at).sig.params)) × Depths l.types l.known × (length l.known ≡ length l.initial.known)
-
-abbrev pub decreases-loop-i : goal.decreases-loop-i
-decreases-loop-i l = l.count - l.i
+    × (l.count ≡ length (function_at l.words l.at).sig.params) × Depths l.types l.known × (length l.known ≡ length l.initial.known)

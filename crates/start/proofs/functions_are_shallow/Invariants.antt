@@ -1,7 +1,6 @@
--- `start::functions_are_shallow` meets its contract. The loop's invariant: whether all are shallow is whether those left are. The measure is
--- how many are left. Assumes nothing.
+-- `start::functions_are_shallow` meets its contract. The loop's invariant: whether all are shallow is whether those left are. Assumes nothing.
 use mathlib.Core.Path.{◌≡◌}
-use lib.ListN.{length}
+use Rattle.std.proofs.Common.{◌-◌, length}
 use Rattle.tok.specs.Text.{Texts}
 use Rattle.add.specs.Pool.{all_shallow}
 use Rattle.library.specs.Package.{functions_from}
@@ -9,9 +8,6 @@ use Rattle.rules.specs.Walk.{function_types}
 use Rattle.ptype.specs.Marks.{Depths}
 use Rattle.start.proofs.functions_are_shallow.Given as goal
 
-abbrev pub invariant-loop-left : goal.invariant-loop-left
-invariant-loop-left l = ((t : Texts) → all_shallow t l.types (function_types (functions_from l.words l.from l.k)) ≡ all_shallow t l.types (function_types (functions_from l.words l.at l.left)))
+abbrev pub invariant-loop : goal.invariant-loop
+invariant-loop l = ((t : Texts) → all_shallow t l.types (function_types (functions_from l.words l.from l.k)) ≡ all_shallow t l.types (function_types (functions_from l.words l.at (l.k - l.counter))))
     × Depths l.types l.known × (length l.known ≡ length l.initial.known)
-
-abbrev pub decreases-loop-left : goal.decreases-loop-left
-decreases-loop-left l = l.left

@@ -1,8 +1,7 @@
 -- `start::packages_are_shallow` meets its contract. The loop's invariant: whether all are shallow is whether those left are, and the place
--- lies in the list. The measure is how many are left. Assumes nothing.
+-- lies in the list. Assumes nothing.
 use mathlib.Core.Path.{◌≡◌}
-use Prim.Native.Nat.{◌≤◌}
-use lib.ListN.{length}
+use Rattle.std.proofs.Common.{◌-◌, ◌≤◌, length}
 use Rattle.tok.specs.Text.{Texts}
 use Rattle.add.specs.Pool.{all_shallow}
 use Rattle.library.specs.Package.{packages_from, packages_of}
@@ -10,9 +9,6 @@ use Rattle.rules.specs.Walk.{package_types}
 use Rattle.ptype.specs.Marks.{Depths}
 use Rattle.start.proofs.packages_are_shallow.Given as goal
 
-abbrev pub invariant-loop-left : goal.invariant-loop-left
-invariant-loop-left l = ((t : Texts) → all_shallow t l.types (package_types (packages_of l.words)) ≡ all_shallow t l.types (package_types (packages_from l.words l.at l.left)))
+abbrev pub invariant-loop : goal.invariant-loop
+invariant-loop l = ((t : Texts) → all_shallow t l.types (package_types (packages_of l.words)) ≡ all_shallow t l.types (package_types (packages_from l.words l.at (l.count - l.counter))))
     × (l.at ≤ length l.words) × Depths l.types l.known × (length l.known ≡ length l.initial.known)
-
-abbrev pub decreases-loop-left : goal.decreases-loop-left
-decreases-loop-left l = l.left

@@ -2,8 +2,8 @@
 use Rattle.state.proofs.Returns.{poison-on, poison-none}
 use Rattle.state.proofs.poisoned.Goals as goal
 
-pub returns-in-Told : goal.returns-in-Told
-returns-in-Told c = poison-on c.args.n c.args.used c.in-Told.is
+pub returns-in-Some : goal.returns-in-Some
+returns-in-Some c = poison-on c.args.n c.args.used c.in-Some.is
 
-pub returns-in-NoRoom : goal.returns-in-NoRoom
-returns-in-NoRoom c = poison-none c.args.n c.args.used c.in-NoRoom.is
+pub returns-in-None : goal.returns-in-None
+returns-in-None c = poison-none c.args.n c.args.used c.in-None.is

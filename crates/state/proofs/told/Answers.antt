@@ -2,8 +2,8 @@
 use Rattle.state.proofs.Returns.{told-on, told_none}
 use Rattle.state.proofs.told.Goals as goal
 
-pub returns-in-Told : goal.returns-in-Told
-returns-in-Told c = told-on c.args.n c.args.used c.in-Told.is
+pub returns-in-Some : goal.returns-in-Some
+returns-in-Some c = told-on c.args.n c.args.used c.in-Some.is
 
-pub returns-in-NoRoom : goal.returns-in-NoRoom
-returns-in-NoRoom c = told_none c.args.n c.args.used c.in-NoRoom.is
+pub returns-in-None : goal.returns-in-None
+returns-in-None c = told_none c.args.n c.args.used c.in-None.is

@@ -1,16 +1,17 @@
-use mathlib.Core.Path.{refl}
-use Prim.Native.Nat.{◌-◌}
-use native.Mathlib.Omega.{arith}
+use Rattle.std.proofs.Common.{◌≡◌, ◌+◌, ◌∷◌, [], ◌++◌, length, length-append, arith}
+use Rattle.std.proofs.lemmas.Slice.Zip.{zip_turn, zip_end}
 use Rattle.tok.proofs.SameLaws.{same_more, same_over}
-use borrow.Author.Rules.{rules}
 use Rattle.tok.proofs.same_part.Goals as goal
 
-pub loop-i-init : goal.loop-i-init
-loop-i-init c = (search rules, refl)
-
-pub loop-i-preserved : goal.loop-i-preserved
-loop-i-preserved c =
-    (omega arith, same_more _ _ c.loop-i.i c.loop-i.differ c.requires c.loop-i.invariant.1 c.loop-i-test.true)
+pub loop-x-preserved : goal.loop-x-preserved
+loop-x-preserved c =
+    let i = length c.loop-x.yielded in
+    let t = zip_turn c.args.a.now c.args.b.now c.loop-x.yielded _ _ c.next.new.self _ (cc) (cc) c.loop-x.yielded_by _ c.in-Some.is c.next.ensures.steps in
+    let n : length (c.loop-x.yielded ++ (c.in-Some.x, c.in-Some.y) ∷ []) ≡ i + 1 = length-append c.loop-x.yielded _ in
+    let m = same_more c.args.a.now c.args.b.now i c.loop-x.differ c.requires c.loop-x.invariant t.0 in
+    rw (n, t.2 0, t.3 0) m
 
 pub returns : goal.returns
-returns c = same_over _ _ c.loop-i.i c.loop-i.differ c.requires c.loop-i.invariant.1 c.loop-i-test.false
+returns c =
+    let e = zip_end c.args.a.now c.args.b.now c.loop-x.yielded _ _ c.next.new.self _ (cc) (cc) c.loop-x.yielded_by c.in-None.is c.next.ensures.steps in
+    same_over _ _ (length c.loop-x.yielded) c.loop-x.differ c.requires c.loop-x.invariant (omega arith)

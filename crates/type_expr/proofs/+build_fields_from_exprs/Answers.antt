@@ -1,3 +1,6 @@
+use Prim.Native.Nat.{◌-◌}
+use native.Mathlib.Nat.{sub-zero}
+use Rattle.type_expr.proofs.Left.{one-less}
 use borrow.Enum.Refused.{opened}
 use mathlib.Core.Path.{refl}
 use mathlib.Core.List.{[]}
@@ -5,7 +8,6 @@ use native.Mathlib.Omega.{arith}
 use borrow.Author.Rules.{rules}
 use Rattle.tok.specs.Text.{texts_of}
 use Rattle.ast.specs.TypeExpr.{type_of}
-use Rattle.ast.specs.TypeFrom.{fields_from_exprs}
 use Rattle.type_expr.specs.TypesAt.{words-there, two-words, atom-kind, inner-ready, fields-ready, first-ready, rest-ready}
 use Rattle.type_expr.specs.LevelLaws.{most-first}
 use Rattle.type_expr.proofs.DeepReturns.{levels_record, levels-inner}
@@ -74,46 +76,45 @@ build-returns t c =
     λ T n. array-put c.requires.0 c.type_place-at.ensures c.word_at-head.ensures c.kind-k.ensures T n _ _ c.word_at-2.ensures c.build-r.result c.build-r.new.types
     (c.build-r.ensures T n) c.if-k-eq-ATOM.false c.if-k-eq-FOREIGN.false c.if-k-eq-RECORD.false c.in-Put.is c.if-k-eq-OPTION.false (c.add_array.ensures.result T n)
 
-pub fields_from_exprs-loop-left-init : goal.fields_from_exprs-loop-left-init
-fields_from_exprs-loop-left-init t c = ((λ T n. goes-all _), (c.requires.0, (refl, omega arith)))
+pub fields_from_exprs-loop-init : goal.fields_from_exprs-loop-init
+fields_from_exprs-loop-init t c = rw sub-zero (((λ T n. goes-all _), (c.requires.0, (refl, omega arith))))
 
 pub fields_from_exprs-overflow_add-here : goal.fields_from_exprs-overflow_add-here
-fields_from_exprs-overflow_add-here t c = omega (arith, c.loop-left.invariant.1.0.room)
+fields_from_exprs-overflow_add-here t c = omega (arith, c.loop.invariant.1.0.room)
 
 pub fields_from_exprs-build-a-requires : goal.fields_from_exprs-build-a-requires
 fields_from_exprs-build-a-requires t c =
-    let v = c.loop-left in
+    let v = c.loop in
     let I = c.args.image.now in
     let p = first-ready v.invariant.1.0 (λ z. omega arith) c.word_at.ensures in
-    let l = most-first (type_of I) I v.here v.left (λ z. omega arith) c.word_at.ensures in
+    let l = most-first (type_of I) I v.here (c.args.fields - v.counter) (λ z. omega arith) c.word_at.ensures in
     (omega (arith, c.decreases, v.invariant.1.1.1, l), (p.ready, omega (arith, c.requires.1, v.invariant.1.1.1, l)))
 
 pub fields_from_exprs-returns-in_default : goal.fields_from_exprs-returns-in_default
 fields_from_exprs-returns-in_default t c =
-    λ T n. goes-stop _ _ T n _ _ _ (c.loop-left.invariant.0 T n) (λ z. omega arith) c.word_at.ensures c.build-a.result c.build-a.new.types (c.build-a.ensures T n) _ _ _ _ refl
+    λ T n. goes-stop _ _ T n _ _ _ (c.loop.invariant.0 T n) (λ z. omega arith) c.word_at.ensures c.build-a.result c.build-a.new.types (c.build-a.ensures T n) _ _ _ _ refl
     (opened c.in_default.in_default-own.keys2)
 
-pub fields_from_exprs-overflow_add-here-in-loop-left : goal.fields_from_exprs-overflow_add-here-in-loop-left
-fields_from_exprs-overflow_add-here-in-loop-left t c = omega (arith, c.loop-left.invariant.1.0.room)
+pub fields_from_exprs-overflow_add-here-in-loop : goal.fields_from_exprs-overflow_add-here-in-loop
+fields_from_exprs-overflow_add-here-in-loop t c = omega (arith, c.loop.invariant.1.0.room)
 
-pub fields_from_exprs-loop-left-preserved : goal.fields_from_exprs-loop-left-preserved
-fields_from_exprs-loop-left-preserved t c =
-    let v = c.loop-left in
+pub fields_from_exprs-loop-preserved : goal.fields_from_exprs-loop-preserved
+fields_from_exprs-loop-preserved t c = rw one-less (let v = c.loop in
     let I = c.args.image.now in
-    let l = most-first (type_of I) I v.here v.left (λ z. omega arith) c.word_at.ensures in (
+    let l = most-first (type_of I) I v.here (c.args.fields - v.counter) (λ z. omega arith) c.word_at.ensures in (
       (λ T n. goes-next _ _ T n _ _ _ (v.invariant.0 T n) (λ z. omega arith) c.word_at.ensures c.build-a.result c.build-a.new.types (c.build-a.ensures T n) c.in-Put.is),
       (rest-ready v.invariant.1.0 (λ z. omega arith), (search rules, omega (arith, v.invariant.1.1.1, l))),
-    )
+    ))
 
 pub fields_from_exprs-returns-in_default-r : goal.fields_from_exprs-returns-in_default-r
 fields_from_exprs-returns-in_default-r t c =
-    λ T n. open_stop _ _ T n _ _ _ _ _ _ _ (c.loop-left.invariant.0 T n) (omega arith) c.open_record-r.result c.open_record-r.new.types (c.open_record-r.ensures.result T n) (opened c.in_default-r.in_default-r-own.keys2)
+    λ T n. open_stop _ _ T n _ _ _ _ _ _ _ (c.loop.invariant.0 T n) (omega arith) c.open_record-r.result c.open_record-r.new.types (c.open_record-r.ensures.result T n) (opened c.in_default-r.in_default-r-own.keys2)
 
 pub fields_from_exprs-set_pairs-requires : goal.fields_from_exprs-set_pairs-requires
 fields_from_exprs-set_pairs-requires t c = (
   c.requires.0,
   (
-    open_room _ _ (texts_of [] []) 0 _ _ _ _ _ _ _ (c.loop-left.invariant.0 (texts_of [] []) 0) (omega arith) c.open_record-r.result c.open_record-r.new.types
+    open_room _ _ (texts_of [] []) 0 _ _ _ _ _ _ _ (c.loop.invariant.0 (texts_of [] []) 0) (omega arith) c.open_record-r.result c.open_record-r.new.types
         (c.open_record-r.ensures.result (texts_of [] []) 0) c.in-Put-r.is,
     omega (arith, c.payload.ensures),
   ),
@@ -121,5 +122,5 @@ fields_from_exprs-set_pairs-requires t c = (
 
 pub fields_from_exprs-returns : goal.fields_from_exprs-returns
 fields_from_exprs-returns t c =
-    λ T n. open_put _ _ T n _ _ _ _ _ _ _ (c.loop-left.invariant.0 T n) (omega arith) c.open_record-r.result c.open_record-r.new.types (c.open_record-r.ensures.result T n) c.in-Put-r.is
+    λ T n. open_put _ _ T n _ _ _ _ _ _ _ (c.loop.invariant.0 T n) (omega arith) c.open_record-r.result c.open_record-r.new.types (c.open_record-r.ensures.result T n) c.in-Put-r.is
     c.payload.ensures c.set_pairs.ensures

@@ -1,5 +1,6 @@
 -- `type_expr::build` and `type_expr::fields_from_exprs` meet their contracts: one law for each return. The levels fall.
 -- The loop's invariant: the steps of all fields go on with those of the fields that are left, which have no more levels. Assumes nothing.
+use Prim.Native.Nat.{◌-◌}
 use mathlib.Core.Path.{◌≡◌}
 use Prim.Native.Nat.{ℕ, ◌+◌, ◌*◌, ◌≤◌}
 use lib.ListN.{length}
@@ -19,10 +20,7 @@ abbrev pub decreases-fields_from_exprs : goal.decreases-fields_from_exprs
 decreases-fields_from_exprs l = let I = l.image.now in
     most_levels (type_fields_from (type_of I) I l.at l.fields) * 2 + 1
 
-abbrev pub invariant-fields_from_exprs-loop-left : goal.invariant-fields_from_exprs-loop-left
-invariant-fields_from_exprs-loop-left l = ((T : Texts) (n : ℕ) → Goes (fields_from_exprs T n (type_fields_from (type_of l.image) l.image l.at l.fields) (buffer l.initial.types l.used)) (fields_from_exprs T n (type_fields_from (type_of l.image) l.image l.here l.left) (buffer l.types l.u)))
-    × (FieldsReady l.image l.places l.owner l.here l.left × ((length l.types ≡ length l.initial.types)
-    × (most_levels (type_fields_from (type_of l.image) l.image l.here l.left) ≤ most_levels (type_fields_from (type_of l.image) l.image l.at l.fields))))
-
-abbrev pub decreases-fields_from_exprs-loop-left : goal.decreases-fields_from_exprs-loop-left
-decreases-fields_from_exprs-loop-left l = l.left
+abbrev pub invariant-fields_from_exprs-loop : goal.invariant-fields_from_exprs-loop
+invariant-fields_from_exprs-loop l = ((T : Texts) (n : ℕ) → Goes (fields_from_exprs T n (type_fields_from (type_of l.image) l.image l.at l.fields) (buffer l.initial.types l.used)) (fields_from_exprs T n (type_fields_from (type_of l.image) l.image l.here (l.fields - l.counter)) (buffer l.types l.u)))
+    × (FieldsReady l.image l.places l.owner l.here (l.fields - l.counter) × ((length l.types ≡ length l.initial.types)
+    × (most_levels (type_fields_from (type_of l.image) l.image l.here (l.fields - l.counter)) ≤ most_levels (type_fields_from (type_of l.image) l.image l.at l.fields))))

@@ -1,3 +1,6 @@
+use Prim.Native.Nat.{◌-◌}
+use native.Mathlib.Nat.{sub-zero}
+use Rattle.type_expr.proofs.Left.{one-less}
 use mathlib.Core.Path.{refl, sym}
 use native.Mathlib.Nat.{zero-add}
 use native.Mathlib.Omega.{arith}
@@ -7,26 +10,26 @@ use Rattle.type_expr.specs.TypesAt.{words-there, two-words, inner-ready, fields-
 use Rattle.type_expr.proofs.Returns.{size-atom, size-foreign, size_record, size-inner}
 use Rattle.type_expr.proofs.+sizes_type_size.Goals as goal
 
-pub sizes-loop-left-init : goal.sizes-loop-left-init
-sizes-loop-left-init t c = (c.requires.0, sym (zero-add _))
+pub sizes-loop-init : goal.sizes-loop-init
+sizes-loop-init t c = rw sub-zero ((c.requires.0, sym (zero-add _)))
 
 pub sizes-overflow_add-here : goal.sizes-overflow_add-here
-sizes-overflow_add-here t c = omega (arith, c.loop-left.invariant.0.room)
+sizes-overflow_add-here t c = omega (arith, c.loop.invariant.0.room)
 
 pub sizes-type_size-sum-requires : goal.sizes-type_size-sum-requires
-sizes-type_size-sum-requires t c = let p = first-ready c.loop-left.invariant.0 (λ z. omega arith) c.word_at.ensures in (omega (arith, c.decreases, p.under), (p.ready, omega (arith, c.requires.1, c.loop-left.invariant.1, sizes_first (type_of c.args.image.now) c.args.image.now c.loop-left.here c.loop-left.left (λ z. omega arith) c.word_at.ensures)))
+sizes-type_size-sum-requires t c = let p = first-ready c.loop.invariant.0 (λ z. omega arith) c.word_at.ensures in (omega (arith, c.decreases, p.under), (p.ready, omega (arith, c.requires.1, c.loop.invariant.1, sizes_first (type_of c.args.image.now) c.args.image.now c.loop.here (c.args.fields - c.loop.counter) (λ z. omega arith) c.word_at.ensures)))
 
 pub sizes-overflow_add-sum : goal.sizes-overflow_add-sum
-sizes-overflow_add-sum t c = omega (arith, c.requires.1, c.loop-left.invariant.1, c.type_size-sum.ensures, sizes_first (type_of c.args.image.now) c.args.image.now c.loop-left.here c.loop-left.left (λ z. omega arith) c.word_at.ensures)
+sizes-overflow_add-sum t c = omega (arith, c.requires.1, c.loop.invariant.1, c.type_size-sum.ensures, sizes_first (type_of c.args.image.now) c.args.image.now c.loop.here (c.args.fields - c.loop.counter) (λ z. omega arith) c.word_at.ensures)
 
-pub sizes-overflow_add-here-in-loop-left : goal.sizes-overflow_add-here-in-loop-left
-sizes-overflow_add-here-in-loop-left t c = omega (arith, c.loop-left.invariant.0.room)
+pub sizes-overflow_add-here-in-loop : goal.sizes-overflow_add-here-in-loop
+sizes-overflow_add-here-in-loop t c = omega (arith, c.loop.invariant.0.room)
 
-pub sizes-loop-left-preserved : goal.sizes-loop-left-preserved
-sizes-loop-left-preserved t c = (rest-ready c.loop-left.invariant.0 (λ z. omega arith), omega (arith, c.loop-left.invariant.1, c.type_size-sum.ensures, sizes_first (type_of c.args.image.now) c.args.image.now c.loop-left.here c.loop-left.left (λ z. omega arith) c.word_at.ensures))
+pub sizes-loop-preserved : goal.sizes-loop-preserved
+sizes-loop-preserved t c = rw one-less ((rest-ready c.loop.invariant.0 (λ z. omega arith), omega (arith, c.loop.invariant.1, c.type_size-sum.ensures, sizes_first (type_of c.args.image.now) c.args.image.now c.loop.here (c.args.fields - c.loop.counter) (λ z. omega arith) c.word_at.ensures)))
 
 pub sizes-returns : goal.sizes-returns
-sizes-returns t c = omega (arith, c.loop-left.invariant.1, sizes_none (type_of c.args.image.now) c.args.image.now c.loop-left.here c.loop-left.left (omega arith))
+sizes-returns t c = omega (arith, c.loop.invariant.1, sizes_none (type_of c.args.image.now) c.args.image.now c.loop.here (c.args.fields - c.loop.counter) (omega arith))
 
 pub type_size-returns-then-k-eq-ATOM : goal.type_size-returns-then-k-eq-ATOM
 type_size-returns-then-k-eq-ATOM t c = sym (size-atom c.requires.0 c.type_place-at.ensures c.word_at-head.ensures c.kind-k.ensures c.if-k-eq-ATOM.true)

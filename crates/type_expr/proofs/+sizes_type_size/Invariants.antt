@@ -1,5 +1,6 @@
 -- `type_expr::type_size` and `type_expr::sizes` meet their contracts: by the equations of `size_of` for each kind. The number of the type
 -- falls. The loop's invariant: what was summed, with what is left, is the whole. Assumes nothing.
+use Prim.Native.Nat.{◌-◌}
 use mathlib.Core.Path.{◌≡◌}
 use Prim.Native.Nat.{◌+◌, ◌*◌}
 use Rattle.ast.specs.TypeExpr.{type_of, type_fields_from}
@@ -13,9 +14,6 @@ decreases-sizes l = l.owner * 2
 abbrev pub decreases-type_size : goal.decreases-type_size
 decreases-type_size l = l.t * 2 + 1
 
-abbrev pub invariant-sizes-loop-left : goal.invariant-sizes-loop-left
-invariant-sizes-loop-left l = FieldsReady l.image l.places l.owner l.here l.left
-    × (sizes_of (type_fields_from (type_of l.image) l.image l.at l.fields) ≡ l.sum + sizes_of (type_fields_from (type_of l.image) l.image l.here l.left))
-
-abbrev pub decreases-sizes-loop-left : goal.decreases-sizes-loop-left
-decreases-sizes-loop-left l = l.left
+abbrev pub invariant-sizes-loop : goal.invariant-sizes-loop
+invariant-sizes-loop l = FieldsReady l.image l.places l.owner l.here (l.fields - l.counter)
+    × (sizes_of (type_fields_from (type_of l.image) l.image l.at l.fields) ≡ l.sum + sizes_of (type_fields_from (type_of l.image) l.image l.here (l.fields - l.counter)))

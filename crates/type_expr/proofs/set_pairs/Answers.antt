@@ -1,3 +1,6 @@
+use Prim.Native.Nat.{◌-◌}
+use native.Mathlib.Nat.{sub-zero}
+use Rattle.type_expr.proofs.Left.{one-less}
 use mathlib.Core.Path.{refl, sym, ◌∙◌}
 use native.Mathlib.Omega.{arith}
 use borrow.Author.Rules.{rules}
@@ -7,32 +10,32 @@ use Rattle.type_expr.specs.TypesAt.{first-ready, rest-ready}
 use Rattle.type_expr.proofs.FieldReturns.{pairs_end, pairs_next}
 use Rattle.type_expr.proofs.set_pairs.Goals as goal
 
-pub loop-left-init : goal.loop-left-init
-loop-left-init c = (c.requires.0, (c.requires.1.0, (omega (arith, c.requires.0.room, c.requires.1.1), (refl, refl))))
+pub loop-init : goal.loop-init
+loop-init c = rw sub-zero ((c.requires.0, (c.requires.1.0, (omega (arith, c.requires.0.room, c.requires.1.1), (refl, refl)))))
 
 pub overflow_add-here : goal.overflow_add-here
-overflow_add-here c = omega (arith, c.loop-left.invariant.0.room)
+overflow_add-here c = omega (arith, c.loop.invariant.0.room)
 
 pub type_size-end-requires : goal.type_size-end-requires
-type_size-end-requires c = let p = first-ready c.loop-left.invariant.0 (λ z. omega arith) c.word_at-t.ensures in (p.ready, omega (arith, c.loop-left.invariant.1.0, sizes_first (type_of c.args.image.now) c.args.image.now c.loop-left.here c.loop-left.left (λ z. omega arith) c.word_at-t.ensures))
+type_size-end-requires c = let p = first-ready c.loop.invariant.0 (λ z. omega arith) c.word_at-t.ensures in (p.ready, omega (arith, c.loop.invariant.1.0, sizes_first (type_of c.args.image.now) c.args.image.now c.loop.here (c.args.fields - c.loop.counter) (λ z. omega arith) c.word_at-t.ensures))
 
 pub overflow_add-end : goal.overflow_add-end
-overflow_add-end c = omega (arith, c.loop-left.invariant.1.0, c.type_size-end.ensures, sizes_first (type_of c.args.image.now) c.args.image.now c.loop-left.here c.loop-left.left (λ z. omega arith) c.word_at-t.ensures)
+overflow_add-end c = omega (arith, c.loop.invariant.1.0, c.type_size-end.ensures, sizes_first (type_of c.args.image.now) c.args.image.now c.loop.here (c.args.fields - c.loop.counter) (λ z. omega arith) c.word_at-t.ensures)
 
 pub type_word-requires : goal.type_word-requires
-type_word-requires c = let p = first-ready c.loop-left.invariant.0 (λ z. omega arith) c.word_at-t.ensures in (p.ready, (omega (arith, c.type_size-end.ensures), omega (arith, c.loop-left.invariant.1.0, c.type_size-end.ensures, sizes_first (type_of c.args.image.now) c.args.image.now c.loop-left.here c.loop-left.left (λ z. omega arith) c.word_at-t.ensures)))
+type_word-requires c = let p = first-ready c.loop.invariant.0 (λ z. omega arith) c.word_at-t.ensures in (p.ready, (omega (arith, c.type_size-end.ensures), omega (arith, c.loop.invariant.1.0, c.type_size-end.ensures, sizes_first (type_of c.args.image.now) c.args.image.now c.loop.here (c.args.fields - c.loop.counter) (λ z. omega arith) c.word_at-t.ensures)))
 
-pub overflow_add-here-in-loop-left : goal.overflow_add-here-in-loop-left
-overflow_add-here-in-loop-left c = omega (arith, c.loop-left.invariant.0.room)
+pub overflow_add-here-in-loop : goal.overflow_add-here-in-loop
+overflow_add-here-in-loop c = omega (arith, c.loop.invariant.0.room)
 
 pub overflow_add-to : goal.overflow_add-to
-overflow_add-to c = omega (arith, c.loop-left.invariant.1.1.0)
+overflow_add-to c = omega (arith, c.loop.invariant.1.1.0)
 
-pub loop-left-preserved : goal.loop-left-preserved
-loop-left-preserved c = (rest-ready c.loop-left.invariant.0 (λ z. omega arith), (omega (arith, c.loop-left.invariant.1.0, c.type_size-end.ensures, sizes_first (type_of c.args.image.now) c.args.image.now c.loop-left.here c.loop-left.left (λ z. omega arith) c.word_at-t.ensures), (omega (arith, c.loop-left.invariant.1.1.0), (search rules, c.loop-left.invariant.1.1.1.1 ∙ pairs_next _ _ _ _ _ _ (λ z. omega arith) c.word_at-t.ensures c.word_at.ensures c.type_size-end.ensures c.type_word.ensures c.set_pair.ensures))))
+pub loop-preserved : goal.loop-preserved
+loop-preserved c = rw one-less ((rest-ready c.loop.invariant.0 (λ z. omega arith), (omega (arith, c.loop.invariant.1.0, c.type_size-end.ensures, sizes_first (type_of c.args.image.now) c.args.image.now c.loop.here (c.args.fields - c.loop.counter) (λ z. omega arith) c.word_at-t.ensures), (omega (arith, c.loop.invariant.1.1.0), (search rules, c.loop.invariant.1.1.1.1 ∙ pairs_next _ _ _ _ _ _ (λ z. omega arith) c.word_at-t.ensures c.word_at.ensures c.type_size-end.ensures c.type_word.ensures c.set_pair.ensures)))))
 
 pub shape_of-types : goal.shape_of-types
-shape_of-types c = c.loop-left.invariant.1.1.1.0
+shape_of-types c = c.loop.invariant.1.1.1.0
 
 pub returns : goal.returns
-returns c = sym (c.loop-left.invariant.1.1.1.1 ∙ pairs_end _ _ _ _ _ _ (omega arith))
+returns c = sym (c.loop.invariant.1.1.1.1 ∙ pairs_end _ _ _ _ _ _ (omega arith))

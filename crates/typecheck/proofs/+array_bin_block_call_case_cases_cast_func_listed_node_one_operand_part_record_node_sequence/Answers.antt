@@ -527,7 +527,7 @@ record_node-shape_of-scratch t c = c.loop-i.invariant.6
 
 pub record_node-returns : goal.record_node-returns
 record_node-returns t c =
-    record_made c.loop-i.invariant.0 c.loop-i-test.false (c.make.ensures (texts_of c.args.script.now c.args.library.now) _ _ _ _ _ no_more)
+    record_made c.loop-i.invariant.0 c.loop-i-test.false (c.make.ensures c.args.texts.now _ _ _ _ _ no_more)
 
 pub node-leaf-requires : goal.node-leaf-requires
 node-leaf-requires t c =
@@ -794,7 +794,7 @@ pub array-returns : goal.array-returns
 array-returns t c =
     array-ended
     (c.loop-i.invariant.0.on _ _ (first-passed c.requires c.node_place-at.ensures c.word_at.ensures c.payload-count.ensures c.if-count-eq0.false c.word_at-2.ensures c.part-v.ensures (came_after c.part-v.result c.after.ensures c.in-Goes.is)))
-    (none_left_lem_array_visits c.loop-i-test.false) (c.end.ensures (texts_of c.args.script.now c.args.library.now) _ _ _ _ _ _ _ no_more)
+    (none_left_lem_array_visits c.loop-i-test.false) (c.end.ensures c.args.texts.now _ _ _ _ _ _ _ no_more)
 
 pub operand-bin-requires : goal.operand-bin-requires
 operand-bin-requires t c =

@@ -9,7 +9,7 @@ use Rattle.walk_laws.specs.Lists.{Turn}
 use Rattle.typecheck.proofs.nodes.Given as goal
 
 abbrev pub invariant-loop-left : goal.invariant-loop-left
-invariant-loop-left l = Turn (texts_of l.script l.library) l.image l.places l.words l.owner l.at l.k l.initial.here (lent l.initial.slots l.initial.functions l.initial.types l.initial.diagnostics l.initial.messages l.initial.scratch no_more)
+invariant-loop-left l = Turn l.texts l.image l.places l.words l.owner l.at l.k l.initial.here (lent l.initial.slots l.initial.functions l.initial.types l.initial.diagnostics l.initial.messages l.initial.scratch no_more)
     l.place l.left l.answer l.here (lent l.slots l.functions l.types l.diagnostics l.messages l.scratch no_more)
     × (length l.slots ≡ length l.initial.slots) × (length l.functions ≡ length l.initial.functions) × (length l.types ≡ length l.initial.types) × (length l.diagnostics ≡ length l.initial.diagnostics)
     × (length l.messages ≡ length l.initial.messages) × (length l.scratch ≡ length l.initial.scratch)

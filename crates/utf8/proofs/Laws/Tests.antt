@@ -1,7 +1,6 @@
 -- The tests of the rules as facts on numbers: where a test is true, what the octets are, and the reverse. Assumes nothing.
-use Rattle.std.specs.Prelude.{ℕ, ◌≤◌, ◌<◌, ◌≡◌, refl, Bool, true, false, ◌&&◌, ◌||◌, leb}
-use Rattle.std.proofs.Common.{zero-le, sym, arith, lit≤, leb-true, leb-false, le-leb}
-use Rattle.std.proofs.lemmas.Bool.{false≢true}
+use Rattle.std.specs.Prelude.{ℕ, ◌≤◌, ◌<◌, ◌≡◌, true, false, ◌&&◌, leb}
+use Rattle.std.proofs.Common.{zero-le, arith, lit≤, leb-true, le-leb}
 use Rattle.std.proofs.Math.Bool.{or-true}
 pub use Rattle.facts.specs.Tests.{both, by-either, by-test, refuted, same, by_order}
 use Rattle.utf8.specs.Rfc3629.{range, utf8_tail, utf8_1, utf8_2, utf8_3, utf8_4}

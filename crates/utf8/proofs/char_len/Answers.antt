@@ -1,5 +1,5 @@
 -- `utf8::char_len` meets its contract: a law of Fronts.antt for each `return`, handed what the calls before it ensure.
--- `c1` to `c3` are the places after the first, second and third test. Assumes nothing.
+-- Assumes nothing.
 use Rattle.utf8.proofs.Fronts.{front_1, front_2, front_3, front_4, front_0}
 use Rattle.utf8.proofs.char_len.Goals as goal
 

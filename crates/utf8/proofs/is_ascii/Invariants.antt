@@ -1,15 +1,9 @@
 -- `utf8::is_ascii` meets its contract. The loop's invariant: the whole is ASCII exactly where the or of the octets passed is in the ASCII range, and
--- what is left is ASCII. The measure is what is left of the length. Assumes nothing.
-use Prim.Native.Nat.{◌≤◌, ◌-◌}
-use mathlib.Core.Path.{◌≡◌}
-use mathlib.Core.Bool.{◌&&◌}
-use lib.ListN.{length, drop}
+-- what is left is ASCII. Assumes nothing.
+use Rattle.std.proofs.Common.{◌≡◌, ◌&&◌, drop}
 use Rattle.utf8.specs.Rfc3629.{utf8_1}
 use Rattle.utf8.specs.Properties.{ascii}
 use Rattle.utf8.proofs.is_ascii.Given as goal
 
-abbrev pub invariant-loop-i : goal.invariant-loop-i
-invariant-loop-i l = (ascii l.s ≡ (utf8_1 l.all && ascii (drop l.i l.s))) × (l.i ≤ length l.s)
-
-abbrev pub decreases-loop-i : goal.decreases-loop-i
-decreases-loop-i l = length l.s - l.i
+abbrev pub invariant-loop-octet : goal.invariant-loop-octet
+invariant-loop-octet l = ascii l.s ≡ (utf8_1 l.all && ascii (drop l.octet-index l.s))

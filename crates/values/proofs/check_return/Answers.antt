@@ -5,10 +5,10 @@ use Rattle.err_text.specs.RestLaws.{told_in_whole}
 use Rattle.values.proofs.check_return.Goals as goal
 
 pub returns-in_default : goal.returns-in_default
-returns-in_default c = return-poison (texts_of c.args.script.now c.args.library.now) c.args.slots.now c.args.types.now c.args.diagnostics.now c.args.messages.now c.args.used c.args.n c.args.name c.args.token c.args.ret c.args.computed c.in_default.is
+returns-in_default c = return-poison c.args.texts.now c.args.slots.now c.args.types.now c.args.diagnostics.now c.args.messages.now c.args.used c.args.n c.args.name c.args.token c.args.ret c.args.computed c.in_default.is
 
 pub returns-then-same_type : goal.returns-then-same_type
-returns-then-same_type c = return-same (texts_of c.args.script.now c.args.library.now) c.args.slots.now c.args.types.now c.args.diagnostics.now c.args.messages.now c.args.used c.args.n c.args.name c.args.token c.args.ret c.args.computed c.in-Known.is c.wide.ensures c.word_at-w.ensures c.same_type.ensures c.if-same_type.true
+returns-then-same_type c = return-same c.args.texts.now c.args.slots.now c.args.types.now c.args.diagnostics.now c.args.messages.now c.args.used c.args.n c.args.name c.args.token c.args.ret c.args.computed c.in-Known.is c.wide.ensures c.word_at-w.ensures c.same_type.ensures c.if-same_type.true
 
 pub returns : goal.returns
-returns c = return-differs (texts_of c.args.script.now c.args.library.now) c.args.slots.now c.args.types.now c.args.diagnostics.now c.args.messages.now c.args.used c.args.n c.args.name c.args.token c.args.ret c.args.computed c.in-Known.is c.wide.ensures c.word_at-w.ensures c.same_type.ensures c.if-same_type.false (told_in_whole c.args.messages.now c.first_free-free.ensures c.bad_return-reported.ensures) c.told.ensures
+returns c = return-differs c.args.texts.now c.args.slots.now c.args.types.now c.args.diagnostics.now c.args.messages.now c.args.used c.args.n c.args.name c.args.token c.args.ret c.args.computed c.in-Known.is c.wide.ensures c.word_at-w.ensures c.same_type.ensures c.if-same_type.false (told_in_whole c.args.messages.now c.first_free-free.ensures c.bad_return-reported.ensures) c.told.ensures

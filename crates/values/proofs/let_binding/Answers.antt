@@ -13,4 +13,4 @@ pub returns-in_default-reported : goal.returns-in_default-reported
 returns-in_default-reported c = let_full c.args.slots.now c.args.diagnostics.now c.args.messages.now c.args.used c.args.n c.args.name c.args.answer c.in-Known.is c.wide.ensures c.word_at-w.ensures c.kind.ensures c.if-kind-ne-VOID.false (told_in_whole c.args.messages.now c.first_free-free.ensures c.let_void-reported.ensures) c.in_default-reported.is
 
 pub returns : goal.returns
-returns c = let_void_lem c.args.slots.now c.args.diagnostics.now c.args.messages.now c.args.used c.args.n c.args.name c.args.answer c.in-Known.is c.wide.ensures c.word_at-w.ensures c.kind.ensures c.if-kind-ne-VOID.false (told_in_whole c.args.messages.now c.first_free-free.ensures c.let_void-reported.ensures) c.in-Told.is
+returns c = let_void_lem c.args.slots.now c.args.diagnostics.now c.args.messages.now c.args.used c.args.n c.args.name c.args.answer c.in-Known.is c.wide.ensures c.word_at-w.ensures c.kind.ensures c.if-kind-ne-VOID.false (told_in_whole c.args.messages.now c.first_free-free.ensures c.let_void-reported.ensures) c.in-Some.is

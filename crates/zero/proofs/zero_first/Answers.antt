@@ -1,22 +1,22 @@
-use mathlib.Core.Path.{refl, ap, ◌∙◌}
-use Prim.Native.Nat.{◌-◌}
-use native.Mathlib.Omega.{arith}
-use lib.ListN.{length}
-use Rattle.zero.specs.Zero.{zero-none, zero_turn, length-zero, zero-over, zero-least}
+-- `zero::zero_first` meets its contract: zeros are filled in over the front, and the rest stays. Assumes nothing.
+use Rattle.std.proofs.Common.{ℕ, zero, suc, ◌≡◌, ◌≤◌, List, [], ◌∷◌, ◌++◌, length, take, drop, replicate, refl, ap, ◌∙◌, arith}
+use Rattle.std.proofs.lemmas.List.{length-take-le}
+use Rattle.ptype.specs.Add.{overwrite, write}
+use Rattle.zero.specs.Zero.{zero_first, zero-least}
 use Rattle.zero.proofs.zero_first.Goals as goal
 
-pub loop-i-init : goal.loop-i-init
-loop-i-init c = (zero-none c.args.words.now, omega arith, omega (arith, c.least-end.ensures))
+over-front : (l : List ℕ) (m : ℕ) → m ≤ length l → replicate m 0 ++ drop m l ≡ overwrite l (replicate m 0)
+unfolding overwrite
+over-front [] zero h = refl
+over-front [] (suc m) h = absurd (omega arith)
+over-front (x ∷ l) zero h = refl
+over-front (x ∷ l) (suc m) h = ap (λ r. 0 ∷ r) (over-front l m (omega arith))
 
-pub bounds-words-i : goal.bounds-words-i
-bounds-words-i c = omega (arith, ap length c.loop-i.invariant.0, length-zero c.args.words.now c.loop-i.i)
-
-pub loop-i-preserved : goal.loop-i-preserved
-loop-i-preserved c = (zero_turn c.args.words.now c.loop-i.i c.loop-i.invariant.0 refl, omega arith, c.loop-i.invariant.2)
-
-pub shape_of-words : goal.shape_of-words
-shape_of-words c = ap length c.loop-i.invariant.0 ∙ length-zero c.args.words.now _
+filled : (l : List ℕ) (m : ℕ) {s : List ℕ} → s ≡ replicate (length (take m l)) 0 → m ≤ length l → s ++ drop m l ≡ zero_first m l
+unfolding zero_first write
+filled l m e h = rw (e, length-take-le m l h) (over-front l m h)
 
 pub returns : goal.returns
 returns c =
-    zero-over c.args.words.now c.loop-i.i _ c.loop-i.invariant.0 c.loop-i.invariant.1 c.loop-i-test.false ∙ zero-least c.args.words.now _ c.least-end.ensures
+    filled c.args.words.now c.min-end.result (c.fill.ensures.after (λ y e. omega (arith, e))) (omega (arith, c.min-end.ensures))
+    ∙ zero-least c.args.words.now c.args.n c.min-end.ensures

@@ -1,7 +1,7 @@
 use native.Mathlib.Omega.{arith}
 use mathlib.Core.Path.{ap, ◌∙◌}
 use Prim.Native.Nat.{ℕ, ◌/◌}
-use Rattle.commands.proofs.Powers.{two-mul-div-le, div-pow-one, div-pow-div, pow-le_of_div_pos, lt-pow_of_div-zero}
+use Rattle.commands.proofs.Powers.{div-pow-one, div-pow-div, pow-le_of_div_pos, lt-pow_of_div-zero}
 use Rattle.commands.proofs.digits.digit_count.Goals as goal
 
 pub loop-rest-init : goal.loop-rest-init
