@@ -133,8 +133,7 @@ fn compare_branches(
 {
     let mut here = used;
     let mut place = at;
-    let mut i = 0;
-    while i < count {
+    for _ in 0..count {
         let body = wide(word_at(image, place + 2));
         let answer = body_answer(slots, image, places, n, place + 3, body);
         let went = values::compare_branch(
@@ -154,7 +153,6 @@ fn compare_branches(
         };
         here = after;
         place = place + 3 + body;
-        i += 1;
     }
     Went::On(here)
 }

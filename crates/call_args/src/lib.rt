@@ -49,8 +49,7 @@ fn plain_arguments(
         types.now diagnostics.old messages.old used diagnostics.new messages.new result }
 {
     let mut now = used;
-    let mut i = 0;
-    while i < count {
+    for i in 0..count {
         let number = tok::word_at(image, args + i);
         let went = arguments::plain_argument(
             slots,
@@ -70,7 +69,6 @@ fn plain_arguments(
             return went;
         };
         now = after;
-        i += 1;
     }
     Went::On(now)
 }

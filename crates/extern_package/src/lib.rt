@@ -39,8 +39,7 @@ pub fn extern_functions(
     let mut after = used;
     let mut place = from;
     let mut to = at;
-    let mut k = 0;
-    while k < count {
+    for _ in 0..count {
         let one = externs::extern_function(types, scratch, image, places, after, n, place, to);
         let Went::On(next) = one else {
             return one;
@@ -49,7 +48,6 @@ pub fn extern_functions(
         after = next;
         place += size;
         to += size;
-        k += 1;
     }
     Went::On(after)
 }

@@ -28,8 +28,7 @@ pub fn extern_arguments(
     ensures { ArguesExtern image.now n from at count types.old used scratch.old types.new scratch.new result }
 {
     let mut after = used;
-    let mut k = 0;
-    while k < count {
+    for k in 0..count {
         let t = word_at(image, from + 2 * k + 1);
         let added = type_from_type_expr(types, after.types, image, places, t);
         let Added::Put(w, more) = added else {
@@ -44,7 +43,6 @@ pub fn extern_arguments(
             told: counts,
             kept,
         };
-        k += 1;
     }
     Went::On(after)
 }

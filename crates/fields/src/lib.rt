@@ -92,13 +92,11 @@ fn set_pairs(
     requires { (to ≤ 268435456) × ValuesReady image.now places.now n at count }
     ensures { types.new ≡ write types.old to (pairs_read image.now slots.now at count) }
 {
-    let mut i = 0;
-    while i < count {
+    for i in 0..count {
         let name = tok::word_at(image, at + 2 * i);
         let value = tok::word_at(image, at + 2 * i + 1);
         let ty = node_value(slots, image, places, value);
         add::set_pair(types, to + 2 * i, name, ty);
-        i += 1;
     }
 }
 

@@ -74,12 +74,10 @@ fn copy_pairs(functions: &mut [u32], at: usize, scratch: &[u32], from: usize, co
     requires { CopyRoom functions.old at from count }
     ensures { functions.new ≡ write functions.old at (pairs_of (params_from scratch.now from count)) }
 {
-    let mut k = 0;
-    while k < count {
+    for k in 0..count {
         let name = word_at(scratch, from + 2 * k);
         let ty = word_at(scratch, from + 2 * k + 1);
         add::set_pair(functions, at + 2 * k, name, ty);
-        k += 1;
     }
 }
 

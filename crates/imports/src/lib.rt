@@ -106,15 +106,13 @@ pub fn import_all(
         return visit::went_on(st, state::told(n, used, none));
     }
     let mut after = st;
-    let mut k = 0;
-    while k < count {
+    for k in 0..count {
         let path = tok::word_at(image, at + k);
         let one = import_one(diagnostics, messages, scratch, texts, words, after, n, path);
         let Walked::On(next) = one else {
             return one;
         };
         after = next;
-        k += 1;
     }
     Walked::On(after)
 }

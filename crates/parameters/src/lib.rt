@@ -94,8 +94,7 @@ pub fn fn_arguments(
         Argues (fn_arguments (ctx T ls v) n slot (args_from image.now at count)) count words st b b' result) }
 {
     let mut after = st;
-    let mut k = 0;
-    while k < count {
+    for k in 0..count {
         let one = one_argument(
             slots,
             types,
@@ -111,7 +110,6 @@ pub fn fn_arguments(
             return one;
         };
         after = next;
-        k += 1;
     }
     Walked::On(after)
 }

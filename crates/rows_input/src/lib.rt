@@ -34,13 +34,11 @@ fn words(out: &mut [u32], bytes: &[u8], at: usize, k: usize)
     requires { at + 4 * k < 2 ^ 63 }
     ensures { out.new ≡ overwrite out.old (words_in bytes.now at k) }
 {
-    let mut i = 0;
-    while i < k {
+    for i in 0..k {
         if i >= out.len() {
             return;
         }
         out[i] = word(bytes, at + 4 * i);
-        i += 1;
     }
 }
 

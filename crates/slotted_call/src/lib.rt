@@ -44,8 +44,7 @@ fn slotted_arguments(
 {
     let mut used = used;
     let mut bound = 0;
-    let mut i = 0;
-    while i < count {
+    for i in 0..count {
         let number = tok::word_at(image, args + i);
         let r = slotted::slotted_argument(
             slots,
@@ -68,7 +67,6 @@ fn slotted_arguments(
         };
         bound = more;
         used = after;
-        i += 1;
     }
     Argued::On(bound, used)
 }

@@ -423,8 +423,7 @@ pub fn nodes(
     let mut answer = Answer::Known(word_at(image, 3));
     let mut here = st;
     let mut place = at;
-    let mut left = k;
-    while left > 0 {
+    for _ in 0..k {
         let v = node(
             slots,
             functions,
@@ -445,7 +444,6 @@ pub fn nodes(
         answer = a;
         here = next;
         place += 1;
-        left -= 1;
     }
     visiting::came(answer, here)
 }
@@ -477,8 +475,7 @@ fn block(
     let mut answer = Answer::Known(word_at(image, 3));
     let mut here = st;
     let mut place = at;
-    let mut left = k;
-    while left > 0 {
+    for _ in 0..k {
         let v = part(
             slots,
             functions,
@@ -499,7 +496,6 @@ fn block(
         answer = a;
         here = next;
         place += 1;
-        left -= 1;
     }
     visiting::came(answer, here)
 }
@@ -715,8 +711,8 @@ fn case(
     let mut answer = Answer::Known(word_at(image, 3));
     let mut here = begun;
     let mut place = at + 3;
-    let mut left = wide(word_at(image, at + 2));
-    while left > 0 {
+    let left = wide(word_at(image, at + 2));
+    for _ in 0..left {
         let v = part(
             slots,
             functions,
@@ -737,7 +733,6 @@ fn case(
         answer = a;
         here = next;
         place += 1;
-        left -= 1;
     }
     visiting::came(answer, visiting::left(here, begun))
 }
@@ -768,8 +763,7 @@ fn cases(
     let count = wide(word_at(image, at + 2));
     let mut here = st;
     let mut place = at + 3;
-    let mut i = 0;
-    while i < count {
+    for _ in 0..count {
         let v = case(
             slots,
             functions,
@@ -790,7 +784,6 @@ fn cases(
         };
         here = next;
         place = branches::case_end(image, place);
-        i += 1;
     }
     let mut default = Answer::Known(word_at(image, 3));
     let mut end = here;
@@ -934,8 +927,7 @@ fn call(
     let count = payload(word_at(image, at)) - 3;
     let mut poisoned = false;
     let mut here = st;
-    let mut i = 0;
-    while i < count {
+    for i in 0..count {
         let v = part(
             slots,
             functions,
@@ -955,7 +947,6 @@ fn call(
         };
         poisoned = calls::or_poison(poisoned, a);
         here = next;
-        i += 1;
     }
     calls::resolve(
         slots,
@@ -1001,8 +992,7 @@ fn record_node(
     let at = places::node_place(places, n);
     let count = (payload(word_at(image, at)) - 3) / 2;
     let mut here = st;
-    let mut i = 0;
-    while i < count {
+    for i in 0..count {
         let v = part(
             slots,
             functions,
@@ -1021,7 +1011,6 @@ fn record_node(
             return v;
         };
         here = next;
-        i += 1;
     }
     fields::make(slots, types, image, places, at, count, here, n)
 }
@@ -1072,8 +1061,7 @@ fn array(
     };
     let mut poisoned = false;
     let mut here = begun;
-    let mut i = 1;
-    while i < count {
+    for i in 1..count {
         let member = word_at(image, at + 3 + i);
         let v = part(
             slots,
@@ -1112,7 +1100,6 @@ fn array(
         };
         poisoned = p;
         here = on;
-        i += 1;
     }
     members::end(slots, types, image, at, here, n, first, poisoned)
 }

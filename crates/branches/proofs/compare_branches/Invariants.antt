@@ -7,8 +7,5 @@ use Rattle.tok.specs.Text.{texts_of}
 use Rattle.branches.proofs.Compare.{Compared}
 use Rattle.branches.proofs.compare_branches.Given as goal
 
-abbrev pub invariant-loop-i : goal.invariant-loop-i
-invariant-loop-i l = Compared l.texts l.n l.default l.image l.places l.at l.count l.slots l.types l.initial.diagnostics l.initial.messages l.initial.here l.i l.place l.diagnostics l.messages l.here × (length l.diagnostics ≡ length l.initial.diagnostics) × (length l.messages ≡ length l.initial.messages)
-
-abbrev pub decreases-loop-i : goal.decreases-loop-i
-decreases-loop-i l = l.count - l.i
+abbrev pub invariant-loop : goal.invariant-loop
+invariant-loop l = Compared l.texts l.n l.default l.image l.places l.at l.count l.slots l.types l.initial.diagnostics l.initial.messages l.initial.here l.counter l.place l.diagnostics l.messages l.here × (length l.diagnostics ≡ length l.initial.diagnostics) × (length l.messages ≡ length l.initial.messages)

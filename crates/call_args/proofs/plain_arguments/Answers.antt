@@ -10,22 +10,19 @@ pub loop-i-init : goal.loop-i-init
 loop-i-init c = (none_done _ _ _ _ _ _ _ _ _ _ _ _, refl, refl)
 
 pub overflow_add-args : goal.overflow_add-args
-overflow_add-args c = omega (arith, c.requires.nodes.room, c.loop-i-test.true)
+overflow_add-args c = omega (arith, c.requires.nodes.room)
 
 pub slot_of-requires : goal.slot_of-requires
-slot_of-requires c = number-ready c.requires.nodes c.loop-i-test.true c.word_at-number.ensures
+slot_of-requires c = number-ready c.requires.nodes (omega arith) c.word_at-number.ensures
 
 pub span_of-requires : goal.span_of-requires
-span_of-requires c = number-ready c.requires.nodes c.loop-i-test.true c.word_at-number.ensures
+span_of-requires c = number-ready c.requires.nodes (omega arith) c.word_at-number.ensures
 
 pub returns-in_default : goal.returns-in_default
-returns-in_default c = done-stops _ _ _ _ _ _ _ _ _ _ _ _ c.loop-i.invariant.0 (c.requires.counts false) c.loop-i-test.true c.word_at-number.ensures (c.argument_name.ensures false) (c.argument_type.ensures false) c.slot_of.ensures c.span_of.ensures c.plain_argument-went.ensures c.in_default.in_default-own.keys2
-
-pub overflow_add-i : goal.overflow_add-i
-overflow_add-i c = omega (arith, c.loop-i-test.true, c.requires.nodes.room)
+returns-in_default c = done-stops _ _ _ _ _ _ _ _ _ _ _ _ c.loop-i.invariant.0 (c.requires.counts false) (omega arith) c.word_at-number.ensures (c.argument_name.ensures false) (c.argument_type.ensures false) c.slot_of.ensures c.span_of.ensures c.plain_argument-went.ensures c.in_default.in_default-own.keys2
 
 pub loop-i-preserved : goal.loop-i-preserved
-loop-i-preserved c = (more-done _ _ _ _ _ _ _ _ _ _ _ _ c.loop-i.invariant.0 (c.requires.counts false) c.loop-i-test.true c.word_at-number.ensures (c.argument_name.ensures false) (c.argument_type.ensures false) c.slot_of.ensures c.span_of.ensures c.plain_argument-went.ensures c.in-On.is, c.plain_argument-went.auto.diagnostics ∙ c.loop-i.invariant.1, c.plain_argument-went.auto.messages ∙ c.loop-i.invariant.2)
+loop-i-preserved c = (more-done _ _ _ _ _ _ _ _ _ _ _ _ c.loop-i.invariant.0 (c.requires.counts false) (omega arith) c.word_at-number.ensures (c.argument_name.ensures false) (c.argument_type.ensures false) c.slot_of.ensures c.span_of.ensures c.plain_argument-went.ensures c.in-On.is, c.plain_argument-went.auto.diagnostics ∙ c.loop-i.invariant.1, c.plain_argument-went.auto.messages ∙ c.loop-i.invariant.2)
 
 pub returns : goal.returns
-returns c = all_done _ _ _ _ _ _ _ _ _ _ _ _ c.loop-i.invariant.0 c.loop-i-test.false
+returns c = all_done _ _ _ _ _ _ _ _ _ _ _ _ c.loop-i.invariant.0 (omega arith)

@@ -12,6 +12,3 @@ use Rattle.call_args.proofs.plain_arguments.Given as goal
 
 abbrev pub invariant-loop-i : goal.invariant-loop-i
 invariant-loop-i l = Done l.texts l.n (call_name l.texts l.callee) (signature_at l.words l.at false).params l.image l.args l.count l.slots l.types l.initial.diagnostics l.initial.messages l.initial.now l.i l.diagnostics l.messages l.now × (length l.diagnostics ≡ length l.initial.diagnostics) × (length l.messages ≡ length l.initial.messages)
-
-abbrev pub decreases-loop-i : goal.decreases-loop-i
-decreases-loop-i l = l.count - l.i

@@ -6,8 +6,5 @@ use Rattle.extern_package.specs.Packing.{FunctionsRoom}
 use Rattle.extern_package.proofs.FunctionReturns.{Packing}
 use Rattle.extern_package.proofs.extern_functions.Given as goal
 
-abbrev pub invariant-loop-k : goal.invariant-loop-k
-invariant-loop-k l = (h : FunctionsRoom l.image l.places l.initial.scratch l.from l.at l.count) × (((length l.types ≡ length l.initial.types) × (length l.scratch ≡ length l.initial.scratch)) × Packing l.image l.places l.n l.from l.at l.count h.end l.k l.initial.types l.initial.after l.initial.scratch l.types l.after l.scratch l.place l.to)
-
-abbrev pub decreases-loop-k : goal.decreases-loop-k
-decreases-loop-k l = l.count - l.k
+abbrev pub invariant-loop : goal.invariant-loop
+invariant-loop l = (h : FunctionsRoom l.image l.places l.initial.scratch l.from l.at l.count) × (((length l.types ≡ length l.initial.types) × (length l.scratch ≡ length l.initial.scratch)) × Packing l.image l.places l.n l.from l.at l.count h.end l.counter l.initial.types l.initial.after l.initial.scratch l.types l.after l.scratch l.place l.to)

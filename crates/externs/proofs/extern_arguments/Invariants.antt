@@ -8,6 +8,3 @@ use Rattle.externs.proofs.extern_arguments.Given as goal
 
 abbrev pub invariant-loop-k : goal.invariant-loop-k
 invariant-loop-k l = (ArgumentsRoom l.image l.places l.initial.scratch l.from l.at l.count × ((l.k ≤ l.count) × ((length l.types ≡ length l.initial.types) × (length l.scratch ≡ length l.initial.scratch)))) × Writing l.image l.n l.from l.at l.k l.initial.types l.initial.after l.initial.scratch l.types l.after l.scratch
-
-abbrev pub decreases-loop-k : goal.decreases-loop-k
-decreases-loop-k l = l.count - l.k

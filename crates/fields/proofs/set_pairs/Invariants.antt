@@ -7,6 +7,3 @@ use Rattle.fields.proofs.set_pairs.Given as goal
 
 abbrev pub invariant-loop-i : goal.invariant-loop-i
 invariant-loop-i l = Paired l.image l.slots l.at l.to l.initial.types l.i l.types × (l.i ≤ l.count) × (length l.types ≡ length l.initial.types)
-
-abbrev pub decreases-loop-i : goal.decreases-loop-i
-decreases-loop-i l = l.count - l.i

@@ -9,6 +9,3 @@ use Rattle.functions.proofs.copy_pairs.Given as goal
 
 abbrev pub invariant-loop-k : goal.invariant-loop-k
 invariant-loop-k l = CopyRoom l.initial.functions l.at l.from l.count × ((l.k ≤ l.count) × (l.functions ≡ write l.initial.functions l.at (pairs_of (params_from l.scratch l.from l.k))))
-
-abbrev pub decreases-loop-k : goal.decreases-loop-k
-decreases-loop-k l = l.count - l.k

@@ -15,11 +15,11 @@ loop-k-init c = ((c.requires, (c.if-count-eq0.false, (refl, (refl, refl)))), imp
 
 -- src/lib.rt:99:40
 pub overflow_add-at : goal.overflow_add-at
-overflow_add-at c = omega (arith, c.loop-k.invariant.0.0.room, c.loop-k-test.true)
+overflow_add-at c = omega (arith, c.loop-k.invariant.0.0.room)
 
 -- src/lib.rt:100:13
 pub import_one-one-requires : goal.import_one-one-requires
-import_one-one-requires c = import_room _ c.args.n c.args.token c.args.at c.args.count c.loop-k.invariant.0.0 c.loop-k.invariant.1 c.loop-k-test.true
+import_one-one-requires c = import_room _ c.args.n c.args.token c.args.at c.args.count c.loop-k.invariant.0.0 c.loop-k.invariant.1 (omega arith)
 
 -- src/lib.rt:112:13
 pub shape_of-diagnostics-in_default : goal.shape_of-diagnostics-in_default
@@ -35,15 +35,11 @@ shape_of-scratch-in_default c = c.import_one-one.auto.scratch ∙ c.loop-k.invar
 
 -- src/lib.rt:112:13
 pub returns-in_default : goal.returns-in_default
-returns-in_default c = import_stops _ c.args.n c.args.token c.args.at c.args.count c.loop-k.invariant.0.0 c.loop-k.invariant.1 c.loop-k-test.true c.word_at-path.ensures c.import_one-one.ensures c.in_default.is c.loop-k.invariant.0.1.0
-
--- src/lib.rt:98:5
-pub loop-k-smaller : goal.loop-k-smaller
-loop-k-smaller c = omega (arith, c.loop-k-test.true)
+returns-in_default c = import_stops _ c.args.n c.args.token c.args.at c.args.count c.loop-k.invariant.0.0 c.loop-k.invariant.1 (omega arith) c.word_at-path.ensures c.import_one-one.ensures c.in_default.is c.loop-k.invariant.0.1.0
 
 -- src/lib.rt:98:5
 pub loop-k-preserved : goal.loop-k-preserved
-loop-k-preserved c = ((c.loop-k.invariant.0.0, (c.loop-k.invariant.0.1.0, (c.import_one-one.auto.diagnostics ∙ c.loop-k.invariant.0.1.1.0, (c.import_one-one.auto.messages ∙ c.loop-k.invariant.0.1.1.1.0, c.import_one-one.auto.scratch ∙ c.loop-k.invariant.0.1.1.1.1)))), import_more _ c.args.n c.args.token c.args.at c.args.count c.loop-k.invariant.0.0 c.loop-k.invariant.1 c.loop-k-test.true c.word_at-path.ensures c.import_one-one.ensures c.in-On.is)
+loop-k-preserved c = ((c.loop-k.invariant.0.0, (c.loop-k.invariant.0.1.0, (c.import_one-one.auto.diagnostics ∙ c.loop-k.invariant.0.1.1.0, (c.import_one-one.auto.messages ∙ c.loop-k.invariant.0.1.1.1.0, c.import_one-one.auto.scratch ∙ c.loop-k.invariant.0.1.1.1.1)))), import_more _ c.args.n c.args.token c.args.at c.args.count c.loop-k.invariant.0.0 c.loop-k.invariant.1 (omega arith) c.word_at-path.ensures c.import_one-one.ensures c.in-On.is)
 
 -- src/lib.rt:72:1
 pub shape_of-diagnostics : goal.shape_of-diagnostics
@@ -59,4 +55,4 @@ shape_of-scratch c = c.loop-k.invariant.0.1.1.1.1
 
 -- src/lib.rt:72:1
 pub returns : goal.returns
-returns c = import_over _ c.args.n c.args.token c.args.at c.args.count c.loop-k.invariant.0.0 c.loop-k.invariant.1 c.loop-k-test.false c.loop-k.invariant.0.1.0
+returns c = import_over _ c.args.n c.args.token c.args.at c.args.count c.loop-k.invariant.0.0 c.loop-k.invariant.1 (omega arith) c.loop-k.invariant.0.1.0

@@ -10,19 +10,19 @@ loop-k-init c = ((c.requires, (omega arith, (refl, (refl, refl)))), arguing_begi
 
 -- src/lib.rt:100:13
 pub overflow_add-slot : goal.overflow_add-slot
-overflow_add-slot c = omega (arith, c.loop-k.invariant.0.0.slots, c.loop-k.invariant.0.0.arguments.room, c.loop-k-test.true)
+overflow_add-slot c = omega (arith, c.loop-k.invariant.0.0.slots, c.loop-k.invariant.0.0.arguments.room)
 
 -- src/lib.rt:101:18
 pub overflow_mul-k : goal.overflow_mul-k
-overflow_mul-k c = omega (arith, c.loop-k.invariant.0.0.slots, c.loop-k.invariant.0.0.arguments.room, c.loop-k-test.true)
+overflow_mul-k c = omega (arith, c.loop-k.invariant.0.0.slots, c.loop-k.invariant.0.0.arguments.room)
 
 -- src/lib.rt:101:13
 pub overflow_add-at : goal.overflow_add-at
-overflow_add-at c = omega (arith, c.loop-k.invariant.0.0.slots, c.loop-k.invariant.0.0.arguments.room, c.loop-k-test.true)
+overflow_add-at c = omega (arith, c.loop-k.invariant.0.0.slots, c.loop-k.invariant.0.0.arguments.room)
 
 -- src/lib.rt:92:13
 pub one_argument-one-requires : goal.one_argument-one-requires
-one_argument-one-requires c = argument-ready c.loop-k.invariant.0.0 c.loop-k.invariant.1 c.loop-k-test.true
+one_argument-one-requires c = argument-ready c.loop-k.invariant.0.0 c.loop-k.invariant.1 (omega arith)
 
 -- src/lib.rt:104:13
 pub shape_of-slots-in_default : goal.shape_of-slots-in_default
@@ -38,19 +38,11 @@ shape_of-scratch-in_default c = c.one_argument-one.auto.scratch ∙ c.loop-k.inv
 
 -- src/lib.rt:104:13
 pub returns-in_default : goal.returns-in_default
-returns-in_default c = arguments-stop c.loop-k.invariant.0.0 c.loop-k.invariant.1 c.one_argument-one.ensures c.loop-k-test.true c.in_default.is
-
--- src/lib.rt:107:9
-pub overflow_add-k : goal.overflow_add-k
-overflow_add-k c = omega (arith, c.loop-k.invariant.0.0.slots, c.loop-k-test.true)
-
--- src/lib.rt:91:5
-pub loop-k-smaller : goal.loop-k-smaller
-loop-k-smaller c = omega (arith, c.loop-k-test.true)
+returns-in_default c = arguments-stop c.loop-k.invariant.0.0 c.loop-k.invariant.1 c.one_argument-one.ensures (omega arith) c.in_default.is
 
 -- src/lib.rt:91:5
 pub loop-k-preserved : goal.loop-k-preserved
-loop-k-preserved c = ((c.loop-k.invariant.0.0, (omega (arith, c.loop-k-test.true), (c.one_argument-one.auto.slots ∙ c.loop-k.invariant.0.1.1.0, (c.one_argument-one.auto.types ∙ c.loop-k.invariant.0.1.1.1.0, c.one_argument-one.auto.scratch ∙ c.loop-k.invariant.0.1.1.1.1)))), arguing_more c.loop-k.invariant.0.0 c.loop-k.invariant.1 c.one_argument-one.ensures c.in-On.is)
+loop-k-preserved c = ((c.loop-k.invariant.0.0, (omega (arith), (c.one_argument-one.auto.slots ∙ c.loop-k.invariant.0.1.1.0, (c.one_argument-one.auto.types ∙ c.loop-k.invariant.0.1.1.1.0, c.one_argument-one.auto.scratch ∙ c.loop-k.invariant.0.1.1.1.1)))), arguing_more c.loop-k.invariant.0.0 c.loop-k.invariant.1 c.one_argument-one.ensures c.in-On.is)
 
 -- src/lib.rt:73:1
 pub shape_of-slots : goal.shape_of-slots
@@ -66,4 +58,4 @@ shape_of-scratch c = c.loop-k.invariant.0.1.1.1.1
 
 -- src/lib.rt:73:1
 pub returns : goal.returns
-returns c = arguments-over c.loop-k.invariant.0.0 c.loop-k.invariant.1 c.loop-k.invariant.0.1.0 c.loop-k-test.false
+returns c = arguments-over c.loop-k.invariant.0.0 c.loop-k.invariant.1 c.loop-k.invariant.0.1.0 (omega arith)

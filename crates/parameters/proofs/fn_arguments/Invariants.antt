@@ -8,6 +8,3 @@ use Rattle.parameters.proofs.fn_arguments.Given as goal
 
 abbrev pub invariant-loop-k : goal.invariant-loop-k
 invariant-loop-k l = (ArgumentsReady l.image l.places l.initial.after l.initial.scratch l.slot l.at l.count × ((l.k ≤ l.count) × ((length l.slots ≡ length l.initial.slots) × ((length l.types ≡ length l.initial.types) × (length l.scratch ≡ length l.initial.scratch))))) × Arguing l.image l.n l.slot l.at l.k l.initial.after l.initial.slots l.initial.types l.initial.scratch l.after l.slots l.types l.scratch
-
-abbrev pub decreases-loop-k : goal.decreases-loop-k
-decreases-loop-k l = l.count - l.k

@@ -8,6 +8,3 @@ use Rattle.rows_input.proofs.words.Given as goal
 
 abbrev pub invariant-loop-i : goal.invariant-loop-i
 invariant-loop-i l = (l.out ≡ overwrite l.initial.out (words_in l.bytes l.at l.i)) × (l.i ≤ l.k) × (length l.out ≡ length l.initial.out)
-
-abbrev pub decreases-loop-i : goal.decreases-loop-i
-decreases-loop-i l = l.k - l.i

@@ -10,28 +10,22 @@ pub loop-i-init : goal.loop-i-init
 loop-i-init c = (none_done _ _ _ _ _ _ _ _ _ _ _ _ _, refl, refl, refl, refl)
 
 pub overflow_add-args : goal.overflow_add-args
-overflow_add-args c = omega (arith, c.requires.ready.nodes.room, c.loop-i-test.true)
+overflow_add-args c = omega (arith, c.requires.ready.nodes.room)
 
 pub slot_of-requires : goal.slot_of-requires
-slot_of-requires c = number-ready c.requires.ready.nodes c.loop-i-test.true c.word_at-number.ensures
+slot_of-requires c = number-ready c.requires.ready.nodes (omega arith) c.word_at-number.ensures
 
 pub span_of-requires : goal.span_of-requires
-span_of-requires c = number-ready c.requires.ready.nodes c.loop-i-test.true c.word_at-number.ensures
+span_of-requires c = number-ready c.requires.ready.nodes (omega arith) c.word_at-number.ensures
 
 pub slotted_argument-r-requires : goal.slotted_argument-r-requires
-slotted_argument-r-requires c = argument-ready _ _ _ _ _ _ _ _ _ _ _ _ c.loop-i.invariant.0 (c.requires.counts true) c.loop-i-test.true c.word_at-number.ensures (c.argument_name.ensures true) (c.argument_type.ensures true) c.slot_of.ensures c.requires.ready.params c.requires.ready.given c.args.pairs.now c.requires.ready.room c.loop-i.invariant.4
+slotted_argument-r-requires c = argument-ready _ _ _ _ _ _ _ _ _ _ _ _ c.loop-i.invariant.0 (c.requires.counts true) (omega arith) c.word_at-number.ensures (c.argument_name.ensures true) (c.argument_type.ensures true) c.slot_of.ensures c.requires.ready.params c.requires.ready.given c.args.pairs.now c.requires.ready.room c.loop-i.invariant.4
 
 pub returns-in_default : goal.returns-in_default
-returns-in_default c = done-stops _ _ _ _ _ _ _ _ _ _ _ _ c.loop-i.invariant.0 (c.requires.counts true) c.loop-i-test.true c.word_at-number.ensures (c.argument_name.ensures true) (c.argument_type.ensures true) c.slot_of.ensures c.requires.ready.params c.span_of.ensures c.slotted_argument-r.ensures c.in_default.in_default-own.keys2
-
-pub overflow_add-i : goal.overflow_add-i
-overflow_add-i c = omega (arith, c.requires.ready.nodes.room, c.loop-i-test.true)
-
-pub loop-i-smaller : goal.loop-i-smaller
-loop-i-smaller c = omega (arith, c.loop-i-test.true)
+returns-in_default c = done-stops _ _ _ _ _ _ _ _ _ _ _ _ c.loop-i.invariant.0 (c.requires.counts true) (omega arith) c.word_at-number.ensures (c.argument_name.ensures true) (c.argument_type.ensures true) c.slot_of.ensures c.requires.ready.params c.span_of.ensures c.slotted_argument-r.ensures c.in_default.in_default-own.keys2
 
 pub loop-i-preserved : goal.loop-i-preserved
-loop-i-preserved c = (more-done _ _ _ _ _ _ _ _ _ _ _ _ c.loop-i.invariant.0 (c.requires.counts true) c.loop-i-test.true c.word_at-number.ensures (c.argument_name.ensures true) (c.argument_type.ensures true) c.slot_of.ensures c.requires.ready.params c.span_of.ensures c.slotted_argument-r.ensures c.in-On.is, c.slotted_argument-r.auto.types ∙ c.loop-i.invariant.1, c.slotted_argument-r.auto.diagnostics ∙ c.loop-i.invariant.2, c.slotted_argument-r.auto.messages ∙ c.loop-i.invariant.3, c.slotted_argument-r.auto.pairs ∙ c.loop-i.invariant.4)
+loop-i-preserved c = (more-done _ _ _ _ _ _ _ _ _ _ _ _ c.loop-i.invariant.0 (c.requires.counts true) (omega arith) c.word_at-number.ensures (c.argument_name.ensures true) (c.argument_type.ensures true) c.slot_of.ensures c.requires.ready.params c.span_of.ensures c.slotted_argument-r.ensures c.in-On.is, c.slotted_argument-r.auto.types ∙ c.loop-i.invariant.1, c.slotted_argument-r.auto.diagnostics ∙ c.loop-i.invariant.2, c.slotted_argument-r.auto.messages ∙ c.loop-i.invariant.3, c.slotted_argument-r.auto.pairs ∙ c.loop-i.invariant.4)
 
 pub returns : goal.returns
-returns c = all_done _ _ _ _ _ _ _ _ _ _ _ _ c.loop-i.invariant.0 c.loop-i-test.false
+returns c = all_done _ _ _ _ _ _ _ _ _ _ _ _ c.loop-i.invariant.0 (omega arith)

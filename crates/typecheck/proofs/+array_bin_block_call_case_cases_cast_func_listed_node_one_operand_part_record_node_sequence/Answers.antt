@@ -4,7 +4,7 @@ use Rattle.walk_laws.specs.Lists as L
 use Rattle.typecheck.proofs.+array_bin_block_call_case_cases_cast_func_listed_node_one_operand_part_record_node_sequence.Goals as goal
 use native.Mathlib.Omega.{arith}
 use Rattle.walk_laws.specs.Dispatch.{to-array, to-bin, to-call, to-cast, to-fn, to-leaf, to-listed, to-match, to-operand, to_one, to_record, to_sequence}
-use mathlib.Core.Path.{ap, refl, sym, ◌∙◌}
+use mathlib.Core.Path.{◌≡◌, ap, refl, sym, ◌∙◌}
 use Prim.Native.Nat.{◌+◌, ◌-◌}
 use Rattle.branches.specs.Case.{body-visit as body-visit_case, case-ends, condition-stops, test-stops, test-under, test-visit}
 use Rattle.visiting.specs.Then.{came_after, came_of, stopped-after}
@@ -109,106 +109,102 @@ pub case-overflow_add-at-2 : goal.case-overflow_add-at-2
 case-overflow_add-at-2 t c =
     omega (arith, c.requires.inside)
 
-pub case-loop-left-init : goal.case-loop-left-init
-case-loop-left-init t c = (
-  turn-begin_lists
-      (body-visit_case c.requires c.word_at.ensures c.part-v.ensures (came_after c.part-v.result c.after.ensures c.in-Goes.is) (c.condition-went.ensures _ _ _ _ _ no_more) c.in-On.is (c.wide-left.ensures ∙ c.word_at-3.ensures))
-      c.word_at-2.ensures,
-  refl,
-  refl,
-  refl,
-  refl,
-  refl,
-  refl,
-)
+pub case-loop-init : goal.case-loop-init
+case-loop-init t c =
+    let e : c.wide-left.result - 0 ≡ c.wide-left.result = omega arith in
+    rw e (
+      turn-begin_lists
+          (body-visit_case c.requires c.word_at.ensures c.part-v.ensures (came_after c.part-v.result c.after.ensures c.in-Goes.is) (c.condition-went.ensures _ _ _ _ _ no_more) c.in-On.is (c.wide-left.ensures ∙ c.word_at-3.ensures))
+          c.word_at-2.ensures,
+      refl,
+      refl,
+      refl,
+      refl,
+      refl,
+      refl,
+    )
 
-pub case-part-v-requires-in-loop-left : goal.case-part-v-requires-in-loop-left
-case-part-v-requires-in-loop-left t c =
-    (omega (arith, c.decreases, part-under c.loop-left.invariant.0 c.loop-left-test.true c.word_at-in-loop-left.ensures), turn-visit c.loop-left.invariant.0 c.loop-left-test.true c.word_at-in-loop-left.ensures)
+pub case-part-v-requires-in-loop : goal.case-part-v-requires-in-loop
+case-part-v-requires-in-loop t c =
+    (omega (arith, c.decreases, part-under c.loop.invariant.0 (omega arith) c.word_at-in-loop.ensures), turn-visit c.loop.invariant.0 (omega arith) c.word_at-in-loop.ensures)
 
 pub case-shape_of-slots-in_default-after : goal.case-shape_of-slots-in_default-after
 case-shape_of-slots-in_default-after t c =
-    c.part-v-in-loop-left.auto.slots ∙ c.loop-left.invariant.1 ∙ c.part-v.auto.slots
+    c.part-v-in-loop.auto.slots ∙ c.loop.invariant.1 ∙ c.part-v.auto.slots
 
 pub case-shape_of-functions-in_default-after : goal.case-shape_of-functions-in_default-after
 case-shape_of-functions-in_default-after t c =
-    c.part-v-in-loop-left.auto.functions ∙ c.loop-left.invariant.2 ∙ c.part-v.auto.functions
+    c.part-v-in-loop.auto.functions ∙ c.loop.invariant.2 ∙ c.part-v.auto.functions
 
 pub case-shape_of-types-in_default-after : goal.case-shape_of-types-in_default-after
 case-shape_of-types-in_default-after t c =
-    c.part-v-in-loop-left.auto.types ∙ c.loop-left.invariant.3 ∙ c.part-v.auto.types
+    c.part-v-in-loop.auto.types ∙ c.loop.invariant.3 ∙ c.part-v.auto.types
 
 pub case-shape_of-diagnostics-in_default-after : goal.case-shape_of-diagnostics-in_default-after
 case-shape_of-diagnostics-in_default-after t c =
-    c.part-v-in-loop-left.auto.diagnostics ∙ c.loop-left.invariant.4 ∙ c.condition-went.auto.diagnostics ∙ c.part-v.auto.diagnostics
+    c.part-v-in-loop.auto.diagnostics ∙ c.loop.invariant.4 ∙ c.condition-went.auto.diagnostics ∙ c.part-v.auto.diagnostics
 
 pub case-shape_of-messages-in_default-after : goal.case-shape_of-messages-in_default-after
 case-shape_of-messages-in_default-after t c =
-    c.part-v-in-loop-left.auto.messages ∙ c.loop-left.invariant.5 ∙ c.condition-went.auto.messages ∙ c.part-v.auto.messages
+    c.part-v-in-loop.auto.messages ∙ c.loop.invariant.5 ∙ c.condition-went.auto.messages ∙ c.part-v.auto.messages
 
 pub case-shape_of-scratch-in_default-after : goal.case-shape_of-scratch-in_default-after
 case-shape_of-scratch-in_default-after t c =
-    c.part-v-in-loop-left.auto.scratch ∙ c.loop-left.invariant.6 ∙ c.part-v.auto.scratch
+    c.part-v-in-loop.auto.scratch ∙ c.loop.invariant.6 ∙ c.part-v.auto.scratch
 
 pub case-returns-in_default-after : goal.case-returns-in_default-after
 case-returns-in_default-after t c =
     case-ends c.requires c.word_at.ensures c.part-v.ensures (came_after c.part-v.result c.after.ensures c.in-Goes.is) (c.condition-went.ensures _ _ _ _ _ no_more)
     c.in-On.is (c.wide-left.ensures ∙ c.word_at-3.ensures)
-    (turn-stops_lists c.loop-left.invariant.0 c.loop-left-test.true c.word_at-in-loop-left.ensures c.part-v-in-loop-left.ensures (stopped-after c.part-v-in-loop-left.result c.after-in-loop-left.ensures c.in_default-after.is))
-    (leave-stopped _ (stopped-after c.part-v-in-loop-left.result c.after-in-loop-left.ensures c.in_default-after.is))
+    (turn-stops_lists c.loop.invariant.0 (omega arith) c.word_at-in-loop.ensures c.part-v-in-loop.ensures (stopped-after c.part-v-in-loop.result c.after-in-loop.ensures c.in_default-after.is))
+    (leave-stopped _ (stopped-after c.part-v-in-loop.result c.after-in-loop.ensures c.in_default-after.is))
 
-pub case-overflow_add-place-in-loop-left : goal.case-overflow_add-place-in-loop-left
-case-overflow_add-place-in-loop-left t c =
-    omega (arith, place_inside_lists c.loop-left.invariant.0)
+pub case-overflow_add-place-in-loop : goal.case-overflow_add-place-in-loop
+case-overflow_add-place-in-loop t c =
+    omega (arith, place_inside_lists c.loop.invariant.0)
 
-pub case-overflow_sub-left : goal.case-overflow_sub-left
-case-overflow_sub-left t c =
-    omega (arith, c.loop-left-test.true)
-
-pub case-loop-left-smaller : goal.case-loop-left-smaller
-case-loop-left-smaller t c =
-    omega (arith, c.loop-left-test.true)
-
-pub case-loop-left-preserved : goal.case-loop-left-preserved
-case-loop-left-preserved t c = (
-  turn-next_lists c.loop-left.invariant.0 c.loop-left-test.true c.word_at-in-loop-left.ensures c.part-v-in-loop-left.ensures (came_after c.part-v-in-loop-left.result c.after-in-loop-left.ensures c.in-Goes-after.is),
-  c.part-v-in-loop-left.auto.slots ∙ c.loop-left.invariant.1,
-  c.part-v-in-loop-left.auto.functions ∙ c.loop-left.invariant.2,
-  c.part-v-in-loop-left.auto.types ∙ c.loop-left.invariant.3,
-  c.part-v-in-loop-left.auto.diagnostics ∙ c.loop-left.invariant.4,
-  c.part-v-in-loop-left.auto.messages ∙ c.loop-left.invariant.5,
-  c.part-v-in-loop-left.auto.scratch ∙ c.loop-left.invariant.6,
-)
+pub case-loop-preserved : goal.case-loop-preserved
+case-loop-preserved t c =
+    let e : c.wide-left.result - (c.loop.counter + 1) ≡ c.wide-left.result - c.loop.counter - 1 = omega arith in
+    rw e (
+      turn-next_lists c.loop.invariant.0 (omega arith) c.word_at-in-loop.ensures c.part-v-in-loop.ensures (came_after c.part-v-in-loop.result c.after-in-loop.ensures c.in-Goes-after.is),
+      c.part-v-in-loop.auto.slots ∙ c.loop.invariant.1,
+      c.part-v-in-loop.auto.functions ∙ c.loop.invariant.2,
+      c.part-v-in-loop.auto.types ∙ c.loop.invariant.3,
+      c.part-v-in-loop.auto.diagnostics ∙ c.loop.invariant.4,
+      c.part-v-in-loop.auto.messages ∙ c.loop.invariant.5,
+      c.part-v-in-loop.auto.scratch ∙ c.loop.invariant.6,
+    )
 
 pub case-shape_of-slots : goal.case-shape_of-slots
 case-shape_of-slots t c =
-    c.loop-left.invariant.1 ∙ c.part-v.auto.slots
+    c.loop.invariant.1 ∙ c.part-v.auto.slots
 
 pub case-shape_of-functions : goal.case-shape_of-functions
 case-shape_of-functions t c =
-    c.loop-left.invariant.2 ∙ c.part-v.auto.functions
+    c.loop.invariant.2 ∙ c.part-v.auto.functions
 
 pub case-shape_of-types : goal.case-shape_of-types
 case-shape_of-types t c =
-    c.loop-left.invariant.3 ∙ c.part-v.auto.types
+    c.loop.invariant.3 ∙ c.part-v.auto.types
 
 pub case-shape_of-diagnostics : goal.case-shape_of-diagnostics
 case-shape_of-diagnostics t c =
-    c.loop-left.invariant.4 ∙ c.condition-went.auto.diagnostics ∙ c.part-v.auto.diagnostics
+    c.loop.invariant.4 ∙ c.condition-went.auto.diagnostics ∙ c.part-v.auto.diagnostics
 
 pub case-shape_of-messages : goal.case-shape_of-messages
 case-shape_of-messages t c =
-    c.loop-left.invariant.5 ∙ c.condition-went.auto.messages ∙ c.part-v.auto.messages
+    c.loop.invariant.5 ∙ c.condition-went.auto.messages ∙ c.part-v.auto.messages
 
 pub case-shape_of-scratch : goal.case-shape_of-scratch
 case-shape_of-scratch t c =
-    c.loop-left.invariant.6 ∙ c.part-v.auto.scratch
+    c.loop.invariant.6 ∙ c.part-v.auto.scratch
 
 pub case-returns : goal.case-returns
 case-returns t c =
     case-ends c.requires c.word_at.ensures c.part-v.ensures (came_after c.part-v.result c.after.ensures c.in-Goes.is) (c.condition-went.ensures _ _ _ _ _ no_more)
-    c.in-On.is (c.wide-left.ensures ∙ c.word_at-3.ensures) (turn_end c.loop-left.invariant.0 c.loop-left-test.false refl)
-    (c.came.ensures ∙ ap (came_of c.loop-left.answer) c.left.ensures ∙ sym (leave_came c.loop-left.answer c.loop-left.here c.in-On.begun))
+    c.in-On.is (c.wide-left.ensures ∙ c.word_at-3.ensures) (turn_end c.loop.invariant.0 (omega arith) refl)
+    (c.came.ensures ∙ ap (came_of c.loop.answer) c.left.ensures ∙ sym (leave_came c.loop.answer c.loop.here c.in-On.begun))
 
 pub func-overflow_add-at : goal.func-overflow_add-at
 func-overflow_add-at t c = omega (arith, fn-inside c.requires c.node_place-at.ensures)
@@ -445,17 +441,17 @@ record_node-loop-i-init t c =
     (turn-begin_record_visits c.requires c.node_place-at.ensures c.word_at.ensures c.payload.ensures refl, refl, refl, refl, refl, refl, refl)
 
 pub record_node-overflow_add-at : goal.record_node-overflow_add-at
-record_node-overflow_add-at t c = omega (arith, c.loop-i-test.true, c.loop-i.invariant.0.values.room)
+record_node-overflow_add-at t c = omega (arith, c.loop-i.invariant.0.values.room)
 
 pub record_node-overflow_mul-i : goal.record_node-overflow_mul-i
-record_node-overflow_mul-i t c = omega (arith, c.loop-i-test.true, c.loop-i.invariant.0.values.room)
+record_node-overflow_mul-i t c = omega (arith, c.loop-i.invariant.0.values.room)
 
 pub record_node-overflow_add-at-in-loop-i : goal.record_node-overflow_add-at-in-loop-i
-record_node-overflow_add-at-in-loop-i t c = omega (arith, c.loop-i-test.true, c.loop-i.invariant.0.values.room)
+record_node-overflow_add-at-in-loop-i t c = omega (arith, c.loop-i.invariant.0.values.room)
 
 pub record_node-part-v-requires : goal.record_node-part-v-requires
 record_node-part-v-requires t c =
-    (omega (arith, c.decreases, value-under c.loop-i.invariant.0 c.loop-i-test.true c.word_at-in-loop-i.ensures), value-visit c.loop-i.invariant.0 c.loop-i-test.true c.word_at-in-loop-i.ensures)
+    (omega (arith, c.decreases, value-under c.loop-i.invariant.0 (omega arith) c.word_at-in-loop-i.ensures), value-visit c.loop-i.invariant.0 (omega arith) c.word_at-in-loop-i.ensures)
 
 pub record_node-shape_of-slots-in_default : goal.record_node-shape_of-slots-in_default
 record_node-shape_of-slots-in_default t c =
@@ -483,19 +479,11 @@ record_node-shape_of-scratch-in_default t c =
 
 pub record_node-returns-in_default : goal.record_node-returns-in_default
 record_node-returns-in_default t c =
-    turn-stops_record_visits c.loop-i.invariant.0 c.loop-i-test.true c.word_at-in-loop-i.ensures c.part-v.ensures (stopped-after c.part-v.result c.after.ensures c.in_default.is)
-
-pub record_node-overflow_add-i : goal.record_node-overflow_add-i
-record_node-overflow_add-i t c =
-    omega (arith, c.loop-i-test.true, c.loop-i.invariant.0.values.room)
-
-pub record_node-loop-i-smaller : goal.record_node-loop-i-smaller
-record_node-loop-i-smaller t c =
-    omega (arith, c.loop-i-test.true)
+    turn-stops_record_visits c.loop-i.invariant.0 (omega arith) c.word_at-in-loop-i.ensures c.part-v.ensures (stopped-after c.part-v.result c.after.ensures c.in_default.is)
 
 pub record_node-loop-i-preserved : goal.record_node-loop-i-preserved
 record_node-loop-i-preserved t c = (
-  turn-next_record_visits c.loop-i.invariant.0 c.loop-i-test.true c.word_at-in-loop-i.ensures c.part-v.ensures (came_after c.part-v.result c.after.ensures c.in-Goes.is),
+  turn-next_record_visits c.loop-i.invariant.0 (omega arith) c.word_at-in-loop-i.ensures c.part-v.ensures (came_after c.part-v.result c.after.ensures c.in-Goes.is),
   c.part-v.auto.slots ∙ c.loop-i.invariant.1,
   c.part-v.auto.functions ∙ c.loop-i.invariant.2,
   c.part-v.auto.types ∙ c.loop-i.invariant.3,
@@ -527,7 +515,7 @@ record_node-shape_of-scratch t c = c.loop-i.invariant.6
 
 pub record_node-returns : goal.record_node-returns
 record_node-returns t c =
-    record_made c.loop-i.invariant.0 c.loop-i-test.false (c.make.ensures c.args.texts.now _ _ _ _ _ no_more)
+    record_made c.loop-i.invariant.0 (omega arith) (c.make.ensures c.args.texts.now _ _ _ _ _ no_more)
 
 pub node-leaf-requires : goal.node-leaf-requires
 node-leaf-requires t c =
@@ -637,16 +625,16 @@ array-overflow_add-at-in-loop-i t c =
 pub array-overflow_add-at-in-loop-i-2 : goal.array-overflow_add-at-in-loop-i-2
 array-overflow_add-at-in-loop-i-2 t c =
     omega
-    (arith, array-inside c.requires c.node_place-at.ensures c.word_at.ensures c.payload-count.ensures, array-length c.requires c.node_place-at.ensures c.word_at.ensures c.payload-count.ensures, c.loop-i-test.true)
+    (arith, array-inside c.requires c.node_place-at.ensures c.word_at.ensures c.payload-count.ensures, array-length c.requires c.node_place-at.ensures c.word_at.ensures c.payload-count.ensures)
 
 -- src/lib.rt:233:13
 pub array-part-v-requires-in-loop-i : goal.array-part-v-requires-in-loop-i
 array-part-v-requires-in-loop-i t c = (
-  omega (arith, c.decreases, member-under c.requires c.node_place-at.ensures c.word_at.ensures c.payload-count.ensures c.loop-i-test.true c.word_at-member.ensures),
+  omega (arith, c.decreases, member-under c.requires c.node_place-at.ensures c.word_at.ensures c.payload-count.ensures (omega arith) c.word_at-member.ensures),
   member-visit
       (c.loop-i.invariant.0.on _ _ (first-passed c.requires c.node_place-at.ensures c.word_at.ensures c.payload-count.ensures c.if-count-eq0.false c.word_at-2.ensures c.part-v.ensures (came_after c.part-v.result c.after.ensures c.in-Goes.is)))
-      (some_left_array_visits c.loop-i-test.true) c.word_at-member.ensures
-      (member_below c.requires c.node_place-at.ensures c.word_at.ensures c.payload-count.ensures c.loop-i-test.true c.word_at-member.ensures),
+      (some_left_array_visits (omega arith)) c.word_at-member.ensures
+      (member_below c.requires c.node_place-at.ensures c.word_at.ensures c.payload-count.ensures (omega arith) c.word_at-member.ensures),
 )
 
 -- src/lib.rt:249:13
@@ -684,12 +672,12 @@ pub array-returns-in_default-after : goal.array-returns-in_default-after
 array-returns-in_default-after t c =
     member-stopped
     (c.loop-i.invariant.0.on _ _ (first-passed c.requires c.node_place-at.ensures c.word_at.ensures c.payload-count.ensures c.if-count-eq0.false c.word_at-2.ensures c.part-v.ensures (came_after c.part-v.result c.after.ensures c.in-Goes.is)))
-    (some_left_array_visits c.loop-i-test.true) c.word_at-member.ensures c.part-v-in-loop-i.ensures (stopped-after c.part-v-in-loop-i.result c.after-in-loop-i.ensures c.in_default-after.is)
+    (some_left_array_visits (omega arith)) c.word_at-member.ensures c.part-v-in-loop-i.ensures (stopped-after c.part-v-in-loop-i.result c.after-in-loop-i.ensures c.in_default-after.is)
 
 -- src/lib.rt:251:13
 pub array-member-turn-requires : goal.array-member-turn-requires
 array-member-turn-requires t c =
-    member-there c.requires c.node_place-at.ensures c.word_at.ensures c.payload-count.ensures c.loop-i-test.true c.word_at-member.ensures
+    member-there c.requires c.node_place-at.ensures c.word_at.ensures c.payload-count.ensures (omega arith) c.word_at-member.ensures
 
 -- src/lib.rt:268:13
 pub array-shape_of-slots-in_default-turn : goal.array-shape_of-slots-in_default-turn
@@ -726,25 +714,16 @@ pub array-returns-in_default-turn : goal.array-returns-in_default-turn
 array-returns-in_default-turn t c =
     member-ended
     (c.loop-i.invariant.0.on _ _ (first-passed c.requires c.node_place-at.ensures c.word_at.ensures c.payload-count.ensures c.if-count-eq0.false c.word_at-2.ensures c.part-v.ensures (came_after c.part-v.result c.after.ensures c.in-Goes.is)))
-    (some_left_array_visits c.loop-i-test.true) c.word_at-member.ensures c.part-v-in-loop-i.ensures
-    (member_below c.requires c.node_place-at.ensures c.word_at.ensures c.payload-count.ensures c.loop-i-test.true c.word_at-member.ensures)
+    (some_left_array_visits (omega arith)) c.word_at-member.ensures c.part-v-in-loop-i.ensures
+    (member_below c.requires c.node_place-at.ensures c.word_at.ensures c.payload-count.ensures (omega arith) c.word_at-member.ensures)
     (came_after c.part-v-in-loop-i.result c.after-in-loop-i.ensures c.in-Goes-after.is) (c.member-turn.ensures _ _ _ _ _ no_more) (turn-ended c.member-turn.result (opened c.in_default-turn.in_default-turn-own.keys2)) c.ended.ensures
 
--- src/lib.rt:272:9
-pub array-overflow_add-i : goal.array-overflow_add-i
-array-overflow_add-i t c =
-    omega (arith, c.loop-i-test.true, array-inside c.requires c.node_place-at.ensures c.word_at.ensures c.payload-count.ensures)
-
 -- src/lib.rt:231:5
-pub array-loop-i-smaller : goal.array-loop-i-smaller
-array-loop-i-smaller t c =
-    omega (arith, c.loop-i-test.true)
 
--- src/lib.rt:231:5
 pub array-loop-i-preserved : goal.array-loop-i-preserved
 array-loop-i-preserved t c = (
-  turned-next c.loop-i.invariant.0 c.loop-i-test.true c.word_at-member.ensures c.part-v-in-loop-i.ensures
-      (member_below c.requires c.node_place-at.ensures c.word_at.ensures c.payload-count.ensures c.loop-i-test.true c.word_at-member.ensures)
+  turned-next c.loop-i.invariant.0 (omega arith) c.word_at-member.ensures c.part-v-in-loop-i.ensures
+      (member_below c.requires c.node_place-at.ensures c.word_at.ensures c.payload-count.ensures (omega arith) c.word_at-member.ensures)
       (came_after c.part-v-in-loop-i.result c.after-in-loop-i.ensures c.in-Goes-after.is) (c.member-turn.ensures _ _ _ _ _ no_more) c.in-On.is,
   c.part-v-in-loop-i.auto.slots ∙ c.loop-i.invariant.1,
   c.part-v-in-loop-i.auto.functions ∙ c.loop-i.invariant.2,
@@ -794,7 +773,7 @@ pub array-returns : goal.array-returns
 array-returns t c =
     array-ended
     (c.loop-i.invariant.0.on _ _ (first-passed c.requires c.node_place-at.ensures c.word_at.ensures c.payload-count.ensures c.if-count-eq0.false c.word_at-2.ensures c.part-v.ensures (came_after c.part-v.result c.after.ensures c.in-Goes.is)))
-    (none_left_lem_array_visits c.loop-i-test.false) (c.end.ensures c.args.texts.now _ _ _ _ _ _ _ no_more)
+    (none_left_lem_array_visits (omega arith)) (c.end.ensures c.args.texts.now _ _ _ _ _ _ _ no_more)
 
 pub operand-bin-requires : goal.operand-bin-requires
 operand-bin-requires t c =
@@ -878,16 +857,16 @@ call-overflow_add-at t c =
 pub call-overflow_add-at-in-loop-i : goal.call-overflow_add-at-in-loop-i
 call-overflow_add-at-in-loop-i t c =
     omega
-    (arith, call-inside c.requires c.node_place-at.ensures c.word_at.ensures c.payload-count.ensures, call_length c.requires c.node_place-at.ensures c.word_at.ensures c.payload-count.ensures, c.loop-i-test.true)
+    (arith, call-inside c.requires c.node_place-at.ensures c.word_at.ensures c.payload-count.ensures, call_length c.requires c.node_place-at.ensures c.word_at.ensures c.payload-count.ensures)
 
 -- src/lib.rt:77:13
 pub call-part-v-requires : goal.call-part-v-requires
 call-part-v-requires t c = (
-  omega (arith, c.decreases, argument-under c.requires c.node_place-at.ensures c.word_at.ensures c.payload-count.ensures c.loop-i-test.true c.word_at-in-loop-i.ensures),
+  omega (arith, c.decreases, argument-under c.requires c.node_place-at.ensures c.word_at.ensures c.payload-count.ensures (omega arith) c.word_at-in-loop-i.ensures),
   argument-visit
       (c.loop-i.invariant.0.on _ _ (arguing_first c.requires c.node_place-at.ensures c.word_at.ensures c.payload-count.ensures (sym c.through_field.ensures ∙ c.if-through_field.false)))
-      (some_left_call_visits c.loop-i-test.true) c.word_at-in-loop-i.ensures
-      (argument-below c.requires c.node_place-at.ensures c.word_at.ensures c.payload-count.ensures c.loop-i-test.true c.word_at-in-loop-i.ensures),
+      (some_left_call_visits (omega arith)) c.word_at-in-loop-i.ensures
+      (argument-below c.requires c.node_place-at.ensures c.word_at.ensures c.payload-count.ensures (omega arith) c.word_at-in-loop-i.ensures),
 )
 
 -- src/lib.rt:93:13
@@ -925,23 +904,14 @@ pub call-returns-in_default : goal.call-returns-in_default
 call-returns-in_default t c =
     argument-stopped
     (c.loop-i.invariant.0.on _ _ (arguing_first c.requires c.node_place-at.ensures c.word_at.ensures c.payload-count.ensures (sym c.through_field.ensures ∙ c.if-through_field.false)))
-    (some_left_call_visits c.loop-i-test.true) c.word_at-in-loop-i.ensures c.part-v.ensures (stopped-after c.part-v.result c.after.ensures c.in_default.is)
-
--- src/lib.rt:97:9
-pub call-overflow_add-i : goal.call-overflow_add-i
-call-overflow_add-i t c =
-    omega (arith, c.loop-i-test.true, call-inside c.requires c.node_place-at.ensures c.word_at.ensures c.payload-count.ensures)
+    (some_left_call_visits (omega arith)) c.word_at-in-loop-i.ensures c.part-v.ensures (stopped-after c.part-v.result c.after.ensures c.in_default.is)
 
 -- src/lib.rt:76:5
-pub call-loop-i-smaller : goal.call-loop-i-smaller
-call-loop-i-smaller t c =
-    omega (arith, c.loop-i-test.true)
 
--- src/lib.rt:76:5
 pub call-loop-i-preserved : goal.call-loop-i-preserved
 call-loop-i-preserved t c = (
-  argued-next c.loop-i.invariant.0 c.loop-i-test.true c.word_at-in-loop-i.ensures c.part-v.ensures
-      (argument-below c.requires c.node_place-at.ensures c.word_at.ensures c.payload-count.ensures c.loop-i-test.true c.word_at-in-loop-i.ensures)
+  argued-next c.loop-i.invariant.0 (omega arith) c.word_at-in-loop-i.ensures c.part-v.ensures
+      (argument-below c.requires c.node_place-at.ensures c.word_at.ensures c.payload-count.ensures (omega arith) c.word_at-in-loop-i.ensures)
       (came_after c.part-v.result c.after.ensures c.in-Goes.is) c.or_poison-poisoned.ensures,
   c.part-v.auto.slots ∙ c.loop-i.invariant.1,
   c.part-v.auto.functions ∙ c.loop-i.invariant.2,
@@ -955,7 +925,7 @@ call-loop-i-preserved t c = (
 pub call-resolve-requires : goal.call-resolve-requires
 call-resolve-requires t c =
     resolvable c.requires c.node_place-at.ensures c.word_at.ensures c.payload-count.ensures (sym c.through_field.ensures ∙ c.if-through_field.false)
-    (arguments-ready (c.loop-i.invariant.0.on _ _ (arguing_first c.requires c.node_place-at.ensures c.word_at.ensures c.payload-count.ensures (sym c.through_field.ensures ∙ c.if-through_field.false))) (none_left_lem_call_visits c.loop-i-test.false))
+    (arguments-ready (c.loop-i.invariant.0.on _ _ (arguing_first c.requires c.node_place-at.ensures c.word_at.ensures c.payload-count.ensures (sym c.through_field.ensures ∙ c.if-through_field.false))) (none_left_lem_call_visits (omega arith)))
 
 -- src/lib.rt:50:1
 pub call-shape_of-slots : goal.call-shape_of-slots
@@ -991,7 +961,7 @@ pub call-returns : goal.call-returns
 call-returns t c =
     arguments-done
     (c.loop-i.invariant.0.on _ _ (arguing_first c.requires c.node_place-at.ensures c.word_at.ensures c.payload-count.ensures (sym c.through_field.ensures ∙ c.if-through_field.false)))
-    (none_left_lem_call_visits c.loop-i-test.false) (c.resolve.ensures _ _)
+    (none_left_lem_call_visits (omega arith)) (c.resolve.ensures _ _)
 
 pub one-operand_of-value-requires : goal.one-operand_of-value-requires
 one-operand_of-value-requires t c = one-low c.requires c.node_place-at.ensures
@@ -1057,84 +1027,80 @@ one-returns t c =
     one-ends c.requires c.node_place-at.ensures c.operand_of-value.ensures c.part-v.ensures (came_after c.part-v.result c.after.ensures c.in-Goes.is)
     (c.one_end.ensures _ _ _ _ no_more)
 
-pub block-loop-left-init : goal.block-loop-left-init
-block-loop-left-init t c = (turn-begin_lists c.requires c.word_at.ensures, refl, refl, refl, refl, refl, refl)
+pub block-loop-init : goal.block-loop-init
+block-loop-init t c =
+    let e : c.args.k - 0 ≡ c.args.k = omega arith in
+    rw e (turn-begin_lists c.requires c.word_at.ensures, refl, refl, refl, refl, refl, refl)
 
 pub block-part-v-requires : goal.block-part-v-requires
 block-part-v-requires t c =
-    (omega (arith, c.decreases, part-under c.loop-left.invariant.0 c.loop-left-test.true c.word_at-in-loop-left.ensures), turn-visit c.loop-left.invariant.0 c.loop-left-test.true c.word_at-in-loop-left.ensures)
+    (omega (arith, c.decreases, part-under c.loop.invariant.0 (omega arith) c.word_at-in-loop.ensures), turn-visit c.loop.invariant.0 (omega arith) c.word_at-in-loop.ensures)
 
 pub block-shape_of-slots-in_default : goal.block-shape_of-slots-in_default
 block-shape_of-slots-in_default t c =
-    c.part-v.auto.slots ∙ c.loop-left.invariant.1
+    c.part-v.auto.slots ∙ c.loop.invariant.1
 
 pub block-shape_of-functions-in_default : goal.block-shape_of-functions-in_default
 block-shape_of-functions-in_default t c =
-    c.part-v.auto.functions ∙ c.loop-left.invariant.2
+    c.part-v.auto.functions ∙ c.loop.invariant.2
 
 pub block-shape_of-types-in_default : goal.block-shape_of-types-in_default
 block-shape_of-types-in_default t c =
-    c.part-v.auto.types ∙ c.loop-left.invariant.3
+    c.part-v.auto.types ∙ c.loop.invariant.3
 
 pub block-shape_of-diagnostics-in_default : goal.block-shape_of-diagnostics-in_default
 block-shape_of-diagnostics-in_default t c =
-    c.part-v.auto.diagnostics ∙ c.loop-left.invariant.4
+    c.part-v.auto.diagnostics ∙ c.loop.invariant.4
 
 pub block-shape_of-messages-in_default : goal.block-shape_of-messages-in_default
 block-shape_of-messages-in_default t c =
-    c.part-v.auto.messages ∙ c.loop-left.invariant.5
+    c.part-v.auto.messages ∙ c.loop.invariant.5
 
 pub block-shape_of-scratch-in_default : goal.block-shape_of-scratch-in_default
 block-shape_of-scratch-in_default t c =
-    c.part-v.auto.scratch ∙ c.loop-left.invariant.6
+    c.part-v.auto.scratch ∙ c.loop.invariant.6
 
 pub block-returns-in_default : goal.block-returns-in_default
 block-returns-in_default t c =
-    turn-stops_lists c.loop-left.invariant.0 c.loop-left-test.true c.word_at-in-loop-left.ensures c.part-v.ensures (stopped-after c.part-v.result c.after.ensures c.in_default.is)
+    turn-stops_lists c.loop.invariant.0 (omega arith) c.word_at-in-loop.ensures c.part-v.ensures (stopped-after c.part-v.result c.after.ensures c.in_default.is)
 
 pub block-overflow_add-place : goal.block-overflow_add-place
 block-overflow_add-place t c =
-    omega (arith, place_inside_lists c.loop-left.invariant.0)
+    omega (arith, place_inside_lists c.loop.invariant.0)
 
-pub block-overflow_sub-left : goal.block-overflow_sub-left
-block-overflow_sub-left t c =
-    omega (arith, c.loop-left-test.true)
-
-pub block-loop-left-smaller : goal.block-loop-left-smaller
-block-loop-left-smaller t c =
-    omega (arith, c.loop-left-test.true)
-
-pub block-loop-left-preserved : goal.block-loop-left-preserved
-block-loop-left-preserved t c = (
-  turn-next_lists c.loop-left.invariant.0 c.loop-left-test.true c.word_at-in-loop-left.ensures c.part-v.ensures (came_after c.part-v.result c.after.ensures c.in-Goes.is),
-  c.part-v.auto.slots ∙ c.loop-left.invariant.1,
-  c.part-v.auto.functions ∙ c.loop-left.invariant.2,
-  c.part-v.auto.types ∙ c.loop-left.invariant.3,
-  c.part-v.auto.diagnostics ∙ c.loop-left.invariant.4,
-  c.part-v.auto.messages ∙ c.loop-left.invariant.5,
-  c.part-v.auto.scratch ∙ c.loop-left.invariant.6,
-)
+pub block-loop-preserved : goal.block-loop-preserved
+block-loop-preserved t c =
+    let e : c.args.k - (c.loop.counter + 1) ≡ c.args.k - c.loop.counter - 1 = omega arith in
+    rw e (
+      turn-next_lists c.loop.invariant.0 (omega arith) c.word_at-in-loop.ensures c.part-v.ensures (came_after c.part-v.result c.after.ensures c.in-Goes.is),
+      c.part-v.auto.slots ∙ c.loop.invariant.1,
+      c.part-v.auto.functions ∙ c.loop.invariant.2,
+      c.part-v.auto.types ∙ c.loop.invariant.3,
+      c.part-v.auto.diagnostics ∙ c.loop.invariant.4,
+      c.part-v.auto.messages ∙ c.loop.invariant.5,
+      c.part-v.auto.scratch ∙ c.loop.invariant.6,
+    )
 
 pub block-shape_of-slots : goal.block-shape_of-slots
-block-shape_of-slots t c = c.loop-left.invariant.1
+block-shape_of-slots t c = c.loop.invariant.1
 
 pub block-shape_of-functions : goal.block-shape_of-functions
-block-shape_of-functions t c = c.loop-left.invariant.2
+block-shape_of-functions t c = c.loop.invariant.2
 
 pub block-shape_of-types : goal.block-shape_of-types
-block-shape_of-types t c = c.loop-left.invariant.3
+block-shape_of-types t c = c.loop.invariant.3
 
 pub block-shape_of-diagnostics : goal.block-shape_of-diagnostics
-block-shape_of-diagnostics t c = c.loop-left.invariant.4
+block-shape_of-diagnostics t c = c.loop.invariant.4
 
 pub block-shape_of-messages : goal.block-shape_of-messages
-block-shape_of-messages t c = c.loop-left.invariant.5
+block-shape_of-messages t c = c.loop.invariant.5
 
 pub block-shape_of-scratch : goal.block-shape_of-scratch
-block-shape_of-scratch t c = c.loop-left.invariant.6
+block-shape_of-scratch t c = c.loop.invariant.6
 
 pub block-returns : goal.block-returns
-block-returns t c = turn_end c.loop-left.invariant.0 c.loop-left-test.false c.came.ensures
+block-returns t c = turn_end c.loop.invariant.0 (omega arith) c.came.ensures
 
 pub cases-overflow_add-at : goal.cases-overflow_add-at
 cases-overflow_add-at t c = omega (arith, place-room c.requires c.node_place-at.ensures)
@@ -1142,78 +1108,70 @@ cases-overflow_add-at t c = omega (arith, place-room c.requires c.node_place-at.
 pub cases-overflow_add-place : goal.cases-overflow_add-place
 cases-overflow_add-place t c = omega (arith, place-room c.requires c.node_place-at.ensures)
 
-pub cases-loop-i-init : goal.cases-loop-i-init
-cases-loop-i-init t c =
+pub cases-loop-init : goal.cases-loop-init
+cases-loop-init t c =
     (turn-begin_cases c.requires c.node_place-at.ensures (c.wide-count.ensures ∙ c.word_at.ensures), refl, refl, refl, refl, refl, refl)
 
 pub cases-case-v-requires : goal.cases-case-v-requires
 cases-case-v-requires t c =
-    (omega (arith, c.decreases), turn-case c.loop-i.invariant.0 c.loop-i-test.true)
+    (omega (arith, c.decreases), turn-case c.loop.invariant.0 (omega arith))
 
 pub cases-shape_of-slots-in_default : goal.cases-shape_of-slots-in_default
 cases-shape_of-slots-in_default t c =
-    c.case-v.auto.slots ∙ c.loop-i.invariant.1
+    c.case-v.auto.slots ∙ c.loop.invariant.1
 
 pub cases-shape_of-functions-in_default : goal.cases-shape_of-functions-in_default
 cases-shape_of-functions-in_default t c =
-    c.case-v.auto.functions ∙ c.loop-i.invariant.2
+    c.case-v.auto.functions ∙ c.loop.invariant.2
 
 pub cases-shape_of-types-in_default : goal.cases-shape_of-types-in_default
 cases-shape_of-types-in_default t c =
-    c.case-v.auto.types ∙ c.loop-i.invariant.3
+    c.case-v.auto.types ∙ c.loop.invariant.3
 
 pub cases-shape_of-diagnostics-in_default : goal.cases-shape_of-diagnostics-in_default
 cases-shape_of-diagnostics-in_default t c =
-    c.case-v.auto.diagnostics ∙ c.loop-i.invariant.4
+    c.case-v.auto.diagnostics ∙ c.loop.invariant.4
 
 pub cases-shape_of-messages-in_default : goal.cases-shape_of-messages-in_default
 cases-shape_of-messages-in_default t c =
-    c.case-v.auto.messages ∙ c.loop-i.invariant.5
+    c.case-v.auto.messages ∙ c.loop.invariant.5
 
 pub cases-shape_of-scratch-in_default : goal.cases-shape_of-scratch-in_default
 cases-shape_of-scratch-in_default t c =
-    c.case-v.auto.scratch ∙ c.loop-i.invariant.6
+    c.case-v.auto.scratch ∙ c.loop.invariant.6
 
 pub cases-returns-in_default : goal.cases-returns-in_default
 cases-returns-in_default t c =
-    turn-stops_cases c.loop-i.invariant.0 c.loop-i-test.true c.case-v.ensures (stopped-after c.case-v.result c.after.ensures c.in_default.is)
+    turn-stops_cases c.loop.invariant.0 (omega arith) c.case-v.ensures (stopped-after c.case-v.result c.after.ensures c.in_default.is)
 
 pub cases-case_end-place-requires : goal.cases-case_end-place-requires
 cases-case_end-place-requires t c =
-    omega (arith, place_inside_cases c.loop-i.invariant.0 c.loop-i-test.true)
+    omega (arith, place_inside_cases c.loop.invariant.0 (omega arith))
 
-pub cases-overflow_add-i : goal.cases-overflow_add-i
-cases-overflow_add-i t c =
-    omega (arith, few c.loop-i.invariant.0, c.loop-i-test.true)
-
-pub cases-loop-i-smaller : goal.cases-loop-i-smaller
-cases-loop-i-smaller t c =
-    omega (arith, c.loop-i-test.true)
-
-pub cases-loop-i-preserved : goal.cases-loop-i-preserved
-cases-loop-i-preserved t c = (
-  turn-next_cases c.loop-i.invariant.0 c.loop-i-test.true c.case-v.ensures (came_after c.case-v.result c.after.ensures c.in-Goes.is) c.case_end-place.ensures,
-  c.case-v.auto.slots ∙ c.loop-i.invariant.1,
-  c.case-v.auto.functions ∙ c.loop-i.invariant.2,
-  c.case-v.auto.types ∙ c.loop-i.invariant.3,
-  c.case-v.auto.diagnostics ∙ c.loop-i.invariant.4,
-  c.case-v.auto.messages ∙ c.loop-i.invariant.5,
-  c.case-v.auto.scratch ∙ c.loop-i.invariant.6,
+pub cases-loop-preserved : goal.cases-loop-preserved
+cases-loop-preserved t c = (
+  turn-next_cases c.loop.invariant.0 (omega arith) c.case-v.ensures (came_after c.case-v.result c.after.ensures c.in-Goes.is) c.case_end-place.ensures,
+  c.case-v.auto.slots ∙ c.loop.invariant.1,
+  c.case-v.auto.functions ∙ c.loop.invariant.2,
+  c.case-v.auto.types ∙ c.loop.invariant.3,
+  c.case-v.auto.diagnostics ∙ c.loop.invariant.4,
+  c.case-v.auto.messages ∙ c.loop.invariant.5,
+  c.case-v.auto.scratch ∙ c.loop.invariant.6,
 )
 
 pub cases-overflow_add-next : goal.cases-overflow_add-next
-cases-overflow_add-next t c = omega (arith, default_inside c.loop-i.invariant.0 c.loop-i-test.false, record_inside c.loop-i.invariant.0 c.loop-i-test.false)
+cases-overflow_add-next t c = omega (arith, default_inside c.loop.invariant.0 (omega arith), record_inside c.loop.invariant.0 (omega arith))
 
 pub cases-overflow_add-left : goal.cases-overflow_add-left
-cases-overflow_add-left t c = omega (arith, record_inside c.loop-i.invariant.0 c.loop-i-test.false, c.payload.ensures ∙ ap payload_of c.word_at-3.ensures)
+cases-overflow_add-left t c = omega (arith, record_inside c.loop.invariant.0 (omega arith), c.payload.ensures ∙ ap payload_of c.word_at-3.ensures)
 
 pub cases-overflow_sub-left : goal.cases-overflow_sub-left
-cases-overflow_sub-left t c = omega (arith, default_inside c.loop-i.invariant.0 c.loop-i-test.false, c.payload.ensures ∙ ap payload_of c.word_at-3.ensures)
+cases-overflow_sub-left t c = omega (arith, default_inside c.loop.invariant.0 (omega arith), c.payload.ensures ∙ ap payload_of c.word_at-3.ensures)
 
 pub cases-loop-left-init : goal.cases-loop-left-init
 cases-loop-left-init t c = (
   L.turn-begin
-      (default_visit c.loop-i.invariant.0 c.loop-i-test.false (ap (λ x. c.node_place-at.result + x - (c.loop-i.place + 1)) (c.payload.ensures ∙ ap payload_of c.word_at-3.ensures)))
+      (default_visit c.loop.invariant.0 (omega arith) (ap (λ x. c.node_place-at.result + x - (c.loop.place + 1)) (c.payload.ensures ∙ ap payload_of c.word_at-3.ensures)))
       c.word_at-2.ensures,
   refl,
   refl,
@@ -1231,31 +1189,31 @@ cases-part-v-requires t c = (
 
 pub cases-shape_of-slots-in_default-after : goal.cases-shape_of-slots-in_default-after
 cases-shape_of-slots-in_default-after t c =
-    c.part-v.auto.slots ∙ c.loop-left.invariant.1 ∙ c.loop-i.invariant.1
+    c.part-v.auto.slots ∙ c.loop-left.invariant.1 ∙ c.loop.invariant.1
 
 pub cases-shape_of-functions-in_default-after : goal.cases-shape_of-functions-in_default-after
 cases-shape_of-functions-in_default-after t c =
-    c.part-v.auto.functions ∙ c.loop-left.invariant.2 ∙ c.loop-i.invariant.2
+    c.part-v.auto.functions ∙ c.loop-left.invariant.2 ∙ c.loop.invariant.2
 
 pub cases-shape_of-types-in_default-after : goal.cases-shape_of-types-in_default-after
 cases-shape_of-types-in_default-after t c =
-    c.part-v.auto.types ∙ c.loop-left.invariant.3 ∙ c.loop-i.invariant.3
+    c.part-v.auto.types ∙ c.loop-left.invariant.3 ∙ c.loop.invariant.3
 
 pub cases-shape_of-diagnostics-in_default-after : goal.cases-shape_of-diagnostics-in_default-after
 cases-shape_of-diagnostics-in_default-after t c =
-    c.part-v.auto.diagnostics ∙ c.loop-left.invariant.4 ∙ c.loop-i.invariant.4
+    c.part-v.auto.diagnostics ∙ c.loop-left.invariant.4 ∙ c.loop.invariant.4
 
 pub cases-shape_of-messages-in_default-after : goal.cases-shape_of-messages-in_default-after
 cases-shape_of-messages-in_default-after t c =
-    c.part-v.auto.messages ∙ c.loop-left.invariant.5 ∙ c.loop-i.invariant.5
+    c.part-v.auto.messages ∙ c.loop-left.invariant.5 ∙ c.loop.invariant.5
 
 pub cases-shape_of-scratch-in_default-after : goal.cases-shape_of-scratch-in_default-after
 cases-shape_of-scratch-in_default-after t c =
-    c.part-v.auto.scratch ∙ c.loop-left.invariant.6 ∙ c.loop-i.invariant.6
+    c.part-v.auto.scratch ∙ c.loop-left.invariant.6 ∙ c.loop.invariant.6
 
 pub cases-returns-in_default-after : goal.cases-returns-in_default-after
 cases-returns-in_default-after t c =
-    default_stops c.loop-i.invariant.0 c.loop-i-test.false (ap (λ x. c.node_place-at.result + x - (c.loop-i.place + 1)) (c.payload.ensures ∙ ap payload_of c.word_at-3.ensures))
+    default_stops c.loop.invariant.0 (omega arith) (ap (λ x. c.node_place-at.result + x - (c.loop.place + 1)) (c.payload.ensures ∙ ap payload_of c.word_at-3.ensures))
     (L.turn-stops c.loop-left.invariant.0 c.loop-left-test.true c.word_at-in-loop-left.ensures c.part-v.ensures (stopped-after c.part-v.result c.after-in-loop-left.ensures c.in_default-after.is))
     (L.leave-stopped _ (stopped-after c.part-v.result c.after-in-loop-left.ensures c.in_default-after.is)) (stopped-after c.part-v.result c.after-in-loop-left.ensures c.in_default-after.is)
 
@@ -1284,37 +1242,37 @@ cases-loop-left-preserved t c = (
 
 pub cases-end-requires : goal.cases-end-requires
 cases-end-requires t c =
-    end-cases c.loop-i.invariant.0 c.loop-i-test.false
+    end-cases c.loop.invariant.0 (omega arith)
 
 pub cases-shape_of-slots : goal.cases-shape_of-slots
 cases-shape_of-slots t c =
-    c.end.auto.slots ∙ c.loop-left.invariant.1 ∙ c.loop-i.invariant.1
+    c.end.auto.slots ∙ c.loop-left.invariant.1 ∙ c.loop.invariant.1
 
 pub cases-shape_of-functions : goal.cases-shape_of-functions
 cases-shape_of-functions t c =
-    c.loop-left.invariant.2 ∙ c.loop-i.invariant.2
+    c.loop-left.invariant.2 ∙ c.loop.invariant.2
 
 pub cases-shape_of-types : goal.cases-shape_of-types
 cases-shape_of-types t c =
-    c.loop-left.invariant.3 ∙ c.loop-i.invariant.3
+    c.loop-left.invariant.3 ∙ c.loop.invariant.3
 
 pub cases-shape_of-diagnostics : goal.cases-shape_of-diagnostics
 cases-shape_of-diagnostics t c =
-    c.end.auto.diagnostics ∙ c.loop-left.invariant.4 ∙ c.loop-i.invariant.4
+    c.end.auto.diagnostics ∙ c.loop-left.invariant.4 ∙ c.loop.invariant.4
 
 pub cases-shape_of-messages : goal.cases-shape_of-messages
 cases-shape_of-messages t c =
-    c.end.auto.messages ∙ c.loop-left.invariant.5 ∙ c.loop-i.invariant.5
+    c.end.auto.messages ∙ c.loop-left.invariant.5 ∙ c.loop.invariant.5
 
 pub cases-shape_of-scratch : goal.cases-shape_of-scratch
 cases-shape_of-scratch t c =
-    c.loop-left.invariant.6 ∙ c.loop-i.invariant.6
+    c.loop-left.invariant.6 ∙ c.loop.invariant.6
 
 pub cases-returns : goal.cases-returns
 cases-returns t c =
-    match-ends c.loop-i.invariant.0 c.loop-i-test.false (ap (λ x. c.node_place-at.result + x - (c.loop-i.place + 1)) (c.payload.ensures ∙ ap payload_of c.word_at-3.ensures))
+    match-ends c.loop.invariant.0 (omega arith) (ap (λ x. c.node_place-at.result + x - (c.loop.place + 1)) (c.payload.ensures ∙ ap payload_of c.word_at-3.ensures))
     (L.turn_end c.loop-left.invariant.0 c.loop-left-test.false refl)
-    (ap (came_of c.loop-left.default) c.left.ensures ∙ sym (L.leave_came c.loop-left.default c.loop-left.end c.loop-i.here)) (L.came_so c.loop-left.default c.left.result)
+    (ap (came_of c.loop-left.default) c.left.ensures ∙ sym (L.leave_came c.loop-left.default c.loop-left.end c.loop.here)) (L.came_so c.loop-left.default c.left.result)
     (c.end.ensures _ _ _ _ _ no_more)
 
 pub cast-cast_begin-made-requires : goal.cast-cast_begin-made-requires
