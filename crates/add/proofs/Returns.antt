@@ -10,30 +10,30 @@ use lib.Seq.{set-set, set-get_or}
 use borrow.Author.Tests.{le-leb, lt-leb}
 use Rattle.tok.specs.Word.{word_of}
 use Rattle.tok.specs.Text.{Texts}
-use Rattle.tok.specs.Step.{Step, Refusal, ok, refused, refusal, when, next}
+use Rattle.tok.specs.Step.{Step, Refusal, ok, refused, refusal, when}
 use Rattle.ptype.specs.Add.{Buffer, buffer, overwrite, write, append, add_type, add_wrap}
-use Rattle.add.specs.declared.Added.{Added}
-use Rattle.add.specs.declared.Added.TheVariants.{Put, Full, TooDeep}
-use Rattle.add.specs.Answer.{result_of, Adds}
+use Rattle.std.specs.Prelude.{Ok, Err}
+use Rattle.add.specs.declared.AddError.TheVariants.{Full, TooDeep}
+use Rattle.add.specs.Answer.{Adds}
 use Rattle.add.specs.Parts.{opened, shallow, measured}
 use Rattle.add.specs.Pool.{copy_pool, Copies}
 use Rattle.add.specs.WriteLaws.{write-one}
 
 -- an answer with a word; one that refuses, and leaves the words as they were
 adds-put : {step : Texts → ℕ → Step Buffer Refusal ℕ} {old : List ℕ} {used w u : ℕ} {new : List ℕ}
-    → ((t : Texts) (n : ℕ) → step t n (buffer old used) ≡ ok w (buffer new u)) → Adds step old used (Put w u) new
+    → ((t : Texts) (n : ℕ) → step t n (buffer old used) ≡ ok w (buffer new u)) → Adds step old used (Ok (w, u)) new
 adds-put h = record { result = h; words = λ t n. rw (h t n) }
 
 adds-full : {step : Texts → ℕ → Step Buffer Refusal ℕ} {old : List ℕ} {used : ℕ}
-    → ((t : Texts) (n : ℕ) → step t n (buffer old used) ≡ refused (refusal 7 n)) → Adds step old used Full old
+    → ((t : Texts) (n : ℕ) → step t n (buffer old used) ≡ refused (refusal 7 n)) → Adds step old used (Err Full) old
 adds-full h = record { result = h; words = λ t n. rw (h t n) }
 
 adds-deep : {step : Texts → ℕ → Step Buffer Refusal ℕ} {old : List ℕ} {used : ℕ}
-    → ((t : Texts) (n : ℕ) → step t n (buffer old used) ≡ refused (refusal 8 n)) → Adds step old used TooDeep old
+    → ((t : Texts) (n : ℕ) → step t n (buffer old used) ≡ refused (refusal 8 n)) → Adds step old used (Err TooDeep) old
 adds-deep h = record { result = h; words = λ t n. rw (h t n) }
 
 module _ (l : List ℕ) (used kind inner : ℕ) {room : ℕ} (hr : room ≡ min (length l) 8192) where
-  pub wrap-full : room ≤ used → Adds (λ t n. add_wrap t n kind inner) l used Full l
+  pub wrap-full : room ≤ used → Adds (λ t n. add_wrap t n kind inner) l used (Err Full) l
   unfolding add_wrap add_type when
   wrap-full h = adds-full (λ t n. rw (lt-leb (used + 1) (min (length l) 8192) (omega arith)))
 
@@ -42,33 +42,33 @@ module _ (l : List ℕ) (used kind inner : ℕ) {room : ℕ} (hr : room ≡ min 
     unfolding add_wrap add_type when append
     wrap-is t n = rw (le-leb (used + 1) (min (length l) 8192) (omega arith), write-one, ← hw, ← hq t)
 
-    pub wrap-put : q ≡ true → Adds (λ t n. add_wrap t n kind inner) l used (Put word (used + 1)) (set l used inner)
+    pub wrap-put : q ≡ true → Adds (λ t n. add_wrap t n kind inner) l used (Ok (word, (used + 1))) (set l used inner)
     unfolding when
     wrap-put e = adds-put (λ t n. wrap-is t n ∙ rw e)
 
-    pub wrap-deep : q ≡ false → Adds (λ t n. add_wrap t n kind inner) l used TooDeep (set (set l used inner) used (get_or l used 0))
+    pub wrap-deep : q ≡ false → Adds (λ t n. add_wrap t n kind inner) l used (Err TooDeep) (set (set l used inner) used (get_or l used 0))
     unfolding when
     wrap-deep e = rw (set-set, set-get_or) (adds-deep (λ t n. wrap-is t n ∙ rw e))
 
 module _ (l : List ℕ) (used fields : ℕ) {room : ℕ} {q : Bool} (hr : room ≡ min (length l) 8192) (hq : q ≡ leb (used + (1 + 2 * fields)) room) where
-  pub open_full : q ≡ false → Adds (λ t n. opened n fields) l used Full l
+  pub open_full : q ≡ false → Adds (λ t n. opened n fields) l used (Err Full) l
   unfolding opened when
   open_full e = adds-full (λ t n. rw (← hr, ← hq, e))
 
-  pub open_put : {word : ℕ} → q ≡ true → word ≡ word_of 8 used → Adds (λ t n. opened n fields) l used (Put word (used + 1 + 2 * fields)) (set l used fields)
+  pub open_put : {word : ℕ} → q ≡ true → word ≡ word_of 8 used → Adds (λ t n. opened n fields) l used (Ok (word, (used + 1 + 2 * fields))) (set l used fields)
   unfolding opened when
   open_put e hw =
       let z : used + (1 + 2 * fields) ≡ used + 1 + 2 * fields = omega arith in
       adds-put (λ t n. rw (← hr, ← hq, e, write-one, ← hw, z))
 
-module _ (l : List ℕ) {a : Added} {w u : ℕ} {q : Bool} (e : a ≡ Put w u) (hq : (t : Texts) → q ≡ shallow t l w) (t : Texts) (n : ℕ) where
-  pub close_put : q ≡ true → next (result_of n a l) (measured t n) ≡ result_of n (Put w u) l
+module _ (l : List ℕ) (w u : ℕ) {q : Bool} (hq : (t : Texts) → q ≡ shallow t l w) (t : Texts) (n : ℕ) where
+  pub close_put : q ≡ true → measured t n w (buffer l u) ≡ ok w (buffer l u)
   unfolding measured when
-  close_put p = rw (e, ← hq t, p)
+  close_put p = rw (← hq t, p)
 
-  pub close_deep : q ≡ false → next (result_of n a l) (measured t n) ≡ refused (refusal 8 n)
+  pub close_deep : q ≡ false → measured t n w (buffer l u) ≡ refused (refusal 8 n)
   unfolding measured when
-  close_deep p = rw (e, ← hq t, p)
+  close_deep p = rw (← hq t, p)
 
 -- what is written over a list that is long enough stands before the rest of it
 over-front : (old new : List ℕ) → length new ≤ length old → overwrite old new ≡ new ++ drop (length new) old

@@ -1,22 +1,24 @@
 -- What an answer of adding a type means. Definitions.
-use Rattle.std.specs.Prelude.{◌≡◌, List, ℕ}
+use Rattle.std.specs.Prelude.{◌≡◌, List, ℕ, Result as Answered, Ok, Err}
 use Rattle.tok.specs.Text.{Texts}
 use Rattle.tok.specs.Step.{Result, ok, refused, Step, Refusal, refusal}
 use Rattle.ptype.specs.Add.{Buffer, buffer}
-use Rattle.add.specs.declared.Added.{Added}
-use Rattle.add.specs.declared.Added.TheVariants.{Put, Full, TooDeep}
+use Rattle.add.specs.declared.AddError.{AddError}
+use Rattle.add.specs.declared.AddError.TheVariants.{Full, TooDeep}
 
--- "types buffer full | 7", "type depth 33 | 8"; 0 where the type is added
-abbrev pub number_of : Added → ℕ
-number_of (Put w u) = 0
+-- the new type's word, and how many words are used with it
+abbrev pub Added : Type 0
+Added = Answered (ℕ × ℕ) AddError
+
+-- "types buffer full | 7", "type depth 33 | 8"
+abbrev pub number_of : AddError → ℕ
 number_of Full = 7
 number_of TooDeep = 8
 
 -- an answer, and the words that the buffer then holds, as the result of a step of node n
 abbrev pub result_of : (n : ℕ) → Added → (words : List ℕ) → Result Buffer Refusal ℕ
-result_of n (Put w u) words = ok w (buffer words u)
-result_of n Full words = refused (refusal (number_of Full) n)
-result_of n TooDeep words = refused (refusal (number_of TooDeep) n)
+result_of n (Ok (w, u)) words = ok w (buffer words u)
+result_of n (Err e) words = refused (refusal (number_of e) n)
 
 -- the words after a step: those that it gives, or, where it is refused, those that were there
 abbrev pub words_after : {A : Type 0} → (old : List ℕ) → Result Buffer Refusal A → List ℕ

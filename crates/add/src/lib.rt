@@ -5,8 +5,7 @@
 ghost use Rattle.std.specs.Prelude.{◌≡◌, List, [], ◌∷◌, ℕ, ◌+◌, ◌*◌, ◌<◌, ◌^◌, min, leb, length, set, replicate};
 ghost use Rattle.tok.specs.Word.{word_of};
 ghost use Rattle.tok.specs.Text.{Texts};
-ghost use Rattle.tok.specs.Step.{next};
-ghost use Rattle.ptype.specs.Add.{add_wrap, write};
+ghost use Rattle.ptype.specs.Add.{buffer, add_wrap, write};
 ghost use Rattle.ptype.specs.Marks.{Depths};
 ghost use Rattle.add.specs.Answer.{result_of, Adds};
 ghost use Rattle.add.specs.Parts.{opened, shallow, measured};
@@ -15,13 +14,15 @@ ghost use Rattle.add.specs.ShallowBy.{ShallowFound, shallow_found, shallow_by, a
 
 use ptype::{ARRAY, OPTION, RECORD};
 
-// The new type's word and how many words are used with it; no room (7); a type 33 deep (8).
-#[derive(Clone, Copy)]
-pub enum Added {
-    Put(u32, usize),
+// Why a type is not added: "types buffer full" (7), "type depth 33" (8).
+#[derive(Clone, Copy, Debug, PartialEq, Eq)]
+pub enum AddError {
     Full,
     TooDeep,
 }
+
+// The new type's word and how many words are used with it.
+pub type Added = Result<(u32, usize), AddError>;
 
 // How many words can be used: those lent, and at most 8,192.
 fn type_room(types: &[u32]) -> usize
@@ -60,16 +61,16 @@ fn add_wrap(types: &mut [u32], used: usize, kind: u32, inner: u32) -> Added
     ensures { Adds (λ t n. add_wrap t n kind inner) types.old used result types.new }
 {
     if used >= type_room(types) {
-        return Added::Full;
+        return Err(AddError::Full);
     }
     let old = types[used];
     types[used] = inner;
     let word = word_of(kind, used);
     if is_shallow(types, word) {
-        Added::Put(word, used + 1)
+        Ok((word, used + 1))
     } else {
         types[used] = old;
-        Added::TooDeep
+        Err(AddError::TooDeep)
     }
 }
 
@@ -100,9 +101,9 @@ pub fn open_record(types: &mut [u32], used: usize, fields: usize) -> Added
 {
     if record_fits(type_room(types), used, fields) {
         types[used] = fields as u32;
-        Added::Put(word_of(RECORD, used), used + 1 + 2 * fields)
+        Ok((word_of(RECORD, used), used + 1 + 2 * fields))
     } else {
-        Added::Full
+        Err(AddError::Full)
     }
 }
 
@@ -116,14 +117,14 @@ pub fn set_pair(types: &mut [u32], at: usize, name: u32, ty: u32)
     }
 }
 
-// Measures a Record whose pairs are all set; where it was not opened, the answer stays.
-pub fn close_record(types: &[u32], opened: Added) -> Added
-    ensures { (t : Texts) (n : ℕ) → next (result_of n opened types.now) (measured t n) ≡ result_of n result types.now }
+// Measures a Record whose pairs are all set.
+pub fn close_record(types: &[u32], word: u32, used: usize) -> Added
+    ensures { (t : Texts) (n : ℕ) → measured t n word (buffer types.now used) ≡ result_of n result types.now }
 {
-    match opened {
-        Added::Put(word, _) if !is_shallow(types, word) => Added::TooDeep,
-        _ => opened,
+    if !is_shallow(types, word) {
+        return Err(AddError::TooDeep);
     }
+    Ok((word, used))
 }
 
 // Copies the pool to the front of the buffer, and says whether there was room (7).

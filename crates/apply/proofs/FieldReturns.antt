@@ -1,34 +1,29 @@
 -- Each return of `apply_fields`, over variables for what the calls gave: by the fields that are left; and the pairs that are set. By
 -- unfolding the definitions, the laws of a Record added in parts, and those of sizes. Assumes nothing.
+use Rattle.std.specs.Prelude.{Ok, Err}
 use mathlib.Core.Path.{◌≡◌, refl, sym, ap, ◌∙◌}
-use mathlib.Core.Logic.{⊎_elim}
 use mathlib.Core.List.{List, [], ◌∷◌}
 use Prim.Native.Nat.{ℕ, ◌+◌, ◌-◌, ◌*◌, ◌≤◌, ◌<◌, ◌^◌}
 use native.Mathlib.Nat.{zero-add}
 use native.Mathlib.Omega.{arith}
 use lib.ListN.{get_or, length, take}
 use lib.Seq.{take-take}
-use types.Run.{OneOf}
-use denote.Enum.Declared.{tag_of}
-use borrow.Author.Tests.{eqb-false}
 use Rattle.tok.specs.Word.{payload_of}
 use Rattle.tok.specs.Text.{Texts}
 use Rattle.tok.specs.Step.{Result, ok, refused, Step, Refusal, next, return}
 use Rattle.ptype.proofs.UnfoldLaws.{one_less}
 use Rattle.ptype.specs.Add.{Buffer, buffer, write}
 use Rattle.ptype.specs.Slots.{Binding}
-use Rattle.add.specs.declared.Added.{Added}
-use Rattle.add.specs.declared.Added.TheVariants.{Put, Full, TooDeep}
-use Rattle.add.specs.Answer.{result_of}
+use Rattle.add.specs.declared.AddError.{AddError}
+use Rattle.add.specs.Answer.{Added, result_of}
 use Rattle.add.specs.Parts.{opened, paired, record_from}
 use Rattle.add.specs.WriteLaws.{write_nil, write-append, length-write}
-use Rattle.add.specs.contracts.Added.{the_type}
 use Rattle.apply.specs.Apply.{apply_pairs, apply_within, only}
 use Rattle.apply.specs.TreeLaws.{within_grows}
 use Rattle.apply.specs.Sizes.{sizes_of, size_within, word_before, pairs_after}
 use Rattle.apply.specs.SizeLaws.{OpenedAt, opened-at, AllSized, pairs-sized, within-sized}
 use Rattle.apply.specs.Setting.{Setting}
-use Rattle.apply.proofs.Returns.{refusal-stays, front-write}
+use Rattle.apply.proofs.Returns.{front-write}
 
 -- In the loop: the steps of all fields are those of the fields that are left, with pairs put before theirs.
 pub record Goes (whole rest : Result Buffer Refusal (List ℕ)) : Type 0 where
@@ -48,9 +43,9 @@ module _ (T : Texts) (n : ℕ) (bs : List Binding) (old : List ℕ) (deep : ℕ)
   steps at left = apply_pairs go (only old) at left
 
   -- the front stays as it was, and as much as was used is used
-  pub front_kept : (base : ℕ) (l : List ℕ) (u x : ℕ) (a : Added) (l₁ : List ℕ) {new v : ℕ} → base ≤ u → go x (buffer l u) ≡ result_of n a l₁ → a ≡ Put new v → (take base l₁ ≡ take base l) × (u ≤ v)
-  front_kept base l u x a l₁ {new} {v} h g e =
-      let grown = within_grows T n bs (only old) deep x (buffer l u) new (buffer l₁ v) (g ∙ rw e) in
+  pub front_kept : (base : ℕ) (l : List ℕ) (u x : ℕ) (a : Added) (l₁ : List ℕ) {p : ℕ × ℕ} → base ≤ u → go x (buffer l u) ≡ result_of n a l₁ → a ≡ Ok p → (take base l₁ ≡ take base l) × (u ≤ p.1)
+  front_kept base l u x a l₁ {p} h g e =
+      let grown = within_grows T n bs (only old) deep x (buffer l u) p.0 (buffer l₁ p.1) (g ∙ rw e) in
       (sym (take-take base u l₁ h) ∙ ap (take base) (sym grown.front.front) ∙ take-take base u l h, grown.more)
 
   module _ {whole : Result Buffer Refusal (List ℕ)} (here : ℕ) (l : List ℕ) (u : ℕ) {left x : ℕ} (h : Goes whole (steps here left (buffer l u)))
@@ -59,26 +54,17 @@ module _ (T : Texts) (n : ℕ) (bs : List Binding) (old : List ℕ) (deep : ℕ)
     unfolding apply_pairs
     first-is = ap (λ m. steps here m (buffer l u)) (one_less d) ∙ rw (← ex, g)
 
-    pub goes-next : {new v : ℕ} → a ≡ Put new v → Goes whole (steps (here + 2) (left - 1) (buffer l₁ v))
-    goes-next {new} {v} e = by (steps (here + 2) (left - 1) (buffer l₁ v)) refl
+    pub goes-next : {p : ℕ × ℕ} → a ≡ Ok p → Goes whole (steps (here + 2) (left - 1) (buffer l₁ p.1))
+    goes-next {p} e = by (steps (here + 2) (left - 1) (buffer l₁ p.1)) refl
       where
-        by : (r : Result Buffer Refusal (List ℕ)) → steps (here + 2) (left - 1) (buffer l₁ v) ≡ r → Goes whole (steps (here + 2) (left - 1) (buffer l₁ v))
-        by (ok others b) q = record { before = λ rest. h.before (get_or old here 0 ∷ new ∷ rest); is = h.is ∙ rw (first-is, e, q) }
+        by : (r : Result Buffer Refusal (List ℕ)) → steps (here + 2) (left - 1) (buffer l₁ p.1) ≡ r → Goes whole (steps (here + 2) (left - 1) (buffer l₁ p.1))
+        by (ok others b) q = record { before = λ rest. h.before (get_or old here 0 ∷ p.0 ∷ rest); is = h.is ∙ rw (first-is, e, q) }
         by (refused x) q = record { before = λ rest. rest; is = h.is ∙ rw (first-is, e, q) }
 
-    pub goes-stop : (at fields used : ℕ) (l₀ : List ℕ) → whole ≡ steps at fields (buffer l₀ used) → OneOf (1 ∷ 2 ∷ []) (tag_of the_type a)
-        → record_from n fields 0 (steps at fields) (buffer l₀ used) ≡ result_of n a l₁
+    pub goes-stop : (at fields used : ℕ) (l₀ : List ℕ) {e : AddError} → whole ≡ steps at fields (buffer l₀ used) → a ≡ Err e
+        → record_from n fields 0 (steps at fields) (buffer l₀ used) ≡ result_of n (Err e) l₁
     unfolding record_from
-    goes-stop at fields used l₀ w o = rw (← w, h.is, first-is) (stays a o)
-      where
-        others-then : ℕ → Step Buffer Refusal (List ℕ)
-        others-then new = λ s. next (steps (here + 2) (left - 1) s) (λ others. return (get_or old here 0 ∷ new ∷ others))
-
-        stays : (r : Added) → OneOf (1 ∷ 2 ∷ []) (tag_of the_type r)
-            → next (next (next (result_of n r l₁) others-then) (λ others. return (h.before others))) (λ pairs s. next (opened n fields s) (paired 0 pairs)) ≡ result_of n r l₁
-        stays (Put w v) o = absurd (⊎_elim (λ z. eqb-false 0 1 refl z) (λ z. eqb-false 0 2 refl z) o)
-        stays Full o = refl
-        stays TooDeep o = refl
+    goes-stop at fields used l₀ w o = rw (← w, h.is, first-is, o)
 
   -- After the loop: the pairs are those that go by the words used, and the Record is opened.
   module _ (at fields used : ℕ) (l₀ : List ℕ) (here : ℕ) (l : List ℕ) (u : ℕ) {left : ℕ} (h : Goes (steps at fields (buffer l₀ used)) (steps here left (buffer l u))) (z : left ≡ 0) where
@@ -93,21 +79,21 @@ module _ (T : Texts) (n : ℕ) (bs : List Binding) (old : List ℕ) (deep : ℕ)
     after_is = whole_is ∙ rw sized.are
 
     module _ (r : Added) (l₁ : List ℕ) (o : opened n fields (buffer l u) ≡ result_of n r l₁) where
-      pub open_stop : OneOf (1 ∷ 2 ∷ []) (tag_of the_type r) → record_from n fields 0 (steps at fields) (buffer l₀ used) ≡ result_of n r l₁
+      pub open_stop : {e : AddError} → r ≡ Err e → record_from n fields 0 (steps at fields) (buffer l₀ used) ≡ result_of n (Err e) l₁
       unfolding record_from
-      open_stop q = rw (after_is, o) (refusal-stays n r l₁ (paired 0 (pairs_after T bs old deep used at fields)) q)
+      open_stop e = rw (after_is, o, e)
 
-      module _ {w v : ℕ} (e : r ≡ Put w v) where
-        at-end : OpenedAt fields u w l l₁
-        at-end = opened-at n fields l u w l₁ v (o ∙ rw e)
+      module _ {p : ℕ × ℕ} (e : r ≡ Ok p) where
+        at-end : OpenedAt fields u p.0 l l₁
+        at-end = opened-at n fields l u p.0 l₁ p.1 (o ∙ rw e)
 
         -- the front stays as it was
         pub open_front : (base : ℕ) → base ≤ u → take base l₁ ≡ take base l
         open_front base b = rw at-end.after (front-write base u l (fields ∷ []) b)
 
-        pub open_setting : {base words q : ℕ} → base ≤ u → base ≤ words → at + 2 * fields < 2 ^ 40 → q ≡ payload_of w → Setting T bs old deep used at fields (q + 1) base words
+        pub open_setting : {base words q : ℕ} → base ≤ u → base ≤ words → at + 2 * fields < 2 ^ 40 → q ≡ payload_of p.0 → Setting T bs old deep used at fields (q + 1) base words
         open_setting b c d hq =
-            let p : payload_of w ≡ u = rw at-end.word (omega (arith, at-end.room)) in
+            let z : payload_of p.0 ≡ u = rw at-end.word (omega (arith, at-end.room)) in
             record {
               fits = omega (arith, sized.used, at-end.room);
               reads = d;
@@ -116,11 +102,11 @@ module _ (T : Texts) (n : ℕ) (bs : List Binding) (old : List ℕ) (deep : ℕ)
               lent = c;
             }
 
-        pub open_put : {q : ℕ} {l₂ : List ℕ} → q ≡ payload_of w → l₂ ≡ write l₁ (q + 1) (pairs_after T bs old deep used at fields)
-            → record_from n fields 0 (steps at fields) (buffer l₀ used) ≡ ok w (buffer l₂ v)
+        pub open_put : {q : ℕ} {l₂ : List ℕ} → q ≡ payload_of p.0 → l₂ ≡ write l₁ (q + 1) (pairs_after T bs old deep used at fields)
+            → record_from n fields 0 (steps at fields) (buffer l₀ used) ≡ ok p.0 (buffer l₂ p.1)
         unfolding record_from paired
         open_put hq h₂ =
-            let place : payload_of w + 1 + 2 * 0 ≡ payload_of w + 1 = omega arith in
+            let place : payload_of p.0 + 1 + 2 * 0 ≡ payload_of p.0 + 1 = omega arith in
             rw (after_is, o, e, h₂, hq, place)
 
 -- ── The loop that puts types for the slots of the fields ──
@@ -146,10 +132,10 @@ module _ {T : Texts} {bs : List Binding} {deep base : ℕ} {l₀ : List ℕ} {us
     step-old : (n : ℕ) → apply_within T n bs (only (take base l₀)) deep x (buffer l u) ≡ result_of n a l₁
     step-old n = rw h.front at (g n)
 
-    pub applying_stop : OneOf (1 ∷ 2 ∷ []) (tag_of the_type a) → (n : ℕ) → record_from n fields 0 (steps T n bs (take base l₀) deep at fields) (buffer l₀ used) ≡ result_of n a l₁
+    pub applying_stop : {e : AddError} → a ≡ Err e → (n : ℕ) → record_from n fields 0 (steps T n bs (take base l₀) deep at fields) (buffer l₀ used) ≡ result_of n (Err e) l₁
     applying_stop o n = goes-stop T n bs (take base l₀) deep here l u (h.goes n) d word-old a l₁ (step-old n) at fields used l₀ refl o
 
-    pub applying_next : {new v here' left' : ℕ} → here' ≡ here + 2 → left' ≡ left - 1 → a ≡ Put new v → length l₁ ≡ length l → Applying T bs deep base l₀ used at fields l₁ v here' left'
+    pub applying_next : {p : ℕ × ℕ} {here' left' : ℕ} → here' ≡ here + 2 → left' ≡ left - 1 → a ≡ Ok p → length l₁ ≡ length l → Applying T bs deep base l₀ used at fields l₁ p.1 here' left'
     applying_next eh el e k =
         let f = front_kept T 0 bs (take base l₀) deep base l u x a l₁ h.past (step-old 0) e in
         rw (eh, el) record {
@@ -162,18 +148,18 @@ module _ {T : Texts} {bs : List Binding} {deep base : ℕ} {l₀ : List ℕ} {us
 
   -- and after it
   module _ (z : left ≡ 0) (r : Added) (l₁ : List ℕ) (o : (n : ℕ) → opened n fields (buffer l u) ≡ result_of n r l₁) where
-    pub record_stop : OneOf (1 ∷ 2 ∷ []) (tag_of the_type r) → (n : ℕ) → record_from n fields 0 (steps T n bs (take base l₀) deep at fields) (buffer l₀ used) ≡ result_of n r l₁
+    pub record_stop : {e : AddError} → r ≡ Err e → (n : ℕ) → record_from n fields 0 (steps T n bs (take base l₀) deep at fields) (buffer l₀ used) ≡ result_of n (Err e) l₁
     record_stop q n = open_stop T n bs (take base l₀) deep at fields used l₀ here l u (h.goes n) z r l₁ (o n) q
 
-    module _ {w v : ℕ} (e : r ≡ Put w v) where
+    module _ {p : ℕ × ℕ} (e : r ≡ Ok p) where
       front-old : take base l₁ ≡ take base l₀
       front-old = open_front T 0 bs (take base l₀) deep at fields used l₀ here l u (h.goes 0) z r l₁ (o 0) e base h.past ∙ h.front
 
-      pub record_setting : {q : ℕ} → base ≤ length l₁ → at + 2 * fields < 2 ^ 40 → q ≡ payload_of w → Setting T bs (take base l₁) deep used at fields (q + 1) base (length l₁)
+      pub record_setting : {q : ℕ} → base ≤ length l₁ → at + 2 * fields < 2 ^ 40 → q ≡ payload_of p.0 → Setting T bs (take base l₁) deep used at fields (q + 1) base (length l₁)
       record_setting c b hq = rw front-old (open_setting T 0 bs (take base l₀) deep at fields used l₀ here l u (h.goes 0) z r l₁ (o 0) e h.past c b hq)
 
-      pub record_put : {q : ℕ} {l₂ : List ℕ} → q ≡ payload_of w → l₂ ≡ write l₁ (q + 1) (pairs_after T bs (take base l₁) deep used at fields)
-          → (n : ℕ) → record_from n fields 0 (steps T n bs (take base l₀) deep at fields) (buffer l₀ used) ≡ ok w (buffer l₂ v)
+      pub record_put : {q : ℕ} {l₂ : List ℕ} → q ≡ payload_of p.0 → l₂ ≡ write l₁ (q + 1) (pairs_after T bs (take base l₁) deep used at fields)
+          → (n : ℕ) → record_from n fields 0 (steps T n bs (take base l₀) deep at fields) (buffer l₀ used) ≡ ok p.0 (buffer l₂ p.1)
       record_put hq h₂ n = open_put T n bs (take base l₀) deep at fields used l₀ here l u (h.goes n) z r l₁ (o n) e hq (rw front-old at h₂)
 
 -- How many words fields add: the first, and the others.

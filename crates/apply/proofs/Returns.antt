@@ -1,8 +1,7 @@
 -- Each return of `slot_type`, `add_wrap` and `apply_within`, over variables for what the calls gave: by the kind of the word.
 -- By unfolding the definitions, and the laws of a Record added in parts. Assumes nothing.
-use Rattle.std.specs.Prelude.{Option as Found, Some, None, unwrap_or}
+use Rattle.std.specs.Prelude.{Option as Found, Some, None, Ok, Err, unwrap_or}
 use mathlib.Core.Path.{◌≡◌, refl, sym, ap, ◌∙◌}
-use mathlib.Core.Logic.{⊎_elim}
 use mathlib.Core.Bool.{Bool, true, false}
 use mathlib.Core.Option.{Option}
 use mathlib.Core.List.{List, [], ◌∷◌}
@@ -11,9 +10,7 @@ use native.Mathlib.Omega.{arith}
 use lib.ListN.{get_or, length, take}
 use lib.Dec.{leb}
 use lib.Seq.{take-take, take_all, take-length}
-use types.Run.{OneOf}
-use denote.Enum.Declared.{tag_of}
-use borrow.Author.Tests.{ne_eqb, eqb-true, eqb-false, leb-true, leb-false}
+use borrow.Author.Tests.{ne_eqb, eqb-true, leb-true, leb-false}
 use Rattle.tok.specs.Word.{kind_of, payload_of}
 use Rattle.tok.specs.Text.{Texts, name_bytes}
 use Rattle.tok.specs.Step.{Result, ok, Step, Refusal, next, return}
@@ -23,13 +20,11 @@ use Rattle.ptype.proofs.UnfoldLaws.{one_less}
 use Rattle.ptype.proofs.GrowLaws.{agree-append}
 use Rattle.ptype.specs.Add.{Buffer, buffer, append, write, add_wrap}
 use Rattle.ptype.specs.Slots.{Binding, bound_to, bound_or, has_bound_slot}
-use Rattle.add.specs.declared.Added.{Added}
-use Rattle.add.specs.declared.Added.TheVariants.{Put, Full, TooDeep}
-use Rattle.add.specs.Answer.{result_of}
+use Rattle.add.specs.declared.AddError.{AddError}
+use Rattle.add.specs.Answer.{Added, result_of}
 use Rattle.add.specs.Parts.{measured, record_from}
 use Rattle.add.specs.StepLaws.{next-ok}
 use Rattle.add.specs.PartsLaws.{record_steps}
-use Rattle.add.specs.contracts.Added.{the_type}
 use Rattle.slots.specs.Bindings.{found_of}
 use Rattle.apply.specs.Apply.{apply_pairs, apply_inside, apply_within, apply_word, only}
 use Rattle.apply.specs.StepLaws.{inside-slot, inside-wrap, inside_record, inside-rest, within-free, within-inside}
@@ -44,12 +39,6 @@ pub slot_or : (slot : ℕ) (f : Found ℕ) {o : Option ℕ} {r : ℕ} → found_
 unfolding bound_or
 slot_or slot (Some w) e q = q ∙ ap (bound_or slot) e
 slot_or slot None e q = q ∙ ap (bound_or slot) e
-
--- a refusal stays, whatever the buffer holds
-pub refusal-stays : (n : ℕ) (r : Added) (l : List ℕ) (f : ℕ → Step Buffer Refusal ℕ) → OneOf (1 ∷ 2 ∷ []) (tag_of the_type r) → next (result_of n r l) f ≡ result_of n r l
-refusal-stays n (Put w u) l f h = absurd (⊎_elim (λ z. eqb-false 0 1 refl z) (λ z. eqb-false 0 2 refl z) h)
-refusal-stays n Full l f h = refl
-refusal-stays n TooDeep l f h = refl
 
 -- two words for each field
 two-each : (go : ℕ → Step Buffer Refusal ℕ) (seen : Buffer → List ℕ) (left at : ℕ) (b : Buffer) (pairs : List ℕ) (b' : Buffer) → apply_pairs go seen at left b ≡ ok pairs b' → length pairs ≡ 2 * left
@@ -130,23 +119,29 @@ module _ (t : Texts) (n : ℕ) (bs : List Binding) (old l : List ℕ) (used w de
           wrap-is : Gives (next (result_of n r l₁) (add_wrap t n k))
           wrap-is = inside_is ∙ (inside-wrap t n bs (only old) (apply_within t n bs (only old) (deep - 1)) w (buffer l used) hk ns hw ∙ rw (← inner-seen, h))
 
-          pub wrap-stop : OneOf (1 ∷ 2 ∷ []) (tag_of the_type r) → Gives (result_of n r l₁)
-          wrap-stop o = wrap-is ∙ refusal-stays n r l₁ (add_wrap t n k) o
+          pub wrap-stop : {e : AddError} → r ≡ Err e → Gives (result_of n (Err e) l₁)
+          wrap-stop e = wrap-is ∙ rw e
 
-          pub wrap-put : {new u : ℕ} {y : Result Buffer Refusal ℕ} → r ≡ Put new u → add_wrap t n k new (buffer l₁ u) ≡ y → Gives y
+          pub wrap-put : {p : ℕ × ℕ} {y : Result Buffer Refusal ℕ} → r ≡ Ok p → add_wrap t n k p.0 (buffer l₁ p.1) ≡ y → Gives y
           wrap-put e g = wrap-is ∙ rw e g
 
         module _ (nw : wraps k ≡ false) where
-          pub apply_record : {x m : ℕ} (r : Added) (l₁ : List ℕ) {y : Result Buffer Refusal ℕ} → k ≡ 8 → x ≡ payload_of w → m ≡ field_count seen w
-              → record_from n m 0 (apply_pairs (apply_within t n bs (only old) (deep - 1)) (only old) (x + 1) m) (buffer l used) ≡ result_of n r l₁
-              → next (result_of n r l₁) (measured t n) ≡ y → Gives y
-          apply_record {x} {m} r l₁ e hx hm h g =
-              let go = apply_within t n bs (only old) (deep - 1) in
-              let ho : m ≡ field_count old w = rw eo at hm in
-              inside_is
-              ∙ (inside_record t n bs (only old) go w (buffer l used) hk ns nw e
-              ∙ rw (← ho, ← hx)
-              (record_steps t n m (apply_pairs go (only old) (x + 1) m) (buffer l used) (λ pairs b. two-each go (only old) m (x + 1) (buffer l used) pairs b) ∙ (ap (λ a. next a (measured t n)) h ∙ g)))
+          module _ {x m : ℕ} (r : Added) (l₁ : List ℕ) (e : k ≡ 8) (hx : x ≡ payload_of w) (hm : m ≡ field_count seen w)
+              (h : record_from n m 0 (apply_pairs (apply_within t n bs (only old) (deep - 1)) (only old) (x + 1) m) (buffer l used) ≡ result_of n r l₁) where
+            record_is : Gives (next (result_of n r l₁) (measured t n))
+            record_is =
+                let go = apply_within t n bs (only old) (deep - 1) in
+                let ho : m ≡ field_count old w = rw eo at hm in
+                inside_is
+                ∙ (inside_record t n bs (only old) go w (buffer l used) hk ns nw e
+                ∙ rw (← ho, ← hx)
+                (record_steps t n m (apply_pairs go (only old) (x + 1) m) (buffer l used) (λ pairs b. two-each go (only old) m (x + 1) (buffer l used) pairs b) ∙ ap (λ a. next a (measured t n)) h))
+
+            pub record_refused : {e : AddError} → r ≡ Err e → Gives (result_of n (Err e) l₁)
+            record_refused e = record_is ∙ rw e
+
+            pub record_closed : {p : ℕ × ℕ} {y : Result Buffer Refusal ℕ} → r ≡ Ok p → measured t n p.0 (buffer l₁ p.1) ≡ y → Gives y
+            record_closed e g = record_is ∙ rw e g
 
           pub apply-rest : (k ≡ 8 → ⊥) → Gives (ok w (buffer l used))
           apply-rest d = inside_is ∙ inside-rest t n bs (only old) (apply_within t n bs (only old) (deep - 1)) w (buffer l used) hk ns nw d

@@ -52,30 +52,27 @@ fn apply_within(
         ((n : ℕ) → apply_within texts.now n bs (only old) depth w (buffer types.old used) ≡ result_of n result types.new) }
 {
     if depth == 0 {
-        return Added::Put(w, used);
+        return Ok((w, used));
     }
     let below = depth - 1;
     let k = kind(w);
     if k == SLOT {
-        return Added::Put(slot_type(texts, pairs, count, w), used);
+        return Ok((slot_type(texts, pairs, count, w), used));
     }
     if !slots::has_bound_slot_within(&types[..base], texts, pairs, count, w, depth) {
-        return Added::Put(w, used);
+        return Ok((w, used));
     }
     if wraps(k) {
         let x = inner(&types[..base], w);
-        let r = apply_within(types, base, used, texts, pairs, count, x, below);
-        let Added::Put(new, u) = r else {
-            return r;
-        };
+        let (new, u) = apply_within(types, base, used, texts, pairs, count, x, below)?;
         add_wrap(types, u, k, new)
     } else if k == RECORD {
         let n = field_count(&types[..base], w);
         let at = payload(w) + 1;
-        let r = apply_fields(types, base, used, texts, pairs, count, at, n, below);
-        add::close_record(types, r)
+        let (new, u) = apply_fields(types, base, used, texts, pairs, count, at, n, below)?;
+        add::close_record(types, new, u)
     } else {
-        Added::Put(w, used)
+        Ok((w, used))
     }
 }
 
@@ -102,21 +99,15 @@ fn apply_fields(
     let mut u = used;
     for i in 0..fields {
         let x = field_type(&types[..base], at + 2 * i);
-        let a = apply_within(types, base, u, texts, pairs, count, x, depth);
-        let Added::Put(_, more) = a else {
-            return a;
-        };
+        let (_, more) = apply_within(types, base, u, texts, pairs, count, x, depth)?;
         u = more;
     }
-    let r = add::open_record(types, u, fields);
-    let Added::Put(record, _) = r else {
-        return r;
-    };
-    let place = payload(record) + 1;
+    let (new, end) = add::open_record(types, u, fields)?;
+    let place = payload(new) + 1;
     set_pairs(
         types, base, used, texts, pairs, count, at, fields, depth, place,
     );
-    r
+    Ok((new, end))
 }
 
 // Sets the pairs of fields whose types were put after `used` words, from `place` on.

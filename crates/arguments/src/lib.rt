@@ -12,17 +12,14 @@ ghost use Rattle.rules.specs.Calls.{argument};
 ghost use Rattle.arguments.specs.Argument.{given, unchecked, Compares, Leaves};
 
 use err::CallName;
-use state::{Used, Went};
+use state::{Step, Used};
 use tok::{Span, Texts};
 
 // Whether an argument is left unchecked: it has no type, or Unknown stands in it.
 pub fn is_unchecked(types: &[u32], w: u32) -> bool
     ensures { (t : Texts) → result ≡ unchecked t types.now w }
 {
-    if w == 0 {
-        return true;
-    }
-    ptype::contains_unknown(types, w)
+    w == 0 || ptype::contains_unknown(types, w)
 }
 
 // The expected type against the provided one: 20 where they differ.
@@ -38,16 +35,16 @@ pub fn compared(
     span: Span,
     expected: u32,
     provided: u32,
-) -> Went
+) -> Step<()>
     ensures { let U : ℕ → Ty = ty_of texts.now types.now in
         Compares texts.now n (call_name texts.now callee) name span (U expected) (U provided) types.now diagnostics.old messages.old used diagnostics.new
         messages.new result }
 {
     if ptype::same_type(types, texts, expected, provided) {
-        return Went::On(used);
+        return Ok(((), used));
     }
     let free = err_text::first_free(messages, used.told);
-    let r = err_arguments::arg_mismatch(
+    let reported = err_arguments::arg_mismatch(
         diagnostics,
         &mut messages[free..],
         used.told,
@@ -59,7 +56,7 @@ pub fn compared(
         expected,
         provided,
     );
-    state::told(n, used, r)
+    state::told(n, used, reported, ())
 }
 
 // An argument of a function without slots. It binds nothing.
@@ -76,13 +73,13 @@ pub fn plain_argument(
     expected: u32,
     slot: u32,
     span: Span,
-) -> Went
+) -> Step<()>
     ensures { Leaves texts.now (λ c. argument c n (call_name texts.now callee) false (param name expected) (given slot span)) slots.now types.now diagnostics.old
         messages.old used diagnostics.new messages.new result }
 {
-    let w = tok::word_at(slots, tok::wide(slot));
+    let w = tok::word_at(slots, slot as usize);
     if is_unchecked(types, w) {
-        return Went::On(used);
+        return Ok(((), used));
     }
     compared(
         types,

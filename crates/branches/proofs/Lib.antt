@@ -1,2 +1,2 @@
-mod Returns
 mod Compare
+mod Ends

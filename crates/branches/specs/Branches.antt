@@ -4,7 +4,7 @@
 use Prim.Native.Nat.{ℕ, zero, suc, ◌+◌, ◌*◌, ◌≤◌}
 use Rattle.std.specs.Prelude.{◌≡◌, Bool, cond, get_or, eqb}
 use Rattle.std.proofs.Math.Path.{refl}
-use Rattle.std.proofs.Common.{ap, ◌∙◌}
+use Rattle.std.proofs.Common.{ap}
 use mathlib.Core.List.{List, [], ◌∷◌, ◌++◌}
 use native.Mathlib.Omega.{arith}
 use Rattle.tok.specs.Word.{kind_of}
@@ -17,7 +17,7 @@ use Rattle.rules.specs.declared.Answer.{Answer}
 use Rattle.rules.specs.declared.Answer.TheVariants.{Known, Poison}
 use Rattle.rules.specs.Visited.{visited_among, visited_in_cases, slots_of}
 use Rattle.rules.specs.Rules.{Branch}
-use Rattle.accepts.specs.Count.{total, total-append, count}
+use Rattle.accepts.specs.Count.{total-append, count}
 use Rattle.accepts.proofs.OtherSlots.{owned}
 use Rattle.accepts.proofs.Fresh.{visited_from, Apart, end-owned}
 

@@ -1,22 +1,21 @@
 -- A case of a Match, put together of its visits: what each call asks for, and one law for each way out of the code. Assumes nothing.
-use Rattle.std.specs.Prelude.{ℕ, ◌+◌, ◌*◌, ◌-◌, ◌<◌, ◌≡◌, List, [], ◌∷◌, ◌++◌, get_or}
+use Rattle.state.specs.declared.Refusal.{Refusal}
+use Rattle.visit.specs.Within.{Visits}
+use Rattle.std.specs.Prelude.{ℕ, ◌+◌, ◌*◌, ◌-◌, ◌<◌, ◌≡◌, List, [], ◌++◌, get_or, Ok, Err}
 use Rattle.std.proofs.Math.Path.{refl}
-use Rattle.std.proofs.Common.{◌∙◌, arith}
-use types.Run.{OneOf}
-use denote.Enum.Declared.{tag_of}
-use Rattle.std.proofs.lemmas.Bool.{eqb-false}
+use Rattle.std.proofs.Common.{arith}
 use Rattle.tok.specs.Text.{Texts}
-use Rattle.tok.specs.Step.{Result, ok, refused, Refusal, next, ◌>>◌}
-use Rattle.ast.specs.Image.{word_at, node_count, slot_count}
-use Rattle.ast.specs.Node.{Node, Nodes, tree_of}
+use Rattle.tok.specs.Step.{ok, ◌>>◌}
+use Rattle.ast.specs.Image.{word_at, node_count}
+use Rattle.ast.specs.Node.{tree_of}
 use Rattle.accepts.proofs.Fresh.{visited_from, Fresh, Apart, fresh-first, fresh-rest, condition-apart}
 use Rattle.onerun.specs.Claim.{AnswerOk}
 use Rattle.image_laws.specs.RecordWords.{Under}
 use Rattle.places.specs.NodesAt.{NodeReady}
 use Rattle.rules.specs.declared.Answer.{Answer}
-use Rattle.rules.specs.World.{Ctx, World, Walk}
+use Rattle.rules.specs.World.{Walk}
 use Rattle.rules.specs.Visited.{visited_among}
-use Rattle.rules.specs.Rules.{condition, node, block}
+use Rattle.rules.specs.Rules.{condition, block}
 use Rattle.onerun.specs.Logic.{Gives, g_next}
 use Rattle.onerun.proofs.Functions.{BlockOk}
 use Rattle.onerun.proofs.Rules.{g_condition}
@@ -24,16 +23,9 @@ use Rattle.onerun.proofs.Nodes.{g_block}
 use Rattle.room_laws.specs.Room.{room, rooms, rows, rows_all}
 use Rattle.spans.specs.Ready.{NodesReady}
 use Rattle.visit.specs.declared.State.{State}
-use Rattle.visit.specs.declared.Visit.{Visit}
-use Rattle.visit.specs.declared.Visit.TheVariants as X
-use Rattle.visit.specs.declared.Walked.{Walked}
-use Rattle.visit.specs.declared.Walked.TheVariants as W
-use Rattle.visit.specs.contracts.Walked.{the_type}
-use Rattle.visit.specs.Whole.{Lent, whole, visited}
-use Rattle.visit.specs.Walks.{walked_in, Walks}
-use Rattle.visiting.specs.Then.{Came, as_known, as_poison, Stopped}
-use Rattle.visiting.specs.Blocks.{leave_of}
-use Rattle.visiting.specs.Leads.{Beginning, Leads, leads-begin, leads-less, leads-then, leads-stop, leads-on, leads-on-stop}
+use Rattle.visit.specs.Whole.{Lent, whole, Visit}
+use Rattle.visiting.specs.Blocks.{left_of, leave_of}
+use Rattle.visiting.specs.Leads.{Beginning, Leads, leads-begin, leads-less, leads-then, leads-stop}
 use Rattle.ready.specs.Ready.{walk_run, Ready, NodeVisit}
 use Rattle.ready.specs.Passes.{Passes, ready-then, ready-step, visit_passes}
 use Rattle.ready.specs.After.{nodes-proper, node-gives, after-node, after-condition, node-answer}
@@ -41,19 +33,14 @@ use Rattle.ready.specs.Parts.{node-visit}
 use Rattle.ready.specs.Unvisited.{came_ok, visit-apart}
 use Rattle.walking.specs.Visited.{ctx_in, NodeVisited, ListVisit, ListVisited, case_body, case_rule, CaseVisit, CaseVisited}
 use Rattle.walking.specs.Blocks.{block-visits}
-use Rattle.walking.specs.Stops.{halted_of}
 use Rattle.branches.specs.Branches.{body_answer}
 use Rattle.branches.specs.Told.{rule-parts, body-told}
 
 -- a case, and nothing else, touches slots of its own nodes alone
-pub case-apart : (T : Texts) (image words : List ℕ) (n at : ℕ) {st st₁ : State} {b b₁ : Lent} {v : Visit} {a : Answer} → CaseVisited T image words n at st b b₁ v → Came v a st₁
+pub case-apart : (T : Texts) (image words : List ℕ) (n at : ℕ) {st st₁ : State} {b b₁ : Lent} {a : Answer} → CaseVisited T image words n at st b b₁ (Ok (a, st₁))
     → Apart (visited_from (tree_of image (word_at image (at + 1))) ++ visited_among (case_body image at)) b.slots b₁.slots
-case-apart T image words n at {st} {b = b} {b₁ = b₁} x k =
-    rule-parts (ctx_in T image words) n (word_at image at) (tree_of image (word_at image (at + 1))) (case_body image at) (whole words st b) (x.step ∙ came_ok words b₁ k)
-
-walked-ok : (words : List ℕ) (b : Lent) {w : Walked} {st : State} → w ≡ W.On st → walked_in words b w ≡ ok tt (whole words st b)
-unfolding walked_in
-walked-ok words b e = rw e refl
+case-apart T image words n at {st} {b = b} x =
+    rule-parts (ctx_in T image words) n (word_at image at) (tree_of image (word_at image (at + 1))) (case_body image at) (whole words st b) (came_ok x)
 
 module _ {T : Texts} {image places words : List ℕ} {n at : ℕ} {st : State} {b : Lent} (h : CaseVisit T image places words n at st b) where
   test_below : word_at image (at + 1) < node_count image
@@ -71,16 +58,16 @@ module _ {T : Texts} {image places words : List ℕ} {n at : ℕ} {st : State} {
       g_next (walk_run T image words) _ (g_condition (walk_run T image words) (λ z. (f z).holds) n (word_at image at) (λ z. (f z).value.own.answer)) (λ _ u₁ t₁ f₁.
       g_block (walk_run T image words) (case_body image at) (nodes-proper h.ready.given body-nodes) (λ z. (f₁ z).holds)))
 
-  pub after-case : {b₁ : Lent} {v : Visit} {a : Answer} {st₁ : State} → CaseVisited T image words n at st b b₁ v → Came v a st₁
+  pub after-case : {b₁ : Lent} {a : Answer} {st₁ : State} → CaseVisited T image words n at st b b₁ (Ok (a, st₁))
       → Passes T image words (BlockOk (walk_run T image words) (visited_among (case_body image at))) (room (tree_of image (word_at image (at + 1))) + rooms (case_body image at)) (rows (tree_of image (word_at image (at + 1))) + rows_all (case_body image at)) st b st₁ b₁ a
-  after-case x k = visit_passes x case-gives k
+  after-case x = visit_passes x case-gives
 
   -- what it answered is told by its body's last slot
-  pub case-told : {b₁ : Lent} {v : Visit} {a : Answer} {st₁ : State} → CaseVisited T image words n at st b b₁ v → Came v a st₁ → a ≡ body_answer image b₁.slots (at + 3) (word_at image (at + 2))
-  case-told {b₁} {a = a} {st₁ = st₁} x k = by (word_at image (at + 2)) refl (after-case x k).after.value.answer
+  pub case-told : {b₁ : Lent} {a : Answer} {st₁ : State} → CaseVisited T image words n at st b b₁ (Ok (a, st₁)) → a ≡ body_answer image b₁.slots (at + 3) (word_at image (at + 2))
+  case-told {b₁} {a = a} {st₁ = st₁} x = by (word_at image (at + 2)) refl (after-case x).after.value.answer
     where
       rule-is : case_rule (ctx_in T image words) n (word_at image at) (tree_of image (word_at image (at + 1))) (case_body image at) (whole words st b) ≡ ok a (whole words st₁ b₁)
-      rule-is = x.step ∙ came_ok words b₁ k
+      rule-is = came_ok x
 
       last-ready : (m : ℕ) → word_at image (at + 2) ≡ m → 0 < m → NodeReady image places (word_at image (at + 3 + (m - 1)))
       last-ready m e l =
@@ -99,57 +86,63 @@ module _ {T : Texts} {image places words : List ℕ} {n at : ℕ} {st : State} {
   pub test-under : {part : ℕ} → part ≡ get_or image (at + 1) 0 → part < n
   test-under e = rw e h.test.under
 
-  module _ {part : ℕ} {b₁ : Lent} {v : Visit} (e : part ≡ get_or image (at + 1) 0) (x : NodeVisited T image words part st b b₁ v) where
-    tested : NodeVisited T image words (word_at image (at + 1)) st b b₁ v
-    tested = rw e at x
+  -- the case's rule, at its beginning
+  abbrev all : Beginning
+  all = record {
+    rule = case_rule (ctx_in T image words) n (word_at image at) (tree_of image (word_at image (at + 1))) (case_body image at);
+    room = room (tree_of image (word_at image (at + 1))) + rooms (case_body image at);
+    rows = rows (tree_of image (word_at image (at + 1))) + rows_all (case_body image at);
+    library = words;
+    st = st;
+    b = b;
+  }
 
-    -- the case's rule, at its beginning
-    abbrev all : Beginning
-    all = record {
-      rule = case_rule (ctx_in T image words) n (word_at image at) (tree_of image (word_at image (at + 1))) (case_body image at);
-      room = room (tree_of image (word_at image (at + 1))) + rooms (case_body image at);
-      rows = rows (tree_of image (word_at image (at + 1))) + rows_all (case_body image at);
-      library = words;
-      st = st;
-      b = b;
-    }
+  abbrev onward : Answer → Walk Answer
+  onward a = condition (ctx_in T image words) n (word_at image at) a >> block (ctx_in T image words) (case_body image at)
 
-    abbrev onward : Answer → Walk Answer
-    onward a = condition (ctx_in T image words) n (word_at image at) a >> block (ctx_in T image words) (case_body image at)
+  module _ {part : ℕ} {b₁ : Lent} (e : part ≡ get_or image (at + 1) 0) where
+    tested : {v : Visit Answer} → NodeVisited T image words part st b b₁ v → NodeVisited T image words (word_at image (at + 1)) st b b₁ v
+    tested x = rw e at x
 
-    pub test-stops : Stopped v → CaseVisited T image words n at st b b₁ v
+    pub test-stops : {e : Refusal} → NodeVisited T image words part st b b₁ (Err e) → CaseVisited T image words n at st b b₁ (Err e)
     unfolding case_rule
-    test-stops s = leads-stop onward (leads-begin all) tested s
+    test-stops x = leads-stop onward (leads-begin all) (tested x)
 
-    module _ {a : Answer} {st₁ : State} (k : Came v a st₁) {b₂ : Lent} {went : Walked} (y : Walks (condition (ctx_in T image words) n (word_at image at) a) 0 0 words st₁ b₁ b₂ went) where
+    module _ {a : Answer} {st₁ : State} (x : NodeVisited T image words part st b b₁ (Ok (a, st₁))) where
       to-condition : Leads all (onward a) (rooms (case_body image at)) (rows_all (case_body image at)) st₁ b₁
       unfolding case_rule
-      to-condition = leads-then onward (leads-begin all) tested k
+      to-condition = leads-then onward (leads-begin all) (tested x)
 
-      refuses-there : (x : Walked) {r : Visit} → went ≡ x → OneOf (1 ∷ []) (tag_of the_type x) → r ≡ halted_of x → CaseVisited T image words n at st b b₂ r
-      unfolding halted_of
-      refuses-there (W.On s) q o er = absurd (eqb-false 0 1 refl o)
-      refuses-there (W.Refused number place) q o er = rw er (leads-on-stop (block (ctx_in T image words) (case_body image at)) to-condition y q)
+      pub condition-stops : {b₂ : Lent} {e : Refusal} → Visits (condition (ctx_in T image words) n (word_at image at) a) 0 0 words st₁ b₁ b₂ (Err e) → CaseVisited T image words n at st b b₂ (Err e)
+      condition-stops y = leads-stop (λ _. block (ctx_in T image words) (case_body image at)) to-condition y
 
-      pub condition-stops : {r : Visit} → OneOf (1 ∷ []) (tag_of the_type went) → r ≡ halted_of went → CaseVisited T image words n at st b b₂ r
-      condition-stops o er = refuses-there went refl o er
-
-      module _ {begun : State} (q : went ≡ W.On begun) {count : ℕ} (ec : count ≡ get_or image (at + 2) 0) where
+      module _ {b₂ : Lent} {begun : State} (y : Visits (condition (ctx_in T image words) n (word_at image at) a) 0 0 words st₁ b₁ b₂ (Ok (tt, begun))) {count : ℕ} (ec : count ≡ get_or image (at + 2) 0) where
         ready-tested : Ready T image places words (rooms (case_body image at)) (rows_all (case_body image at)) st₁ b₁
-        ready-tested = ready-then h.ready (after-node h.ready test_below tested k)
+        ready-tested = ready-then h.ready (after-node h.ready test_below (tested x))
 
         ready-begun : Ready T image places words (rooms (case_body image at)) (rows_all (case_body image at)) begun b₂
-        ready-begun = ready-step ready-tested (after-condition ready-tested n (word_at image at) (node-answer (after-node h.ready test_below tested k)) y q)
+        ready-begun = ready-step ready-tested (after-condition ready-tested n (word_at image at) (node-answer (after-node h.ready test_below (tested x))) y)
 
         body-fresh : Fresh (visited_among (case_body image at)) b₂.slots
-        body-fresh = fresh-rest [] _ (fresh-rest _ _ h.fresh (visit-apart (ctx_in T image words) (tree_of image (word_at image (at + 1))) tested k)) (condition-apart (ctx_in T image words) n (word_at image at) a (whole words st₁ b₁) (y.step ∙ walked-ok words b₂ q))
+        body-fresh = fresh-rest [] _ (fresh-rest _ _ h.fresh (visit-apart (ctx_in T image words) (tree_of image (word_at image (at + 1))) (tested x))) (condition-apart (ctx_in T image words) n (word_at image at) a (whole words st₁ b₁) (came_ok y))
 
         -- ── The body's ──
 
         pub body-visit : ListVisit T image places words n (at + 3) count begun b₂
         body-visit = rw ec (record { below = omega (arith, h.below); nodes = h.body; inside = h.inside; ready = ready-begun; fresh = body-fresh })
 
-        pub case-ends : {b₃ : Lent} {u r : Visit} → ListVisited T image words (at + 3) count begun b₂ b₃ u → r ≡ leave_of u begun → CaseVisited T image words n at st b b₃ r
-        case-ends {b₃} {u} z er =
-            let l = leads-on (block (ctx_in T image words) (case_body image at)) (leads-less {r' = 0 + rooms (case_body image at)} {w' = 0 + rows_all (case_body image at)} (omega arith) (omega arith) to-condition) y q in
-            rw er (l.onto b₃ (leave_of u begun) (block-visits (ctx_in T image words) (case_body image at) (rw ec at z)))
+        to-body : Leads all (block (ctx_in T image words) (case_body image at)) (rooms (case_body image at)) (rows_all (case_body image at)) begun b₂
+        to-body = leads-then (λ _. block (ctx_in T image words) (case_body image at)) {r₂ = rooms (case_body image at)} {w₂ = rows_all (case_body image at)} (leads-less (omega arith) (omega arith) to-condition) y
+
+        in-body : {b₃ : Lent} {u : Visit Answer} → ListVisited T image words (at + 3) count begun b₂ b₃ u → CaseVisited T image words n at st b b₃ (leave_of u begun)
+        in-body {b₃} {u} z = to-body.onto b₃ (leave_of u begun) (block-visits (ctx_in T image words) (case_body image at) (rw ec at z))
+
+        pub body-stops : {b₃ : Lent} {e : Refusal} → ListVisited T image words (at + 3) count begun b₂ b₃ (Err e) → CaseVisited T image words n at st b b₃ (Err e)
+        unfolding leave_of
+        body-stops z = in-body z
+
+        -- the names in scope of before its body are there again
+        pub case-ends : {b₃ : Lent} {answer : Answer} {end last : State} → ListVisited T image words (at + 3) count begun b₂ b₃ (Ok (answer, end)) → last ≡ left_of end begun
+            → CaseVisited T image words n at st b b₃ (Ok (answer, last))
+        unfolding leave_of
+        case-ends z e = rw e (in-body z)

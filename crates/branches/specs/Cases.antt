@@ -1,14 +1,14 @@
 -- A Match, put together of its cases' visits and its default's: the loop's invariant with a law for its beginning, each turn and its ends,
 -- and one law for each way out of the code after it. Assumes nothing.
-use Rattle.std.specs.Prelude.{ℕ, zero, suc, ◌+◌, ◌*◌, ◌-◌, ◌≤◌, ◌<◌, ◌≡◌, refl, get_or}
+use Rattle.std.specs.Prelude.{ℕ, zero, suc, ◌+◌, ◌*◌, ◌-◌, ◌≤◌, ◌<◌, ◌≡◌, refl, get_or, Ok, Err}
 use Rattle.std.proofs.Common.{sym, ◌∙◌}
 use Rattle.std.proofs.Math.Path.{ap}
 use mathlib.Core.List.{List, [], ◌∷◌, ◌++◌, append_assoc}
 use native.Mathlib.Omega.{arith}
 use Rattle.tok.specs.Text.{Texts}
-use Rattle.tok.specs.Step.{Result, ok, refused, Refusal, next, ◌>>=◌, ◌>>◌}
+use Rattle.tok.specs.Step.{next, ◌>>=◌, ◌>>◌}
 use Rattle.ast.specs.Image.{word_at, record_length}
-use Rattle.ast.specs.Node.{Node, Nodes, Cases, Match, case, cases_from, cases_end, read_match, tree_of}
+use Rattle.ast.specs.Node.{Node, Nodes, Cases, Match, cases_from, cases_end, read_match, tree_of}
 use Rattle.image_laws.specs.RecordWords.{MatchWords}
 use Rattle.trees.specs.SameWords.{cases_end_lem}
 use Rattle.rules.specs.declared.Answer.{Answer}
@@ -22,12 +22,11 @@ use Rattle.accepts.proofs.Fresh.{visited_from, Fresh, fresh-first, fresh-rest}
 use Rattle.room_laws.specs.Room.{room, rooms, case_rooms, rows, rows_all, case_rows}
 use Rattle.places.specs.NodesAt.{NodeReady, counts_of, record_room, node-match, words-match}
 use Rattle.spans.specs.Ready.{NodesReady, CasesReady, case-condition, case-room, case-body, case-rest}
+use Rattle.state.specs.declared.Refusal.{Refusal}
 use Rattle.visit.specs.declared.State.{State}
-use Rattle.visit.specs.declared.Visit.{Visit}
-use Rattle.visit.specs.Whole.{Lent, whole}
+use Rattle.visit.specs.Whole.{Lent, whole, Visit}
 use Rattle.visit.specs.Within.{Visits}
-use Rattle.visiting.specs.Then.{Came, Stopped}
-use Rattle.visiting.specs.Blocks.{leave_of}
+use Rattle.visiting.specs.Blocks.{left_of, leave_of}
 use Rattle.visiting.specs.Leads.{Beginning, Leads, leads-begin, leads-less, leads-then, leads-stop}
 use Rattle.visiting.specs.Turns as U
 use Rattle.ready.specs.Ready.{Ready, node-ready}
@@ -215,18 +214,17 @@ module _ {T : Texts} {image places words : List ℕ} {n at count : ℕ} {st : St
         ∙ case-then (ctx_in T image words) n (word_at image place) (tree_of image (word_at image (place + 1))) (case_body image place) rest s)
         h.leads)
 
-    module _ {b₁ : Lent} {v : Visit} (x : CaseVisited T image words n place here b' b₁ v) where
-      pub turn-stops : Stopped v → NodeVisited T image words n st b b₁ v
-      turn-stops s = leads-stop rest next-case x s
+    pub turn-stops : {b₁ : Lent} {e : Refusal} → CaseVisited T image words n place here b' b₁ (Err e) → NodeVisited T image words n st b b₁ (Err e)
+    turn-stops x = leads-stop rest next-case x
 
+    module _ {b₁ : Lent} {a : Answer} {next : State} (x : CaseVisited T image words n place here b' b₁ (Ok (a, next))) where
       -- the slots of those done before are as they were, and this one's tells what it answered
-      told : {a : Answer} {next : State} → Came v a next
-          → branches_from image b'.slots (at + 3) i ++ (record { token = word_at image place; answer = a } ∷ []) ≡ branches_from image b₁.slots (at + 3) (i + 1)
-      told {a} k =
+      told : branches_from image b'.slots (at + 3) i ++ (record { token = word_at image place; answer = a } ∷ []) ≡ branches_from image b₁.slots (at + 3) (i + 1)
+      told =
           let o : (a : ℕ) → owned a (left_over image at place (count - i)) ≡ owned a own + owned a after = λ a. ap (owned a) split ∙ total-append (λ y. N.count a (slots_of y)) own after in
           ap (λ bs. bs ++ (record { token = word_at image place; answer = a } ∷ []))
-          (sym (branches-still image (case-apart T image words n place x k) (at + 3) i (λ a q. omega (arith, h.apart a, o a))))
-          ∙ ap (λ y. branches_from image b₁.slots (at + 3) i ++ (record { token = word_at image place; answer = y } ∷ [])) (case-told turn-case x k)
+          (sym (branches-still image (case-apart T image words n place x) (at + 3) i (λ a q. omega (arith, h.apart a, o a))))
+          ∙ ap (λ y. branches_from image b₁.slots (at + 3) i ++ (record { token = word_at image place; answer = y } ∷ [])) (case-told turn-case x)
           ∙ ap (λ p. branches_from image b₁.slots (at + 3) i ++ (branch_at image b₁.slots p ∷ [])) h.place_is
           ∙ sym (branches-more image b₁.slots (at + 3) i)
 
@@ -241,15 +239,14 @@ module _ {T : Texts} {image places words : List ℕ} {n at count : ℕ} {st : St
             ap (λ p. owned a (visited_from (tree_of image (word_at image (p + 1))) ++ visited_among (case_body image p))) h.place_is,
           )
 
-      ready-next : {a : Answer} {next : State} → Came v a next
-          → Ready T image places words (case_rooms (cases_at image (place + 3 + word_at image (place + 2)) (count - i - 1)) + rooms (default_body image at))
+      ready-next : Ready T image places words (case_rooms (cases_at image (place + 3 + word_at image (place + 2)) (count - i - 1)) + rooms (default_body image at))
           (case_rows (cases_at image (place + 3 + word_at image (place + 2)) (count - i - 1)) + rows_all (default_body image at)) next b₁
-      ready-next k =
-          ready-rest _ _ (omega arith) (omega arith) (cases-room place left (rooms (default_body image at)) (rows_all (default_body image at)) h.ready) (after-case turn-case x k)
+      ready-next =
+          ready-rest _ _ (omega arith) (omega arith) (cases-room place left (rooms (default_body image at)) (rows_all (default_body image at)) h.ready) (after-case turn-case x)
 
-      pub turn-next : {a : Answer} {next : State} {place' : ℕ} → Came v a next → place' ≡ place + 3 + get_or image (place + 2) 0
+      pub turn-next : {place' : ℕ} → place' ≡ place + 3 + get_or image (place + 2) 0
           → Turn T image places words n at count st b next place' (i + 1) b₁
-      turn-next {a} {next} k eq =
+      turn-next eq =
           let z : count - i - 1 ≡ count - (i + 1) = omega arith in
           rw eq
           (record {
@@ -260,9 +257,9 @@ module _ {T : Texts} {image places words : List ℕ} {n at count : ℕ} {st : St
             ready-node = h.ready-node;
             at-is = h.at-is;
             facts = h.facts;
-            leads = rw (z, told k) at (leads-then rest next-case x k);
-            ready = rw z at (ready-next k);
-            fresh = rw z at (fresh-rest own after both-fresh (case-apart T image words n place x k));
+            leads = rw (z, told) at (leads-then rest next-case x);
+            ready = rw z at ready-next;
+            fresh = rw z at (fresh-rest own after both-fresh (case-apart T image words n place x));
             apart = λ a. rw z at (still-apart a);
           })
 
@@ -315,28 +312,35 @@ module _ {T : Texts} {image places words : List ℕ} {n at count : ℕ} {st : St
             fresh = rw length-is default_fresh;
           })
 
-      module _ {b₁ : Lent} {v last : Visit} (x : ListVisited T image words (place + 1) k here b' b₁ v) (el : last ≡ leave_of v here) where
-        default_block : Visits (block (ctx_in T image words) (default_body image at)) (rooms (default_body image at)) (rows_all (default_body image at)) words here b' b₁ last
-        default_block = rw el (block-visits (ctx_in T image words) (default_body image at) (rw (default_place, length-is) at x))
+      abbrev matched_with : Answer → Walk Answer
+      matched_with a = matched (ctx_in T image words) n (word_at image (at + 1)) (branches_from image b'.slots (at + 3) (word_at image (at + 2))) a
 
-        abbrev matched_with : Answer → Walk Answer
-        matched_with a = matched (ctx_in T image words) n (word_at image (at + 1)) (branches_from image b'.slots (at + 3) (word_at image (at + 2))) a
+      module _ {b₁ : Lent} where
+        default_block : {v : Visit Answer} → ListVisited T image words (place + 1) k here b' b₁ v
+            → Visits (block (ctx_in T image words) (default_body image at)) (rooms (default_body image at)) (rows_all (default_body image at)) words here b' b₁ (leave_of v here)
+        default_block x = block-visits (ctx_in T image words) (default_body image at) (rw (default_place, length-is) at x)
 
-        pub default_stops : Stopped last → NodeVisited T image words n st b b₁ last
-        default_stops s = leads-stop matched_with none_left_lem default_block s
+        pub default_stops : {e : Refusal} → ListVisited T image words (place + 1) k here b' b₁ (Err e) → NodeVisited T image words n st b b₁ (Err e)
+        unfolding leave_of
+        default_stops x = leads-stop matched_with none_left_lem (default_block x)
 
-        -- the default's visits change nothing of the cases' slots
-        same-branches : {a : Answer} {end : State} → Came last a end → branches_from image b₁.slots (at + 3) (word_at image (at + 2)) ≡ branches_from image b'.slots (at + 3) (word_at image (at + 2))
-        same-branches c =
-            let z : count - i ≡ 0 = omega arith in
-            let f : i ≡ word_at image (at + 2) = all_done ∙ h.counted in
-            branches-still image (block-visits-apart (ctx_in T image words) (default_body image at) default_block c) (at + 3) (word_at image (at + 2))
-            (λ a q. default_apart a (rw (z, f) at (h.apart a)) q)
+        module _ {a : Answer} {end : State} (x : ListVisited T image words (place + 1) k here b' b₁ (Ok (a, end))) where
+          left-there : Visits (block (ctx_in T image words) (default_body image at)) (rooms (default_body image at)) (rows_all (default_body image at)) words here b' b₁ (Ok (a, left_of end here))
+          unfolding leave_of
+          left-there = default_block x
 
-        pub match-ends : {a : Answer} {end : State} {b₂ : Lent} {r : Visit} → Came last a end
-            → Visits (matched (ctx_in T image words) n (word_at image (at + 1)) (branches_from image b₁.slots (at + 3) (word_at image (at + 2))) a) 0 0 words end b₁ b₂ r → NodeVisited T image words n st b b₂ r
-        match-ends {a} {b₂ = b₂} {r = r} c y =
-            (leads-then matched_with {r₂ = 0} {w₂ = 0} (leads-less (omega arith) (omega arith) none_left_lem) default_block c).onto b₂ r (rw (same-branches c) at y)
+          -- the default's visits change nothing of the cases' slots
+          same-branches : branches_from image b₁.slots (at + 3) (word_at image (at + 2)) ≡ branches_from image b'.slots (at + 3) (word_at image (at + 2))
+          same-branches =
+              let z : count - i ≡ 0 = omega arith in
+              let f : i ≡ word_at image (at + 2) = all_done ∙ h.counted in
+              branches-still image (block-visits-apart (ctx_in T image words) (default_body image at) left-there) (at + 3) (word_at image (at + 2))
+              (λ a q. default_apart a (rw (z, f) at (h.apart a)) q)
+
+          pub match-ends : {last : State} {b₂ : Lent} {r : Visit Answer} → last ≡ left_of end here
+              → Visits (matched (ctx_in T image words) n (word_at image (at + 1)) (branches_from image b₁.slots (at + 3) (word_at image (at + 2))) a) 0 0 words last b₁ b₂ r → NodeVisited T image words n st b b₂ r
+          match-ends {b₂ = b₂} {r = r} e y =
+              (leads-then matched_with {r₂ = 0} {w₂ = 0} (leads-less (omega arith) (omega arith) none_left_lem) left-there).onto b₂ r (rw (same-branches, e) at y)
 
     pub end-cases : CasesReady image places n (at + 3) (word_at image (at + 2))
     end-cases = match-cases h.ready-node h.at-is h.facts refl

@@ -3,19 +3,18 @@
 use Prim.Native.Nat.{ℕ, zero, suc, ◌+◌, ◌-◌, ◌<◌}
 use Rattle.std.specs.Prelude.{◌≡◌, Bool, true, false, cond, List, [], ◌++◌, get_or, eqb}
 use Rattle.std.proofs.Math.Path.{refl}
-use Rattle.std.proofs.Common.{sym, ap, ◌∙◌, eqb-true, eq-eqb, ne_eqb}
+use Rattle.std.proofs.Common.{eqb-true, eq-eqb, ne_eqb}
 use native.Mathlib.Omega.{arith}
 use Rattle.tok.specs.Word.{kind_of}
 use Rattle.tok.specs.Text.{Texts}
-use Rattle.tok.specs.Step.{Result, ok, refused, Refusal, next, return}
-use Rattle.ptype.specs.Words.{unknown_word}
+use Rattle.tok.specs.Step.{Result, ok, refused, Refusal, next}
 use Rattle.ast.specs.Image.{node_count, node_place, record_kind, word_at}
 use Rattle.ast.specs.Node.{Node, Nodes, tree_of, nodes_from, done, then, slot_of}
 use Rattle.places.specs.NodesAt.{NodeReady}
 use Rattle.image_laws.proofs.Accepted.{Accepted}
 use Rattle.trees.specs.Trees.{tree-atom, tree-ident, tree-bin, tree-unary, tree_let, tree-fn, tree-match, tree-call, tree-field, tree-cast, tree_import, tree-extern, tree_record, tree-array}
 use Rattle.laws.specs.SlotsOf.{last_node}
-use Rattle.laws.specs.Told.{Reads, Tells, knows, poisons, unknown, refuses, tells-next}
+use Rattle.laws.specs.Told.{Reads, Tells, knows, poisons, unknown, tells-next}
 use Rattle.rules.specs.declared.Answer.{Answer}
 use Rattle.rules.specs.declared.Answer.TheVariants.{Known, Poison}
 use Rattle.rules.specs.World.{Ctx, World, Walk}

@@ -8,18 +8,17 @@ ghost use Rattle.ast.specs.Image.{word_at};
 ghost use Rattle.places.specs.NodesAt.{NodeReady};
 ghost use Rattle.rules.specs.Rules.{condition, compare_branches, matched};
 ghost use Rattle.state.specs.Context.{ctx};
-ghost use Rattle.state.specs.World.{More, Goes};
+ghost use Rattle.state.specs.World.{More, Steps};
 ghost use Rattle.spans.specs.Ready.{NodesReady, CasesReady};
 ghost use Rattle.visit.specs.Whole.{Lent, lent};
 ghost use Rattle.visit.specs.Within.{Visits};
-ghost use Rattle.visit.specs.Walks.{Walks};
 ghost use Rattle.branches.specs.Branches.{is_field, node_answer, body_answer, branches_from};
 
 use call_args::slot_of;
 use rules::Answer;
-use state::{Used, Went};
-use tok::{Texts, wide, word_at};
-use visit::{State, Visit, Walked};
+use state::{Step, Used};
+use tok::{Texts, word_at};
+use visit::{State, Visit};
 
 // The kind of a node that reads a field.
 const FIELD: u32 = 8;
@@ -36,15 +35,15 @@ pub fn condition(
     st: State,
     n: u32,
     answer: Answer,
-) -> Walked
+) -> Visit<()>
     ensures { ((ls : List Package) (v : ℕ) (words f e : List ℕ) (o : More) →
         let b : Lent = lent slots.now f types.now diagnostics.old messages.old e o in
         let b' : Lent = lent slots.now f types.now diagnostics.new messages.new e o in
-        Walks (condition (ctx texts.now ls v) n (word_at image.now at) answer) 0 0 words st b b' result) }
+        Visits (condition (ctx texts.now ls v) n (word_at image.now at) answer) 0 0 words st b b' result) }
 {
     let used = st.used;
     let token = word_at(image, at);
-    let went = values::condition(
+    let step = values::condition(
         slots,
         types,
         diagnostics,
@@ -55,7 +54,7 @@ pub fn condition(
         token,
         answer,
     );
-    visit::went_on(st, went)
+    visit::answered(st, step)
 }
 
 // The word after the case at word `at`: token, condition, body count, body.
@@ -63,7 +62,7 @@ pub fn case_end(image: &[u32], at: usize) -> usize
     requires { at ≤ 8192 }
     ensures { result ≡ at + 3 + word_at image.now (at + 2) }
 {
-    at + 3 + wide(word_at(image, at + 2))
+    at + 3 + word_at(image, at + 2) as usize
 }
 
 // The branches, once all bodies are visited: their answers are read from slots, so that no Match keeps room for them while it visits.
@@ -77,24 +76,24 @@ fn is_field(image: &[u32], places: &[u16], n: u32) -> bool
 }
 
 // What node n has answered: poisoned it left no type in its slot, or Unknown where it read a field of that type.
+#[tactic(auto, unfolding(crate::specs::Branches::node_answer, crate::specs::Branches::answer_of))]
 fn node_answer(slots: &[u32], image: &[u32], places: &[u16], n: u32) -> Answer
     requires { NodeReady image.now places.now n }
     ensures { result ≡ node_answer image.now slots.now n }
 {
     let slot = slot_of(image, places, n);
-    let w = word_at(slots, wide(slot));
+    let w = word_at(slots, slot as usize);
     if w == 0 {
         return Answer::Poison;
     }
-    if tok::kind(w) == ptype::UNKNOWN {
-        if is_field(image, places, n) {
-            return Answer::Poison;
-        }
+    if tok::kind(w) == ptype::UNKNOWN && is_field(image, places, n) {
+        return Answer::Poison;
     }
     Answer::Known(slot)
 }
 
 // What a body of the node n has answered: its last node's answer, or slot V where it is empty.
+#[tactic(auto, unfolding(crate::specs::Branches::body_answer))]
 fn body_answer(
     slots: &[u32],
     image: &[u32],
@@ -126,17 +125,17 @@ fn compare_branches(
     used: Used,
     n: u32,
     default: u32,
-) -> Went
+) -> Step<()>
     requires { CasesReady image.now places.now n at count }
-    ensures { ((ls : List Package) (v : ℕ) → Goes (compare_branches (ctx texts.now ls v) n default (branches_from image.now slots.now at count)) slots.now
+    ensures { ((ls : List Package) (v : ℕ) → Steps (compare_branches (ctx texts.now ls v) n default (branches_from image.now slots.now at count)) slots.now
         types.now diagnostics.old messages.old used slots.now types.now diagnostics.new messages.new result) }
 {
     let mut here = used;
     let mut place = at;
     for _ in 0..count {
-        let body = wide(word_at(image, place + 2));
+        let body = word_at(image, place + 2) as usize;
         let answer = body_answer(slots, image, places, n, place + 3, body);
-        let went = values::compare_branch(
+        let (_, after) = values::compare_branch(
             slots,
             types,
             diagnostics,
@@ -147,14 +146,11 @@ fn compare_branches(
             default,
             word_at(image, place),
             answer,
-        );
-        let Went::On(after) = went else {
-            return went;
-        };
+        )?;
         here = after;
         place = place + 3 + body;
     }
-    Went::On(here)
+    Ok(((), here))
 }
 
 // The end of the Match n, whose record stands at `at`, of what the default's body answered: "self.alias(*id, first_type)".
@@ -170,7 +166,7 @@ pub fn end(
     st: State,
     n: u32,
     default: Answer,
-) -> Visit
+) -> Visit<Answer>
     requires { CasesReady image.now places.now n (at + 3) (word_at image.now (at + 2)) }
     ensures { let I : List ℕ = image.now in
         ((ls : List Package) (v : ℕ) (words f e : List ℕ) (o : More) →
@@ -179,11 +175,11 @@ pub fn end(
         Visits (matched (ctx texts.now ls v) n (word_at I (at + 1)) (branches_from I slots.old (at + 3) (word_at I (at + 2))) default) 0 0 words st b b' result) }
 {
     let Answer::Known(slot) = default else {
-        return Visit::Poison(st);
+        return Ok((Answer::Poison, st));
     };
     let used = st.used;
-    let count = wide(word_at(image, at + 2));
-    let went = compare_branches(
+    let count = word_at(image, at + 2) as usize;
+    let (_, after) = compare_branches(
         &slots[..],
         types,
         diagnostics,
@@ -196,14 +192,7 @@ pub fn end(
         used,
         n,
         slot,
-    );
-    match went {
-        Went::On(after) => {
-            let own = word_at(image, at + 1);
-            return visit::answered(st, values::alias(slots, after, own, slot));
-        }
-        Went::Refused(number, place) => {
-            return Visit::Refused(number, place);
-        }
-    }
+    )?;
+    let own = word_at(image, at + 1);
+    visit::answered(st, values::alias(slots, after, own, slot))
 }

@@ -1,10 +1,9 @@
 -- The slot of a node is the second word of its record, whatever its kind. Assumes nothing.
 use Prim.Native.Nat.{ℕ, zero, suc, ◌+◌, ◌*◌, ◌≤◌, ◌<◌}
-use mathlib.Core.Path.{◌≡◌, refl, sym, ap, ◌∙◌}
+use mathlib.Core.Path.{◌≡◌, refl, sym, ◌∙◌}
 use mathlib.Core.List.{List}
 use native.Mathlib.Omega.{arith}
 use lib.ListN.{get_or}
-use Rattle.tok.specs.Word.{kind_of}
 use Rattle.ast.specs.Image.{word_at, node_place, record_kind}
 use Rattle.ast.specs.Node.{Node, readers, read_absent, tree_within, tree_of, slot_of}
 use Rattle.places.specs.Readable.{node-there}

@@ -1,22 +1,13 @@
--- The arguments that a call provides, by their place in the image, and the contracts of the call's steps. Definitions.
+-- The arguments that a call provides, by their place in the image, and what the steps of the call take for granted. Definitions.
 use Rattle.std.specs.Prelude.{ℕ, ◌≡◌, Bool, List, length}
-use Rattle.tok.specs.Step.{next}
 use Rattle.ast.specs.Node.{nodes_from, tree_of}
-use Rattle.rules.specs.Steps.{set_known}
 use Rattle.rules.specs.Calls.{Provided, provided_of}
-use Rattle.state.specs.declared.Went.{Went}
-use Rattle.state.specs.declared.Step.{Step}
 use Rattle.state.specs.Signatures.{signature_at}
-use Rattle.state.specs.World.{Rest, gone, stepped}
 use Rattle.spans.specs.Ready.{NodesReady}
 
 -- k arguments, whose node numbers stand from word `at` of the image on
 abbrev pub given_from : (image : List ℕ) → (at k : ℕ) → List Provided
 given_from image at k = provided_of (nodes_from (tree_of image) image at k)
-
--- a step that only writes, and then a slot's type
-pub record KnownAfter (went : Went) (slot word : ℕ) (s t d m s' : List ℕ) (r : Step) : Type 0 where
-  pub step : (rest : Rest) → next (gone rest s t d m went) (λ _. set_known slot word) ≡ stepped rest s' t d m r
 
 -- the arguments are nodes of an accepted image, and as many as the signature asks for
 pub record CallReady (image places : List ℕ) (n args count : ℕ) (words : List ℕ) (at : ℕ) : Type 0 where

@@ -13,10 +13,11 @@ ghost use Rattle.state.specs.World.{Steps};
 ghost use Rattle.arguments.specs.Argument.{Leaves};
 ghost use Rattle.places.specs.NodesAt.{NodeReady};
 ghost use Rattle.spans.specs.Ready.{NodesReady};
-ghost use Rattle.call_args.specs.Given.{given_from, KnownAfter, CallReady};
+ghost use Rattle.call_args.specs.Given.{given_from, CallReady};
 
 use err::CallName;
-use state::{Step, Used, Went};
+use rules::Answer;
+use state::{Step, Used};
 use tok::Texts;
 
 // The slot of a node.
@@ -43,48 +44,31 @@ fn plain_arguments(
     at: usize,
     args: usize,
     count: usize,
-) -> Went
+) -> Step<()>
     requires { CallReady image.now places.now n args count words.now at }
     ensures { Leaves texts.now (λ c. arguments c n (call_name texts.now callee) false (signature_at words.now at false).params (given_from image.now args count)) slots.now
         types.now diagnostics.old messages.old used diagnostics.new messages.new result }
 {
-    let mut now = used;
+    let mut used = used;
     for i in 0..count {
         let number = tok::word_at(image, args + i);
-        let went = arguments::plain_argument(
+        let (_, after) = arguments::plain_argument(
             slots,
             types,
             diagnostics,
             messages,
             texts,
-            now,
+            used,
             n,
             callee,
             signatures::argument_name(words, at, i),
             signatures::argument_type(words, at, i),
             slot_of(image, places, number),
             spans::span_of(image, places, number),
-        );
-        let Went::On(after) = went else {
-            return went;
-        };
-        now = after;
+        )?;
+        used = after;
     }
-    Went::On(now)
-}
-
-// A step that only writes, and then a slot's type.
-fn known_after(slots: &mut [u32], went: Went, slot: u32, word: u32) -> Step
-    ensures { (t d m : List ℕ) → KnownAfter went slot word slots.old t d m slots.new result }
-{
-    match went {
-        Went::On(used) => {
-            return operators::set_known(slots, used, slot, word);
-        }
-        Went::Refused(number, place) => {
-            return Step::Refused(number, place);
-        }
-    }
+    Ok(((), used))
 }
 
 // Typechecker::check_call_args, of a function without slots whose signature stands at a place of `words`. Another number of arguments is 19,
@@ -106,7 +90,7 @@ pub fn check_plain(
     at: usize,
     args: usize,
     count: usize,
-) -> Step
+) -> Step<Answer>
     requires { NodesReady image.now places.now n args count }
     ensures { ((ls : List Package) (v : ℕ) → Steps
         (check_call_args (ctx texts.now ls v) n slot token (call_name texts.now callee) (signature_at words.now at false) (given_from image.now args count)) slots.old
@@ -116,7 +100,7 @@ pub fn check_plain(
     let ret = signatures::return_type(words, at);
     if count != required {
         let free = err_text::first_free(messages, used.told);
-        let r = err_calls::argument_count(
+        let reported = err_calls::argument_count(
             diagnostics,
             &mut messages[free..],
             used.told,
@@ -126,9 +110,10 @@ pub fn check_plain(
             required,
             count,
         );
-        return known_after(slots, state::told(n, used, r), slot, ret);
+        let (_, used) = state::told(n, used, reported, ())?;
+        return operators::set_known(slots, used, slot, ret);
     }
-    let went = plain_arguments(
+    let (_, used) = plain_arguments(
         &slots[..],
         types,
         diagnostics,
@@ -143,6 +128,6 @@ pub fn check_plain(
         at,
         args,
         count,
-    );
-    known_after(slots, went, slot, ret)
+    )?;
+    operators::set_known(slots, used, slot, ret)
 }

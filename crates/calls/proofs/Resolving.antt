@@ -3,14 +3,15 @@ use Prim.Native.Nat.{ℕ, ◌+◌, ◌≤◌}
 use native.Mathlib.Omega.{arith}
 use native.Mathlib.Decide.{ℕ_discrete}
 use mathlib.Core.Path.{◌≡◌, refl, sym, ap, ◌∙◌}
-use mathlib.Core.Bool.{Bool, true, false, true≢false}
+use mathlib.Core.Bool.{Bool, true≢false}
 use mathlib.Core.List.{List}
 use lib.ListN.{get_or}
 use Rattle.tok.specs.Text.{Texts}
 use Rattle.tok.specs.Word.{kind_of}
 use Rattle.library.specs.Package.{Function, Package}
+use Rattle.rules.specs.declared.Answer.{Answer}
 use Rattle.rules.specs.Promises.{Every}
-use Rattle.rules.specs.Calls.{own_function, package_function, Provided, resolve_call, resolve_pkg_call}
+use Rattle.rules.specs.Calls.{package_function, resolve_call, resolve_pkg_call}
 use Rattle.tworuns.specs.Walk.{every_map}
 use Rattle.places.specs.NodesAt.{words-call}
 use Rattle.spans.specs.Ready.{NodesReady}
@@ -18,16 +19,14 @@ use Rattle.state.specs.Context.{ctx}
 use Rattle.state.specs.Store.{held_from}
 use Rattle.own_call.specs.OwnCalls.{OwnReady}
 use Rattle.call_args.specs.Given.{given_from}
-use Rattle.pkg_call.specs.Ready.{SlotsReady, MayBind, PackagesBind, PkgReady}
+use Rattle.pkg_call.specs.Ready.{MayBind, PackagesBind, PkgReady}
 use Rattle.visit.specs.declared.State.{State}
-use Rattle.visit.specs.declared.Visit.{Visit}
-use Rattle.visit.specs.Whole.{Lent}
+use Rattle.visit.specs.Whole.{Lent, Visit}
 use Rattle.visit.specs.Within.{Visits}
 use Rattle.visiting.specs.Then.{visits-most}
-use Rattle.ready.specs.Ready.{Ready}
 use Rattle.ready.specs.Asked.{call-nodes, own-ready}
 use Rattle.ready.specs.Meant.{SignatureMeant, package_meant, arguments-meant}
-use Rattle.calls.specs.Callees.{callee_at, is_through_field, call_end, CallAt, target-low, callee_own, inner-low, callee_package, callee_field}
+use Rattle.calls.specs.Callees.{callee_at, is_through_field, call_end, target-low, callee_own, inner-low, callee_package, callee_field}
 use Rattle.calls.specs.CallVisits.{Resolvable}
 
 -- ── What the callees ask for ──
@@ -65,7 +64,7 @@ module _ {T : Texts} {image places words : List ℕ} {n at count : ℕ} {st : St
     pub target_room : p ≤ 8192
     target_room = target-low z.call et ep eh ek
 
-    pub own-resolved : k ≡ 1 → (poisoned : Bool) {name : ℕ} {b' : Lent} {v : Visit} → name ≡ get_or image (p + 2) 0
+    pub own-resolved : k ≡ 1 → (poisoned : Bool) {name : ℕ} {b' : Lent} {v : Visit Answer} → name ≡ get_or image (p + 2) 0
         → ((ls : List Package) (v₀ : ℕ) → Visits (resolve_call (ctx T ls v₀) n slot name (given_from image (at + 3) count)) 0 0 words st b b' v)
         → (ls : List Package) (v₀ : ℕ) → Visits (call_end (ctx T ls v₀) n (get_or image (at + 1) 0) (callee_at image at) (given_from image (at + 3) count) poisoned) count 0 words st b b' v
     unfolding call_end
@@ -83,7 +82,7 @@ module _ {T : Texts} {image places words : List ℕ} {n at count : ℕ} {st : St
           by (yes i) = callee_package z.call et ep eh ek d ex eq refl refl i
           by (no i) = absurd (true≢false (sym (ap is_through_field (callee_field z.call et ep eh ek d ex eq refl refl i)) ∙ z.other))
 
-      pub package_resolved : (poisoned : Bool) {pkg name : ℕ} {b' : Lent} {v : Visit} → pkg ≡ get_or image (q + 2) 0 → name ≡ get_or image (p + 3) 0
+      pub package_resolved : (poisoned : Bool) {pkg name : ℕ} {b' : Lent} {v : Visit Answer} → pkg ≡ get_or image (q + 2) 0 → name ≡ get_or image (p + 3) 0
           → ((ls : List Package) (v₀ : ℕ) → Visits (resolve_pkg_call (ctx T ls v₀) n slot pkg name (given_from image (at + 3) count) poisoned) count 0 words st b b' v)
           → (ls : List Package) (v₀ : ℕ) → Visits (call_end (ctx T ls v₀) n (get_or image (at + 1) 0) (callee_at image at) (given_from image (at + 3) count) poisoned) count 0 words st b b' v
       unfolding call_end

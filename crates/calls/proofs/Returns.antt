@@ -4,7 +4,7 @@ use Prim.Native.Nat.{ℕ, ◌+◌, ◌≤◌}
 use native.Mathlib.Omega.{arith}
 use native.Mathlib.Decide.{ℕ_discrete}
 use mathlib.Core.Path.{◌≡◌, refl, sym, ap, ◌∙◌}
-use mathlib.Core.Bool.{Bool, true, false, ◌||◌, not, true≢false}
+use mathlib.Core.Bool.{Bool, false, not, true≢false}
 use mathlib.Core.List.{List}
 use lib.ListN.{get_or}
 use lib.Dec.{eqb}
@@ -16,41 +16,20 @@ use Rattle.err.specs.Message.{call_through_field}
 use Rattle.err.specs.Report.{Reports}
 use Rattle.places.specs.NodesAt.{record_room}
 use Rattle.rules.specs.declared.Answer.{Answer}
-use Rattle.rules.specs.declared.Answer.TheVariants.{Known, Poison}
+use Rattle.rules.specs.declared.Answer.TheVariants.{Poison}
 use Rattle.rules.specs.World.{Ctx, World, Walk}
-use Rattle.rules.specs.Steps.{is_poison, poison}
-use Rattle.rules.specs.Calls.{Callee, own_function, package_function, through_field, no_callee, Provided, resolve_call, call}
-use Rattle.state.specs.declared.Used.{Used}
-use Rattle.state.specs.declared.Step.{Step}
+use Rattle.rules.specs.Steps.{poison}
+use Rattle.rules.specs.Calls.{Callee, through_field, Provided, resolve_call, call}
 use Rattle.state.specs.Context.{ctx}
-use Rattle.state.specs.Reporting.{poison_of, poisons-step}
-use Rattle.state.specs.World.{More, Rest, stepped, Steps, more_of}
+use Rattle.state.specs.Reporting.{told_of, poisons-step}
+use Rattle.state.specs.World.{More, Rest, Step, stepped, Steps, more_of}
 use Rattle.own_call.specs.OwnCalls.{OwnCalls}
 use Rattle.visit.specs.declared.State.{State}
-use Rattle.visit.specs.declared.Visit.{Visit}
-use Rattle.visit.specs.Whole.{lent, rest_of}
+use Rattle.visit.specs.Whole.{Visit, lent, rest_of}
 use Rattle.visit.specs.Within.{Visits}
 use Rattle.visit.specs.Plain.{visit_of, steps-visits}
 use Rattle.calls.specs.Callees.{callee_at, is_through_field, CallAt, FieldCall, target-low, callee_own, callee_package, callee_field}
 use Rattle.err.specs.declared.Counts.{Counts}
-
--- ── Is an argument poisoned? ──
-
-pub not-this : (poisoned : Bool) {a : Answer} {slot : ℕ} → a ≡ Known slot → poisoned ≡ (poisoned || is_poison a)
-unfolding is_poison
-not-this poisoned e = rw e (alone poisoned)
-  where
-    alone : (p : Bool) → p ≡ (p || false)
-    alone true = refl
-    alone false = refl
-
-pub this-one : (poisoned : Bool) {a : Answer} → a ≡ Poison → true ≡ (poisoned || is_poison a)
-unfolding is_poison
-this-one poisoned e = rw e (beside poisoned)
-  where
-    beside : (p : Bool) → true ≡ (p || true)
-    beside true = refl
-    beside false = refl
 
 -- ── The target ──
 
@@ -95,7 +74,7 @@ field-name {image} {places} {at} c {t} {p} et ep = by (ℕ_discrete (kind_of (ge
     by (no d) = inside d (ℕ_discrete kind_in 1)
 
 pub field_told : {image places : List ℕ} {at : ℕ} (n : ℕ) (st : State) → FieldCall image places at → {t p name : ℕ} → t ≡ get_or image (at + 2) 0 → p ≡ get_or places t 0 → name ≡ get_or image (p + 3) 0
-    → {d m d' m' : List ℕ} {x : Option Counts} {r : Step} {v : Visit} → Reports (call_through_field name) d m st.used.told d' m' x → r ≡ poison_of n st.used x → v ≡ visit_of st r
+    → {d m d' m' : List ℕ} {x : Option Counts} {r : Step Answer} {v : Visit Answer} → Reports (call_through_field name) d m st.used.told d' m' x → r ≡ told_of n st.used x Poison → v ≡ visit_of st r
     → (c : Ctx) (slot : ℕ) (given : List Provided) (visits : Walk Bool) (words s f t e : List ℕ) (o : More)
     → Visits (call c n slot (callee_at image at) given visits) 0 0 words st (lent s f t d m e o) (lent s f t d' m' e o) v
 unfolding call
@@ -108,7 +87,7 @@ field_told {image} n st z et ep en {d} {m} {d'} {m'} {x} p er ev c slot given vi
 abbrev rest_in : World → Rest
 rest_in w = record { functions = w.functions; env = w.env; packages = w.packages; own = w.own; more = more_of w.log }
 
-pub own-visits : (T : Texts) (n slot name : ℕ) (given : List Provided) (st : State) {s f t d m s' d' m' : List ℕ} {r : Step} {v : Visit} → OwnCalls T n slot name given f st.functions s t d m st.used s' d' m' r
+pub own-visits : (T : Texts) (n slot name : ℕ) (given : List Provided) (st : State) {s f t d m s' d' m' : List ℕ} {r : Step Answer} {v : Visit Answer} → OwnCalls T n slot name given f st.functions s t d m st.used s' d' m' r
     → v ≡ visit_of st r → (ls : List Package) (v₀ : ℕ) (words e : List ℕ) (o : More) → Visits (resolve_call (ctx T ls v₀) n slot name given) 0 0 words st (lent s f t d m e o) (lent s' f t d' m' e o) v
 own-visits T n slot name given st {s} {f} {t} {d} {m} {s'} {d'} {m'} {r} p ev ls v₀ words e o =
     let z : Steps (λ w. stepped (rest_in w) s' t d' m' r) s t d m st.used s' t d' m' r = record { step = λ rest. refl } in

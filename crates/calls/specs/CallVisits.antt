@@ -1,6 +1,7 @@
 -- Node::Call put together of the visits of its arguments and its end: what each asks for, and one law for each way out of the code. Assumes
 -- nothing.
-use Rattle.std.specs.Prelude.{ℕ, ◌+◌, ◌*◌, ◌-◌, ◌<◌, ◌≤◌, ◌≡◌, Bool, true, false, ◌||◌, List, ◌++◌, get_or}
+use Rattle.state.specs.declared.Refusal.{Refusal}
+use Rattle.std.specs.Prelude.{ℕ, ◌+◌, ◌*◌, ◌-◌, ◌<◌, ◌≤◌, ◌≡◌, Bool, true, false, ◌||◌, List, ◌++◌, get_or, Ok, Err}
 use Rattle.std.proofs.Math.Path.{refl, ap}
 use Rattle.std.proofs.Common.{sym, ◌∙◌}
 use native.Mathlib.Omega.{arith}
@@ -8,7 +9,7 @@ use Rattle.tok.specs.Word.{kind_of, payload_of}
 use Rattle.tok.specs.Text.{Texts}
 use Rattle.tok.specs.Step.{◌>>=◌}
 use Rattle.ast.specs.Image.{node_count, record_length}
-use Rattle.ast.specs.Node.{Node, Nodes, Call, done, then, tree_of, nodes_from}
+use Rattle.ast.specs.Node.{Nodes, Call, then, tree_of, nodes_from}
 use Rattle.image_laws.specs.RecordWords.{CallWords}
 use Rattle.rules.specs.declared.Answer.{Answer}
 use Rattle.rules.specs.World.{Ctx, Walk}
@@ -16,18 +17,17 @@ use Rattle.rules.specs.Steps.{is_poison}
 use Rattle.rules.specs.Rules.{node, visit_all}
 use Rattle.rules.specs.Visited.{visited_among}
 use Rattle.accepts.proofs.Fresh.{visited_from, Fresh, fresh-first, fresh-rest}
-use Rattle.rules.specs.Calls.{Callee, no_callee, callee_of, provided_of, call}
+use Rattle.rules.specs.Calls.{call}
 use Rattle.onerun.specs.Claim.{NameAt}
 use Rattle.onerun.proofs.Functions.{Below}
 use Rattle.onerun.specs.Proper.{ProperCallee, Proper}
-use Rattle.places.specs.NodesAt.{NodeReady, counts_of, record_room, length-there, node_call, words-call}
+use Rattle.places.specs.NodesAt.{counts_of, record_room, length-there, node_call, words-call}
 use Rattle.room_laws.specs.Room.{room, rooms, call_room, rows, rows_all}
 use Rattle.call_args.specs.Given.{given_from}
 use Rattle.visit.specs.declared.State.{State}
-use Rattle.visit.specs.declared.Visit.{Visit}
-use Rattle.visit.specs.Whole.{Lent, whole}
+use Rattle.visit.specs.Whole.{Lent, whole, Visit}
 use Rattle.visit.specs.Within.{Visits}
-use Rattle.visiting.specs.Then.{Came, Stopped, visits-most}
+use Rattle.visiting.specs.Then.{visits-most}
 use Rattle.visiting.specs.Leads.{Beginning, Leads, leads-then, leads-stop}
 use Rattle.visiting.specs.Turns.{visits_from, visits-turn, visits-end}
 use Rattle.ready.specs.Ready.{walk_run, Ready, NodeVisit, node-ready}
@@ -76,7 +76,7 @@ module _ {T : Texts} {image places words : List ℕ} {n at count place left : �
   pub arguments-ready : left ≡ 0 → Ready T image places words count 0 st b
   arguments-ready e = ready-less (omega arith) (omega arith) t.ready
 
-  pub arguments-done : left ≡ 0 → {b' : Lent} {v : Visit} → Visits (end_at T image words n at count poisoned) count 0 words st b b' v → NodeVisited T image words n st₀ b₀ b' v
+  pub arguments-done : left ≡ 0 → {b' : Lent} {v : Visit Answer} → Visits (end_at T image words n at count poisoned) count 0 words st b b' v → NodeVisited T image words n st₀ b₀ b' v
   unfolding nodes_from
   arguments-done e {b'} {v} x =
       t.leads.onto b' v
@@ -112,18 +112,19 @@ module _ {T : Texts} {image places words : List ℕ} {n at count place left : �
         (visits-turn (ctx_in T image words) poisoned (end_at T image words n at count) (tree_of image part) others (whole words st b))
         (rw all-nodes at t.leads))
 
-    module _ {b₁ : Lent} {v : Visit} (x : NodeVisited T image words part st b b₁ v) where
+    module _ {b₁ : Lent} where
       -- its visit is refused
-      pub argument-stopped : Stopped v → NodeVisited T image words n st₀ b₀ b₁ v
-      argument-stopped s = leads-stop rest-after argument-leads x s
+      pub argument-stopped : {e : Refusal} → NodeVisited T image words part st b b₁ (Err e) → NodeVisited T image words n st₀ b₀ b₁ (Err e)
+      argument-stopped x = leads-stop rest-after argument-leads x
 
       -- the next one's turn
-      pub argument-passed : part < node_count image → {a : Answer} {st₁ : State} → Came v a st₁ → {q : Bool} → q ≡ (poisoned || is_poison a) → Arguing T image places words n at count (place + 1) (left - 1) st₀ b₀ q st₁ b₁
-      argument-passed below c e =
+      pub argument-passed : part < node_count image → {a : Answer} {st₁ : State} → NodeVisited T image words part st b b₁ (Ok (a, st₁)) → {q : Bool} → q ≡ (poisoned || is_poison a)
+          → Arguing T image places words n at count (place + 1) (left - 1) st₀ b₀ q st₁ b₁
+      argument-passed below x e =
           rw e (record {
-            leads = leads-then rest-after argument-leads x c;
-            ready = ready-then argument-ready (after-node argument-ready below x c);
-            fresh = fresh-rest _ _ argument-fresh (visit-apart (ctx_in T image words) (tree_of image part) x c);
+            leads = leads-then rest-after argument-leads x;
+            ready = ready-then argument-ready (after-node argument-ready below x);
+            fresh = fresh-rest _ _ argument-fresh (visit-apart (ctx_in T image words) (tree_of image part) x);
           })
 
 -- as a loop counts them
@@ -142,9 +143,9 @@ module _ {T : Texts} {image places words : List ℕ} {n at count i₀ : ℕ} {po
   argued-start = record { on = λ o b' t. t }
 
   module _ {i : ℕ} {poisoned : Bool} {st : State} {b : Lent} (t : Argued T image places words n at count i₀ poisoned₀ st₀ b₀ i poisoned st b) (h : i < count) {part : ℕ} (ep : part ≡ get_or image (at + 3 + i) 0)
-      {b₁ : Lent} {v : Visit} (x : NodeVisited T image words part st b b₁ v) (below : part < node_count image) {a : Answer} {st₁ : State} (c : Came v a st₁) where
+      {b₁ : Lent} (below : part < node_count image) {a : Answer} {st₁ : State} (x : NodeVisited T image words part st b b₁ (Ok (a, st₁))) where
     pub argued-next : {p : Bool} → p ≡ (poisoned || is_poison a) → Argued T image places words n at count i₀ poisoned₀ st₀ b₀ (i + 1) p st₁ b₁
-    argued-next {p} e = record { on = λ o b' s. again (argument-passed (t.on o b' s) (some_left h) ep x below c e) }
+    argued-next {p} e = record { on = λ o b' s. again (argument-passed (t.on o b' s) (some_left h) ep below x e) }
       where
         again : {o : State} {b' : Lent} → Arguing T image places words n at count (at + 3 + i + 1) (count - i - 1) o b' p st₁ b₁ → Arguing T image places words n at count (at + 3 + (i + 1)) (count - (i + 1)) o b' p st₁ b₁
         again s =
@@ -227,7 +228,7 @@ module _ {T : Texts} {image places words : List ℕ} {n : ℕ} {st : State} {b :
   pub field-call : is_through_field (callee_at image at) ≡ true → FieldCall image places at
   field-call h = record { call = call_at; through = h }
 
-  pub call-field : {b' : Lent} {v : Visit}
+  pub call-field : {b' : Lent} {v : Visit Answer}
       → ((c : Ctx) (slot : ℕ) (given : List _) (visits : Walk Bool) → Visits (call c n slot (callee_at image at) given visits) 0 0 words st b b' v) → NodeVisited T image words n st b b' v
   unfolding node
   call-field x =

@@ -4,14 +4,13 @@ use Rattle.std.specs.Prelude.{ℕ, zero, suc, ◌+◌, ◌≤◌, ◌≡◌, ref
 use Rattle.std.proofs.Math.Path.{sym, ap}
 use Rattle.std.proofs.Common.{◌∙◌, true≢false, arith, ne_eqb, eqb-true}
 use Rattle.std.proofs.Math.Bool.{true}
-use Rattle.std.proofs.lemmas.Bool.{false≢true}
 use Rattle.std.proofs.Math.Dec.{eqb}
 use Rattle.tok.specs.Word.{kind_of}
 use Rattle.tok.specs.Step.{◌>>=◌, return}
 use Rattle.ast.specs.Image.{word_at, node_place, record_kind}
-use Rattle.ast.specs.Node.{Node, Reader, readers, read_absent, tree_within, tree_of}
+use Rattle.ast.specs.Node.{Node, readers, read_absent, tree_within, tree_of}
 use Rattle.image_laws.specs.OutlineAt.{outline_at}
-use Rattle.image_laws.specs.RecordWords.{CallWords, FieldWords}
+use Rattle.image_laws.specs.RecordWords.{CallWords}
 use Rattle.places.specs.Readable.{node-there}
 use Rattle.places.specs.NodesAt.{NodeReady, counts_of, part-ready, record_room, node-ident, node-field, words-call, words-field}
 use Rattle.onerun.specs.Proper.{ProperCallee}

@@ -47,7 +47,7 @@ pub fn report_field(
     at: usize,
     st: State,
     n: u32,
-) -> Visit
+) -> Visit<Answer>
     requires { FieldCall image.now places.now at }
     ensures { ((c : Ctx) (slot : ℕ) (given : List Provided) (visits : Walk Bool) (words s f t e : List ℕ) (o : More) →
         let b : Lent = lent s f t diagnostics.old messages.old e o in
@@ -59,21 +59,15 @@ pub fn report_field(
     let name = word_at(image, target + 3);
     let free = err_text::first_free(messages, used.told);
     let r = err_calls::call_through_field(diagnostics, &mut messages[free..], used.told, name);
-    visit::answered(st, state::poisoned(n, used, r))
+    visit::answered(st, state::told(n, used, r, Answer::Poison))
 }
 
 // Is an argument poisoned, this one or one before it?
+#[tactic(auto, unfolding(rules::specs::Steps::is_poison))]
 pub fn or_poison(poisoned: bool, answer: Answer) -> bool
     ensures { result ≡ (poisoned || is_poison answer) }
 {
-    match answer {
-        Answer::Known(_) => {
-            return poisoned;
-        }
-        Answer::Poison => {
-            return true;
-        }
-    }
+    poisoned || matches!(answer, Answer::Poison)
 }
 
 // A call of an own function, whose arguments are visited.
@@ -92,7 +86,7 @@ fn resolve_own(
     name: u32,
     args: usize,
     count: usize,
-) -> Visit
+) -> Visit<Answer>
     requires { OwnReady functions.now st.functions image.now places.now n args count }
     ensures { ((ls : List Package) (v : ℕ) (words e : List ℕ) (o : More) →
         let b : Lent = lent slots.old functions.now types.now diagnostics.old messages.old e o in
@@ -137,7 +131,7 @@ pub fn resolve(
     st: State,
     n: u32,
     poisoned: bool,
-) -> Visit
+) -> Visit<Answer>
     requires { Resolvable texts.now image.now places.now words.now n at count st (lent slots.old functions.now types.old diagnostics.old messages.old scratch.old no_more) }
     ensures { let b : Lent = lent slots.old functions.now types.old diagnostics.old messages.old scratch.old no_more in
         ((ls : List Package) (v : ℕ) →

@@ -17,8 +17,9 @@ ghost use Rattle.walking.specs.Visited.{ListVisit, ListVisited};
 ghost use Rattle.ending.specs.Ended.{ended_of, checked_of, EndsAs, WalkEnds};
 
 use ending::Checked;
+use rules::Answer;
 use tok::Texts;
-use visit::{State, Visit, Walked};
+use visit::{State, Visit};
 
 // The roots, in order. The places of the image's records are found here, once, and lent to all visits; the library is measured before, so
 // that the two arrays do not stand on the stack at the same time.
@@ -34,7 +35,7 @@ fn visit_roots<'a>(
     image: &[u32],
     library: &[u32],
     st: State,
-) -> Visit
+) -> Visit<Answer>
     requires { let T : Texts = texts_of script.now text.now in let I : List ℕ = image.now in
         let b : Lent = lent slots.old functions.old types.old diagnostics.old messages.old scratch.old no_more in
         ListVisit T I (places_of I) library.now (node_count I) 4 (root_count I) st b }
@@ -81,7 +82,7 @@ fn walk<'a>(
     text: &'a [u8],
     image: &[u32],
     library: &[u32],
-) -> Visit
+) -> Visit<Answer>
     requires { let i : Inputs = inputs_of script.now image.now text.now library.now in
         let b : Buffers = buffers_of slots.old functions.old types.old diagnostics.old messages.old scratch.old in
         refusal_of i b ≡ none }
@@ -90,26 +91,20 @@ fn walk<'a>(
         let b' : Lent = lent slots.new functions.new types.new diagnostics.new messages.new scratch.new no_more in
         WalkEnds i b b' result }
 {
-    match start::begin(slots, types, image, library) {
-        Walked::Refused(number, place) => {
-            return Visit::Refused(number, place);
-        }
-        Walked::On(st) => {
-            return visit_roots(
-                slots,
-                functions,
-                types,
-                diagnostics,
-                messages,
-                scratch,
-                script,
-                text,
-                image,
-                library,
-                st,
-            );
-        }
-    }
+    let (_, st) = start::begin(slots, types, image, library)?;
+    visit_roots(
+        slots,
+        functions,
+        types,
+        diagnostics,
+        messages,
+        scratch,
+        script,
+        text,
+        image,
+        library,
+        st,
+    )
 }
 
 // The check of accepted inputs.
@@ -175,7 +170,7 @@ pub fn check<'a>(
         let after : Buffers = buffers_of slots.new functions.new types.new diagnostics.new messages.new scratch.new in
         (check_of i before ≡ ended_of result after) × (result ≡ checked_of (check_of i before)) }
 {
-    match refuse::refuse(
+    refuse::refuse(
         script,
         image,
         text,
@@ -186,19 +181,17 @@ pub fn check<'a>(
         &diagnostics[..],
         &messages[..],
         &scratch[..],
-    ) {
-        Err(cause) => ending::refused_before(cause),
-        Ok(()) => check_accepted(
-            slots,
-            functions,
-            types,
-            diagnostics,
-            messages,
-            scratch,
-            script,
-            text,
-            image,
-            library,
-        ),
-    }
+    )?;
+    check_accepted(
+        slots,
+        functions,
+        types,
+        diagnostics,
+        messages,
+        scratch,
+        script,
+        text,
+        image,
+        library,
+    )
 }

@@ -20,8 +20,7 @@ use Rattle.runs.specs.Machine.{Open}
 use Rattle.runs.specs.Stands.{root, AllStand}
 use Rattle.runs.specs.Promise.{Honest, RunsClean, PassedRunClean}
 use Rattle.runs_judged.specs.Passed.{passed-run-clean}
-use Rattle.ending.specs.declared.Checked.{Checked}
-use Rattle.ending.specs.Ended.{ended_of}
+use Rattle.ending.specs.Ended.{Checked, ended_of}
 
 -- one answer
 module _ (i : Inputs) (b a : Buffers) (r : Checked) (e : check_of i b ≡ ended_of r a) where

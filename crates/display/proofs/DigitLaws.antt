@@ -19,3 +19,5 @@ pub digits_more : (most n : ℕ) → (most ≡ 0 → ⊥) → 10 ≤ n → digit
 unfolding digits
 digits_more zero n h p = absurd (h refl)
 digits_more (suc k) n h p = rw (le-ltb n 10 p, digits, sub-one)
+
+pub ruleset by_digit = (digits-none, digits-one, digits_more)

@@ -7,31 +7,27 @@ use Rattle.ptype.specs.Add.{overwrite, write}
 use Rattle.ptype.specs.Ty.{int_ty, str_ty, option_ty, array_ty, unknown_ty, no_field, field, rec}
 use Rattle.ptype.specs.Words.{ways, fields_from, unfolded, ty_of}
 use Rattle.ptype.specs.Show.{plain_names, openings, closings, gap, show, digits, decimal}
-use Rattle.display.specs.declared.Wrote.TheVariants.{All, Full}
-use Rattle.display.specs.Writing.{place_after, buffer_after}
+use Rattle.std.specs.Prelude.{Ok, Err}
+use Rattle.display.specs.Writing.{written}
 use Rattle.display.specs.Joined.{each_after, joined, sig}
 use Rattle.display.specs.Signature.{show_signature, arg_types, args_of, ret_of}
 
--- ---- writing: a text that fits, one that does not, and one after it
-fits : buffer_after (text "......") (All 2) (text "abc") ≡ text "..abc."
-unfolding buffer_after overwrite write text
+-- ---- writing: a text that fits, one that does not, one that fills the buffer, and one past its end
+fits : written (text "......") 2 (text "abc") ≡ (Ok tt, (text "..abc.", 5))
+unfolding written overwrite write text
 fits = refl
 
-fits-to : place_after (text "......") (All 2) (text "abc") ≡ All 5
-unfolding place_after text
-fits-to = refl
-
-front : buffer_after (text "....") (All 2) (text "abc") ≡ text "..ab"
-unfolding buffer_after overwrite write text
+front : written (text "....") 2 (text "abc") ≡ (Err (record {}), (text "..ab", 4))
+unfolding written overwrite write text
 front = refl
 
-front-full : place_after (text "....") (All 2) (text "abc") ≡ Full
-unfolding place_after text
-front-full = refl
-
-to_the_end : place_after (text ".....") (All 2) (text "abc") ≡ All 5
-unfolding place_after text
+to_the_end : written (text ".....") 2 (text "abc") ≡ (Ok tt, (text "..abc", 5))
+unfolding written overwrite write text
 to_the_end = refl
+
+past_the_end : written (text "..") 3 (text "abc") ≡ (Err (record {}), (text "..", 3))
+unfolding written overwrite write text
+past_the_end = refl
 
 -- ---- the texts
 record_text : show (rec (field (text "a") (array_ty (option_ty int_ty)) (field (text "bc") unknown_ty no_field))) ≡ text "Record<a: Array<Option<Int>> bc: unknown>"

@@ -1,5 +1,5 @@
 -- The text of a type, by the kind of its word, and of fields one by one: the branches of `show_within` and the turns of `show_fields`. Assumes nothing.
-use Prim.Native.Nat.{ℕ, zero, suc, ◌+◌, ◌*◌, ◌-◌, ◌<◌}
+use Prim.Native.Nat.{ℕ, zero, suc, ◌+◌, ◌-◌, ◌<◌}
 use mathlib.Core.Path.{◌≡◌, refl, sym, ap, ◌∙◌}
 use mathlib.Core.Bool.{true, false, true≢false}
 use mathlib.Core.Logic.{⊎_elim}
@@ -10,13 +10,14 @@ use borrow.Author.Tests.{ne_eqb}
 use Rattle.tok.specs.Word.{kind_of, payload_of}
 use Rattle.tok.specs.Text.{Texts, text, name_bytes}
 use Rattle.ptype.specs.Ty.{Ty}
-use Rattle.ptype.specs.Words.{inner_word, field_count, fields_from, unfolded, ty_of}
+use Rattle.ptype.specs.Words.{inner_word, field_count, fields_from, unfolded}
 use Rattle.ptype.specs.Show.{plain_names, openings, closings, gap, show, show_fields}
 use Rattle.ptype.specs.Kinds.{wraps, one_of, Plain, shape, is_plain, is_wrap, is_record, is_named}
 use Rattle.ptype.proofs.UnfoldLaws.{one_less, unfolded-none, unfolded-plain, unfolded-wrap, unfolded_record, unfolded-named, fields-none, fields-more}
 use Rattle.display.specs.Leaf.{Leaf}
-use Rattle.display.specs.Signature.{show_signature, args_of, ret_of}
 use Rattle.display.specs.Joined.{separated}
+use Rattle.display.specs.Writing.{written}
+use Rattle.display.specs.WritingLaws.{written_next, written_append}
 
 -- ---- kinds
 pub is_leaf : (w : ℕ) {k : ℕ} → k ≡ kind_of w → wraps k ≡ false → (k ≡ 8 → ⊥) → Leaf (kind_of w)
@@ -41,9 +42,9 @@ module _ (t : Texts) (types : List ℕ) (w : ℕ) {deep k : ℕ} (p : deep ≡ 0
 
   pub shown_record :
       {i n : ℕ} → k ≡ 8 → i ≡ payload_of w → n ≡ field_count types w →
-      show (unfolded t types deep w) ≡ get_or openings k [] ++ (show_fields (fields_from (unfolded t types (deep - 1)) t types (i + 1) n) ++ text ">")
+      show (unfolded t types deep w) ≡ get_or openings k [] ++ show_fields (fields_from (unfolded t types (deep - 1)) t types (i + 1) n) ++ text ">"
   unfolding show closings
-  shown_record h ei en = rw (unfolded_record t types w (one_less p) ek h, ← en, ← ei, h) (simp append_assoc)
+  shown_record h ei en = rw (unfolded_record t types w (one_less p) ek h, ← en, ← ei, h)
 
   pub shown-leaf : Leaf (kind_of w) → show (unfolded t types deep w) ≡ show (unfolded t [] 1 w)
   shown-leaf l = ap show (go (rw ek l))
@@ -71,9 +72,9 @@ module _ (t : Texts) (w : ℕ) {k : ℕ} (ek : k ≡ kind_of w) where
 
 -- ---- fields
 module _ (go : ℕ → Ty) (t : Texts) (words : List ℕ) (i : ℕ) where
-  pub fields-end : {k : ℕ} (after : List ℕ) → k ≡ 0 → show_fields (fields_from go t words i k) ++ after ≡ after
+  pub fields-end : {k : ℕ} → k ≡ 0 → show_fields (fields_from go t words i k) ≡ []
   unfolding show_fields
-  fields-end after e = rw (fields-none go t words i e)
+  fields-end e = rw (fields-none go t words i e)
 
   gap_is : (j n : ℕ) → gap (fields_from go t words j n) ≡ separated n (text " ")
   unfolding gap separated fields_from
@@ -82,18 +83,13 @@ module _ (go : ℕ → Ty) (t : Texts) (words : List ℕ) (i : ℕ) where
 
   -- what one turn writes: the name that was read, a colon, the type of the word that was read, and a blank unless it is the last
   pub fields-turn :
-      {k w : ℕ} {name : List ℕ} (after : List ℕ) → 0 < k → name ≡ name_bytes t (get_or words i 0) → w ≡ get_or words (i + 1) 0 →
-      show_fields (fields_from go t words i k) ++ after
-      ≡ (name ++ text ": " ++ show (go w) ++ separated (k - 1) (text " ")) ++ (show_fields (fields_from go t words (i + 2) (k - 1)) ++ after)
+      {k w : ℕ} {name : List ℕ} → 0 < k → name ≡ name_bytes t (get_or words i 0) → w ≡ get_or words (i + 1) 0 →
+      show_fields (fields_from go t words i k) ≡ name ++ text ": " ++ show (go w) ++ separated (k - 1) (text " ") ++ show_fields (fields_from go t words (i + 2) (k - 1))
   unfolding show_fields
-  fields-turn {k} after h en ew =
+  fields-turn {k} h en ew =
       let e : k ≡ suc (k - 1) = omega arith in
       rw (fields-more go t words i e, gap_is (i + 2) (k - 1), en, ew) (simp append_assoc)
 
--- ---- signatures: the count and the return type's word were read
-pub signature-text :
-    (t : Texts) (types words : List ℕ) {a n r : ℕ} → a ≡ get_or words 0 0 → n ≡ a → r ≡ get_or words (1 + 2 * n) 0 →
-    show_signature (args_of t types words) (ret_of t types words)
-    ≡ text "(" ++ (show_fields (fields_from (unfolded t types 33) t words 1 n) ++ text ") -> ") ++ show (ty_of t types r)
-unfolding show_signature ty_of
-signature-text t types words ea en er = rw (er, en, ea) (simp append_assoc)
+-- ---- signatures
+pub bracket : (o : List ℕ) (n : ℕ) (s : List ℕ) → written o n (text "(" ++ s) ≡ written_next (written o n (text "(")) s
+bracket o n s = written_append o n (text "(") s

@@ -12,6 +12,8 @@ unfolding separated
 separated-some sep zero h = absurd (h refl)
 separated-some sep (suc n) h = refl
 
+pub ruleset separating = (separated-none, separated-some)
+
 -- what is left of joined pieces once `count` of them are written
 unfoldable pub joined_after : (count : ℕ) → (separator : List ℕ) → List (List ℕ) → List ℕ
 joined_after zero sep ps = joined sep ps

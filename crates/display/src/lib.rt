@@ -1,5 +1,5 @@
 // Writing pieces, numbers, types and signatures into the rest of a message buffer (`format!`, `impl Display`).
-#![tactic(auto)]
+#![tactic(auto, using(crate::specs::WritingLaws::writing))]
 
 ghost use Rattle.std.specs.Prelude.{◌≡◌, [], ◌∷◌, ◌++◌, map, ◌+◌, ◌*◌, ◌^◌, ◌≤◌, ◌<◌, get_or};
 ghost use Rattle.tok.specs.Word.{kind_of};
@@ -15,61 +15,74 @@ ghost use Rattle.display.specs.Signature.{show_signature, arg_types, args_of, re
 
 use tok::Texts;
 
-// The place where the next piece goes, or that a piece had no room.
+// That a piece had no room.
 #[derive(Clone, Copy)]
-pub enum Wrote {
-    All(usize),
-    Full,
+pub struct Full;
+
+// The buffer that is lent to be written into, and the place where the next piece goes.
+#[derive(Drop)]
+pub struct Writer<'a> {
+    pub buffer: &'a mut [u8],
+    pub at: usize,
 }
 
 // Pieces.
 
-// Writes a piece into the front of the part that is lent, as far as it has room.
-pub fn put(out: &mut [u8], piece: &[u8]) -> Wrote
-    ensures { Writes out.old (Wrote.All 0) out.new result piece.now }
-{
-    let n = piece.len().min(out.len());
-    out[..n].copy_from_slice(&piece[..n]);
-    if n < piece.len() {
-        Wrote::Full
-    } else {
-        Wrote::All(n)
+impl<'a> Writer<'a> {
+    // A writer into a buffer, from its start on.
+    pub fn new(buffer: &'a mut [u8]) -> Writer<'a>
+        ensures same_buffer { result.buffer.ghost_name ≡ buffer.entry.ghost_name }
+        ensures from_the_start { (result.buffer.now ≡ buffer.old) × (result.at ≡ 0) }
+    {
+        Writer { buffer, at: 0 }
     }
-}
 
-// Writes a piece at a place: the rest of the buffer is lent on.
-pub fn put_at(out: &mut [u8], at: Wrote, piece: &[u8]) -> Wrote
-    ensures { Writes out.old at out.new result piece.now }
-{
-    let Wrote::All(n) = at else {
-        return Wrote::Full;
-    };
-    if n > out.len() {
-        return Wrote::Full;
+    // Writes a piece, as far as it has room.
+    pub fn put(&mut self, piece: &[u8]) -> Result<(), Full>
+        ensures { Writes self.old self.new result piece.now }
+    {
+        let end = self.buffer.len();
+        if self.at > end {
+            return Err(Full);
+        }
+        if piece.len() <= end - self.at {
+            self.buffer[self.at..self.at + piece.len()].copy_from_slice(piece);
+            self.at += piece.len();
+            Ok(())
+        } else {
+            self.buffer[self.at..end].copy_from_slice(&piece[..end - self.at]);
+            self.at = end;
+            Err(Full)
+        }
     }
-    let Wrote::All(m) = put(&mut out[n..], piece) else {
-        return Wrote::Full;
-    };
-    Wrote::All(n + m)
-}
 
-// Writes a piece between two others.
-pub fn put_around(out: &mut [u8], at: Wrote, before: &[u8], piece: &[u8], after: &[u8]) -> Wrote
-    ensures { Writes out.old at out.new result (before.now ++ piece.now ++ after.now) }
-{
-    let a = put_at(out, at, before);
-    let b = put_at(out, a, piece);
-    put_at(out, b, after)
-}
+    // Writes a piece between two others.
+    pub fn put_around(&mut self, before: &[u8], piece: &[u8], after: &[u8]) -> Result<(), Full>
+        ensures { Writes self.old self.new result (before.now ++ piece.now ++ after.now) }
+    {
+        self.put(before)?;
+        self.put(piece)?;
+        self.put(after)
+    }
 
-// Writes a separator beside `count` other pieces: none where there are none.
-pub fn put_separator(out: &mut [u8], at: Wrote, count: usize, separator: &[u8]) -> Wrote
-    ensures { Writes out.old at out.new result (separated count separator.now) }
-{
-    if count == 0 {
-        put_at(out, at, b"")
-    } else {
-        put_at(out, at, separator)
+    // Writes a separator beside `count` other pieces: none where there are none.
+    #[tactic(auto, using(crate::specs::JoinedLaws::separating))]
+    pub fn put_separator(&mut self, count: usize, separator: &[u8]) -> Result<(), Full>
+        ensures { Writes self.old self.new result (separated count separator.now) }
+    {
+        if count == 0 {
+            self.put(b"")
+        } else {
+            self.put(separator)
+        }
+    }
+
+    // Writes a number in decimal.
+    #[tactic(auto, unfolding(ptype::specs::Show::decimal))]
+    pub fn put_decimal(&mut self, n: usize) -> Result<(), Full>
+        ensures { Writes self.old self.new result (decimal n) }
+    {
+        put_digits(self, MOST_DIGITS, n)
     }
 }
 
@@ -98,38 +111,32 @@ pub fn one_of(pieces: &[u8], k: usize) -> &[u8]
 // Numbers.
 
 // Writes one digit.
-fn put_digit(out: &mut [u8], at: Wrote, digit: usize) -> Wrote
+fn put_digit(out: &mut Writer, digit: usize) -> Result<(), Full>
     requires { digit < 10 }
-    ensures { Writes out.old at out.new result ((48 + digit) ∷ []) }
+    ensures { Writes out.old out.new result ((48 + digit) ∷ []) }
 {
     let byte = [48 + digit as u8];
-    put_at(out, at, &byte)
+    out.put(&byte)
 }
 
 // Writes the digits of a number, `most` of them at most.
-fn put_digits(out: &mut [u8], at: Wrote, most: usize, n: usize) -> Wrote
-    ensures { Writes out.old at out.new result (digits most n) }
+#[tactic(auto, using(crate::specs::WritingLaws::writing, crate::proofs::DigitLaws::by_digit))]
+fn put_digits(out: &mut Writer, most: usize, n: usize) -> Result<(), Full>
+    ensures { Writes out.old out.new result (digits most n) }
 {
     if most == 0 {
-        return put_at(out, at, b"");
+        return out.put(b"");
     }
     if n < 10 {
-        put_digit(out, at, n)
+        put_digit(out, n)
     } else {
-        let a = put_digits(out, at, most - 1, n / 10);
-        put_digit(out, a, n % 10)
+        put_digits(out, most - 1, n / 10)?;
+        put_digit(out, n % 10)
     }
 }
 
 // How many digits a number can have.
 const MOST_DIGITS: usize = 10;
-
-// Writes a number in decimal.
-pub fn put_decimal(out: &mut [u8], at: Wrote, n: usize) -> Wrote
-    ensures { Writes out.old at out.new result (decimal n) }
-{
-    put_digits(out, at, MOST_DIGITS, n)
-}
 
 // Types.
 
@@ -137,170 +144,154 @@ pub fn put_decimal(out: &mut [u8], at: Wrote, n: usize) -> Wrote
 const LEVELS: usize = 33;
 
 // Writes what stands before the inside of an Option, an Array, a Record or a Foreign.
-fn put_opening(out: &mut [u8], at: Wrote, kind: u32) -> Wrote
-    ensures { Writes out.old at out.new result (get_or openings kind []) }
+fn put_opening(out: &mut Writer, kind: u32) -> Result<(), Full>
+    ensures { Writes out.old out.new result (get_or openings kind []) }
 {
-    put_at(
-        out,
-        at,
-        one_of(b"||||||Option<|Array<|Record<|Foreign<||", kind as usize),
-    )
+    out.put(one_of(b"||||||Option<|Array<|Record<|Foreign<||", kind as usize))
 }
 
 // Writes the name of a type with nothing inside.
-fn put_plain(out: &mut [u8], at: Wrote, kind: u32) -> Wrote
-    ensures { Writes out.old at out.new result (get_or plain_names kind []) }
+fn put_plain(out: &mut Writer, kind: u32) -> Result<(), Full>
+    ensures { Writes out.old out.new result (get_or plain_names kind []) }
 {
-    put_at(
-        out,
-        at,
-        one_of(b"|Void|Bool|Int|Double|Str||||||unknown|", kind as usize),
-    )
+    out.put(one_of(b"|Void|Bool|Int|Double|Str||||||unknown|", kind as usize))
 }
 
 // Writes a type that has no type inside. No word of the types buffer is read.
-fn show_leaf(out: &mut [u8], at: Wrote, texts: &Texts, w: u32) -> Wrote
+fn show_leaf(out: &mut Writer, texts: &Texts, w: u32) -> Result<(), Full>
     requires { Leaf (kind_of w) }
-    ensures { Writes out.old at out.new result (show (unfolded texts.now [] 1 w)) }
+    ensures { Writes out.old out.new result (show (unfolded texts.now [] 1 w)) }
 {
     let k = tok::kind(w);
     if k == ptype::FOREIGN {
-        let a = put_opening(out, at, k);
-        let b = put_at(out, a, tok::name_bytes(texts, w));
-        put_at(out, b, b">")
+        put_opening(out, k)?;
+        out.put(tok::name_bytes(texts, w))?;
+        out.put(b">")
     } else if k == ptype::SLOT {
-        put_at(out, at, tok::name_bytes(texts, w))
+        out.put(tok::name_bytes(texts, w))
     } else {
-        put_plain(out, at, k)
+        put_plain(out, k)
     }
 }
 
 // Writes a type, unfolded `depth` levels deep.
 #[cycle(show_fields_show_within)]
 fn show_within(
-    out: &mut [u8],
-    at: Wrote,
+    out: &mut Writer,
     types: &[u32],
     texts: &Texts,
     w: u32,
     depth: usize,
-) -> Wrote
-    ensures { Writes out.old at out.new result (show (unfolded texts.now types.now depth w)) }
+) -> Result<(), Full>
+    ensures { Writes out.old out.new result (show (unfolded texts.now types.now depth w)) }
 {
-    let Wrote::All(_) = at else {
-        return Wrote::Full;
-    };
     if depth == 0 {
-        return put_plain(out, at, ptype::UNKNOWN);
+        return put_plain(out, ptype::UNKNOWN);
     }
     let k = tok::kind(w);
     if ptype::wraps(k) {
-        let a = put_opening(out, at, k);
-        let b = show_within(out, a, types, texts, ptype::inner(types, w), depth - 1);
-        put_at(out, b, b">")
+        put_opening(out, k)?;
+        show_within(out, types, texts, ptype::inner(types, w), depth - 1)?;
+        out.put(b">")
     } else if k == ptype::RECORD {
-        let a = put_opening(out, at, k);
+        put_opening(out, k)?;
         let i = tok::payload(w) + 1;
         let n = ptype::field_count(types, w);
-        show_fields(out, a, types, texts, types, i, n, depth - 1, b">")
+        show_fields(out, types, texts, types, i, n, depth - 1)?;
+        out.put(b">")
     } else {
-        show_leaf(out, at, texts, w)
+        show_leaf(out, texts, w)
     }
 }
 
-// Writes n fields, or arguments, whose names and types stand in `words` from the index i on, and what comes after them.
+// Writes n fields, or arguments, whose names and types stand in `words` from the index i on.
 #[cycle(show_fields_show_within)]
 fn show_fields(
-    out: &mut [u8],
-    at: Wrote,
+    out: &mut Writer,
     types: &[u32],
     texts: &Texts,
     words: &[u32],
     i: usize,
     n: usize,
     depth: usize,
-    after: &[u8],
-) -> Wrote
+) -> Result<(), Full>
     requires { i + 2 * n < 2 ^ 40 }
     ensures { let F : Fields = fields_from (unfolded texts.now types.now depth) texts.now words.now i n in
-        Writes out.old at out.new result (show_fields F ++ after.now) }
+        Writes out.old out.new result (show_fields F) }
 {
-    let mut at = at;
     let mut i = i;
     for left in (0..n).rev() {
-        at = put_at(out, at, ptype::field_name(words, texts, i));
-        at = put_at(out, at, b": ");
-        at = show_within(out, at, types, texts, ptype::field_type(words, i), depth);
-        at = put_separator(out, at, left, b" ");
+        out.put(ptype::field_name(words, texts, i))?;
+        out.put(b": ")?;
+        show_within(out, types, texts, ptype::field_type(words, i), depth)?;
+        out.put_separator(left, b" ")?;
         i += 2;
     }
-    put_at(out, at, after)
+    out.put(b"")
 }
 
 // Writes a type as `Display` shows it.
-pub fn show_type(out: &mut [u8], at: Wrote, types: &[u32], texts: &Texts, w: u32) -> Wrote
-    ensures { Writes out.old at out.new result (show (ty_of texts.now types.now w)) }
+pub fn show_type(out: &mut Writer, types: &[u32], texts: &Texts, w: u32) -> Result<(), Full>
+    ensures { Writes out.old out.new result (show (ty_of texts.now types.now w)) }
 {
-    show_within(out, at, types, texts, w, LEVELS)
+    show_within(out, types, texts, w, LEVELS)
 }
 
 // Writes the signature that `words` begins with, as `Display` shows it.
+#[tactic(auto, using(crate::specs::WritingLaws::writing, crate::proofs::ShownLaws::bracket), unfolding(crate::specs::Signature::show_signature, ptype::specs::Words::ty_of, tok::specs::Text::text))]
 pub fn show_signature(
-    out: &mut [u8],
-    at: Wrote,
+    out: &mut Writer,
     types: &[u32],
     texts: &Texts,
     words: &[u32],
-) -> Wrote
-    ensures { Writes out.old at out.new result (show_signature (args_of texts.now types.now words.now) (ret_of texts.now types.now words.now)) }
+) -> Result<(), Full>
+    ensures { Writes out.old out.new result (show_signature (args_of texts.now types.now words.now) (ret_of texts.now types.now words.now)) }
 {
     let n = tok::word_at(words, 0) as usize;
-    let a = put_at(out, at, b"(");
-    let b = show_fields(out, a, types, texts, words, 1, n, LEVELS, b") -> ");
-    show_type(out, b, types, texts, tok::word_at(words, 1 + 2 * n))
+    out.put(b"(")?;
+    show_fields(out, types, texts, words, 1, n, LEVELS)?;
+    out.put(b") -> ")?;
+    show_type(out, types, texts, tok::word_at(words, 1 + 2 * n))
 }
 
 // Writes the types of `count` words, joined by `, `; they stand in `words`, the first at an index and each other a step further.
 fn show_every(
-    out: &mut [u8],
-    at: Wrote,
+    out: &mut Writer,
     types: &[u32],
     texts: &Texts,
     words: &[u32],
     first: usize,
     step: usize,
     count: usize,
-) -> Wrote
+) -> Result<(), Full>
     requires { (step ≤ 2) × (first + 2 * count < 2 ^ 63) }
-    ensures { Writes out.old at out.new result (sig (every (ty_of texts.now types.now) words.now first step count)) }
+    ensures { Writes out.old out.new result (sig (every (ty_of texts.now types.now) words.now first step count)) }
 {
-    let mut at = at;
     let mut i = first;
     for done in 0..count {
-        at = put_separator(out, at, done, b", ");
-        at = show_type(out, at, types, texts, tok::word_at(words, i));
+        out.put_separator(done, b", ")?;
+        show_type(out, types, texts, tok::word_at(words, i))?;
         i += step;
     }
-    put_at(out, at, b"")
+    out.put(b"")
 }
 
 // Writes the types of words, joined by `, `.
-pub fn show_types(out: &mut [u8], at: Wrote, types: &[u32], texts: &Texts, words: &[u32]) -> Wrote
-    ensures { Writes out.old at out.new result (sig (map (ty_of texts.now types.now) words.now)) }
+pub fn show_types(out: &mut Writer, types: &[u32], texts: &Texts, words: &[u32]) -> Result<(), Full>
+    ensures { Writes out.old out.new result (sig (map (ty_of texts.now types.now) words.now)) }
 {
-    show_every(out, at, types, texts, words, 0, 1, words.len())
+    show_every(out, types, texts, words, 0, 1, words.len())
 }
 
 // Writes the types of the arguments of the signature that `words` begins with, joined by `, `.
 pub fn show_arg_types(
-    out: &mut [u8],
-    at: Wrote,
+    out: &mut Writer,
     types: &[u32],
     texts: &Texts,
     words: &[u32],
-) -> Wrote
-    ensures { Writes out.old at out.new result (sig (arg_types (args_of texts.now types.now words.now))) }
+) -> Result<(), Full>
+    ensures { Writes out.old out.new result (sig (arg_types (args_of texts.now types.now words.now))) }
 {
     let n = tok::word_at(words, 0) as usize;
-    show_every(out, at, types, texts, words, 2, 2, n)
+    show_every(out, types, texts, words, 2, 2, n)
 }

@@ -1,5 +1,5 @@
 -- The two ways to an answer: a cause of refusal found before the walk, or the walk and what is left after it. By cases. Assumes nothing.
-use Rattle.std.specs.Prelude.{ℕ, ◌≡◌, refl, List, length, replicate, Result as Found, Ok, Err, ⊤}
+use Rattle.std.specs.Prelude.{ℕ, ◌≡◌, refl, List, length, replicate, Err}
 use Rattle.std.proofs.Common.{sym, ap, ◌∙◌, subst}
 use Rattle.std.proofs.Math.Option.{none}
 use Rattle.tok.specs.Step.{Result, ok, refused, Refusal}
@@ -13,31 +13,22 @@ use Rattle.rules.specs.Steps.{Done}
 use Rattle.rules.specs.Walk.{walk_of}
 use Rattle.rules.specs.Check.{zeros, zeroed, end_of, unless_refused, check_of}
 use Rattle.state.specs.World.{no_more}
-use Rattle.visit.specs.declared.Visit.{Visit}
-use Rattle.visit.specs.Whole.{lent}
-use Rattle.ending.specs.declared.Checked.{Checked}
-use Rattle.ending.specs.Ended.{ended_of, checked_of, EndsAs, before_of, over_of, WalkEnds}
+use Rattle.rules.specs.declared.Answer.{Answer}
+use Rattle.visit.specs.Whole.{Visit, lent}
+use Rattle.ending.specs.Ended.{Checked, ended_of, checked_of, EndsAs, before_of, over_of, WalkEnds}
 
 -- ── Before the walk ──
 
 -- a cause that was found is the answer, and every buffer is as it was
-found_before : (i : Inputs) (b : Buffers) (cause : Cause) → refusal_in (Err cause) ≡ refusal_of i b → EndsAs (check_of i b) b (before_of cause)
-unfolding check_of unless_refused
-found_before i b Scratch h = rw (← h) (record { means = refl; only = refl })
-found_before i b (Library p) h = rw (← h) (record { means = refl; only = refl })
-found_before i b (Image p) h = rw (← h) (record { means = refl; only = refl })
-found_before i b (Claims p) h = rw (← h) (record { means = refl; only = refl })
-found_before i b (Depth p) h = rw (← h) (record { means = refl; only = refl })
-found_before i b Room h = rw (← h) (record { means = refl; only = refl })
-
-module _ (i : Inputs) (b : Buffers) {q : Found ⊤ Cause} (h : refusal_in q ≡ refusal_of i b) where
-  pub refused-before : {cause : Cause} {r : Checked} → q ≡ Err cause → r ≡ before_of cause → (check_of i b ≡ ended_of r b) × (r ≡ checked_of (check_of i b))
-  refused-before {cause} k e =
-      let f = found_before i b cause (ap refusal_in (sym k) ∙ h) in
-      rw e (f.means, f.only)
-
-  pub passed-before : {passed : ⊤} → q ≡ Ok passed → refusal_of i b ≡ none
-  passed-before e = sym h ∙ ap refusal_in e
+pub refused-before : (i : Inputs) (b : Buffers) (cause : Cause) → refusal_in (Err cause) ≡ refusal_of i b
+    → (check_of i b ≡ ended_of (Err (before_of cause)) b) × (Err (before_of cause) ≡ checked_of (check_of i b))
+unfolding check_of unless_refused before_of
+refused-before i b Scratch h = rw (← h) (refl, refl)
+refused-before i b (Library p) h = rw (← h) (refl, refl)
+refused-before i b (Image p) h = rw (← h) (refl, refl)
+refused-before i b (Claims p) h = rw (← h) (refl, refl)
+refused-before i b (Depth p) h = rw (← h) (refl, refl)
+refused-before i b Room h = rw (← h) (refl, refl)
 
 -- ── After it ──
 
@@ -55,7 +46,7 @@ accepted-is : (i : Inputs) (b : Buffers) → refusal_of i b ≡ none → check_o
 unfolding check_of unless_refused
 accepted-is i b h = rw h
 
-module _ {i : Inputs} {s f t d m e s' f' t' d' m' e' : List ℕ} {v : Visit} (w : WalkEnds i (buffers_of s f t d m e) (lent s' f' t' d' m' e' no_more) v) where
+module _ {i : Inputs} {s f t d m e s' f' t' d' m' e' : List ℕ} {v : Visit Answer} (w : WalkEnds i (buffers_of s f t d m e) (lent s' f' t' d' m' e' no_more) v) where
   pub accepted-ends : {after : Buffers} {r : Checked} → refusal_of i (buffers_of s f t d m e) ≡ none
       → length s' ≡ length s → length f' ≡ length f → length t' ≡ length t → length d' ≡ length d → length m' ≡ length m → length e' ≡ length e
       → EndsAs (end_of (buffers_of s' f' t' d' m' e') (over_of i.library (lent s' f' t' d' m' e' no_more) v)) after r → EndsAs (check_of i (buffers_of s f t d m e)) after r

@@ -1,38 +1,44 @@
 -- What the check answers, as document 01's number, place and counts ("An answer", "Answers that end the check"), and what its parts hand to
 -- each other. Definitions.
-use Rattle.std.specs.Prelude.{ℕ, ◌≤◌, ◌≡◌, cond, List, eqb, length}
-use Rattle.tok.specs.Step.{Result, Refusal, refusal, next}
+use Rattle.std.specs.Prelude.{ℕ, ◌≤◌, ◌≡◌, cond, List, eqb, length, Result as Answered, Ok, Err, ⊤}
+use Rattle.tok.specs.Step.{Result, refusal, Refusal, next}
 use Rattle.refusals.specs.Inputs.{Inputs, Buffers}
 use Rattle.refuse.specs.declared.Cause.{Cause}
 use Rattle.refuse.specs.declared.Cause.TheVariants.{Scratch, Library, Image, Claims, Depth, Room}
+use Rattle.rules.specs.declared.Answer.{Answer}
 use Rattle.rules.specs.World.{World}
 use Rattle.rules.specs.Steps.{Done, skip}
 use Rattle.rules.specs.Walk.{walk_of}
-use Rattle.rules.specs.Check.{Ended, refused_with, zeros}
+use Rattle.rules.specs.Check.{Ended, refused_with}
 use Rattle.state.specs.Signatures.{entries_end}
 use Rattle.visit.specs.declared.State.{State}
-use Rattle.visit.specs.declared.Visit.{Visit}
-use Rattle.visit.specs.declared.Visit.TheVariants as X
-use Rattle.visit.specs.Whole.{Lent, visited}
-use Rattle.ending.specs.declared.Checked.{Checked}
-use Rattle.ending.specs.declared.Checked.TheVariants as C
+use Rattle.visit.specs.Whole.{Lent, Visit, visited}
+use Rattle.ending.specs.declared.AnswerCounts.{AnswerCounts}
+use Rattle.ending.specs.declared.Refused.{Refused}
 
--- The paper's number, place and counts for each case of an answer, with the buffers afterwards.
+-- how much an answer uses, or a refusal
+abbrev pub Checked : Type 0
+Checked = Answered AnswerCounts Refused
+
+-- The paper's number, place and counts for each of them, with the buffers afterwards.
 abbrev pub ended_of : Checked → Buffers → Ended
-ended_of (C.Done function_words type_words diagnostics message_bytes) b = record {
+ended_of (Ok c) b = record {
   number = 0;
   place = 0;
-  function_words = function_words;
-  type_words = type_words;
-  diagnostics = diagnostics;
-  message_bytes = message_bytes;
+  function_words = c.function_words;
+  type_words = c.type_words;
+  diagnostics = c.diagnostics;
+  message_bytes = c.message_bytes;
   after = b;
 }
-ended_of (C.Refused number place) b = refused_with (refusal number place) b
+ended_of (Err r) b = refused_with (refusal r.number r.place) b
 
--- Which case an end is answered by: Done where the number is 0, else Refused. So no refusal of number 0 is ever answered.
+-- Which of them an end is answered by: counts where the number is 0, else a refusal. So no refusal of number 0 is ever answered.
 abbrev pub checked_of : Ended → Checked
-checked_of e = cond (eqb e.number 0) (C.Done e.function_words e.type_words e.diagnostics e.message_bytes) (C.Refused e.number e.place)
+checked_of e =
+    cond (eqb e.number 0)
+    (Ok (record { function_words = e.function_words; type_words = e.type_words; diagnostics = e.diagnostics; message_bytes = e.message_bytes }))
+    (Err (record { number = e.number; place = e.place }))
 
 -- r is the answer where the rules end in e, with the buffers afterwards: it means that, and no other case does
 pub record EndsAs (e : Ended) (after : Buffers) (r : Checked) : Type 0 where
@@ -40,34 +46,33 @@ pub record EndsAs (e : Ended) (after : Buffers) (r : Checked) : Type 0 where
   pub only : r ≡ checked_of e
 
 -- what is found before the walk
-abbrev pub before_of : Cause → Checked
-before_of Scratch = C.Refused 1 0
-before_of (Library word) = C.Refused 2 word
-before_of (Image word) = C.Refused 3 word
-before_of (Claims node) = C.Refused 4 node
-before_of (Depth node) = C.Refused 5 node
-before_of Room = C.Refused 6 0
+unfoldable pub before_of : Cause → Refused
+before_of Scratch = record { number = 1; place = 0 }
+before_of (Library word) = record { number = 2; place = word }
+before_of (Image word) = record { number = 3; place = word }
+before_of (Claims node) = record { number = 4; place = node }
+before_of (Depth node) = record { number = 5; place = node }
+before_of Room = record { number = 6; place = 0 }
 
 -- what is used where the walk has ended
-abbrev pub done_of : (functions : List ℕ) → State → Checked
-done_of functions st = C.Done (entries_end functions 0 0 st.functions) st.used.types st.used.told.diagnostics st.used.told.bytes
-
-pub record Answers (functions : List ℕ) (st : State) (scratch scratch' : List ℕ) (r : Checked) : Type 0 where
-  pub counts : r ≡ done_of functions st
-  -- "Scratch is all zero."
-  pub zero : scratch' ≡ zeros scratch
+abbrev pub counts_of : (functions : List ℕ) → State → AnswerCounts
+counts_of functions st = record {
+  function_words = entries_end functions 0 0 st.functions;
+  type_words = st.used.types;
+  diagnostics = st.used.told.diagnostics;
+  message_bytes = st.used.told.bytes;
+}
 
 -- how the walk ends where its roots were visited: what the last of them answered does not matter
-abbrev pub over_of : (library : List ℕ) → Lent → Visit → Result World Refusal Done
+abbrev pub over_of : (library : List ℕ) → Lent → Visit Answer → Result World Refusal Done
 over_of library b r = next (visited library b r) (λ _. skip)
 
--- the entries of the functions buffer lie in it; a refusal has a number
-unfoldable pub EndsWell : (functions : List ℕ) → Visit → Type 0
-EndsWell functions (X.Known slot st) = entries_end functions 0 0 st.functions ≤ length functions
-EndsWell functions (X.Poison st) = entries_end functions 0 0 st.functions ≤ length functions
-EndsWell functions (X.Refused number place) = number ≡ 0 → ⊥
+-- the entries of the functions buffer lie in it
+unfoldable pub EndsWell : (functions : List ℕ) → Visit Answer → Type 0
+EndsWell functions (Ok (a, st)) = entries_end functions 0 0 st.functions ≤ length functions
+EndsWell functions (Err e) = ⊤
 
 -- the walk of accepted inputs: b came in, b' are the buffers now, r is what the roots answered
-pub record WalkEnds (i : Inputs) (b : Buffers) (b' : Lent) (r : Visit) : Type 0 where
+pub record WalkEnds (i : Inputs) (b : Buffers) (b' : Lent) (r : Visit Answer) : Type 0 where
   pub step : walk_of i b ≡ over_of i.library b' r
   pub well : EndsWell b'.functions r

@@ -10,77 +10,83 @@ ghost use Rattle.state.specs.Signatures.{entries_end};
 ghost use Rattle.state.specs.World.{no_more};
 ghost use Rattle.visit.specs.Whole.{Lent, lent};
 ghost use Rattle.ending.specs.Numbers.{numbers_of};
-ghost use Rattle.ending.specs.Ended.{EndsAs, before_of, Answers, over_of, EndsWell};
+ghost use Rattle.ending.specs.Ended.{EndsAs, counts_of, over_of, EndsWell};
 
 use refuse::Cause;
+use rules::Answer;
 use visit::{State, Visit};
 
-// What the check answers: how many function words, type words, diagnostics and message bytes are used; or a refusal's number and place.
-#[derive(Clone, Copy)]
-pub enum Checked {
-    Done {
-        function_words: usize,
-        type_words: usize,
-        diagnostics: usize,
-        message_bytes: usize,
-    },
-    Refused {
-        number: u32,
-        place: usize,
-    },
+// How much of the buffers an answer uses.
+#[derive(Clone, Copy, Debug, PartialEq, Eq)]
+pub struct AnswerCounts {
+    pub function_words: usize,
+    pub type_words: usize,
+    pub diagnostics: usize,
+    pub message_bytes: usize,
 }
 
-// The number and place of what is found before the walk.
-pub fn refused_before(cause: Cause) -> Checked
-    ensures { result ≡ before_of cause }
-{
-    match cause {
-        Cause::Scratch => Checked::Refused {
-            number: 1,
-            place: 0,
-        },
-        Cause::Library(word) => Checked::Refused {
-            number: 2,
-            place: word,
-        },
-        Cause::Image(word) => Checked::Refused {
-            number: 3,
-            place: word,
-        },
-        Cause::Claims(node) => Checked::Refused {
-            number: 4,
-            place: node,
-        },
-        Cause::Depth(node) => Checked::Refused {
-            number: 5,
-            place: node,
-        },
-        Cause::Room => Checked::Refused {
-            number: 6,
-            place: 0,
-        },
+// A refusal, as document 01's table numbers it.
+#[derive(Clone, Copy, Debug, PartialEq, Eq)]
+pub struct Refused {
+    pub number: u32,
+    pub place: usize,
+}
+
+// What the check answers.
+pub type Checked = Result<AnswerCounts, Refused>;
+
+// What is found before the walk.
+impl From<Cause> for Refused {
+    ghost use Rattle.std.specs.Prelude.{◌≡◌};
+    ghost use Rattle.ending.specs.Ended.{before_of};
+
+    ghost from_gives = { λ cause r. r ≡ before_of cause };
+
+    #[tactic(auto, unfolding(crate::specs::Ended::before_of))]
+    fn from(cause: Cause) -> Refused {
+        match cause {
+            Cause::Scratch => Refused {
+                number: 1,
+                place: 0,
+            },
+            Cause::Library(word) => Refused {
+                number: 2,
+                place: word,
+            },
+            Cause::Image(word) => Refused {
+                number: 3,
+                place: word,
+            },
+            Cause::Claims(node) => Refused {
+                number: 4,
+                place: node,
+            },
+            Cause::Depth(node) => Refused {
+                number: 5,
+                place: node,
+            },
+            Cause::Room => Refused {
+                number: 6,
+                place: 0,
+            },
+        }
     }
 }
 
-// An answer: how much is used where the walk has ended. "Scratch is all zero."
-fn answer(functions: &[u32], scratch: &mut [u32], st: State) -> Checked
+// How much is used where the walk has ended.
+fn counts(functions: &[u32], st: State) -> AnswerCounts
     requires { entries_end functions.now 0 0 st.functions ≤ length functions.now }
-    ensures { Answers functions.now st scratch.old scratch.new result }
+    ensures { result ≡ counts_of functions.now st }
 {
-    let words = scratch.len();
-    zero::zero_first(scratch, words);
-    let used = st.used;
-    let told = used.told;
-    let function_words = scope::own_end(functions, st.functions);
-    Checked::Done {
-        function_words: function_words,
-        type_words: used.types,
-        diagnostics: told.diagnostics,
-        message_bytes: told.bytes,
+    AnswerCounts {
+        function_words: scope::own_end(functions, st.functions),
+        type_words: st.used.types,
+        diagnostics: st.used.told.diagnostics,
+        message_bytes: st.used.told.bytes,
     }
 }
 
-// What is left in the buffers where the walk has ended: scratch zero after an answer, all of them after a refusal.
+// What is left in the buffers where the walk has ended: "Scratch is all zero" after an answer, all of them after a refusal.
 pub fn finish(
     slots: &mut [u32],
     functions: &mut [u32],
@@ -88,7 +94,7 @@ pub fn finish(
     diagnostics: &mut [u32],
     messages: &mut [u8],
     scratch: &mut [u32],
-    visit: Visit,
+    visit: Visit<Answer>,
 ) -> Checked
     requires { EndsWell functions.old visit }
     ensures { let before : Buffers = buffers_of slots.old functions.old types.old diagnostics.old messages.old scratch.old in
@@ -97,44 +103,34 @@ pub fn finish(
         ((words : List ℕ) → EndsAs (end_of before (over_of words b visit)) after result) }
 {
     match visit {
-        Visit::Known(_, st) => {
-            return answer(&functions[..], scratch, st);
+        Ok((_, st)) => {
+            scratch.fill(0);
+            Ok(counts(functions, st))
         }
-        Visit::Poison(st) => {
-            return answer(&functions[..], scratch, st);
-        }
-        Visit::Refused(number, place) => {
+        Err(refusal) => {
             zero::zero_all(slots, functions, types, diagnostics, messages, scratch);
-            return Checked::Refused {
-                number: number,
-                place: tok::wide(place),
-            };
+            Err(Refused {
+                number: refusal.number(),
+                place: tok::wide(refusal.place()),
+            })
         }
     }
 }
 
 // What the check answers as six numbers: number, place, function words, type words, diagnostics, message bytes.
+#[tactic(auto, unfolding(crate::specs::Numbers::numbers_of))]
 pub fn numbers(checked: Checked) -> [u64; 6]
     ensures { result ≡ numbers_of checked }
 {
     match checked {
-        Checked::Done {
-            function_words,
-            type_words,
-            diagnostics,
-            message_bytes,
-        } => {
-            return [
-                0,
-                0,
-                function_words as u64,
-                type_words as u64,
-                diagnostics as u64,
-                message_bytes as u64,
-            ];
-        }
-        Checked::Refused { number, place } => {
-            return [number as u64, place as u64, 0, 0, 0, 0];
-        }
+        Ok(counts) => [
+            0,
+            0,
+            counts.function_words as u64,
+            counts.type_words as u64,
+            counts.diagnostics as u64,
+            counts.message_bytes as u64,
+        ],
+        Err(refused) => [refused.number as u64, refused.place as u64, 0, 0, 0, 0],
     }
 }

@@ -1,6 +1,6 @@
 -- The step of one diagnostic, from the writing of its texts and of its record: with room for all of it every part is written, and else
 -- some part had none. Assumes nothing.
-use Rattle.std.specs.Prelude.{ℕ, ◌+◌, ◌*◌, ◌-◌, ◌≤◌, ◌<◌, min, ◌≡◌, refl, Bool, true, false, ◌&&◌, List, [], ◌∷◌, ◌++◌, set, Option, None}
+use Rattle.std.specs.Prelude.{ℕ, ◌+◌, ◌*◌, ◌-◌, ◌≤◌, ◌<◌, min, ◌≡◌, Bool, true, false, ◌&&◌, List, [], ◌∷◌, ◌++◌, set, None, Ok}
 use Rattle.std.proofs.Math.Path.{sym, ap}
 use Rattle.std.proofs.Common.{◌∙◌, le-leb, leb-true, leb-false, ltb-true}
 use native.Mathlib.Omega.{arith}
@@ -10,11 +10,7 @@ use Rattle.std.proofs.lemmas.Bool.{lt-leb}
 use Rattle.facts.specs.Tests.{both, by-test, and-false}
 use Rattle.tok.specs.Step.{ok, refused, refusal, when}
 use Rattle.tok.specs.declared.Span.{Span}
-use Rattle.ptype.specs.Add.{buffer, write, append}
-use Rattle.display.specs.declared.Wrote.{Wrote}
-use Rattle.display.specs.declared.Wrote.TheVariants.{All, Full}
-use Rattle.display.specs.Writing.{buffer_after, Writes}
-use Rattle.display.specs.WritingLaws.{◌and_then◌, writes-length, all_wrote, full_wrote, writes_nothing, writes-full}
+use Rattle.ptype.specs.Add.{write, append}
 use Rattle.display.specs.WriteLaws.{write-one, write-append}
 use Rattle.err.specs.declared.Counts.{Counts}
 use Rattle.err.specs.Message.{Diagnostic}
@@ -68,31 +64,19 @@ module _ (ds : List ℕ) (c : Counts) (m p : ℕ) where
   fits-ordered : c.bytes ≤ m → m ≤ p → fits ds c m p ≡ (ltb c.diagnostics (most_diagnostics ds) && leb p 65536)
   fits-ordered h k = rw (le-leb c.bytes m h, le-leb m p k)
 
--- ---- a place that comes after a text is the place of no text more
-pub writes_end : {o o' : List ℕ} {n : ℕ} {r : Wrote} {s : List ℕ} → Writes o (All n) o' r s → Writes o' r o' r []
-writes_end {o' = o'} {r = All m} p =
-    let w = all_wrote p in
-    writes_nothing o' m (omega (arith, writes-length p))
-writes_end {o' = o'} {r = Full} p = writes-full o' []
-
 -- ---- the texts and the record make the step
--- a text had no room
-no_room :
-    {ds ms ms₂ : List ℕ} {c : Counts} {code : ℕ} {span : Span} {message primary : List ℕ} →
-    length ms < c.bytes + length (message ++ primary) → Reports (whole code span message primary) ds ms c ds ms₂ None
-unfolding ended
-no_room {ds} {ms} {ms₂} {c} {code} {span} {message} {primary} h = record { step = λ n. tells_none ds ms c code span message primary (ap (λ b. ltb c.diagnostics (most_diagnostics ds) && b) (lt-leb (c.bytes + length (message ++ primary)) (most_bytes ms) (omega arith)) ∙ and-false (ltb c.diagnostics (most_diagnostics ds))) n }
+module _ {ds ms ms' : List ℕ} {c : Counts} {code : ℕ} {span : Span} {message primary : List ℕ} where
+  -- a text had no room
+  pub no_room : length ms < c.bytes + length (message ++ primary) → Reports (whole code span message primary) ds ms c ds ms' None
+  unfolding ended
+  no_room h = record { step = λ n. tells_none ds ms c code span message primary (ap (λ b. ltb c.diagnostics (most_diagnostics ds) && b) (lt-leb (c.bytes + length (message ++ primary)) (most_bytes ms) (omega arith)) ∙ and-false (ltb c.diagnostics (most_diagnostics ds))) n }
 
-module _ {ds ms ms₁ ms₂ : List ℕ} {c : Counts} {code : ℕ} {span : Span} {message primary : List ℕ} where
   -- both texts were written: there is room for all exactly where the record fits
-  all-written :
-      {m p : ℕ} → Writes ms (All c.bytes) ms₁ (All m) message → Writes ms₁ (All m) ms₂ (All p) primary →
-      Reports (whole code span message primary) ds ms c (placed ds c code span (All m) (All p)) ms₂ (placed_answer ds c (All m) (All p))
-  unfolding placed placed_answer ended append six_words buffer_after
-  all-written {m} {p} a b =
-      let w = all_wrote a in
-      let x = all_wrote b in
-      let l = writes-length a in
+  pub all-written :
+      {m p : ℕ} → c.bytes + length (message ++ primary) ≤ length ms → m ≡ c.bytes + length message → p ≡ c.bytes + length (message ++ primary) → ms' ≡ write ms c.bytes (message ++ primary) →
+      Reports (whole code span message primary) ds ms c (placed ds c code span (Ok tt) m p) ms' (placed_answer ds c (Ok tt) m p)
+  unfolding placed placed_answer ended append six_words
+  all-written {m} {p} l em ep e =
       let j = length-append message primary in
       let n₁ : length message ≡ m - c.bytes = omega arith in
       let n₂ : length primary ≡ p - m = omega arith in
@@ -102,24 +86,8 @@ module _ {ds ms ms₁ ms₂ : List ℕ} {c : Counts} {code : ℕ} {span : Span} 
       ∙ within (ltb c.diagnostics (most_diagnostics ds)) p 65536 (length ms) (omega arith)
       ∙ sym (fits-ordered ds c m p (omega arith) (omega arith)) in
       by-test (fits ds c m p)
-      (λ e. record { step = λ n. tells-room ds ms c code span message primary (h ∙ e) n ∙ rw (e, n₃, n₁, n₂, (a and_then b).bytes) })
-      (λ e. record { step = λ n. tells_none ds ms c code span message primary (h ∙ e) n ∙ rw e })
-
-  texts-written :
-      {r₁ r₂ : Wrote} → Writes ms (All c.bytes) ms₁ r₁ message → Writes ms₁ r₁ ms₂ r₂ primary →
-      Reports (whole code span message primary) ds ms c (placed ds c code span r₁ r₂) ms₂ (placed_answer ds c r₁ r₂)
-  unfolding placed placed_answer
-  texts-written {r₁ = Full} a b = no_room (omega (arith, full_wrote a, length-append message primary))
-  texts-written {r₁ = All m} {r₂ = Full} a b = no_room (omega (arith, all_wrote a, full_wrote b, writes-length a, length-append message primary))
-  texts-written {r₁ = All m} {r₂ = All p} a b = all-written a b
-
--- both texts were written, the span was asked for, and the record was written
-pub tells :
-    {ds ds' ms ms₁ ms₂ : List ℕ} {c : Counts} {code : ℕ} {span span' : Span} {message primary : List ℕ} {r₁ r₂ : Wrote} {r : Option Counts} →
-    Writes ms (All c.bytes) ms₁ r₁ message → Writes ms₁ r₁ ms₂ r₂ primary → span' ≡ span →
-    (ds' ≡ placed ds c code span' r₁ r₂) × (r ≡ placed_answer ds c r₁ r₂) →
-    Reports (whole code span message primary) ds ms c ds' ms₂ r
-tells a b e k = rw (k.0, k.1, e) (texts-written a b)
+      (λ f. record { step = λ n. tells-room ds ms c code span message primary (h ∙ f) n ∙ rw (f, n₃, n₁, n₂, e) })
+      (λ f. record { step = λ n. tells_none ds ms c code span message primary (h ∙ f) n ∙ rw f })
 
 -- ---- the record's six words, one after the other
 next_word : (ds : List ℕ) (n : ℕ) (s : List ℕ) (b : ℕ) → set (write ds n s) (n + length s) b ≡ write ds n (s ++ (b ∷ []))

@@ -1,11 +1,11 @@
 -- One diagnostic written (document 01, "An answer", refusal 9): its record and its bytes, and the room that they need. Definitions.
-use Rattle.std.specs.Prelude.{ℕ, ◌+◌, ◌*◌, ◌-◌, ◌/◌, ◌%◌, ◌^◌, min, ◌≡◌, Bool, ◌&&◌, cond, List, [], ◌∷◌, ◌++◌, length, leb, ltb, Option, Some, None}
+use Rattle.std.specs.Prelude.{ℕ, ◌+◌, ◌*◌, ◌-◌, ◌/◌, ◌%◌, ◌^◌, min, ◌≡◌, Bool, ◌&&◌, cond, List, [], ◌∷◌, ◌++◌, length, leb, ltb, Option, Some, None, Ok, Err, ⊤}
+use Rattle.std.specs.Prelude.{Result as Answered}
 use Rattle.tok.specs.Word.{word_of}
 use Rattle.tok.specs.Step.{Result, ok, refused, Step, Refusal, refusal, ◌>>=◌, look, give, refuse, when}
 use Rattle.tok.specs.declared.Span.{Span}
 use Rattle.ptype.specs.Add.{Buffer, buffer, write, append}
-use Rattle.display.specs.declared.Wrote.{Wrote}
-use Rattle.display.specs.declared.Wrote.TheVariants.{All, Full}
+use Rattle.display.specs.declared.Full.{Full}
 use Rattle.err.specs.declared.Counts.{Counts}
 use Rattle.err.specs.Message.{Diagnostic}
 
@@ -78,13 +78,11 @@ fits ds c m p = ltb c.diagnostics (most_diagnostics ds) && (leb c.bytes m && (le
 abbrev pub placed_record : Counts → (code : ℕ) → Span → (m p : ℕ) → List ℕ
 placed_record c code span m p = word_of 13 code ∷ as_word span.start ∷ as_word span.len ∷ c.bytes ∷ (m - c.bytes) ∷ (p - m) ∷ []
 
--- the diagnostics after it, and the answer
-unfoldable pub placed : List ℕ → Counts → (code : ℕ) → Span → (message primary : Wrote) → List ℕ
-placed ds c code span Full p = ds
-placed ds c code span (All m) Full = ds
-placed ds c code span (All m) (All p) = cond (fits ds c m p) (write ds (6 * c.diagnostics) (placed_record c code span m p)) ds
+-- the diagnostics after it, and the answer; where a text had no room, none is written
+unfoldable pub placed : List ℕ → Counts → (code : ℕ) → Span → (texts : Answered ⊤ Full) → (m p : ℕ) → List ℕ
+placed ds c code span (Ok x) m p = cond (fits ds c m p) (write ds (6 * c.diagnostics) (placed_record c code span m p)) ds
+placed ds c code span (Err x) m p = ds
 
-unfoldable pub placed_answer : List ℕ → Counts → (message primary : Wrote) → Option Counts
-placed_answer ds c Full p = None
-placed_answer ds c (All m) Full = None
-placed_answer ds c (All m) (All p) = cond (fits ds c m p) (Some (record { diagnostics = c.diagnostics + 1; bytes = p })) None
+unfoldable pub placed_answer : List ℕ → Counts → (texts : Answered ⊤ Full) → (m p : ℕ) → Option Counts
+placed_answer ds c (Ok x) m p = cond (fits ds c m p) (Some (record { diagnostics = c.diagnostics + 1; bytes = p })) None
+placed_answer ds c (Err x) m p = None

@@ -8,7 +8,7 @@ ghost use Rattle.ptype.specs.Words.{ty_of};
 ghost use Rattle.err.specs.Message.{call_name, arg_mismatch, slot_conflict, slot_void};
 ghost use Rattle.err_text.specs.Rest.{ReportsIn};
 
-use display::Wrote;
+use display::Writer;
 use err::{CallName, Counts};
 use tok::{Span, Texts};
 
@@ -29,19 +29,21 @@ pub fn arg_mismatch(
         ReportsIn (arg_mismatch span (call_name texts.now callee) (name_bytes texts.now name) (U expected) (U provided)) diagnostics.old rest.old counts diagnostics.new
         rest.new result }
 {
-    let a = err_text::put_call_name(rest, Wrote::All(0), texts, callee);
-    let b = display::put_at(rest, a, b" expected ");
-    let c = err_text::put_name(rest, b, texts, name);
-    let d = display::put_at(rest, c, b":");
-    let e = display::show_type(rest, d, types, texts, expected);
-    let f = display::put_at(rest, e, b", got ");
-    let g = err_text::put_name(rest, f, texts, name);
-    let h = display::put_at(rest, g, b":");
-    let i = display::show_type(rest, h, types, texts, provided);
-    let j = display::put_at(rest, i, b" instead");
-    let k = display::put_at(rest, j, b"this argument is of type ");
-    let l = display::show_type(rest, k, types, texts, provided);
-    err_text::report(diagnostics, counts, 20, span, j, l)
+    let mut out = Writer::new(rest);
+    let a = err_text::put_call_name(&mut out, texts, callee);
+    let b = a.and(out.put(b" expected "));
+    let c = b.and(err_text::put_name(&mut out, texts, name));
+    let d = c.and(out.put(b":"));
+    let e = d.and(display::show_type(&mut out, types, texts, expected));
+    let f = e.and(out.put(b", got "));
+    let g = f.and(err_text::put_name(&mut out, texts, name));
+    let h = g.and(out.put(b":"));
+    let i = h.and(display::show_type(&mut out, types, texts, provided));
+    let j = i.and(out.put(b" instead"));
+    let message = out.at;
+    let k = out.put(b"this argument is of type ");
+    let l = k.and(display::show_type(&mut out, types, texts, provided));
+    err_text::report(diagnostics, counts, 20, span, j.and(l), message, out.at)
 }
 
 // 21: An argument that binds a slot to another type than an earlier one did.
@@ -61,18 +63,20 @@ pub fn slot_conflict(
         ReportsIn (slot_conflict span (call_name texts.now callee) (name_bytes texts.now slot) (U existing) (U new)) diagnostics.old rest.old counts diagnostics.new
         rest.new result }
 {
-    let a = err_text::put_call_name(rest, Wrote::All(0), texts, callee);
-    let b = display::put_at(rest, a, b" can not bind ");
-    let c = err_text::put_name(rest, b, texts, slot);
-    let d = display::put_at(rest, c, b" to ");
-    let e = display::show_type(rest, d, types, texts, new);
-    let f = display::put_at(rest, e, b", it is already bound to ");
-    let g = display::show_type(rest, f, types, texts, existing);
-    let h = display::put_at(rest, g, b"this argument binds ");
-    let i = err_text::put_name(rest, h, texts, slot);
-    let j = display::put_at(rest, i, b" to ");
-    let k = display::show_type(rest, j, types, texts, new);
-    err_text::report(diagnostics, counts, 21, span, g, k)
+    let mut out = Writer::new(rest);
+    let a = err_text::put_call_name(&mut out, texts, callee);
+    let b = a.and(out.put(b" can not bind "));
+    let c = b.and(err_text::put_name(&mut out, texts, slot));
+    let d = c.and(out.put(b" to "));
+    let e = d.and(display::show_type(&mut out, types, texts, new));
+    let f = e.and(out.put(b", it is already bound to "));
+    let g = f.and(display::show_type(&mut out, types, texts, existing));
+    let message = out.at;
+    let h = out.put(b"this argument binds ");
+    let i = h.and(err_text::put_name(&mut out, texts, slot));
+    let j = i.and(out.put(b" to "));
+    let k = j.and(display::show_type(&mut out, types, texts, new));
+    err_text::report(diagnostics, counts, 21, span, g.and(k), message, out.at)
 }
 
 // 22: An argument that binds a slot to Void.
@@ -87,10 +91,12 @@ pub fn slot_void(
 ) -> Option<Counts>
     ensures { ReportsIn (slot_void span (call_name texts.now callee) (name_bytes texts.now slot)) diagnostics.old rest.old counts diagnostics.new rest.new result }
 {
-    let a = err_text::put_call_name(rest, Wrote::All(0), texts, callee);
-    let b = display::put_at(rest, a, b" can not bind ");
-    let c = err_text::put_name(rest, b, texts, slot);
-    let d = display::put_at(rest, c, b" to Void");
-    let e = display::put_at(rest, d, b"this argument is of type Void");
-    err_text::report(diagnostics, counts, 22, span, d, e)
+    let mut out = Writer::new(rest);
+    let a = err_text::put_call_name(&mut out, texts, callee);
+    let b = a.and(out.put(b" can not bind "));
+    let c = b.and(err_text::put_name(&mut out, texts, slot));
+    let d = c.and(out.put(b" to Void"));
+    let message = out.at;
+    let e = out.put(b"this argument is of type Void");
+    err_text::report(diagnostics, counts, 22, span, d.and(e), message, out.at)
 }

@@ -11,7 +11,7 @@ ghost use Rattle.err.specs.Message.{pkg_name, call_name, no_specialisation, call
 ghost use Rattle.err_text.specs.Rest.{ReportsIn};
 ghost use Rattle.err_calls.specs.Candidates.{candidate_at, candidates_at};
 
-use display::Wrote;
+use display::{Full, Writer};
 use err::{CallName, Counts};
 use tok::Texts;
 
@@ -24,12 +24,17 @@ pub fn call_through_field(
 ) -> Option<Counts>
     ensures { ReportsIn (call_through_field name) diagnostics.old rest.old counts diagnostics.new rest.new result }
 {
-    let a = display::put_at(
-        rest,
-        Wrote::All(0),
-        b"only package functions can be called through field syntax",
-    );
-    err_text::report(diagnostics, counts, 14, tok::token_span(name), a, a)
+    let mut out = Writer::new(rest);
+    let a = out.put(b"only package functions can be called through field syntax");
+    err_text::report(
+        diagnostics,
+        counts,
+        14,
+        tok::token_span(name),
+        a,
+        out.at,
+        out.at,
+    )
 }
 
 // 15: A call into a package that is not held.
@@ -42,10 +47,20 @@ pub fn missing_package(
 ) -> Option<Counts>
     ensures { ReportsIn (missing_package pkg (name_bytes texts.now pkg)) diagnostics.old rest.old counts diagnostics.new rest.new result }
 {
-    let a = display::put_at(rest, Wrote::All(0), b"Can't find package ");
-    let b = err_text::put_ticked(rest, a, texts, pkg);
-    let c = display::put_at(rest, b, b"package used here");
-    err_text::report(diagnostics, counts, 15, tok::token_span(pkg), b, c)
+    let mut out = Writer::new(rest);
+    let a = out.put(b"Can't find package ");
+    let b = a.and(err_text::put_ticked(&mut out, texts, pkg));
+    let message = out.at;
+    let c = out.put(b"package used here");
+    err_text::report(
+        diagnostics,
+        counts,
+        15,
+        tok::token_span(pkg),
+        b.and(c),
+        message,
+        out.at,
+    )
 }
 
 // 16: A call of a function that the package does not have.
@@ -60,9 +75,18 @@ pub fn undefined_in_package(
     ensures { ReportsIn (undefined_in_package name (pkg_name (name_bytes texts.now pkg) (name_bytes texts.now name))) diagnostics.old rest.old counts diagnostics.new
         rest.new result }
 {
-    let a = display::put_at(rest, Wrote::All(0), b"Call to undefined function ");
-    let b = err_text::put_call_name(rest, a, texts, CallName::OfPackage(pkg, name));
-    err_text::report(diagnostics, counts, 16, tok::token_span(name), b, b)
+    let mut out = Writer::new(rest);
+    let a = out.put(b"Call to undefined function ");
+    let b = a.and(err_text::put_call_name(&mut out, texts, CallName::OfPackage(pkg, name)));
+    err_text::report(
+        diagnostics,
+        counts,
+        16,
+        tok::token_span(name),
+        b,
+        out.at,
+        out.at,
+    )
 }
 
 // 17: A call of a function that the script does not have.
@@ -75,47 +99,52 @@ pub fn undefined_own(
 ) -> Option<Counts>
     ensures { ReportsIn (undefined_own name (name_bytes texts.now name)) diagnostics.old rest.old counts diagnostics.new rest.new result }
 {
-    let a = display::put_at(rest, Wrote::All(0), b"Call to undefined function ");
-    let b = err_text::put_ticked(rest, a, texts, name);
-    err_text::report(diagnostics, counts, 17, tok::token_span(name), b, b)
+    let mut out = Writer::new(rest);
+    let a = out.put(b"Call to undefined function ");
+    let b = a.and(err_text::put_ticked(&mut out, texts, name));
+    err_text::report(
+        diagnostics,
+        counts,
+        17,
+        tok::token_span(name),
+        b,
+        out.at,
+        out.at,
+    )
 }
 
 // Writes the types of the arguments of the signature that begins at a place of `words`, joined by `, `.
 fn put_candidate(
-    rest: &mut [u8],
-    at: Wrote,
+    out: &mut Writer,
     types: &[u32],
     texts: &Texts,
     words: &[u32],
     start: u32,
-) -> Wrote
-    ensures { Writes rest.old at rest.new result (sig (candidate_at texts.now types.now words.now start)) }
+) -> Result<(), Full>
+    ensures { Writes out.old out.new result (sig (candidate_at texts.now types.now words.now start)) }
 {
-    let i = tok::wide(start);
+    let i = start as usize;
     if i <= words.len() {
-        return display::show_arg_types(rest, at, types, texts, &words[i..]);
+        return display::show_arg_types(out, types, texts, &words[i..]);
     }
-    display::put_at(rest, at, b"")
+    out.put(b"")
 }
 
 // Writes the candidates whose signatures begin at the places `starts` of `words`, joined by ` | `.
 fn put_candidates(
-    rest: &mut [u8],
-    at: Wrote,
+    out: &mut Writer,
     types: &[u32],
     texts: &Texts,
     words: &[u32],
     starts: &[u32],
-) -> Wrote
-    ensures { Writes rest.old at rest.new result (joined (text " | ") (map sig (candidates_at texts.now types.now words.now starts.now))) }
+) -> Result<(), Full>
+    ensures { Writes out.old out.new result (joined (text " | ") (map sig (candidates_at texts.now types.now words.now starts.now))) }
 {
-    let mut at = at;
     for i in 0..starts.len() {
-        at = display::put_separator(rest, at, i, b" | ");
-        let start = tok::word_at(starts, i);
-        at = put_candidate(rest, at, types, texts, words, start);
+        out.put_separator(i, b" | ")?;
+        put_candidate(out, types, texts, words, tok::word_at(starts, i))?;
     }
-    display::put_at(rest, at, b"")
+    out.put(b"")
 }
 
 // 18: A call of a group of several, none of which takes these argument types. The candidates' signatures begin at the places `starts` of `words`.
@@ -135,13 +164,22 @@ pub fn no_specialisation(
         ReportsIn (no_specialisation token (call_name texts.now callee) (map U provided.now) (candidates_at texts.now types.now words.now starts.now))
         diagnostics.old rest.old counts diagnostics.new rest.new result }
 {
-    let a = display::put_at(rest, Wrote::All(0), b"no specialisation of ");
-    let b = err_text::put_call_name(rest, a, texts, callee);
-    let c = display::put_at(rest, b, b" accepts (");
-    let d = display::show_types(rest, c, types, texts, provided);
-    let e = display::put_at(rest, d, b"); available: ");
-    let f = put_candidates(rest, e, types, texts, words, starts);
-    err_text::report(diagnostics, counts, 18, tok::token_span(token), f, f)
+    let mut out = Writer::new(rest);
+    let a = out.put(b"no specialisation of ");
+    let b = a.and(err_text::put_call_name(&mut out, texts, callee));
+    let c = b.and(out.put(b" accepts ("));
+    let d = c.and(display::show_types(&mut out, types, texts, provided));
+    let e = d.and(out.put(b"); available: "));
+    let f = e.and(put_candidates(&mut out, types, texts, words, starts));
+    err_text::report(
+        diagnostics,
+        counts,
+        18,
+        tok::token_span(token),
+        f,
+        out.at,
+        out.at,
+    )
 }
 
 // 19: A call with another number of arguments.
@@ -157,10 +195,19 @@ pub fn argument_count(
 ) -> Option<Counts>
     ensures { ReportsIn (argument_count token (call_name texts.now callee) required given) diagnostics.old rest.old counts diagnostics.new rest.new result }
 {
-    let a = err_text::put_call_name(rest, Wrote::All(0), texts, callee);
-    let b = display::put_at(rest, a, b" requires ");
-    let c = display::put_decimal(rest, b, required);
-    let d = display::put_at(rest, c, b" arguments, got ");
-    let e = display::put_decimal(rest, d, given);
-    err_text::report(diagnostics, counts, 19, tok::token_span(token), e, e)
+    let mut out = Writer::new(rest);
+    let a = err_text::put_call_name(&mut out, texts, callee);
+    let b = a.and(out.put(b" requires "));
+    let c = b.and(out.put_decimal(required));
+    let d = c.and(out.put(b" arguments, got "));
+    let e = d.and(out.put_decimal(given));
+    err_text::report(
+        diagnostics,
+        counts,
+        19,
+        tok::token_span(token),
+        e,
+        out.at,
+        out.at,
+    )
 }

@@ -8,7 +8,7 @@ ghost use Rattle.ptype.specs.Words.{ty_of};
 ghost use Rattle.err.specs.Message.{no_binding, let_void, defined_already, bad_return, bad_condition, match_cases, empty_import, no_import};
 ghost use Rattle.err_text.specs.Rest.{ReportsIn};
 
-use display::Wrote;
+use display::Writer;
 use err::Counts;
 use tok::Texts;
 
@@ -22,10 +22,19 @@ pub fn no_binding(
 ) -> Option<Counts>
     ensures { ReportsIn (no_binding name (name_bytes texts.now name)) diagnostics.old rest.old counts diagnostics.new rest.new result }
 {
-    let a = display::put_at(rest, Wrote::All(0), b"binding ");
-    let b = err_text::put_ticked(rest, a, texts, name);
-    let c = display::put_at(rest, b, b" not found");
-    err_text::report(diagnostics, counts, 3, tok::token_span(name), c, c)
+    let mut out = Writer::new(rest);
+    let a = out.put(b"binding ");
+    let b = a.and(err_text::put_ticked(&mut out, texts, name));
+    let c = b.and(out.put(b" not found"));
+    err_text::report(
+        diagnostics,
+        counts,
+        3,
+        tok::token_span(name),
+        c,
+        out.at,
+        out.at,
+    )
 }
 
 // 7: A let whose right side returns nothing.
@@ -37,12 +46,17 @@ pub fn let_void(
 ) -> Option<Counts>
     ensures { ReportsIn (let_void name) diagnostics.old rest.old counts diagnostics.new rest.new result }
 {
-    let a = display::put_at(
-        rest,
-        Wrote::All(0),
-        b"RHS of let has to return a value, but it didnt",
-    );
-    err_text::report(diagnostics, counts, 7, tok::token_span(name), a, a)
+    let mut out = Writer::new(rest);
+    let a = out.put(b"RHS of let has to return a value, but it didnt");
+    err_text::report(
+        diagnostics,
+        counts,
+        7,
+        tok::token_span(name),
+        a,
+        out.at,
+        out.at,
+    )
 }
 
 // 8: A function of a name already met.
@@ -55,9 +69,18 @@ pub fn defined_already(
 ) -> Option<Counts>
     ensures { ReportsIn (defined_already name (name_bytes texts.now name)) diagnostics.old rest.old counts diagnostics.new rest.new result }
 {
-    let a = err_text::put_ticked(rest, Wrote::All(0), texts, name);
-    let b = display::put_at(rest, a, b" is already defined");
-    err_text::report(diagnostics, counts, 8, tok::token_span(name), b, b)
+    let mut out = Writer::new(rest);
+    let a = err_text::put_ticked(&mut out, texts, name);
+    let b = a.and(out.put(b" is already defined"));
+    err_text::report(
+        diagnostics,
+        counts,
+        8,
+        tok::token_span(name),
+        b,
+        out.at,
+        out.at,
+    )
 }
 
 // 9: A function whose body is not of its return type. The token is the return type's.
@@ -75,12 +98,21 @@ pub fn bad_return(
     ensures { let U : ℕ → Ty = ty_of texts.now types.now in
         ReportsIn (bad_return token (name_bytes texts.now name) (U ret) (U computed)) diagnostics.old rest.old counts diagnostics.new rest.new result }
 {
-    let a = err_text::put_ticked(rest, Wrote::All(0), texts, name);
-    let b = display::put_at(rest, a, b" should return ");
-    let c = display::show_type(rest, b, types, texts, ret);
-    let d = display::put_at(rest, c, b", but returns ");
-    let e = display::show_type(rest, d, types, texts, computed);
-    err_text::report(diagnostics, counts, 9, tok::token_span(token), e, e)
+    let mut out = Writer::new(rest);
+    let a = err_text::put_ticked(&mut out, texts, name);
+    let b = a.and(out.put(b" should return "));
+    let c = b.and(display::show_type(&mut out, types, texts, ret));
+    let d = c.and(out.put(b", but returns "));
+    let e = d.and(display::show_type(&mut out, types, texts, computed));
+    err_text::report(
+        diagnostics,
+        counts,
+        9,
+        tok::token_span(token),
+        e,
+        out.at,
+        out.at,
+    )
 }
 
 // 23: A match condition that is not Bool.
@@ -96,10 +128,19 @@ pub fn bad_condition(
     ensures { let U : ℕ → Ty = ty_of texts.now types.now in
         ReportsIn (bad_condition token (U ty)) diagnostics.old rest.old counts diagnostics.new rest.new result }
 {
-    let a = display::put_at(rest, Wrote::All(0), b"Match conditions must be Bool, got ");
-    let b = display::show_type(rest, a, types, texts, ty);
-    let c = display::put_at(rest, b, b" instead");
-    err_text::report(diagnostics, counts, 23, tok::token_span(token), c, c)
+    let mut out = Writer::new(rest);
+    let a = out.put(b"Match conditions must be Bool, got ");
+    let b = a.and(display::show_type(&mut out, types, texts, ty));
+    let c = b.and(out.put(b" instead"));
+    err_text::report(
+        diagnostics,
+        counts,
+        23,
+        tok::token_span(token),
+        c,
+        out.at,
+        out.at,
+    )
 }
 
 // 24: A match case that is not of the default's type.
@@ -116,15 +157,20 @@ pub fn match_cases(
     ensures { let U : ℕ → Ty = ty_of texts.now types.now in
         ReportsIn (match_cases token (U default) (U ty)) diagnostics.old rest.old counts diagnostics.new rest.new result }
 {
-    let a = display::put_at(
-        rest,
-        Wrote::All(0),
-        b"Match cases must resolve to the same type, but got ",
-    );
-    let b = display::show_type(rest, a, types, texts, default);
-    let c = display::put_at(rest, b, b" and ");
-    let d = display::show_type(rest, c, types, texts, ty);
-    err_text::report(diagnostics, counts, 24, tok::token_span(token), d, d)
+    let mut out = Writer::new(rest);
+    let a = out.put(b"Match cases must resolve to the same type, but got ");
+    let b = a.and(display::show_type(&mut out, types, texts, default));
+    let c = b.and(out.put(b" and "));
+    let d = c.and(display::show_type(&mut out, types, texts, ty));
+    err_text::report(
+        diagnostics,
+        counts,
+        24,
+        tok::token_span(token),
+        d,
+        out.at,
+        out.at,
+    )
 }
 
 // 25: An import of no paths.
@@ -136,12 +182,17 @@ pub fn empty_import(
 ) -> Option<Counts>
     ensures { ReportsIn (empty_import token) diagnostics.old rest.old counts diagnostics.new rest.new result }
 {
-    let a = display::put_at(
-        rest,
-        Wrote::All(0),
-        b"Import without any paths to import is considered invalid",
-    );
-    err_text::report(diagnostics, counts, 25, tok::token_span(token), a, a)
+    let mut out = Writer::new(rest);
+    let a = out.put(b"Import without any paths to import is considered invalid");
+    err_text::report(
+        diagnostics,
+        counts,
+        25,
+        tok::token_span(token),
+        a,
+        out.at,
+        out.at,
+    )
 }
 
 // 26: A path that names no package of the library.
@@ -154,7 +205,16 @@ pub fn no_import(
 ) -> Option<Counts>
     ensures { ReportsIn (no_import path (name_bytes texts.now path)) diagnostics.old rest.old counts diagnostics.new rest.new result }
 {
-    let a = display::put_at(rest, Wrote::All(0), b"Wasnt able to find a package named ");
-    let b = err_text::put_ticked(rest, a, texts, path);
-    err_text::report(diagnostics, counts, 26, tok::token_span(path), b, b)
+    let mut out = Writer::new(rest);
+    let a = out.put(b"Wasnt able to find a package named ");
+    let b = a.and(err_text::put_ticked(&mut out, texts, path));
+    err_text::report(
+        diagnostics,
+        counts,
+        26,
+        tok::token_span(path),
+        b,
+        out.at,
+        out.at,
+    )
 }

@@ -1,27 +1,27 @@
 -- The pieces of messages by the branches that write them. Assumes nothing.
 use Prim.Native.Nat.{ℕ, ◌≤◌}
-use mathlib.Core.Path.{◌≡◌, sym}
-use mathlib.Core.List.{List, [], ◌∷◌, ◌++◌, map, append_assoc}
+use mathlib.Core.Path.{◌≡◌, refl, sym}
+use mathlib.Core.List.{List, [], ◌∷◌, ◌++◌, map}
 use lib.ListN.{get_or, get_or-eq_default, get_or-map}
 use Rattle.tok.specs.Text.{Texts, name_bytes, text}
-use Rattle.err.specs.declared.CallName.{CallName}
+use Rattle.display.specs.Writing.{written}
+use Rattle.display.specs.WritingLaws.{written_next, written_append}
 use Rattle.err.specs.declared.CallName.TheVariants.{Own, OfPackage}
-use Rattle.err.specs.Message.{operators, quoted, class_of, ticked, pkg_name, call_name}
+use Rattle.err.specs.Message.{operators, quoted, class_of, pkg_name, call_name}
 
 -- ---- names
-pub ticked-is : {a b : List ℕ} → a ≡ b → ticked b ≡ text "`" ++ a ++ text "`"
-ticked-is e = rw e
+pub own_call : (t : Texts) (name : ℕ) → call_name t (Own name) ≡ name_bytes t name
+unfolding call_name
+own_call t name = refl
 
-module _ (t : Texts) {callee : CallName} where
-  pub own-call : {name : ℕ} → callee ≡ Own name → ticked (call_name t callee) ≡ ticked (name_bytes t name)
-  unfolding call_name
-  own-call e = rw e
+pub package_call : (t : Texts) (pkg name : ℕ) → call_name t (OfPackage pkg name) ≡ name_bytes t pkg ++ text "." ++ name_bytes t name
+unfolding call_name pkg_name
+package_call t pkg name = refl
 
-  pub package_call :
-      {pkg name : ℕ} {p : List ℕ} → callee ≡ OfPackage pkg name → p ≡ name_bytes t pkg →
-      ticked (call_name t callee) ≡ text "`" ++ p ++ text "." ++ name_bytes t name ++ text "`"
-  unfolding call_name pkg_name
-  package_call e k = rw (e, k) (simp append_assoc)
+pub backquote : (o : List ℕ) (n : ℕ) (s : List ℕ) → written o n (text "`" ++ s) ≡ written_next (written o n (text "`")) s
+backquote o n s = written_append o n (text "`") s
+
+pub ruleset calls = (own_call, package_call, backquote)
 
 -- ---- operators
 abbrev pub in_quotes : List ℕ → List ℕ

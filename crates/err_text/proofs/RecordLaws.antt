@@ -1,8 +1,9 @@
 -- The record of a diagnostic by the branches that write it. Assumes nothing.
-use Rattle.std.specs.Prelude.{Option, Some, None}
+use Rattle.std.specs.Prelude.{Option, Some, None, Ok, Err, ⊤}
+use Rattle.std.specs.Prelude.{Result as Answered}
 use Prim.Native.Nat.{ℕ, ◌+◌, ◌*◌, ◌-◌, ◌≤◌, ◌<◌}
 use mathlib.Core.Path.{◌≡◌, refl, sym, ◌∙◌}
-use mathlib.Core.Bool.{Bool, true, false, not, ◌&&◌}
+use mathlib.Core.Bool.{Bool, true, false, not, true≢false}
 use mathlib.Core.List.{List, [], ◌∷◌}
 use native.Mathlib.Omega.{arith}
 use lib.Dec.{leb, ltb}
@@ -11,11 +12,10 @@ use Rattle.facts.specs.Tests.{by-test, and-false}
 use Rattle.tok.specs.Word.{word_of}
 use Rattle.tok.specs.declared.Span.{Span}
 use Rattle.ptype.specs.Add.{write}
-use Rattle.display.specs.declared.Wrote.{Wrote}
-use Rattle.display.specs.declared.Wrote.TheVariants.{All, Full}
+use Rattle.display.specs.declared.Full.{Full}
 use Rattle.err.specs.declared.Counts.{Counts}
 use Rattle.err.specs.Report.{as_word, most_diagnostics, fits, placed, placed_answer}
-use Rattle.err_text.specs.Rest.{in_whole}
+use Rattle.std.specs.Result.{is_err}
 
 -- ---- has_room
 module _ (ds : List ℕ) (c : Counts) (m p : ℕ) where
@@ -40,34 +40,32 @@ module _ (ds : List ℕ) (c : Counts) (m p : ℕ) where
   in_order e f g h = left_over h ∙ rw (lt-ltb c.diagnostics (most_diagnostics ds) (rw e at f), le-leb c.bytes (c.bytes + m) (omega arith), le-leb (c.bytes + m) (c.bytes + p) (omega arith))
 
 -- ---- report
-abbrev Placed : (ds : List ℕ) → Counts → (code : ℕ) → Span → (message primary : Wrote) → (ds' : List ℕ) → Option Counts → Type 0
-Placed ds c code span message primary ds' r =
-    (ds' ≡ placed ds c code span (in_whole c message) (in_whole c primary)) × (r ≡ placed_answer ds c (in_whole c message) (in_whole c primary))
+abbrev Placed : (ds : List ℕ) → Counts → (code : ℕ) → Span → (texts : Answered ⊤ Full) → (m end : ℕ) → (ds' : List ℕ) → Option Counts → Type 0
+Placed ds c code span texts m end ds' r =
+    (ds' ≡ placed ds c code span texts (c.bytes + m) (c.bytes + end)) × (r ≡ placed_answer ds c texts (c.bytes + m) (c.bytes + end))
 
-module _ (ds : List ℕ) (c : Counts) (code : ℕ) (span : Span) {message : Wrote} (primary : Wrote) where
-  pub no-message : message ≡ Full → Placed ds c code span message primary ds None
-  unfolding placed placed_answer in_whole
-  no-message e = (rw e, rw e)
+module _ (ds : List ℕ) (c : Counts) (code : ℕ) (span : Span) (m end : ℕ) where
+  pub no-text : (texts : Answered ⊤ Full) → is_err texts ≡ true → Placed ds c code span texts m end ds None
+  unfolding placed placed_answer
+  no-text (Ok x) e = absurd (true≢false (sym e))
+  no-text (Err x) e = (refl, refl)
 
-module _ (ds : List ℕ) (c : Counts) (code : ℕ) (span : Span) {message primary : Wrote} where
-  pub no-primary : {m : ℕ} → message ≡ All m → primary ≡ Full → Placed ds c code span message primary ds None
-  unfolding placed placed_answer in_whole
-  no-primary e k = (rw (e, k), rw (e, k))
-
-  pub not-placed : {m p : ℕ} {t : Bool} → message ≡ All m → primary ≡ All p → t ≡ fits ds c (c.bytes + m) (c.bytes + p) → not t ≡ true → Placed ds c code span message primary ds None
-  unfolding placed placed_answer in_whole
-  not-placed {t = t} e k f h = (rw (e, k, ← f, not-true t h), rw (e, k, ← f, not-true t h))
+  pub not-placed : (texts : Answered ⊤ Full) {t : Bool} → is_err texts ≡ false → t ≡ fits ds c (c.bytes + m) (c.bytes + end) → not t ≡ true → Placed ds c code span texts m end ds None
+  unfolding placed placed_answer
+  not-placed (Ok x) {t} e f h = (rw (← f, not-true t h), rw (← f, not-true t h))
+  not-placed (Err x) {t} e f h = absurd (true≢false e)
 
   pub is-placed :
-      {m p : ℕ} {t : Bool} {w₁ w₂ : ℕ} {ds' : List ℕ} → message ≡ All m → primary ≡ All p → t ≡ fits ds c (c.bytes + m) (c.bytes + p) → not t ≡ false →
+      (texts : Answered ⊤ Full) {t : Bool} {w₁ w₂ : ℕ} {ds' : List ℕ} → is_err texts ≡ false → t ≡ fits ds c (c.bytes + m) (c.bytes + end) → not t ≡ false →
       w₁ ≡ as_word span.start → w₂ ≡ as_word span.len →
-      ds' ≡ write ds (6 * c.diagnostics) ((word_of 13 0 + code) ∷ w₁ ∷ w₂ ∷ c.bytes ∷ m ∷ (p - m) ∷ []) →
-      Placed ds c code span message primary ds' (Some (record { diagnostics = c.diagnostics + 1; bytes = c.bytes + p }))
-  unfolding placed placed_answer in_whole
-  is-placed {m} {p} {t = t} e k f h x y z =
+      ds' ≡ write ds (6 * c.diagnostics) ((word_of 13 0 + code) ∷ w₁ ∷ w₂ ∷ c.bytes ∷ m ∷ (end - m) ∷ []) →
+      Placed ds c code span texts m end ds' (Some (record { diagnostics = c.diagnostics + 1; bytes = c.bytes + end }))
+  unfolding placed placed_answer
+  is-placed (Ok u) {t} e f h x y z =
       let a : (c.bytes + m) - c.bytes ≡ m = omega arith in
-      let b : (c.bytes + p) - (c.bytes + m) ≡ p - m = omega arith in
-      (rw (e, k, ← f, not-false t h, z, x, y, a, b), rw (e, k, ← f, not-false t h))
+      let b : (c.bytes + end) - (c.bytes + m) ≡ end - m = omega arith in
+      (rw (← f, not-false t h, z, x, y, a, b), rw (← f, not-false t h))
+  is-placed (Err u) {t} e f h x y z = absurd (true≢false e)
 
 pub is_true : {t s : Bool} → t ≡ s → not t ≡ false → s ≡ true
 is_true {t = t} e h = sym e ∙ not-false t h

@@ -1,8 +1,6 @@
 -- "A message is written from the first free byte onwards": "the rest of the message buffer is lent on to each writer as a mutable part" (document 01).
 -- Definitions.
-use Rattle.std.specs.Prelude.{ℕ, ◌+◌, min, ◌≡◌, List, ◌++◌, length, Option}
-use Rattle.display.specs.declared.Wrote.{Wrote}
-use Rattle.display.specs.declared.Wrote.TheVariants.{All, Full}
+use Rattle.std.specs.Prelude.{ℕ, min, ◌≡◌, List, ◌++◌, length, Option}
 use Rattle.err.specs.declared.Counts.{Counts}
 use Rattle.err.specs.Message.{Diagnostic}
 use Rattle.err.specs.Report.{Reports}
@@ -10,11 +8,6 @@ use Rattle.err.specs.Report.{Reports}
 -- The first free byte. Where more bytes are counted than are lent it is the buffer's end, and the rest is empty.
 abbrev pub first_free : (messages : List ℕ) → Counts → ℕ
 first_free ms c = min c.bytes (length ms)
-
--- a place in the rest, as a place in the whole buffer
-unfoldable pub in_whole : Counts → Wrote → Wrote
-in_whole c (All m) = All (c.bytes + m)
-in_whole c Full = Full
 
 -- The contract of every writer of a diagnostic: the diagnostics ds and the rest came in with the counts c, ds' and rest' are they now, r the answer.
 -- Whatever bytes stand before the rest, up to the first free one: in the whole buffer the diagnostic is told, and they stay.

@@ -1,22 +1,21 @@
 -- What is written into the rest of the message buffer is written in the whole buffer from the first free byte on. Assumes nothing.
-use Rattle.std.specs.Prelude.{ℕ, ◌+◌, ◌-◌, ◌≤◌, ◌<◌, ◌≡◌, refl, Bool, true, false, List, [], ◌∷◌, ◌++◌, leb, take, drop, Option}
+use Rattle.std.specs.Prelude.{ℕ, ◌+◌, ◌-◌, ◌≤◌, ◌<◌, ◌≡◌, List, [], ◌∷◌, ◌++◌, take, drop, ⊤, Option, Ok, Err}
+use Rattle.std.specs.Prelude.{Result as Answered}
 use Rattle.std.proofs.Math.Path.{ap}
-use Rattle.std.proofs.Common.{◌∙◌, append-nil, zero-add, suc-add, add-zero, add_assoc, length-take, length-drop, take-append-drop, drop_of_length-le, take_all, leb-true, leb-false}
+use Rattle.std.proofs.Common.{◌∙◌, append-nil, zero-add, suc-add, add-zero, length-take, length-drop, take-append-drop, drop_of_length-le, take_all}
 use native.Mathlib.Omega.{arith}
 use Rattle.std.proofs.Math.ListN.{length, length-append}
 use Rattle.facts.specs.Tests.{by_order}
 use Rattle.tok.specs.declared.Span.{Span}
 use Rattle.ptype.specs.Add.{overwrite, write}
-use Rattle.display.specs.declared.Wrote.{Wrote}
-use Rattle.display.specs.declared.Wrote.TheVariants.{All, Full}
-use Rattle.display.specs.Writing.{place_after, buffer_after, Writes}
-use Rattle.display.specs.WriteLaws.{write-past}
-use Rattle.display.specs.WritingLaws.{◌and_then◌, all_wrote, writes-past, place-room, place-full, lent, put_back}
+use Rattle.display.specs.declared.Full.{Full}
+use Rattle.display.specs.Writing.{written}
+use Rattle.display.specs.WritingLaws.{written-room, written-full}
 use Rattle.err.specs.declared.Counts.{Counts}
 use Rattle.err.specs.Message.{Diagnostic}
 use Rattle.err.specs.Report.{Reports, placed, placed_answer}
-use Rattle.err.proofs.ReportLaws.{tells, writes_end}
-use Rattle.err_text.specs.Rest.{first_free, in_whole, ReportsIn}
+use Rattle.err.proofs.ReportLaws.{no_room, all-written}
+use Rattle.err_text.specs.Rest.{first_free, ReportsIn}
 
 -- ---- a text in the rest, in the whole
 write-before : (before rest : List ℕ) (m : ℕ) (s : List ℕ) → before ++ write rest m s ≡ write (before ++ rest) (length before + m) s
@@ -24,95 +23,103 @@ unfolding write overwrite
 write-before [] rest m s = rw (zero-add m)
 write-before (x ∷ before) rest m s = rw (suc-add (length before) m) (ap (λ l. x ∷ l) (write-before before rest m s))
 
--- after a text that had no room
-full-before : (before : List ℕ) (c : Counts) {rest rest' : List ℕ} {r : Wrote} {s : List ℕ} → Writes rest Full rest' r s → Writes (before ++ rest) Full (before ++ rest') (in_whole c r) s
-unfolding in_whole buffer_after place_after
-full-before before c p = record { bytes = ap (λ l. before ++ l) p.bytes; answer = ap (in_whole c) p.answer }
-
--- at any place
-module _ (before : List ℕ) (c : Counts) (e : length before ≡ c.bytes) where
-  place-before : (rest : List ℕ) (m : ℕ) (s : List ℕ) → in_whole c (place_after rest (All m) s) ≡ place_after (before ++ rest) (All (c.bytes + m)) s
-  unfolding in_whole
-  place-before rest m s =
-      let l = length-append before rest in
-      by_order (m + length s) (length rest)
-      (λ h. rw (place-room rest m s h, place-room (before ++ rest) (c.bytes + m) s (omega arith), add_assoc))
-      (λ h. rw (place-full rest m s h, place-full (before ++ rest) (c.bytes + m) s (omega arith)))
-
-  writes-before : {rest rest' : List ℕ} {at r : Wrote} {s : List ℕ} → Writes rest at rest' r s → Writes (before ++ rest) (in_whole c at) (before ++ rest') (in_whole c r) s
-  unfolding in_whole buffer_after place_after
-  writes-before {rest} {at = All m} {s = s} p = record {
-    bytes = ap (λ l. before ++ l) p.bytes ∙ write-before before rest m s ∙ rw e;
-    answer = ap (in_whole c) p.answer ∙ place-before rest m s;
-  }
-  writes-before {at = Full} p = full-before before c p
-
 -- ---- the law of all writers of diagnostics: both texts were written, the span was asked for, and the record was written
 abbrev diagnostic : (code : ℕ) → Span → (message primary : List ℕ) → Diagnostic
 diagnostic code span message primary = record { code = code; span = span; message = message; primary = primary }
 
-module _ (before : List ℕ) {ds ds' rest rest₁ rest₂ : List ℕ} {c : Counts} {code : ℕ} {span span' : Span} {message primary : List ℕ} {r : Option Counts} where
-  -- more bytes are counted than are lent: a message of one byte has no room
-  past_the_end :
-      {r₁ r₂ : Wrote} → length rest ≡ 0 → length (before ++ rest) < c.bytes → 0 < length message →
-      Writes rest (All 0) rest₁ r₁ message → Writes rest₁ r₁ rest₂ r₂ primary → span' ≡ span →
-      (ds' ≡ placed ds c code span' (in_whole c r₁) (in_whole c r₂)) × (r ≡ placed_answer ds c (in_whole c r₁) (in_whole c r₂)) →
-      Reports (diagnostic code span message primary) ds (before ++ rest) c ds' (before ++ rest₂) r
-  unfolding buffer_after in_whole
-  past_the_end {r₁ = All m} z h k a b e w =
-      let f = all_wrote a in
-      absurd (omega arith)
-  past_the_end {r₁ = Full} z h k a b e w =
-      let same : rest₁ ≡ rest = a.bytes ∙ write-past rest 0 message (omega arith) in
-      tells (writes-past (before ++ rest) c.bytes message (omega arith) (omega arith)) (full-before before c (rw same at b)) e w
+module _ (before ds rest : List ℕ) (c : Counts) (code : ℕ) (span : Span) (message primary : List ℕ) (f : length before ≡ first_free (before ++ rest) c) where
+  abbrev Told : (texts : Answered ⊤ Full) → (rest' : List ℕ) → (m end : ℕ) → Type 0
+  Told texts rest' m end =
+      Reports (diagnostic code span message primary) ds (before ++ rest) c (placed ds c code span texts (c.bytes + m) (c.bytes + end)) (before ++ rest')
+      (placed_answer ds c texts (c.bytes + m) (c.bytes + end))
 
-module _ {ds ds' rest rest₁ rest₂ : List ℕ} {c : Counts} {code : ℕ} {span span' : Span} {message primary : List ℕ} {r₁ r₂ : Wrote} {r : Option Counts} where
-  tells_in :
-      0 < length message → Writes rest (All 0) rest₁ r₁ message → Writes rest₁ r₁ rest₂ r₂ primary → span' ≡ span →
-      (ds' ≡ placed ds c code span' (in_whole c r₁) (in_whole c r₂)) × (r ≡ placed_answer ds c (in_whole c r₁) (in_whole c r₂)) →
-      ReportsIn (diagnostic code span message primary) ds rest c ds' rest₂ r
-  unfolding in_whole
-  tells_in k a b e w = record {
-    whole = λ before f.
-        let l = length-append before rest in
-        by_order c.bytes (length (before ++ rest))
-        (λ h.
-        let g : length before ≡ c.bytes = omega arith in
-        tells (rw (add-zero c.bytes) at (writes-before before c g a)) (writes-before before c g b) e w)
-        (λ h. past_the_end before (omega arith) h k a b e w);
+  -- both texts have room in the rest; more bytes are never counted than are lent, since the message has one
+  told-room : 0 < length message → 0 + length (message ++ primary) ≤ length rest → Told (Ok tt) (write rest 0 (message ++ primary)) (0 + length message) (0 + length (message ++ primary))
+  told-room k h =
+      let l = length-append before rest in
+      let j = length-append message primary in
+      by_order c.bytes (length (before ++ rest))
+      (λ g.
+      let e : length before ≡ c.bytes = omega arith in
+      all-written (omega arith) (omega arith) (omega arith) (rw (write-before before rest 0 (message ++ primary), e, add-zero)))
+      (λ g. absurd (omega arith))
+
+  told-full : length rest < 0 + length (message ++ primary) → (x : Full) (rest' : List ℕ) (m end : ℕ) → Told (Err x) rest' m end
+  unfolding placed placed_answer
+  told-full h x rest' m end =
+      let l = length-append before rest in
+      no_room (omega arith)
+
+  told :
+      0 < length message → {r : Answered ⊤ Full} {o : List ℕ} (m : ℕ) → (r, (o, m)) ≡ written rest 0 message →
+      (texts : Answered ⊤ Full) (rest' : List ℕ) (end : ℕ) → (texts, (rest', end)) ≡ written rest 0 (message ++ primary) → Told texts rest' m end
+  told k m d texts rest' end e =
+      let j = length-append message primary in
+      by_order (0 + length (message ++ primary)) (length rest)
+      (λ h.
+      let g = e ∙ written-room rest 0 (message ++ primary) h in
+      let i = d ∙ written-room rest 0 message (omega arith) in
+      rw (ap (λ q. q.0) g, ap (λ q. q.1.0) g, ap (λ q. q.1.1) g, ap (λ q. q.1.1) i) (told-room k h))
+      (λ h.
+      let g = e ∙ written-full rest 0 (message ++ primary) h in
+      rw (ap (λ q. q.0) g) (told-full h (record {}) rest' m end))
+
+-- What is known of a writer of a diagnostic: it wrote both texts from the rest's start on, what was lent came back, the span was asked for, and the record
+-- was written.
+module _ {o ds ds' rest rest₁ rest' back : List ℕ} {n m end code : ℕ} {c : Counts} {span span' : Span} {r texts : Answered ⊤ Full} {answer : Option Counts} where
+  tells :
+      (message primary : List ℕ) → 0 < length message → (o ≡ rest) × (n ≡ 0) → (r, (rest₁, m)) ≡ written o n message → (texts, (rest', end)) ≡ written o n (message ++ primary) →
+      back ≡ rest' → span' ≡ span →
+      (ds' ≡ placed ds c code span' texts (c.bytes + m) (c.bytes + end)) × (answer ≡ placed_answer ds c texts (c.bytes + m) (c.bytes + end)) →
+      ReportsIn (diagnostic code span message primary) ds rest c ds' back answer
+  tells message primary k s d e l f p = record {
+    whole = λ before g. rw (p.0, p.1, f, l) (told before ds rest c code span message primary g k m (rw (s.0, s.1) at d) texts rest' end (rw (s.0, s.1) at e));
   }
 
--- a message that begins with fixed text
-module _ {ds ds' rest rest₁ : List ℕ} {c : Counts} {code : ℕ} {span span' : Span} {x : ℕ} {message : List ℕ} {r₁ : Wrote} {r : Option Counts} where
+  -- a message that begins with fixed text
   pub tells-rest :
-      {rest₂ primary : List ℕ} {r₂ : Wrote} → Writes rest (All 0) rest₁ r₁ (x ∷ message) → Writes rest₁ r₁ rest₂ r₂ primary → span' ≡ span →
-      (ds' ≡ placed ds c code span' (in_whole c r₁) (in_whole c r₂)) × (r ≡ placed_answer ds c (in_whole c r₁) (in_whole c r₂)) →
-      ReportsIn (diagnostic code span (x ∷ message) primary) ds rest c ds' rest₂ r
-  tells-rest a b e w = tells_in (omega arith) a b e w
+      {x : ℕ} {message primary : List ℕ} → (o ≡ rest) × (n ≡ 0) → (r, (rest₁, m)) ≡ written o n (x ∷ message) → (texts, (rest', end)) ≡ written o n ((x ∷ message) ++ primary) →
+      back ≡ rest' → span' ≡ span →
+      (ds' ≡ placed ds c code span' texts (c.bytes + m) (c.bytes + end)) × (answer ≡ placed_answer ds c texts (c.bytes + m) (c.bytes + end)) →
+      ReportsIn (diagnostic code span (x ∷ message) primary) ds rest c ds' back answer
+  tells-rest {x} {message} {primary} s d e l f p = tells (x ∷ message) primary (omega arith) s d e l f p
 
+module _ {o ds ds' rest rest' back : List ℕ} {n end code : ℕ} {c : Counts} {span span' : Span} {texts : Answered ⊤ Full} {answer : Option Counts} where
   -- and no primary message
-  pub tells-rest-alone :
-      Writes rest (All 0) rest₁ r₁ (x ∷ message) → span' ≡ span →
-      (ds' ≡ placed ds c code span' (in_whole c r₁) (in_whole c r₁)) × (r ≡ placed_answer ds c (in_whole c r₁) (in_whole c r₁)) →
-      ReportsIn (diagnostic code span (x ∷ message) []) ds rest c ds' rest₁ r
-  tells-rest-alone a e w = tells-rest a (writes_end a) e w
+  tells-alone :
+      (message : List ℕ) → 0 < length message → (o ≡ rest) × (n ≡ 0) → (texts, (rest', end)) ≡ written o n message → back ≡ rest' → span' ≡ span →
+      (ds' ≡ placed ds c code span' texts (c.bytes + end) (c.bytes + end)) × (answer ≡ placed_answer ds c texts (c.bytes + end) (c.bytes + end)) →
+      ReportsIn (diagnostic code span message []) ds rest c ds' back answer
+  tells-alone message k s e l f p = tells message [] k s e (rw append-nil e) l f p
 
--- a message that begins with a type and goes on with fixed text
-module _ {ds ds' rest rest₁ rest₂ : List ℕ} {c : Counts} {code : ℕ} {span span' : Span} {shown : List ℕ} {x : ℕ} {fixed : List ℕ} {r₁ r₂ : Wrote} {r : Option Counts} where
+  pub tells-rest-alone :
+      {x : ℕ} {message : List ℕ} → (o ≡ rest) × (n ≡ 0) → (texts, (rest', end)) ≡ written o n (x ∷ message) → back ≡ rest' → span' ≡ span →
+      (ds' ≡ placed ds c code span' texts (c.bytes + end) (c.bytes + end)) × (answer ≡ placed_answer ds c texts (c.bytes + end) (c.bytes + end)) →
+      ReportsIn (diagnostic code span (x ∷ message) []) ds rest c ds' back answer
+  tells-rest-alone {x} {message} s e l f p = tells-alone (x ∷ message) (omega arith) s e l f p
+
+  -- a message that begins with a type and goes on with fixed text
   pub tells-shown :
-      Writes rest (All 0) rest₁ r₁ shown → Writes rest₁ r₁ rest₂ r₂ (x ∷ fixed) → span' ≡ span →
-      (ds' ≡ placed ds c code span' (in_whole c r₂) (in_whole c r₂)) × (r ≡ placed_answer ds c (in_whole c r₂) (in_whole c r₂)) →
-      ReportsIn (diagnostic code span (shown ++ (x ∷ fixed)) []) ds rest c ds' rest₂ r
-  tells-shown a b e w = tells_in (omega (arith, length-append shown (x ∷ fixed))) (a and_then b) (writes_end (a and_then b)) e w
+      (shown : List ℕ) (x : ℕ) (fixed : List ℕ) → (o ≡ rest) × (n ≡ 0) → (texts, (rest', end)) ≡ written o n (shown ++ (x ∷ fixed)) → back ≡ rest' → span' ≡ span →
+      (ds' ≡ placed ds c code span' texts (c.bytes + end) (c.bytes + end)) × (answer ≡ placed_answer ds c texts (c.bytes + end) (c.bytes + end)) →
+      ReportsIn (diagnostic code span (shown ++ (x ∷ fixed)) []) ds rest c ds' back answer
+  tells-shown shown x fixed s e l f p = tells-alone (shown ++ (x ∷ fixed)) (omega (arith, length-append shown (x ∷ fixed))) s e l f p
 
   -- and ends with a name
   pub tells-shown-name :
-      {rest₃ name : List ℕ} {r₃ : Wrote} → Writes rest (All 0) rest₁ r₁ shown → Writes rest₁ r₁ rest₂ r₂ (x ∷ fixed) → Writes rest₂ r₂ rest₃ r₃ name → span' ≡ span →
-      (ds' ≡ placed ds c code span' (in_whole c r₃) (in_whole c r₃)) × (r ≡ placed_answer ds c (in_whole c r₃) (in_whole c r₃)) →
-      ReportsIn (diagnostic code span (shown ++ (x ∷ fixed) ++ name) []) ds rest c ds' rest₃ r
-  tells-shown-name {name = name} a b d e w =
-      tells_in (omega (arith, length-append (shown ++ (x ∷ fixed)) name, length-append shown (x ∷ fixed)))
-      (a and_then b and_then d) (writes_end (a and_then b and_then d)) e w
+      (shown : List ℕ) (x : ℕ) (fixed name : List ℕ) → (o ≡ rest) × (n ≡ 0) → (texts, (rest', end)) ≡ written o n (shown ++ (x ∷ fixed) ++ name) → back ≡ rest' → span' ≡ span →
+      (ds' ≡ placed ds c code span' texts (c.bytes + end) (c.bytes + end)) × (answer ≡ placed_answer ds c texts (c.bytes + end) (c.bytes + end)) →
+      ReportsIn (diagnostic code span (shown ++ (x ∷ fixed) ++ name) []) ds rest c ds' back answer
+  tells-shown-name shown x fixed name s e l f p =
+      tells-alone (shown ++ (x ∷ fixed) ++ name) (omega (arith, length-append (shown ++ (x ∷ fixed)) name, length-append shown (x ∷ fixed))) s e l f p
+
+-- ---- a part that was lent
+-- `&mut o[n..e]` lends the bytes from n to e; the bytes that come back in it stand between those before n and those from e on.
+abbrev pub lent : (o : List ℕ) → (n e : ℕ) → List ℕ
+lent o n e = take (e - n) (drop n o)
+
+abbrev pub put_back : (o : List ℕ) → (n e : ℕ) → List ℕ → List ℕ
+put_back o n e l = take n o ++ (l ++ drop (e - n) (drop n o))
 
 -- ---- the rest that was lent came back: what was told in it was told in the whole
 pub told_in_whole :

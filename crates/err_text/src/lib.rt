@@ -1,5 +1,5 @@
 // A diagnostic's record, and the pieces that several messages have (err.rs; typedefs.rs, `CallName`).
-#![tactic(auto)]
+#![tactic(auto, using(display::specs::WritingLaws::writing))]
 
 ghost use Rattle.std.specs.Prelude.{◌≡◌, [], ◌∷◌, ◌+◌, ◌*◌, ◌≤◌, length};
 ghost use Rattle.tok.specs.Text.{name_bytes};
@@ -7,9 +7,9 @@ ghost use Rattle.ptype.specs.Add.{write};
 ghost use Rattle.display.specs.Writing.{Writes};
 ghost use Rattle.err.specs.Message.{ticked, call_name, quoted, class_of, wanted, wanted_both};
 ghost use Rattle.err.specs.Report.{most_diagnostics, as_word, fits, placed, placed_answer};
-ghost use Rattle.err_text.specs.Rest.{first_free, in_whole};
+ghost use Rattle.err_text.specs.Rest.{first_free};
 
-use display::Wrote;
+use display::{Full, Writer};
 use err::{CallName, Counts};
 use tok::{Span, Texts};
 
@@ -82,25 +82,24 @@ pub fn first_free(messages: &[u8], counts: Counts) -> usize
     }
 }
 
-// Writes the record of a diagnostic whose message was written from the start of the rest up to a place, and its primary message from there up to another.
+// Writes the record of a diagnostic whose message was written from the start of the rest up to a place, and its primary message from there up to
+// `end`, where both texts had room.
 pub fn report(
     diagnostics: &mut [u32],
     counts: Counts,
     code: u8,
     span: Span,
-    message: Wrote,
-    primary: Wrote,
+    texts: Result<(), Full>,
+    message: usize,
+    end: usize,
 ) -> Option<Counts>
-    ensures six_words { diagnostics.new ≡ placed diagnostics.old counts code span (in_whole counts message) (in_whole counts primary) }
-    ensures answer { result ≡ placed_answer diagnostics.old counts (in_whole counts message) (in_whole counts primary) }
+    ensures six_words { diagnostics.new ≡ placed diagnostics.old counts code span texts (counts.bytes + message) (counts.bytes + end) }
+    ensures answer { result ≡ placed_answer diagnostics.old counts texts (counts.bytes + message) (counts.bytes + end) }
 {
-    let Wrote::All(m) = message else {
+    if texts.is_err() {
         return None;
-    };
-    let Wrote::All(p) = primary else {
-        return None;
-    };
-    if !has_room(diagnostics, counts, m, p) {
+    }
+    if !has_room(diagnostics, counts, message, end) {
         return None;
     }
     put_record(
@@ -110,43 +109,45 @@ pub fn report(
         as_word(span.start),
         as_word(span.len),
         counts.bytes as u32,
-        m as u32,
-        (p - m) as u32,
+        message as u32,
+        (end - message) as u32,
     );
     Some(Counts {
         diagnostics: counts.diagnostics + 1,
-        bytes: counts.bytes + p,
+        bytes: counts.bytes + end,
     })
 }
 
 // Pieces.
 
 // Writes a name between backquotes.
-pub fn put_ticked(out: &mut [u8], at: Wrote, texts: &Texts, name: u32) -> Wrote
-    ensures { Writes out.old at out.new result (ticked (name_bytes texts.now name)) }
+#[tactic(auto, unfolding(tok::specs::Text::text))]
+pub fn put_ticked(out: &mut Writer, texts: &Texts, name: u32) -> Result<(), Full>
+    ensures { Writes out.old out.new result (ticked (name_bytes texts.now name)) }
 {
-    display::put_around(out, at, b"`", tok::name_bytes(texts, name), b"`")
+    out.put_around(b"`", tok::name_bytes(texts, name), b"`")
 }
 
 // Writes a name.
-pub fn put_name(out: &mut [u8], at: Wrote, texts: &Texts, name: u32) -> Wrote
-    ensures { Writes out.old at out.new result (name_bytes texts.now name) }
+pub fn put_name(out: &mut Writer, texts: &Texts, name: u32) -> Result<(), Full>
+    ensures { Writes out.old out.new result (name_bytes texts.now name) }
 {
-    display::put_at(out, at, tok::name_bytes(texts, name))
+    out.put(tok::name_bytes(texts, name))
 }
 
 // Writes how a call names its function, between backquotes.
-pub fn put_call_name(out: &mut [u8], at: Wrote, texts: &Texts, callee: CallName) -> Wrote
-    ensures { Writes out.old at out.new result (ticked (call_name texts.now callee)) }
+#[tactic(auto, using(display::specs::WritingLaws::writing, crate::proofs::PieceLaws::calls), unfolding(tok::specs::Text::text))]
+pub fn put_call_name(out: &mut Writer, texts: &Texts, callee: CallName) -> Result<(), Full>
+    ensures { Writes out.old out.new result (ticked (call_name texts.now callee)) }
 {
     match callee {
-        CallName::Own(name) => {
-            return put_ticked(out, at, texts, name);
-        }
+        CallName::Own(name) => put_ticked(out, texts, name),
         CallName::OfPackage(pkg, name) => {
-            let a = display::put_around(out, at, b"`", tok::name_bytes(texts, pkg), b".");
-            let b = put_name(out, a, texts, name);
-            return display::put_at(out, b, b"`");
+            out.put(b"`")?;
+            put_name(out, texts, pkg)?;
+            out.put(b".")?;
+            put_name(out, texts, name)?;
+            out.put(b"`")
         }
     }
 }
@@ -156,31 +157,31 @@ pub fn class_of(op: u32) -> usize
     ensures { result ≡ class_of op }
 {
     let classes = [0, 0, 0, 0, 1, 2, 2, 3, 3];
-    let i = tok::wide(op);
+    let i = op as usize;
     if i < 9 { classes[i] } else { 0 }
 }
 
 // Writes the operator of a number in double quotes; for a number that no operator has, the quotes alone.
-pub fn put_operator(out: &mut [u8], at: Wrote, op: u32) -> Wrote
-    ensures { Writes out.old at out.new result (quoted op) }
+pub fn put_operator(out: &mut Writer, op: u32) -> Result<(), Full>
+    ensures { Writes out.old out.new result (quoted op) }
 {
     let operators = b"\"+\"|\"-\"|\"*\"|\"/\"|\"%\"|\"==\"|\"!=\"|\"<\"|\">\"|\"\"";
-    display::put_at(out, at, display::one_of(operators, op as usize))
+    out.put(display::one_of(operators, op as usize))
 }
 
 // Writes what an operator of a class wants, after `Unsupported type ..`.
-pub fn put_wanted(out: &mut [u8], at: Wrote, class: usize) -> Wrote
-    ensures { Writes out.old at out.new result (wanted class) }
+pub fn put_wanted(out: &mut Writer, class: usize) -> Result<(), Full>
+    ensures { Writes out.old out.new result (wanted class) }
 {
     let all =
         b", want Int or Double|, want Int|, want Int, Bool or Str|, want Int or Double for both sides|";
-    display::put_at(out, at, display::one_of(all, class))
+    out.put(display::one_of(all, class))
 }
 
 // And after `Incompatible types ..`.
-pub fn put_wanted_both(out: &mut [u8], at: Wrote, class: usize) -> Wrote
-    ensures { Writes out.old at out.new result (wanted_both class) }
+pub fn put_wanted_both(out: &mut Writer, class: usize) -> Result<(), Full>
+    ensures { Writes out.old out.new result (wanted_both class) }
 {
     let all = b"|, want both sides Int|, want both sides Int, Bool or Str||";
-    display::put_at(out, at, display::one_of(all, class))
+    out.put(display::one_of(all, class))
 }

@@ -8,7 +8,7 @@ ghost use Rattle.ptype.specs.Words.{ty_of};
 ghost use Rattle.err.specs.Message.{empty_array, members_differ, unsupported, incompatible, bad_unary, redundant_cast, bad_cast, no_record, no_field_of};
 ghost use Rattle.err_text.specs.Rest.{ReportsIn};
 
-use display::Wrote;
+use display::Writer;
 use err::Counts;
 use tok::{Span, Texts};
 
@@ -21,13 +21,19 @@ pub fn empty_array(
 ) -> Option<Counts>
     ensures { ReportsIn (empty_array token) diagnostics.old rest.old counts diagnostics.new rest.new result }
 {
-    let a = display::put_at(
-        rest,
-        Wrote::All(0),
-        b"Can not infer the element type of an empty array",
-    );
-    let b = display::put_at(rest, a, b"empty array");
-    err_text::report(diagnostics, counts, 1, tok::token_span(token), a, b)
+    let mut out = Writer::new(rest);
+    let a = out.put(b"Can not infer the element type of an empty array");
+    let message = out.at;
+    let b = out.put(b"empty array");
+    err_text::report(
+        diagnostics,
+        counts,
+        1,
+        tok::token_span(token),
+        a.and(b),
+        message,
+        out.at,
+    )
 }
 
 // 2: An array member whose type is not the first member's.
@@ -44,17 +50,15 @@ pub fn members_differ(
     ensures { let U : ℕ → Ty = ty_of texts.now types.now in
         ReportsIn (members_differ span (U first) (U ty)) diagnostics.old rest.old counts diagnostics.new rest.new result }
 {
-    let a = display::put_at(
-        rest,
-        Wrote::All(0),
-        b"Array members must all have the same type, expected ",
-    );
-    let b = display::show_type(rest, a, types, texts, first);
-    let c = display::put_at(rest, b, b" but got ");
-    let d = display::show_type(rest, c, types, texts, ty);
-    let e = display::put_at(rest, d, b"this member is of type ");
-    let f = display::show_type(rest, e, types, texts, ty);
-    err_text::report(diagnostics, counts, 2, span, d, f)
+    let mut out = Writer::new(rest);
+    let a = out.put(b"Array members must all have the same type, expected ");
+    let b = a.and(display::show_type(&mut out, types, texts, first));
+    let c = b.and(out.put(b" but got "));
+    let d = c.and(display::show_type(&mut out, types, texts, ty));
+    let message = out.at;
+    let e = out.put(b"this member is of type ");
+    let f = e.and(display::show_type(&mut out, types, texts, ty));
+    err_text::report(diagnostics, counts, 2, span, d.and(f), message, out.at)
 }
 
 // 4: Operands of one type that the operator does not take.
@@ -71,12 +75,21 @@ pub fn unsupported(
     ensures { let U : ℕ → Ty = ty_of texts.now types.now in
         ReportsIn (unsupported token op (U left)) diagnostics.old rest.old counts diagnostics.new rest.new result }
 {
-    let a = display::put_at(rest, Wrote::All(0), b"Unsupported type ");
-    let b = display::show_type(rest, a, types, texts, left);
-    let c = display::put_at(rest, b, b" for ");
-    let d = err_text::put_operator(rest, c, op);
-    let e = err_text::put_wanted(rest, d, err_text::class_of(op));
-    err_text::report(diagnostics, counts, 4, tok::token_span(token), e, e)
+    let mut out = Writer::new(rest);
+    let a = out.put(b"Unsupported type ");
+    let b = a.and(display::show_type(&mut out, types, texts, left));
+    let c = b.and(out.put(b" for "));
+    let d = c.and(err_text::put_operator(&mut out, op));
+    let e = d.and(err_text::put_wanted(&mut out, err_text::class_of(op)));
+    err_text::report(
+        diagnostics,
+        counts,
+        4,
+        tok::token_span(token),
+        e,
+        out.at,
+        out.at,
+    )
 }
 
 // 5: Operands of two types.
@@ -94,14 +107,23 @@ pub fn incompatible(
     ensures { let U : ℕ → Ty = ty_of texts.now types.now in
         ReportsIn (incompatible token op (U left) (U right)) diagnostics.old rest.old counts diagnostics.new rest.new result }
 {
-    let a = display::put_at(rest, Wrote::All(0), b"Incompatible types ");
-    let b = display::show_type(rest, a, types, texts, left);
-    let c = display::put_at(rest, b, b" and ");
-    let d = display::show_type(rest, c, types, texts, right);
-    let e = display::put_at(rest, d, b" for ");
-    let f = err_text::put_operator(rest, e, op);
-    let g = err_text::put_wanted_both(rest, f, err_text::class_of(op));
-    err_text::report(diagnostics, counts, 5, tok::token_span(token), g, g)
+    let mut out = Writer::new(rest);
+    let a = out.put(b"Incompatible types ");
+    let b = a.and(display::show_type(&mut out, types, texts, left));
+    let c = b.and(out.put(b" and "));
+    let d = c.and(display::show_type(&mut out, types, texts, right));
+    let e = d.and(out.put(b" for "));
+    let f = e.and(err_text::put_operator(&mut out, op));
+    let g = f.and(err_text::put_wanted_both(&mut out, err_text::class_of(op)));
+    err_text::report(
+        diagnostics,
+        counts,
+        5,
+        tok::token_span(token),
+        g,
+        out.at,
+        out.at,
+    )
 }
 
 // 6: An operand that a unary operator does not take.
@@ -118,11 +140,20 @@ pub fn bad_unary(
     ensures { let U : ℕ → Ty = ty_of texts.now types.now in
         ReportsIn (bad_unary token op (U inner)) diagnostics.old rest.old counts diagnostics.new rest.new result }
 {
-    let a = display::put_at(rest, Wrote::All(0), b"Unary ");
-    let b = err_text::put_operator(rest, a, op);
-    let c = display::put_at(rest, b, b" requires Int or Double, got ");
-    let d = display::show_type(rest, c, types, texts, inner);
-    err_text::report(diagnostics, counts, 6, tok::token_span(token), d, d)
+    let mut out = Writer::new(rest);
+    let a = out.put(b"Unary ");
+    let b = a.and(err_text::put_operator(&mut out, op));
+    let c = b.and(out.put(b" requires Int or Double, got "));
+    let d = c.and(display::show_type(&mut out, types, texts, inner));
+    err_text::report(
+        diagnostics,
+        counts,
+        6,
+        tok::token_span(token),
+        d,
+        out.at,
+        out.at,
+    )
 }
 
 // 10: A cast to the type that the operand has.
@@ -138,12 +169,22 @@ pub fn redundant_cast(
     ensures { let U : ℕ → Ty = ty_of texts.now types.now in
         ReportsIn (redundant_cast token (U ty)) diagnostics.old rest.old counts diagnostics.new rest.new result }
 {
-    let a = display::put_at(rest, Wrote::All(0), b"Can not cast ");
-    let b = display::show_type(rest, a, types, texts, ty);
-    let c = display::put_at(rest, b, b" to ");
-    let d = display::show_type(rest, c, types, texts, ty);
-    let e = display::put_at(rest, d, b"unnecessary cast");
-    err_text::report(diagnostics, counts, 10, tok::token_span(token), d, e)
+    let mut out = Writer::new(rest);
+    let a = out.put(b"Can not cast ");
+    let b = a.and(display::show_type(&mut out, types, texts, ty));
+    let c = b.and(out.put(b" to "));
+    let d = c.and(display::show_type(&mut out, types, texts, ty));
+    let message = out.at;
+    let e = out.put(b"unnecessary cast");
+    err_text::report(
+        diagnostics,
+        counts,
+        10,
+        tok::token_span(token),
+        d.and(e),
+        message,
+        out.at,
+    )
 }
 
 // 11: A cast that does not exist.
@@ -160,11 +201,20 @@ pub fn bad_cast(
     ensures { let U : ℕ → Ty = ty_of texts.now types.now in
         ReportsIn (bad_cast token (U from) (U to)) diagnostics.old rest.old counts diagnostics.new rest.new result }
 {
-    let a = display::put_at(rest, Wrote::All(0), b"Can not cast ");
-    let b = display::show_type(rest, a, types, texts, from);
-    let c = display::put_at(rest, b, b" to ");
-    let d = display::show_type(rest, c, types, texts, to);
-    err_text::report(diagnostics, counts, 11, tok::token_span(token), d, d)
+    let mut out = Writer::new(rest);
+    let a = out.put(b"Can not cast ");
+    let b = a.and(display::show_type(&mut out, types, texts, from));
+    let c = b.and(out.put(b" to "));
+    let d = c.and(display::show_type(&mut out, types, texts, to));
+    err_text::report(
+        diagnostics,
+        counts,
+        11,
+        tok::token_span(token),
+        d,
+        out.at,
+        out.at,
+    )
 }
 
 // 12: A field of what is no record.
@@ -180,9 +230,18 @@ pub fn no_record(
     ensures { let U : ℕ → Ty = ty_of texts.now types.now in
         ReportsIn (no_record name (U ty)) diagnostics.old rest.old counts diagnostics.new rest.new result }
 {
-    let a = display::show_type(rest, Wrote::All(0), types, texts, ty);
-    let b = display::put_at(rest, a, b" can not be indexed in this way");
-    err_text::report(diagnostics, counts, 12, tok::token_span(name), b, b)
+    let mut out = Writer::new(rest);
+    let a = display::show_type(&mut out, types, texts, ty);
+    let b = a.and(out.put(b" can not be indexed in this way"));
+    err_text::report(
+        diagnostics,
+        counts,
+        12,
+        tok::token_span(name),
+        b,
+        out.at,
+        out.at,
+    )
 }
 
 // 13: A field that the record does not have.
@@ -198,8 +257,17 @@ pub fn no_field(
     ensures { let U : ℕ → Ty = ty_of texts.now types.now in
         ReportsIn (no_field_of name (U ty) (name_bytes texts.now name)) diagnostics.old rest.old counts diagnostics.new rest.new result }
 {
-    let a = display::show_type(rest, Wrote::All(0), types, texts, ty);
-    let b = display::put_at(rest, a, b" does not have a field called ");
-    let c = err_text::put_name(rest, b, texts, name);
-    err_text::report(diagnostics, counts, 13, tok::token_span(name), c, c)
+    let mut out = Writer::new(rest);
+    let a = display::show_type(&mut out, types, texts, ty);
+    let b = a.and(out.put(b" does not have a field called "));
+    let c = b.and(err_text::put_name(&mut out, texts, name));
+    err_text::report(
+        diagnostics,
+        counts,
+        13,
+        tok::token_span(name),
+        c,
+        out.at,
+        out.at,
+    )
 }

@@ -1,27 +1,30 @@
 -- The turns and returns of writing the functions of an Extern. By rewriting. Assumes nothing.
+use Rattle.std.specs.Prelude.{Ok, Err}
+use Rattle.std.specs.Result.{IsErrAnd}
 use Prim.Native.Nat.{ℕ, zero, suc, ◌+◌, ◌*◌, ◌-◌, ◌≤◌, ◌<◌}
 use mathlib.Core.Path.{◌≡◌, refl, sym, ap, ◌∙◌}
 use mathlib.Core.List.{List, [], ◌∷◌, ◌++◌, append_assoc}
 use native.Mathlib.Omega.{arith}
-use lib.ListN.{get_or, length, take}
+use lib.ListN.{get_or}
 use Rattle.tok.specs.Text.{Texts}
-use Rattle.tok.specs.Step.{ok, refused, refusal, for_each}
-use Rattle.library.specs.Package.{Package, Function}
+use Rattle.tok.specs.Step.{ok, for_each}
+use Rattle.library.specs.Package.{Package}
 use Rattle.ast.specs.Image.{word_at}
-use Rattle.ast.specs.Node.{ExternFn, externs_from}
+use Rattle.ast.specs.Node.{externs_from}
 use Rattle.image_laws.specs.RecordWords.{FunctionsWords, no_functions, function_words}
 use Rattle.image_laws.proofs.Accepted.{counts_in}
+use Rattle.rules.specs.Steps.{Done}
 use Rattle.rules.specs.Rules.{extern_fn}
 use Rattle.state.specs.declared.Used.{Used}
-use Rattle.state.specs.declared.Went.{Went}
-use Rattle.state.specs.declared.Went.TheVariants as W
+use Rattle.state.specs.declared.Refusal.{Refusal}
+use Rattle.state.specs.Reporting.{passed}
 use Rattle.state.specs.Context.{ctx}
 use Rattle.state.specs.Signatures.{entry_at, entry_end, entries_from, entries_end}
-use Rattle.state.specs.World.{Rest, world}
+use Rattle.state.specs.World.{Step, Steps, stepped, with_answer, world}
 use Rattle.visit.specs.StoreLaws.{get_d_front, entry-end, ends-front, entries-front, ends_last}
 use Rattle.externs.specs.Framed.{Framed, framed-same, framed_then, framed_wide, each-ok, each-stops, one_ok, one-stops}
-use Rattle.externs.specs.Entries.{FunctionRoom, function_in, function_given, EntersExtern}
-use Rattle.extern_package.specs.Packing.{Functions, FunctionsRoom, functions_given, WritesFunctions, functions-after, functions-first, functions-over, first-room}
+use Rattle.externs.specs.Entries.{FunctionRoom, function_in, EntersExtern}
+use Rattle.extern_package.specs.Packing.{Functions, FunctionsRoom, WritesFunctions, functions-after, functions-first, functions-over, first-room}
 
 -- functions end at one place
 functions-same : {text text' image : List ℕ} {end end' at k : ℕ} → FunctionsWords (counts_in text image) image end at k → FunctionsWords (counts_in text' image) image end' at k → end ≡ end'
@@ -37,8 +40,8 @@ entries-last l at (suc k) = ap (λ fs. entry_at l 0 at ∷ fs) (entries-last l (
 pub record Packing (image places : List ℕ) (n from at count end k : ℕ) (t₀ : List ℕ) (u₀ : Used) (e₀ t : List ℕ) (u : Used) (e : List ℕ) (place to : ℕ) : Type 0 where
   pub left : Functions image places place end (count - k)
   pub split : (j : ℕ) → externs_from image from (k + j) ≡ externs_from image from k ++ externs_from image place j
-  pub step : (T : Texts) (ls : List Package) (v : ℕ) (rest : Rest) (s d m : List ℕ)
-      → for_each (λ f. extern_fn (ctx T ls v) n f) (externs_from image from k) (world rest s t₀ d m u₀) ≡ ok (entries_from e 0 at k) (world rest s t d m u)
+  pub steps : (T : Texts) (ls : List Package) (v : ℕ) (s d m : List ℕ)
+      → Steps (for_each (λ f. extern_fn (ctx T ls v) n f) (externs_from image from k)) s t₀ d m u₀ s t d m (Ok (entries_from e 0 at k, u))
   pub ends : entries_end e 0 at k ≡ to
   pub places-alike : to + from ≡ at + place
   pub after : from ≤ place
@@ -47,11 +50,11 @@ pub record Packing (image places : List ℕ) (n from at count end k : ℕ) (t₀
 
 module _ {image places : List ℕ} (n from at count : ℕ) (t : List ℕ) (u : Used) {e : List ℕ} (h : FunctionsRoom image places e from at count) where
   pub packing_begin : Packing image places n from at count h.end 0 t u e t u e from at
-  unfolding for_each externs_from entries_from entries_end
+  unfolding for_each externs_from entries_from entries_end stepped
   packing_begin = record {
     left = let z : count - 0 ≡ count = omega arith in rw z h.functions;
     split = λ j. let z : 0 + j ≡ j = omega arith in rw z refl;
-    step = λ T ls v rest s d m. refl;
+    steps = λ T ls v s d m. record { step = λ rest. refl };
     ends = refl;
     places-alike = refl;
     after = omega arith;
@@ -67,12 +70,12 @@ module _ {image places : List ℕ} {n from at count k : ℕ} {t₀ : List ℕ} {
   room-left : to + (h.end - place) ≤ 8192
   room-left = omega (arith, i.places-alike, h.room, i.after, functions-after i.left.functions)
 
-  pub packing_over : count ≤ k → WritesFunctions image n from at count t₀ u₀ e₀ t e (W.On u)
-  unfolding functions_given
+  pub packing_over : count ≤ k → WritesFunctions image n from at count t₀ u₀ e₀ t e (Ok (tt, u))
+  unfolding with_answer
   packing_over l =
       let z : count ≡ k = omega (arith, i.most) in
       record {
-        step = λ T ls v rest s d m. rw z (i.step T ls v rest s d m);
+        steps = λ T ls v s d m. rw z (i.steps T ls v s d m);
         frame = λ end f. let y = functions-same f h.functions.functions in framed_wide (omega (arith, i.places-alike, functions-after i.left.functions, i.after)) i.frame;
         ends = λ o end f.
             let y = functions-same f h.functions.functions in
@@ -99,27 +102,29 @@ module _ {image places : List ℕ} {n from at count k : ℕ} {t₀ : List ℕ} {
     pub to_low : to + 3 + 2 * word_at image (place + 2) ≤ 8192
     to_low = omega (arith, ahead, room-left)
 
-    module _ {t' e' : List ℕ} {r : Went} (p : EntersExtern image n place to t u e t' e' r) where
-      pub packing_stops : {number at' : ℕ} → r ≡ W.Refused number at' → WritesFunctions image n from at count t₀ u₀ e₀ t' e' r
-      unfolding functions_given function_given externs_from
-      packing_stops {number} {at'} er = rw er (record {
-        step = λ T ls v rest s d m.
-            let z : count ≡ k + suc (count - (k + 1)) = omega arith in
-            ap (λ c. for_each (λ f. extern_fn (ctx T ls v) n f) (externs_from image from c) (world rest s t₀ d m u₀)) z
-            ∙ ap (λ xs. for_each (λ f. extern_fn (ctx T ls v) n f) xs (world rest s t₀ d m u₀)) (i.split (suc (count - (k + 1))))
-            ∙ each-stops (λ f. extern_fn (ctx T ls v) n f) _ (externs_from image from k) (world rest s t₀ d m u₀) (i.step T ls v rest s d m)
-            (one-stops (λ f. extern_fn (ctx T ls v) n f) (function_in image place) _ (p.step T ls v rest s d m ∙ rw er refl));
+    module _ {t' e' : List ℕ} {r : Step Done} (p : EntersExtern image n place to t u e t' e' r) where
+      pub packing_stops : {x : Refusal} {q : Step Done} → r ≡ Err x → IsErrAnd q (λ y. y ≡ x) → WritesFunctions image n from at count t₀ u₀ e₀ t' e' q
+      unfolding with_answer stepped externs_from
+      packing_stops {x} {q} er h' = rw (passed q h') (record {
+        steps = λ T ls v s d m. record {
+          step = λ rest.
+              let z : count ≡ k + suc (count - (k + 1)) = omega arith in
+              ap (λ c. for_each (λ f. extern_fn (ctx T ls v) n f) (externs_from image from c) (world rest s t₀ d m u₀)) z
+              ∙ ap (λ xs. for_each (λ f. extern_fn (ctx T ls v) n f) xs (world rest s t₀ d m u₀)) (i.split (suc (count - (k + 1))))
+              ∙ each-stops (λ f. extern_fn (ctx T ls v) n f) _ (externs_from image from k) (world rest s t₀ d m u₀) ((i.steps T ls v s d m).step rest)
+              (one-stops (λ f. extern_fn (ctx T ls v) n f) (function_in image place) _ ((p.steps T ls v s d m).step rest ∙ rw er refl));
+        };
         frame = λ end f. let y = functions-same f h.functions.functions in
             framed_wide (omega (arith, i.places-alike, ahead, i.after)) (framed_then {a = at} {b = to} {c = to} {d = to + 3 + 2 * word_at image (place + 2)} (omega (arith, i.places-alike, i.after)) (omega arith) i.frame p.frame);
         ends = λ o end f. let no : ◌≡◌ {A = ℕ} 0 1 = cc in absurd (omega arith);
       })
 
-      pub packing_more : {u' : Used} {size w c : ℕ} → r ≡ W.On u' → w ≡ get_or image (place + 2) 0 → c ≡ w → size ≡ 3 + 2 * c
+      pub packing_more : {done : Done} {u' : Used} {size w : ℕ} → r ≡ Ok (done, u') → w ≡ get_or image (place + 2) 0 → size ≡ 3 + 2 * w
           → Packing image places n from at count h.end (k + 1) t₀ u₀ e₀ t' u' e' (place + size) (to + size)
-      unfolding function_given externs_from
-      packing_more {u'} {size} er ew ec es =
+      unfolding with_answer stepped externs_from
+      packing_more {done} {u'} {size} er ew es =
           let c₀ : ℕ = get_or image (place + 2) 0 in
-          let z : size ≡ 3 + 2 * c₀ = es ∙ ap (λ j. 3 + 2 * j) (ec ∙ ew) in
+          let z : size ≡ 3 + 2 * c₀ = es ∙ ap (λ j. 3 + 2 * j) ew in
           let a : place + size ≡ place + 3 + 2 * c₀ = omega arith in
           let b : to + size ≡ to + 3 + 2 * c₀ = omega arith in
           let old : (j : ℕ) → j < to → get_or e' j 0 ≡ get_or e j 0 = λ j q. get_d_front to e e' p.frame.front j q in
@@ -131,12 +136,14 @@ module _ {image places : List ℕ} {n from at count k : ℕ} {t₀ : List ℕ} {
                 let y : k + 1 + j ≡ k + suc j = omega arith in
                 ap (externs_from image from) y ∙ i.split (suc j) ∙ sym (append_assoc (externs_from image from k) (function_in image place ∷ []) (externs_from image (place + 3 + 2 * c₀) j))
                 ∙ ap (λ xs. xs ++ externs_from image (place + 3 + 2 * c₀) j) (sym (i.split 1));
-            step = λ T ls v rest s d m.
-                ap (λ xs. for_each (λ f. extern_fn (ctx T ls v) n f) xs (world rest s t₀ d m u₀)) (i.split 1)
-                ∙ each-ok (λ f. extern_fn (ctx T ls v) n f) _ (externs_from image from k) (world rest s t₀ d m u₀) (i.step T ls v rest s d m)
-                (one_ok (λ f. extern_fn (ctx T ls v) n f) (function_in image place) [] (p.step T ls v rest s d m ∙ rw er refl))
-                ∙ ap (λ fs. ok fs (world rest s t' d m u')) (sym (ap (entries_from e' 0 at) s₁ ∙ entries-last e' at k ∙ ap (λ fs. fs ++ (entry_at e' 0 (entries_end e' 0 at k) ∷ [])) (entries-front e e' old at k (omega (arith, i.ends)))
-                ∙ ap (λ x. entries_from e 0 at k ++ (entry_at e' 0 x ∷ [])) same));
+            steps = λ T ls v s d m. record {
+              step = λ rest.
+                  ap (λ xs. for_each (λ f. extern_fn (ctx T ls v) n f) xs (world rest s t₀ d m u₀)) (i.split 1)
+                  ∙ each-ok (λ f. extern_fn (ctx T ls v) n f) _ (externs_from image from k) (world rest s t₀ d m u₀) ((i.steps T ls v s d m).step rest)
+                  (one_ok (λ f. extern_fn (ctx T ls v) n f) (function_in image place) [] ((p.steps T ls v s d m).step rest ∙ rw er refl))
+                  ∙ ap (λ fs. ok fs (world rest s t' d m u')) (sym (ap (entries_from e' 0 at) s₁ ∙ entries-last e' at k ∙ ap (λ fs. fs ++ (entry_at e' 0 (entries_end e' 0 at k) ∷ [])) (entries-front e e' old at k (omega (arith, i.ends)))
+                  ∙ ap (λ x. entries_from e 0 at k ++ (entry_at e' 0 x ∷ [])) same));
+            };
             ends = ap (entries_end e' 0 at) s₁ ∙ ends_last e' at k ∙ ap (entry_end e' 0) same ∙ entry-end e' to ∙ ap (λ x. to + 3 + 2 * x) p.count;
             places-alike = omega (arith, i.places-alike);
             after = omega (arith, i.after);

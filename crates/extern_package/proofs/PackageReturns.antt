@@ -1,39 +1,39 @@
 -- The returns of writing the package of an Extern. By rewriting. Assumes nothing.
-use Prim.Native.Nat.{ℕ, zero, suc, ◌+◌, ◌*◌, ◌-◌, ◌≤◌, ◌<◌, max}
+use Rattle.std.specs.Prelude.{Ok, Err}
+use Rattle.std.specs.Result.{IsErrAnd}
+use Prim.Native.Nat.{ℕ, suc, ◌+◌, ◌-◌, ◌≤◌, ◌<◌, max}
 use mathlib.Core.Path.{◌≡◌, refl, sym, ap, ◌∙◌}
-use mathlib.Core.Bool.{cond}
-use mathlib.Core.List.{List, [], ◌∷◌, ◌++◌}
+use mathlib.Core.List.{List, [], ◌∷◌}
 use native.Mathlib.Omega.{arith}
 use native.Mathlib.Nat.{add-zero}
 use lib.ListN.{get_or, set, length, take}
-use lib.Seq.{get_or-set_same, get_or-set_other, take-take}
-use lib.Dec.{ltb}
+use lib.Seq.{get_or-set_same, take-take}
 use borrow.Author.Tests.{le-ltb}
 use Rattle.tok.specs.Text.{Texts}
-use Rattle.tok.specs.Step.{ok, refused, refusal, for_each}
 use Rattle.ptype.specs.Add.{write}
 use Rattle.ptype.specs.Words.{void_word}
 use Rattle.library.specs.Package.{Package, pkg}
 use Rattle.ast.specs.Node.{externs_from}
-use Rattle.rules.specs.Steps.{hold, set_known}
+use Rattle.rules.specs.declared.Answer.{Answer}
+use Rattle.rules.specs.declared.Answer.TheVariants.{Known}
+use Rattle.rules.specs.Steps.{Done, hold, set_known}
 use Rattle.tworuns.specs.Written.{get_d_written}
 use Rattle.state.specs.declared.Used.{Used}
-use Rattle.state.specs.declared.Went.{Went}
-use Rattle.state.specs.declared.Went.TheVariants as W
+use Rattle.state.specs.declared.Refusal.{Refusal}
+use Rattle.state.specs.Reporting.{passed}
 use Rattle.state.specs.Context.{ctx}
-use Rattle.state.specs.Signatures.{entries_from, entries_end}
-use Rattle.state.specs.Store.{env_up, extern_at, held_at, held_size, held_from}
-use Rattle.state.specs.World.{More}
+use Rattle.state.specs.Signatures.{entries_from}
+use Rattle.state.specs.Store.{extern_at, held_at, held_from}
+use Rattle.state.specs.World.{More, Step, stepped, with_answer}
 use Rattle.visit.specs.declared.State.{State}
-use Rattle.visit.specs.declared.Visit.TheVariants as X
-use Rattle.visit.specs.Whole.{lent, rest_of, visited}
+use Rattle.visit.specs.Whole.{Visit, lent, rest_of, visited}
 use Rattle.visit.specs.Reach.{held_reach}
-use Rattle.visit.specs.Within.{top, Within, Visits, knows, refuses}
+use Rattle.visit.specs.Within.{top, Visits, goes, stops}
 use Rattle.room_laws.specs.Room.{extern_words}
-use Rattle.visit.specs.Free.{Free, held_low}
+use Rattle.visit.specs.Free.{held_low}
 use Rattle.visit.specs.StoreLaws.{get_d_front, env-front, held-past, reach-past, reach-after}
 use Rattle.externs.specs.Framed.{Framed, framed-write, framed-set, framed_then}
-use Rattle.extern_package.specs.Packing.{extern_held, extern_rule, Functions, FunctionsRoom, ExternReady, functions_given, WritesFunctions, functions-after, extern-size}
+use Rattle.extern_package.specs.Packing.{extern_held, extern_rule, FunctionsRoom, ExternReady, WritesFunctions, functions-after, extern-size}
 
 module _ {image places : List ℕ} {st : State} {e : List ℕ} {from end count : ℕ} (h : ExternReady image places st e from end count) where
   pub in_order : from ≤ end
@@ -42,17 +42,11 @@ module _ {image places : List ℕ} {st : State} {e : List ℕ} {from end count :
   sized : extern_words (externs_from image from count) ≡ 3 + (end - from)
   sized = extern-size count h.functions.functions
 
-  pub end_low : end ≤ 8192
-  end_low = h.functions.low
-
   pub room-below : top st + (3 + (end - from)) ≤ st.held
   room-below = omega (arith, sized, h.free.between)
 
   pub held-most : st.held ≤ 8192
   held-most = held_low h.free
-
-  pub few-packages : st.packages ≤ 8192
-  few-packages = omega (arith, h.free.few)
 
   module _ (name : ℕ) {size start : ℕ} (ez : size ≡ 3 + (end - from)) (es : start ≡ st.held - size) {first : ℕ} (ef : first ≡ 8192 + size) {e₁ e₂ : List ℕ} (e1 : e₁ ≡ write e start (first ∷ name ∷ []))
       (e2 : e₂ ≡ set e₁ (start + 2) count) where
@@ -77,25 +71,22 @@ module _ {image places : List ℕ} {st : State} {e : List ℕ} {from end count :
     second_word : get_or e₁ (start + 1) 0 ≡ name
     second_word = rw e1 (get_d_written e start (first ∷ name ∷ []) (omega (arith, fits)) 1 (omega arith))
 
-    pub functions-room : {c : ℕ} → c ≡ count → FunctionsRoom image places e₂ from (start + 3) c
-    functions-room z = rw z (record {
+    pub functions-room : FunctionsRoom image places e₂ from (start + 3) count
+    functions-room = record {
       end = end;
       functions = h.functions;
       room = omega (arith, ending, held-most);
       long = omega (arith, h.free.long, head.long, third.long);
-    })
+    }
 
-    module _ (n slot : ℕ) {c : ℕ} (ec : c ≡ count) {t t' e' : List ℕ} (went : Went) (q : WritesFunctions image n from (start + 3) c t st.used e₂ t' e' went) where
-      p : WritesFunctions image n from (start + 3) count t st.used e₂ t' e' went
-      p = rw (← ec) q
-
-      pub package_refused : {number place : ℕ} {s s' : List ℕ} → went ≡ W.Refused number place → (T : Texts) (ls : List Package) (v : ℕ) (words f d m : List ℕ) (o : More)
-          → Visits (extern_rule (ctx T ls v) n slot name (externs_from image from count)) (extern_words (externs_from image from count)) 0 words st (lent s f t d m e o) (lent s' f t' d m e' o) (X.Refused number place)
-      unfolding extern_rule functions_given visited
-      package_refused {s = s} eg T ls v words f d m o = record {
-        step = rw (p.step T ls v (rest_of words st (lent s f t d m e o)) s d m, eg) refl;
-        keeps = refuses;
-      }
+    module _ (n slot : ℕ) {t t' e' : List ℕ} (went : Step Done) (p : WritesFunctions image n from (start + 3) count t st.used e₂ t' e' went) where
+      pub package_refused : {x : Refusal} {q : Visit Answer} {s s' : List ℕ} → went ≡ Err x → IsErrAnd q (λ y. y ≡ x) → (T : Texts) (ls : List Package) (v : ℕ) (words f d m : List ℕ) (o : More)
+          → Visits (extern_rule (ctx T ls v) n slot name (externs_from image from count)) (extern_words (externs_from image from count)) 0 words st (lent s f t d m e o) (lent s' f t' d m e' o) q
+      unfolding extern_rule with_answer stepped visited
+      package_refused {q = q} {s = s} eg k T ls v words f d m o = rw (passed q k) (record {
+        step = rw ((p.steps T ls v s d m).step (rest_of words st (lent s f t d m e o)), eg) refl;
+        keeps = stops;
+      })
 
       body : Framed (start + 3) (start + 3 + (end - from)) e₂ e'
       body = p.frame end h.functions.functions
@@ -132,7 +123,7 @@ module _ {image places : List ℕ} {st : State} {e : List ℕ} {from end count :
           (ap (λ ps. pkg name (entries_from e' 0 (start + 3) count) ∷ ps) (held-past e e' whole-frame.back words st.held st.packages (omega arith)))
 
       -- its entries end where the packages held begin
-      reach-extern : {after : Used} → went ≡ W.On after → held_reach e' start (st.packages + 1) ≡ held_reach e st.held st.packages
+      reach-extern : {done : Done} {after : Used} → went ≡ Ok (done, after) → held_reach e' start (st.packages + 1) ≡ held_reach e st.held st.packages
       unfolding held_reach
       reach-extern eg =
           let a : st.packages + 1 ≡ suc st.packages = omega arith in
@@ -143,12 +134,12 @@ module _ {image places : List ℕ} {st : State} {e : List ℕ} {from end count :
       front : take (top st) e' ≡ take (top st) e
       front = sym (take-take (top st) start e' above) ∙ ap (take (top st)) whole-frame.front ∙ take-take (top st) start e above
 
-      pub package_done : {after : Used} {at : ℕ} {s s' : List ℕ} {st' : State} → went ≡ W.On after → at ≡ slot → s' ≡ set s at void_word → st' ≡ extern_held st after start → (T : Texts) (ls : List Package) (v : ℕ) (words f d m : List ℕ) (o : More)
-          → Visits (extern_rule (ctx T ls v) n slot name (externs_from image from count)) (extern_words (externs_from image from count)) 0 words st (lent s f t d m e o) (lent s' f t' d m e' o) (X.Known slot st')
-      unfolding extern_rule functions_given visited hold set_known
-      package_done {after} {s = s} {s'} eg ea eq eu T ls v words f d m o = record {
-        step = rw (p.step T ls v (rest_of words st (lent s f t d m e o)) s d m, eg, eu, eq, ea, held-extern words, env-front (top st) e e' front st.base st.depth (omega arith)) refl;
-        keeps = rw eu (knows {st' = extern_held st after start} (record {
+      pub package_done : {done : Done} {after : Used} {s s' : List ℕ} → went ≡ Ok (done, after) → s' ≡ set s slot void_word → (T : Texts) (ls : List Package) (v : ℕ) (words f d m : List ℕ) (o : More)
+          → Visits (extern_rule (ctx T ls v) n slot name (externs_from image from count)) (extern_words (externs_from image from count)) 0 words st (lent s f t d m e o) (lent s' f t' d m e' o) (Ok (Known slot, extern_held st after start))
+      unfolding extern_rule with_answer stepped visited hold set_known
+      package_done {after = after} {s = s} eg eq T ls v words f d m o = record {
+        step = rw ((p.steps T ls v s d m).step (rest_of words st (lent s f t d m e o)), eg, eq, held-extern words, env-front (top st) e e' front st.base st.depth (omega arith)) refl;
+        keeps = goes (record {
           base = refl;
           deeper = omega arith;
           taken = omega (arith, ending, sized);
@@ -158,5 +149,5 @@ module _ {image places : List ℕ} {st : State} {e : List ℕ} {from end count :
           packages = omega (arith, ending);
           scratch = whole-frame.long;
           functions = refl;
-        }));
+        });
       }

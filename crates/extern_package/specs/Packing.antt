@@ -1,32 +1,29 @@
 -- The package of an Extern: what the functions that write it ask for and say. Laws of it. Assumes nothing.
-use Rattle.std.specs.Prelude.{ℕ, zero, suc, ◌+◌, ◌*◌, ◌-◌, ◌≤◌, ◌<◌, ◌≡◌, refl, List, [], ◌∷◌, ◌++◌, get_or, length, take}
-use Rattle.std.proofs.Common.{sym, ap, ◌∙◌, arith}
+use Rattle.std.specs.Prelude.{ℕ, zero, suc, ◌+◌, ◌*◌, ◌-◌, ◌≤◌, ◌≡◌, refl, List, length, Ok}
+use Rattle.std.proofs.Common.{arith}
 use Rattle.tok.specs.Text.{Texts}
-use Rattle.tok.specs.Step.{Result, ok, refused, Refusal, refusal, for_each, ◌>>=◌, ◌>>◌}
+use Rattle.tok.specs.Step.{for_each, ◌>>=◌, ◌>>◌}
 use Rattle.ptype.specs.Words.{void_word}
-use Rattle.library.specs.Package.{Package, pkg, Function}
-use Rattle.ast.specs.Image.{word_at, type_count}
-use Rattle.ast.specs.Node.{Node, Extern, ExternFn, externs_from}
-use Rattle.ast.specs.TypeExpr.{args_from}
+use Rattle.library.specs.Package.{Package, pkg}
+use Rattle.ast.specs.Image.{word_at}
+use Rattle.ast.specs.Node.{Extern, ExternFn, externs_from}
 use Rattle.image_laws.specs.RecordWords.{FunctionsWords, no_functions, function_words}
 use Rattle.image_laws.proofs.Accepted.{counts_in}
 use Rattle.places.specs.Readable.{Readable}
 use Rattle.rules.specs.declared.Answer.{Answer}
 use Rattle.rules.specs.World.{Ctx, World, Walk}
-use Rattle.rules.specs.Steps.{hold, set_known}
+use Rattle.rules.specs.Steps.{Done, hold, set_known}
 use Rattle.rules.specs.Rules.{extern_fn, node}
 use Rattle.state.specs.declared.Used.{Used}
-use Rattle.state.specs.declared.Went.{Went}
-use Rattle.state.specs.declared.Went.TheVariants as W
 use Rattle.state.specs.Context.{ctx}
 use Rattle.state.specs.Signatures.{entries_from, entries_end}
-use Rattle.state.specs.World.{Rest, world}
+use Rattle.state.specs.World.{Step, with_answer, Steps}
 use Rattle.visit.specs.declared.State.{State}
 use Rattle.room_laws.specs.Room.{extern_words}
 use Rattle.visit.specs.Free.{Free}
-use Rattle.parameters.specs.Arguments.{Arguments, length-args}
+use Rattle.parameters.specs.Arguments.{length-args}
 use Rattle.externs.specs.Framed.{Framed}
-use Rattle.externs.specs.Entries.{FunctionRoom, function_in}
+use Rattle.externs.specs.Entries.{FunctionRoom}
 
 -- the state with an Extern's package held from word `start` on
 abbrev pub extern_held : State → Used → (start : ℕ) → State
@@ -63,16 +60,12 @@ pub record ExternReady (image places : List ℕ) (st : State) (scratch : List �
 
 -- ── What is said ──
 
-unfoldable pub functions_given : Rest → (slots types diagnostics messages : List ℕ) → List Function → Went → Result World Refusal (List Function)
-functions_given rest s t d m fs (W.On u) = ok fs (world rest s t d m u)
-functions_given rest s t d m fs (W.Refused number place) = refused (refusal number place)
-
 -- the entries stand in scratch, as many words as in the image, and nothing else of it has changed
-pub record WritesFunctions (image : List ℕ) (n from at count : ℕ) (t : List ℕ) (u : Used) (e t' e' : List ℕ) (r : Went) : Type 0 where
-  pub step : (T : Texts) (ls : List Package) (v : ℕ) (rest : Rest) (s d m : List ℕ)
-      → for_each (λ f. extern_fn (ctx T ls v) n f) (externs_from image from count) (world rest s t d m u) ≡ functions_given rest s t' d m (entries_from e' 0 at count) r
+pub record WritesFunctions (image : List ℕ) (n from at count : ℕ) (t : List ℕ) (u : Used) (e t' e' : List ℕ) (r : Step Done) : Type 0 where
+  pub steps : (T : Texts) (ls : List Package) (v : ℕ) (s d m : List ℕ)
+      → Steps (for_each (λ f. extern_fn (ctx T ls v) n f) (externs_from image from count)) s t d m u s t' d m (with_answer (λ _. entries_from e' 0 at count) r)
   pub frame : (end : ℕ) {text : List ℕ} → FunctionsWords (counts_in text image) image end from count → Framed at (at + (end - from)) e e'
-  pub ends : {after : Used} → r ≡ W.On after → (end : ℕ) {text : List ℕ} → FunctionsWords (counts_in text image) image end from count → entries_end e' 0 at count ≡ at + (end - from)
+  pub ends : {d : Done} {after : Used} → r ≡ Ok (d, after) → (end : ℕ) {text : List ℕ} → FunctionsWords (counts_in text image) image end from count → entries_end e' 0 at count ≡ at + (end - from)
 
 -- ── Functions one after the other ──
 

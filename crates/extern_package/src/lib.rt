@@ -11,10 +11,11 @@ ghost use Rattle.state.specs.World.{More};
 ghost use Rattle.visit.specs.Whole.{Lent, lent};
 ghost use Rattle.visit.specs.Within.{Visits};
 ghost use Rattle.room_laws.specs.Room.{extern_words};
-ghost use Rattle.extern_package.specs.Packing.{FunctionsRoom, WritesFunctions, ExternReady, extern_rule, extern_held};
+ghost use Rattle.extern_package.specs.Packing.{FunctionsRoom, WritesFunctions, ExternReady, extern_rule};
 
-use state::{Used, Went};
-use tok::{wide, word_at};
+use rules::Answer;
+use state::{Step, Used};
+use tok::word_at;
 use visit::{State, Visit};
 
 // The word of Void.
@@ -32,7 +33,7 @@ pub fn extern_functions(
     from: usize,
     at: usize,
     count: usize,
-) -> Went
+) -> Step<()>
     requires { FunctionsRoom image.now places.now scratch.old from at count }
     ensures { WritesFunctions image.now n from at count types.old used scratch.old types.new scratch.new result }
 {
@@ -40,29 +41,12 @@ pub fn extern_functions(
     let mut place = from;
     let mut to = at;
     for _ in 0..count {
-        let one = externs::extern_function(types, scratch, image, places, after, n, place, to);
-        let Went::On(next) = one else {
-            return one;
-        };
-        let size = 3 + 2 * wide(word_at(image, place + 2));
-        after = next;
+        (_, after) = externs::extern_function(types, scratch, image, places, after, n, place, to)?;
+        let size = 3 + 2 * (word_at(image, place + 2) as usize);
         place += size;
         to += size;
     }
-    Went::On(after)
-}
-
-// The state with an Extern's package held from word `start` on.
-fn extern_held(st: State, used: Used, start: usize) -> State
-    requires { st.packages ≤ 8192 }
-    ensures { result ≡ extern_held st used start }
-{
-    State {
-        used,
-        held: start,
-        packages: st.packages + 1,
-        ..st
-    }
+    Ok(((), after))
 }
 
 // Node::Extern: its package stands before those held, so that it replaces one of its name. Its functions stand in the image from word
@@ -80,7 +64,7 @@ pub fn extern_package(
     from: usize,
     end: usize,
     count: u32,
-) -> Visit
+) -> Visit<Answer>
     requires { ExternReady image.now places.now st scratch.old from end count }
     ensures { ((T : Texts) (ls : List Package) (v : ℕ) (words f d m : List ℕ) (o : More) →
         let b : Lent = lent slots.old f types.old d m scratch.old o in
@@ -91,25 +75,23 @@ pub fn extern_package(
     let start = st.held - size;
     add::set_pair(scratch, start, (8192 + size) as u32, name);
     operators::store(scratch, start + 2, count);
-    let used = st.used;
-    let went = extern_functions(
+    let (_, used) = extern_functions(
         types,
         scratch,
         image,
         places,
-        used,
+        st.used,
         n,
         from,
         start + 3,
-        wide(count),
-    );
-    match went {
-        Went::Refused(number, place) => {
-            return Visit::Refused(number, place);
-        }
-        Went::On(after) => {
-            operators::store(slots, wide(slot), VOID_WORD);
-            return Visit::Known(slot, extern_held(st, after, start));
-        }
-    }
+        count as usize,
+    )?;
+    operators::store(slots, slot as usize, VOID_WORD);
+    let held = State {
+        used,
+        held: start,
+        packages: st.packages + 1,
+        ..st
+    };
+    Ok((Answer::Known(slot), held))
 }

@@ -1,5 +1,5 @@
 -- Words changed only from one place to another; steps for each of a list, in two parts. Laws of it. Assumes nothing.
-use Rattle.std.specs.Prelude.{ℕ, ◌+◌, ◌≤◌, ◌<◌, ◌≡◌, get_or, set, length, take}
+use Rattle.std.specs.Prelude.{ℕ, ◌+◌, ◌≤◌, ◌<◌, ◌≡◌, set, length, take}
 use Rattle.std.proofs.Math.Path.{refl}
 use Rattle.std.proofs.Common.{sym, ap, ◌∙◌, arith, length-set, take-take}
 use mathlib.Core.List.{List, [], ◌∷◌, ◌++◌}
@@ -7,7 +7,7 @@ use Rattle.std.proofs.lemmas.List.{take-set-le}
 use Rattle.tok.specs.Step.{Result, ok, refused, next, return, Step, for_each}
 use Rattle.ptype.specs.Add.{write}
 use Rattle.laws.specs.Writes.{front-write, length-write}
-use Rattle.visit.specs.StoreLaws.{AlikeFrom, alike_then, alike-more, write-alike, set-alike, get_d_front}
+use Rattle.visit.specs.StoreLaws.{AlikeFrom, alike_then, alike-more, write-alike, set-alike}
 
 -- l' is l but for words from `at` to before `end`
 pub record Framed (at end : ℕ) (l l' : List ℕ) : Type 0 where

@@ -6,10 +6,8 @@
 ghost use Rattle.std.specs.Prelude.{◌≡◌, List, ℕ, ◌+◌, ◌*◌, ◌≤◌, ◌<◌};
 ghost use Rattle.externs.specs.Entries.{ArgumentsRoom, ArguesExtern, FunctionRoom, EntersExtern};
 
-use add::Added;
-use parameters::refusal_number;
-use state::{Used, Went};
-use tok::{wide, word_at};
+use state::{Step, Used};
+use tok::word_at;
 use type_expr::type_from_type_expr;
 
 // The arguments of a function, of which `count` stand in the image from word `from` on: their pairs from word `at` of scratch on.
@@ -23,7 +21,7 @@ pub fn extern_arguments(
     from: usize,
     at: usize,
     count: usize,
-) -> Went
+) -> Step<()>
     requires { ArgumentsRoom image.now places.now scratch.old from at count }
     ensures { ArguesExtern image.now n from at count types.old used scratch.old types.new scratch.new result }
 {
@@ -31,20 +29,12 @@ pub fn extern_arguments(
     for k in 0..count {
         let t = word_at(image, from + 2 * k + 1);
         let added = type_from_type_expr(types, after.types, image, places, t);
-        let Added::Put(w, more) = added else {
-            return Went::Refused(refusal_number(added), n);
-        };
+        let (w, next) = state::added(n, after, added)?;
         let name = word_at(image, from + 2 * k);
         add::set_pair(scratch, at + 2 * k, name, w);
-        let counts = after.told;
-        let kept = after.kept;
-        after = Used {
-            types: more,
-            told: counts,
-            kept,
-        };
+        after = next;
     }
-    Went::On(after)
+    Ok(((), after))
 }
 
 // A function, which stands in the image at word `from` ("name, return type, argument count, pairs"): its entry at word `at` of scratch.
@@ -57,14 +47,15 @@ pub fn extern_function(
     n: u32,
     from: usize,
     at: usize,
-) -> Went
+) -> Step<()>
     requires { FunctionRoom image.now places.now scratch.old from at }
     ensures { EntersExtern image.now n from at types.old used scratch.old types.new scratch.new result }
 {
     let name = word_at(image, from);
     let count = word_at(image, from + 2);
     add::set_pair(scratch, at, name, count);
-    let args = extern_arguments(
+    let arguments = count as usize;
+    let (_, used) = extern_arguments(
         types,
         scratch,
         image,
@@ -73,26 +64,11 @@ pub fn extern_function(
         n,
         from + 3,
         at + 2,
-        wide(count),
-    );
-    match args {
-        Went::Refused(number, place) => {
-            return Went::Refused(number, place);
-        }
-        Went::On(after) => {
-            let t = word_at(image, from + 1);
-            let added = type_from_type_expr(types, after.types, image, places, t);
-            let Added::Put(w, more) = added else {
-                return Went::Refused(refusal_number(added), n);
-            };
-            operators::store(scratch, at + 2 + 2 * wide(count), w);
-            let counts = after.told;
-            let kept = after.kept;
-            return Went::On(Used {
-                types: more,
-                told: counts,
-                kept,
-            });
-        }
-    }
+        arguments,
+    )?;
+    let t = word_at(image, from + 1);
+    let added = type_from_type_expr(types, used.types, image, places, t);
+    let (w, used) = state::added(n, used, added)?;
+    operators::store(scratch, at + 2 + 2 * arguments, w);
+    Ok(((), used))
 }

@@ -1,6 +1,6 @@
 -- Node::Record put together of the visits of its values and its end: the loop's invariant with a law for its beginning, each turn and its
 -- ends. Assumes nothing.
-use Rattle.std.specs.Prelude.{ℕ, zero, suc, ◌+◌, ◌*◌, ◌-◌, ◌/◌, ◌<◌, ◌≤◌, ◌≡◌, refl, List, [], ◌∷◌, ◌++◌, get_or}
+use Rattle.std.specs.Prelude.{ℕ, zero, suc, ◌+◌, ◌*◌, ◌-◌, ◌/◌, ◌<◌, ◌≤◌, ◌≡◌, refl, List, [], ◌∷◌, ◌++◌, get_or, Ok, Err}
 use Rattle.std.proofs.Math.Path.{sym, ap}
 use Rattle.std.proofs.Common.{◌∙◌}
 use native.Mathlib.Omega.{arith}
@@ -9,11 +9,10 @@ use Rattle.tok.specs.Text.{Texts}
 use Rattle.tok.specs.Step.{ok, next, ◌>>=◌}
 use Rattle.ast.specs.Image.{node_count, record_length, word_at}
 use Rattle.ast.specs.Node.{Node, Values, Record, value, no_value, tree_of, slot_of, values_from}
-use Rattle.image_laws.specs.Many.{Each}
-use Rattle.image_laws.specs.RecordWords.{Pair, RecordWords}
+use Rattle.image_laws.specs.RecordWords.{RecordWords}
 use Rattle.laws.specs.Told.{Reads, Tells}
 use Rattle.rules.specs.declared.Answer.{Answer}
-use Rattle.rules.specs.World.{World, Walk}
+use Rattle.rules.specs.World.{Walk}
 use Rattle.rules.specs.Rules.{value_type, node}
 use Rattle.rules.specs.Visited.{visited_in_values, slots_of}
 use Rattle.accepts.specs.Count as N
@@ -23,19 +22,19 @@ use Rattle.accepts.proofs.Fresh.{visited_from, Fresh, fresh-first, fresh-rest, n
 use Rattle.places.specs.NodesAt.{NodeReady, counts_of, record_room, length-there, node_record, words_record}
 use Rattle.spans.specs.Ready.{ValuesReady}
 use Rattle.room_laws.specs.Room.{room, rows, value_rooms, value_rows}
+use Rattle.state.specs.declared.Refusal.{Refusal}
 use Rattle.visit.specs.declared.State.{State}
-use Rattle.visit.specs.declared.Visit.{Visit}
-use Rattle.visit.specs.Whole.{Lent, whole}
+use Rattle.visit.specs.Whole.{Lent, Visit, whole}
 use Rattle.visit.specs.Within.{Visits}
-use Rattle.visiting.specs.Then.{Came, Stopped, visits-most}
-use Rattle.visiting.specs.Leads.{Beginning, Leads, leads-begin, leads-less, leads-then, leads-stop}
+use Rattle.visiting.specs.Then.{visits-most}
+use Rattle.visiting.specs.Leads.{Beginning, Leads, leads-then, leads-stop}
 use Rattle.visiting.specs.Turns as U
 use Rattle.ready.specs.Ready.{walk_run, Ready, NodeVisit, node-ready}
 use Rattle.ready.specs.Passes.{ready-less, ready-then}
 use Rattle.ready.specs.After.{after-node, node-answer}
 use Rattle.ready.specs.Parts as R
 use Rattle.ready.specs.Parts.{values-turn}
-use Rattle.ready.specs.Unvisited.{came_ok, record_fresh, values-fresh, visit-apart}
+use Rattle.ready.specs.Unvisited.{came_ok, record_fresh, visit-apart}
 use Rattle.walking.specs.Kinds.{Is}
 use Rattle.walking.specs.Visited.{ctx_in, NodeVisited, ClassVisit, values_at}
 use Rattle.fields.specs.Read.{node_value, pairs_read, read_more, read-still, value-told}
@@ -140,18 +139,18 @@ module _ {T : Texts} {image places words : List ℕ} {n at count : ℕ} {st : St
         (U.values-turn (ctx_in T image words) (pairs_read image b'.slots (at + 3) i) (ending T image n at) (get_or image (place_of at i) 0) (tree_of image part) others (whole words here b'))
         (rw all-values at h.leads)
 
-    module _ {b₁ : Lent} {v : Visit} (x : NodeVisited T image words part here b' b₁ v) where
-      pub turn-stops : Stopped v → NodeVisited T image words n st b b₁ v
-      turn-stops s = leads-stop rest value-leads x s
+    module _ {b₁ : Lent} where
+      pub turn-stops : {e : Refusal} → NodeVisited T image words part here b' b₁ (Err e) → NodeVisited T image words n st b b₁ (Err e)
+      turn-stops x = leads-stop rest value-leads x
 
-      module _ {a : Answer} {on : State} (k : Came v a on) where
+      module _ {a : Answer} {on : State} (x : NodeVisited T image words part here b' b₁ (Ok (a, on))) where
         -- its slot tells its type
         type-is : value_type a (whole words on b₁) ≡ ok (node_value image b₁.slots part) (whole words on b₁)
         unfolding node_value
         type-is =
-            let e = x.step ∙ came_ok words b₁ k in
+            let e = came_ok x in
             let t : Tells (Reads (tree_of image part)) (slot_of (tree_of image part)) 0 (ok a (whole words on b₁)) = rw e at (node-tells (ctx_in T image words) (tree_of image part) (whole words here b') (fresh-first _ _ value-fresh)) in
-            value-told (walk_run T image words) t (node-answer (after-node value-ready value-below x k))
+            value-told (walk_run T image words) t (node-answer (after-node value-ready value-below x))
 
         -- the slots of those done before are as they were
         told : pairs_read image b'.slots (at + 3) i ++ (get_or image (place_of at i) 0 ∷ node_value image b₁.slots part ∷ []) ≡ pairs_read image b₁.slots (at + 3) (i + 1)
@@ -160,7 +159,7 @@ module _ {T : Texts} {image places words : List ℕ} {n at count : ℕ} {st : St
             let o : (a : ℕ) → owned a (visited_in_values (left_at image at count i)) ≡ owned a (visited_from (tree_of image part)) + owned a (visited_in_values others) = λ a.
             ap (λ vs. owned a (visited_in_values vs)) all-values ∙ total-append (λ y. N.count a (slots_of y)) (visited_from (tree_of image part)) (visited_in_values others) in
             ap (λ ps. ps ++ (get_or image (place_of at i) 0 ∷ node_value image b₁.slots part ∷ []))
-            (sym (read-still image (visit-apart (ctx_in T image words) (tree_of image part) x k) (at + 3) i (λ a q. omega (arith, h.apart a, o a))))
+            (sym (read-still image (visit-apart (ctx_in T image words) (tree_of image part) x) (at + 3) i (λ a q. omega (arith, h.apart a, o a))))
             ∙ ap (λ p. pairs_read image b₁.slots (at + 3) i ++ (get_or image (place_of at i) 0 ∷ node_value image b₁.slots p ∷ [])) part-is
             ∙ sym (read_more image b₁.slots (at + 3) i)
 
@@ -168,7 +167,7 @@ module _ {T : Texts} {image places words : List ℕ} {n at count : ℕ} {st : St
         next-leads =
             leads_as (U.values_from (ctx_in T image words) (pairs_read image b₁.slots (at + 3) (i + 1)) others (ending T image n at))
             (ap (λ r. next r with_type) type-is ∙ ap (λ ps. U.values_from (ctx_in T image words) ps others (ending T image n at) (whole words on b₁)) told)
-            (leads-then rest value-leads x k)
+            (leads-then rest value-leads x)
 
         still-apart : (a : ℕ) → owned a (visited_in_values (values_at image (at + 3) (i + 1))) + owned a (visited_in_values others) ≤ 1
         unfolding visited_in_values
@@ -190,14 +189,14 @@ module _ {T : Texts} {image places words : List ℕ} {n at count : ℕ} {st : St
               within = omega arith;
               values = h.values;
               leads = rw (p, c) at next-leads;
-              ready = rw (p, c) at (ready-then value-ready (after-node value-ready value-below x k));
-              fresh = rw (p, c) at (fresh-rest _ _ value-fresh (visit-apart (ctx_in T image words) (tree_of image part) x k));
+              ready = rw (p, c) at (ready-then value-ready (after-node value-ready value-below x));
+              fresh = rw (p, c) at (fresh-rest _ _ value-fresh (visit-apart (ctx_in T image words) (tree_of image part) x));
               apart = λ a. rw (p, c) at (still-apart a);
             }
 
   -- ── After the loop ──
 
-  pub record_made : count ≤ i → {b₁ : Lent} {v : Visit} → Visits (record_of T n (word_at image (at + 1)) (pairs_read image b'.slots (at + 3) count)) 0 0 words here b' b₁ v → NodeVisited T image words n st b b₁ v
+  pub record_made : count ≤ i → {b₁ : Lent} {v : Visit Answer} → Visits (record_of T n (word_at image (at + 1)) (pairs_read image b'.slots (at + 3) count)) 0 0 words here b' b₁ v → NodeVisited T image words n st b b₁ v
   unfolding values_from
   record_made l {b₁} {v} y =
       let z : count - i ≡ 0 = omega arith in

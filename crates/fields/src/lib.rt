@@ -12,34 +12,23 @@ ghost use Rattle.rules.specs.Steps.{on_types};
 ghost use Rattle.state.specs.World.{More};
 ghost use Rattle.visit.specs.Whole.{Lent, lent};
 ghost use Rattle.visit.specs.Within.{Visits};
-ghost use Rattle.visit.specs.Walks.{Gives};
 ghost use Rattle.fields.specs.Read.{node_value, pairs_read};
 ghost use Rattle.fields.specs.Parts.{record_of, record_end};
 
-use add::Added;
-use state::Used;
-use visit::{Gave, State, Visit};
+use rules::Answer;
+use state::Refusal;
+use visit::{State, Visit};
 
 // The type Unknown.
 const UNKNOWN_WORD: u32 = 0xB000_0000;
 
 // Opens the Record of node n, of k fields, and gives its word.
-fn open(types: &mut [u32], st: State, n: u32, k: usize) -> Gave
-    ensures { (words s f d m e : List ℕ) (o : More) → Gives (on_types (opened n k)) 0 0 words st (lent s f types.old d m e o) (lent s f types.new d m e o) result }
+fn open(types: &mut [u32], st: State, n: u32, k: usize) -> Visit<u32>
+    ensures { (words s f d m e : List ℕ) (o : More) → Visits (on_types (opened n k)) 0 0 words st (lent s f types.old d m e o) (lent s f types.new d m e o) result }
 {
     let used = st.used;
     let added = add::open_record(types, used.types, k);
-    match added {
-        Added::Put(word, types) => Gave::Word(
-            word,
-            State {
-                used: Used { types, ..used },
-                ..st
-            },
-        ),
-        Added::Full => Gave::Refused(7, n),
-        Added::TooDeep => Gave::Refused(8, n),
-    }
+    visit::answered(st, state::added(n, used, added))
 }
 
 // The end of Node::Record, whose record stands at `at`: its type's word is measured, and is its slot's.
@@ -51,7 +40,7 @@ fn close(
     st: State,
     n: u32,
     word: u32,
-) -> Visit
+) -> Visit<Answer>
     requires { at ≤ 8192 }
     ensures { ((T : Texts) (words f d m e : List ℕ) (o : More) →
         let b : Lent = lent slots.old f types.now d m e o in
@@ -59,7 +48,7 @@ fn close(
         Visits (record_end T n (get_or image.now (at + 1) 0) word) 0 0 words st b b' result) }
 {
     if !add::is_shallow(types, word) {
-        return Visit::Refused(8, n);
+        return Err(Refusal::TooDeep(n));
     }
     let used = st.used;
     let step = operators::set_known(slots, used, tok::word_at(image, at + 1), word);
@@ -67,11 +56,12 @@ fn close(
 }
 
 // The type word of the value of node n: Unknown where it was poisoned.
+#[tactic(auto, unfolding(crate::specs::Read::node_value, crate::specs::Read::value_of))]
 fn node_value(slots: &[u32], image: &[u32], places: &[u16], n: u32) -> u32
     requires { NodeReady image.now places.now n }
     ensures { result ≡ node_value image.now slots.now n }
 {
-    let w = tok::word_at(slots, tok::wide(call_args::slot_of(image, places, n)));
+    let w = tok::word_at(slots, call_args::slot_of(image, places, n) as usize);
     if w == 0 {
         return UNKNOWN_WORD;
     }
@@ -110,7 +100,7 @@ pub fn make(
     count: usize,
     st: State,
     n: u32,
-) -> Visit
+) -> Visit<Answer>
     requires { ValuesReady image.now places.now n (at + 3) count }
     ensures { let I : List ℕ = image.now in
         ((T : Texts) (words f d m e : List ℕ) (o : More) →
@@ -118,15 +108,8 @@ pub fn make(
         let b' : Lent = lent slots.new f types.new d m e o in
         Visits (record_of T n (get_or I (at + 1) 0) (pairs_read I slots.old (at + 3) count)) 0 0 words st b b' result) }
 {
-    let opened = open(types, st, n, count);
-    match opened {
-        Gave::Word(word, end) => {
-            let to = tok::payload(word) + 1;
-            set_pairs(&slots[..], types, image, places, n, at + 3, count, to);
-            return close(slots, &types[..], image, at, end, n, word);
-        }
-        Gave::Refused(number, place) => {
-            return Visit::Refused(number, place);
-        }
-    }
+    let (word, end) = open(types, st, n, count)?;
+    let to = tok::payload(word) + 1;
+    set_pairs(&slots[..], types, image, places, n, at + 3, count, to);
+    close(slots, &types[..], image, at, end, n, word)
 }

@@ -1,26 +1,26 @@
 -- Node::Fn in parts: whether the name was met, what comes before the body, and what comes after. Laws of it. Assumes nothing.
-use Rattle.std.specs.Prelude.{ℕ, ◌+◌, ◌≡◌, Bool, List, [], ◌∷◌}
+use Rattle.std.specs.Prelude.{ℕ, ◌+◌, ◌≡◌, Bool, Option, Some, None, List, []}
 use Rattle.std.proofs.Math.Path.{refl, ap}
 use Rattle.std.proofs.Common.{sym, ◌∙◌}
 use Rattle.std.proofs.Math.Bool.{true, false}
-use Rattle.tok.specs.Step.{Result, ok, refused, Refusal, next, return, when, ◌>>=◌, ◌>>◌}
-use Rattle.ptype.specs.Ty.{Ty, same_ty}
-use Rattle.ptype.specs.Words.{ty_of}
-use Rattle.err.specs.Message.{Diagnostic, bad_return}
+use Rattle.std.proofs.Math.Option as O
+use Rattle.tok.specs.Step.{Result, ok, refused, Refusal, next, return, look, when, ◌>>=◌, ◌>>◌}
+use Rattle.ptype.specs.Ty.{same_ty}
+use Rattle.err.specs.Message.{Diagnostic, defined_already}
 use Rattle.err.specs.Report.{Output, tell}
-use Rattle.ast.specs.TypeExpr.{TypeExpr, Arg, type_token}
-use Rattle.library.specs.Package.{Param}
+use Rattle.ast.specs.TypeExpr.{TypeExpr, Arg}
+use Rattle.library.specs.Package.{Param, Signature, find_function}
 use Rattle.rules.specs.declared.Answer.{Answer}
 use Rattle.rules.specs.declared.Answer.TheVariants as A
 use Rattle.rules.specs.World.{Ctx, name_in, Local, World, Walk, with_env}
-use Rattle.rules.specs.Steps.{Done, skip, if_known, ty, tree, ty_tree, set_known, raised_told, report, output_of, framed, apart, enter, type_from_expr}
+use Rattle.rules.specs.Steps.{Done, skip, if_known, on_option, ty, tree, ty_tree, set_known, raised_told, report, poison, output_of, framed, apart, enter, type_from_expr}
 use Rattle.rules.specs.Rules.{fn_arguments, check_return, fn, unless_defined}
-use Rattle.visit.specs.declared.State.{State}
-use Rattle.visit.specs.declared.Visit.{Visit}
-use Rattle.visit.specs.Whole.{Lent, whole, visited}
-use Rattle.visit.specs.Within.{Keeps}
-use Rattle.functions.specs.declared.Met.{Met}
-use Rattle.functions.specs.declared.Met.TheVariants as M
+
+-- if self.functions.contains_key(inner_name): 8; whether the name is new
+unfoldable pub is_new : Ctx → (n name : ℕ) → Walk Bool
+is_new c n name = do
+  s ← look
+  on_option (find_function c.texts (name_in c name) s.own) (return true) (λ _. report n (defined_already name (name_in c name)) >> return false)
 
 -- before the body, of the first argument's slot
 unfoldable pub fn_begin : Ctx → (n slot name : ℕ) → TypeExpr → List Arg → Walk ℕ
@@ -36,20 +36,36 @@ fn_end c n slot name retExpr ret computed = do
   check_return c n name retExpr ret computed
   set_known slot ret
 
--- The paper's number and values for each case of an answer: the name is new, and the rest m of the rule follows; or the rule has answered.
-unfoldable pub met_in : (library : List ℕ) → State → Lent → Met → (m : Walk Answer) → Result World Refusal Answer
-met_in library st b M.New m = m (whole library st b)
-met_in library st b (M.Already v) m = visited library b v
+-- Node::Fn up to its body, where the name is new, of the node's slot: with no name in scope but the arguments
+abbrev pub fn_apart : Ctx → (n slot name : ℕ) → TypeExpr → List Arg → Walk (Option ℕ)
+fn_apart c n slot name retExpr args = λ w. next (fn_begin c n (slot + 1) name retExpr args (with_env w [])) (λ ret. return (Some ret))
 
--- a new name changes nothing; where it was met nothing is taken
-pub data KeepsMet (st : State) (b b' : Lent) : Met → Type 0 where
-  new : b' ≡ b → KeepsMet st b b' M.New
-  already : {v : Visit} → Keeps 0 0 st b b' v → KeepsMet st b b' (M.Already v)
+-- Node::Fn up to its body: the return type's word, or none where the name was met
+unfoldable pub fn_to_body : Ctx → (n slot name : ℕ) → TypeExpr → List Arg → Walk (Option ℕ)
+fn_to_body c n slot name retExpr args = do
+  new ← is_new c n name
+  when new (fn_apart c n slot name retExpr args) (return None)
 
--- What is answered of a name. Buffers b came in, b' are the buffers now, r is the answer.
-pub record Meets (c : Ctx) (n name : ℕ) (library : List ℕ) (st : State) (b b' : Lent) (r : Met) : Type 0 where
-  pub step : (m : Walk Answer) → unless_defined c n name m (whole library st b) ≡ met_in library st b' r m
-  pub keeps : KeepsMet st b b' r
+-- what follows: Poison where the name was met; else the body, and the part after it with the names in scope that were there before
+unfoldable pub body_and_end : Ctx → (n slot name : ℕ) → TypeExpr → (body : Walk Answer) → (before : List Local) → Option ℕ → Walk Answer
+body_and_end c n slot name retExpr body before None = return A.Poison
+body_and_end c n slot name retExpr body before (Some ret) = λ w. next (body w) (λ computed. λ w₁. fn_end c n slot name retExpr ret computed (with_env w₁ before))
+
+-- ── A new name ──
+
+module _ (c : Ctx) (n name : ℕ) (w : World) where
+  unlike : {w' : World} (r : Result World Refusal Done) → next r (λ _. return false) ≡ ok true w' → w' ≡ w
+  unlike (ok d s) e = cc
+  unlike (refused x) e = cc
+
+  -- it changes nothing
+  pub new_same : {w' : World} → is_new c n name w ≡ ok true w' → w' ≡ w
+  unfolding is_new on_option
+  new_same {w'} e = by (find_function c.texts (name_in c name) w.own) e
+    where
+      by : (found : O.Option Signature) → on_option found (return true) (λ _. report n (defined_already name (name_in c name)) >> return false) w ≡ ok true w' → w' ≡ w
+      by O.none e = cc
+      by (O.some f) e = unlike (report n (defined_already name (name_in c name)) w) e
 
 -- ── The rule is its parts ──
 
@@ -105,9 +121,38 @@ module _ (c : Ctx) (n slot name : ℕ) (retExpr : TypeExpr) (e : List Local) whe
     after-arguments (ok params w) = after-type params (type_from_expr c n retExpr w)
     after-arguments (refused x) = refl
 
--- THE LAW: the part before the body sees no names; the body follows; then, with the names of before, the part after it
-pub fn-parts : (c : Ctx) (n slot name : ℕ) (retExpr : TypeExpr) (args : List Arg) (body : Walk Answer) (w : World)
+-- the part before the body sees no names; the body follows; then, with the names of before, the part after it
+fn-parts : (c : Ctx) (n slot name : ℕ) (retExpr : TypeExpr) (args : List Arg) (body : Walk Answer) (w : World)
     → fn c n slot name retExpr args body w
     ≡ next (fn_begin c n (slot + 1) name retExpr args (with_env w [])) (λ ret. λ w₁. next (body w₁) (λ computed. λ w₂. fn_end c n slot name retExpr ret computed (with_env w₂ w.env)))
 unfolding fn apart framed fn_begin scoped
 fn-parts c n slot name retExpr args body w = after-arguments c n slot name retExpr w.env body (fn_arguments c n (slot + 1) args (with_env w []))
+
+module _ (c : Ctx) (n slot name : ℕ) (retExpr : TypeExpr) (body : Walk Answer) (e : List Local) where
+  -- the word that the first part gives is due to what follows
+  follows : (r : Result World Refusal ℕ)
+      → next r (λ ret. λ w. next (body w) (λ computed. λ w₁. fn_end c n slot name retExpr ret computed (with_env w₁ e)))
+      ≡ next (next r (λ ret. return (Some ret))) (body_and_end c n slot name retExpr body e)
+  unfolding body_and_end
+  follows (ok ret w) = refl
+  follows (refused x) = refl
+
+  poisoned : (args : List Arg) (r : Result World Refusal Done)
+      → next r (λ _. return A.Poison)
+      ≡ next (next (next r (λ _. return false)) (λ new. when new (fn_apart c n slot name retExpr args) (return None))) (body_and_end c n slot name retExpr body e)
+  unfolding when body_and_end
+  poisoned args (ok d w) = refl
+  poisoned args (refused x) = refl
+
+-- THE LAW: Node::Fn is its parts
+pub fn-begun : (c : Ctx) (n slot name : ℕ) (retExpr : TypeExpr) (args : List Arg) (body : Walk Answer) (w : World)
+    → unless_defined c n name (fn c n slot name retExpr args body) w ≡ next (fn_to_body c n slot name retExpr args w) (body_and_end c n slot name retExpr body w.env)
+unfolding unless_defined fn_to_body is_new on_option poison when
+fn-begun c n slot name retExpr args body w = by (defined_already name (name_in c name)) (find_function c.texts (name_in c name) w.own)
+  where
+    by : (d : Diagnostic) (found : O.Option Signature)
+        → on_option found (fn c n slot name retExpr args body) (λ _. poison n d) w
+        ≡ next (next (on_option found (return true) (λ _. report n d >> return false) w) (λ new. when new (fn_apart c n slot name retExpr args) (return None)))
+        (body_and_end c n slot name retExpr body w.env)
+    by d O.none = fn-parts c n slot name retExpr args body w ∙ follows c n slot name retExpr body w.env (fn_begin c n (slot + 1) name retExpr args (with_env w []))
+    by d (O.some f) = poisoned c n slot name retExpr body w.env args (report n d w)

@@ -1,21 +1,21 @@
 -- The entry of a function that is defined: what the functions that write it ask for. Laws of it. Assumes nothing.
-use Rattle.std.specs.Prelude.{ℕ, zero, suc, ◌+◌, ◌*◌, ◌≤◌, ◌<◌, ◌≡◌, refl, List, [], ◌∷◌, ◌++◌, get_or, length, set}
+use Rattle.std.specs.Prelude.{ℕ, zero, suc, ◌+◌, ◌*◌, ◌≤◌, ◌≡◌, refl, List, [], ◌∷◌, ◌++◌, get_or, length, set}
 use Rattle.std.proofs.Common.{sym, ap, ◌∙◌, arith}
 use Rattle.ptype.specs.Add.{write}
 use Rattle.add.specs.WriteLaws.{write_nil, write-one, write-append}
-use Rattle.library.specs.Package.{Param, param, params_from}
+use Rattle.library.specs.Package.{Param, params_from}
 use Rattle.type_expr.specs.Ready.{TypeReady}
 use Rattle.rules.specs.Steps.{pairs_of, entry_of}
 use Rattle.state.specs.Signatures.{entry_end, entries_end}
+use Rattle.state.specs.declared.Used.{Used}
 use Rattle.visit.specs.declared.State.{State}
 use Rattle.visit.specs.StoreLaws.{length_pairs}
 use Rattle.visit.specs.Free.{FreeRows}
 use Rattle.parameters.specs.Arguments.{ArgumentsReady, params-split}
-use Rattle.parameters.specs.Typing.{with_types_used}
 
--- the state with one more function entered, and more of the types used
-abbrev pub entered_with : State → (types : ℕ) → State
-entered_with st n = record { used = with_types_used st.used n; base = st.base; depth = st.depth; held = st.held; packages = st.packages; functions = st.functions + 1 }
+-- the state with one more function entered
+abbrev pub entered_with : State → Used → State
+entered_with st u = record { used = u; base = st.base; depth = st.depth; held = st.held; packages = st.packages; functions = st.functions + 1 }
 
 -- room for `count` pairs at a word, which stand in scratch from another word on
 pub record CopyRoom (functions : List ℕ) (at from count : ℕ) : Type 0 where

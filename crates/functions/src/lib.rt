@@ -2,7 +2,7 @@
 // The buffers are lent in one order: slots, functions, types, diagnostics, messages, scratch; then the two texts, the image, its places.
 #![tactic(auto)]
 
-ghost use Rattle.std.specs.Prelude.{◌≡◌, List, ℕ, ◌+◌, ◌*◌, ◌^◌, ◌≤◌, ◌<◌, length};
+ghost use Rattle.std.specs.Prelude.{◌≡◌, List, ℕ, ◌+◌, ◌*◌, ◌≤◌, length};
 ghost use Rattle.tok.specs.Text.{Texts};
 ghost use Rattle.ptype.specs.Add.{write};
 ghost use Rattle.library.specs.Package.{Package, params_from};
@@ -13,26 +13,19 @@ ghost use Rattle.state.specs.Context.{ctx};
 ghost use Rattle.state.specs.Signatures.{entries_end};
 ghost use Rattle.state.specs.World.{More, Steps};
 ghost use Rattle.visit.specs.Whole.{Lent, lent};
-ghost use Rattle.visit.specs.Walks.{Gives};
-ghost use Rattle.functions.specs.Defined.{fn_begin, fn_end, Meets};
-ghost use Rattle.functions.specs.Entering.{CopyRoom, EntryRoom, FnReady, entered_with};
+ghost use Rattle.visit.specs.Within.{Visits};
+ghost use Rattle.visit.specs.Plain.{visit_of};
+ghost use Rattle.functions.specs.Defined.{is_new, fn_begin, fn_end};
+ghost use Rattle.functions.specs.Entering.{CopyRoom, EntryRoom, FnReady};
 
-use add::Added;
-use parameters::{fn_arguments, refusal_number};
+use parameters::fn_arguments;
 use rules::Answer;
-use state::{Step, Used, Went};
+use state::{Step, Used};
 use tok::{Texts, word_at};
 use type_expr::type_from_type_expr;
-use visit::{Gave, State, Visit, Walked};
+use visit::{State, Visit};
 
-// Whether the name is new, or was met: then what the rule answers.
-#[derive(Clone, Copy)]
-pub enum Met {
-    New,
-    Already(Visit),
-}
-
-// if self.functions.contains_key(inner_name): 8.
+// if self.functions.contains_key(inner_name): 8. Whether the name is new.
 pub fn unless_defined(
     functions: &[u32],
     diagnostics: &mut [u32],
@@ -41,32 +34,21 @@ pub fn unless_defined(
     st: State,
     n: u32,
     name: u32,
-) -> Met
+) -> Step<bool>
     requires { entries_end functions.now 0 0 st.functions ≤ length functions.now }
     ensures { ((ls : List Package) (v : ℕ) (words s t e : List ℕ) (o : More) →
         let b : Lent = lent s functions.now t diagnostics.old messages.old e o in
         let b' : Lent = lent s functions.now t diagnostics.new messages.new e o in
-        Meets (ctx texts.now ls v) n name words st b b' result) }
+        Visits (is_new (ctx texts.now ls v) n name) 0 0 words st b b' (visit_of st result)) }
 {
     let own = scope::find_own(texts, functions, st.functions, name);
-    match own {
-        None => {
-            return Met::New;
-        }
-        Some(_) => {
-            let used = st.used;
-            let counts = used.told;
-            let free = err_text::first_free(messages, counts);
-            let met = err_names::defined_already(
-                diagnostics,
-                &mut messages[free..],
-                counts,
-                texts,
-                name,
-            );
-            return Met::Already(visit::answered(st, state::poisoned(n, used, met)));
-        }
-    }
+    let Some(_) = own else {
+        return Ok((true, st.used));
+    };
+    let counts = st.used.told;
+    let free = err_text::first_free(messages, counts);
+    let met = err_names::defined_already(diagnostics, &mut messages[free..], counts, texts, name);
+    state::told(n, st.used, met, false)
 }
 
 // Copies `count` pairs from a word of scratch to a word of the functions buffer.
@@ -100,18 +82,6 @@ pub fn enter(
     operators::store(functions, at + 2 + 2 * count, ret);
 }
 
-// The state with one more function entered, and more of the types used.
-fn entered(st: State, types: usize) -> State
-    requires { st.functions < 2 ^ 62 }
-    ensures { result ≡ entered_with st types }
-{
-    State {
-        used: Used { types, ..st.used },
-        functions: st.functions + 1,
-        ..st
-    }
-}
-
 // Node::Fn up to its body: the arguments, the return type, and the entry, which is there before the body is visited. `slot` is that of the
 // first argument; `count` arguments stand in the image from word `at` on. Gives the return type's word.
 pub fn fn_begin(
@@ -128,37 +98,32 @@ pub fn fn_begin(
     ret: u32,
     at: usize,
     count: usize,
-) -> Gave
+) -> Visit<u32>
     requires { FnReady image.now places.now st functions.old scratch.old slot ret at count }
     ensures { ((T : Texts) (ls : List Package) (v : ℕ) (words d m : List ℕ) (o : More) →
         let b : Lent = lent slots.old functions.old types.old d m scratch.old o in
         let b' : Lent = lent slots.new functions.new types.new d m scratch.new o in
-        Gives (fn_begin (ctx T ls v) n slot name (type_of image.now ret) (args_from image.now at count)) (2 * count) (3 + 2 * count) words st b b' result) }
+        Visits (fn_begin (ctx T ls v) n slot name (type_of image.now ret) (args_from image.now at count)) (2 * count) (3 + 2 * count) words st b b' result) }
 {
-    let bound = fn_arguments(slots, types, scratch, image, places, st, n, slot, at, count);
-    match bound {
-        Walked::Refused(number, place) => {
-            return Gave::Refused(number, place);
-        }
-        Walked::On(inner) => {
-            let used = inner.used;
-            let added = type_from_type_expr(types, used.types, image, places, ret);
-            let Added::Put(w, more) = added else {
-                return Gave::Refused(refusal_number(added), n);
-            };
-            let from = 2 * (st.base + st.depth);
-            enter(
-                functions,
-                &scratch[..],
-                inner.functions,
-                from,
-                name,
-                count,
-                w,
-            );
-            return Gave::Word(w, entered(inner, more));
-        }
-    }
+    let (_, inner) = fn_arguments(slots, types, scratch, image, places, st, n, slot, at, count)?;
+    let added = type_from_type_expr(types, inner.used.types, image, places, ret);
+    let (w, used) = state::added(n, inner.used, added)?;
+    let from = 2 * (st.base + st.depth);
+    enter(
+        functions,
+        &scratch[..],
+        inner.functions,
+        from,
+        name,
+        count,
+        w,
+    );
+    let entered = State {
+        used,
+        functions: inner.functions + 1,
+        ..inner
+    };
+    Ok((w, entered))
 }
 
 // Node::Fn after its body: 9 where the body is not of the return type; the function's slot has its return type.
@@ -177,13 +142,13 @@ pub fn fn_end(
     expr: u32,
     ret: u32,
     computed: Answer,
-) -> Step
+) -> Step<Answer>
     requires { TypeReady image.now places.now expr }
     ensures { ((ls : List Package) (v : ℕ) → Steps (fn_end (ctx texts.now ls v) n slot name (type_of image.now expr) ret computed) slots.old types.now
         diagnostics.old messages.old used slots.new types.now diagnostics.new messages.new result) }
 {
     let token = type_expr::type_token(image, places, expr);
-    let went = values::check_return(
+    let (_, after) = values::check_return(
         &slots[..],
         types,
         diagnostics,
@@ -195,13 +160,6 @@ pub fn fn_end(
         token,
         ret,
         computed,
-    );
-    match went {
-        Went::Refused(number, place) => {
-            return Step::Refused(number, place);
-        }
-        Went::On(after) => {
-            return operators::set_known(slots, after, slot, ret);
-        }
-    }
+    )?;
+    operators::set_known(slots, after, slot, ret)
 }

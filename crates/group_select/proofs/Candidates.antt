@@ -4,19 +4,17 @@ use Prim.Native.Nat.{ℕ, zero, suc, ◌+◌, ◌-◌, ◌≤◌, ◌<◌}
 use mathlib.Core.Path.{◌≡◌, refl, sym, ap, ap₂, ◌∙◌}
 use mathlib.Core.Bool.{Bool}
 use mathlib.Core.List.{List, [], ◌∷◌, ◌++◌, map}
-use native.Mathlib.Numerals.{add-one}
 use native.Mathlib.Omega.{arith}
 use lib.ListN.{length, get_or, take, drop, length-drop, drop_of_length-le}
 use lib.Seq.{get_or-drop, take_all}
 use Rattle.tok.specs.Text.{Texts, text}
 use Rattle.ptype.specs.Ty.{Ty}
 use Rattle.ptype.specs.Words.{ty_of, fields_from}
-use Rattle.display.specs.declared.Wrote.{Wrote}
+use Rattle.display.specs.declared.Writer.{Writer}
 use Rattle.display.specs.Joined.{joined, sig, separated}
 use Rattle.display.specs.JoinedLaws.{joined_after, joined-start, joined-turn, joined_end}
 use Rattle.display.specs.Signature.{arg_types, args_of}
-use Rattle.display.specs.WritingLaws.{Owes, owes-all, owes-less, writes_as}
-use Rattle.display.specs.Writing.{Writes}
+use Rattle.display.specs.WritingLaws.{Owes}
 use Rattle.library.specs.Package.{params_from}
 use Rattle.state.specs.Signatures.{signature_at}
 use Rattle.signatures.specs.declared.Entry.{Entry}
@@ -44,14 +42,12 @@ module _ (texts : Texts) (types words : List ℕ) where
       rw q (fields-params (get_or words at 0) at 1 (at + 1) refl)
 
   -- the rest of the words was lent
-  pub candidate_in : {o o' : List ℕ} {to r : Wrote} (at : ℕ) → at ≤ length words → Writes o to o' r (sig (arg_types (args_of texts types (take (length words - at) (drop at words)))))
-      → (f : Bool) → Writes o to o' r (sig (param_types (ty_of texts types) (signature_at words at f).params))
-  candidate_in at h p f = writes_as (ap sig (sym (candidate_is at f))) (rw (take_all (length words - at) (drop at words) (simp length-drop (omega arith))) at p)
+  pub candidate_in : (at : ℕ) → at ≤ length words → (f : Bool) → sig (param_types (ty_of texts types) (signature_at words at f).params) ≡ sig (arg_types (args_of texts types (take (length words - at) (drop at words))))
+  candidate_in at h f = ap sig (sym (candidate_is at f)) ∙ rw (take_all (length words - at) (drop at words) (simp length-drop (omega arith)))
 
-  pub candidate_past : {o o' : List ℕ} {to r : Wrote} (at : ℕ) → length words < at → Writes o to o' r []
-      → (f : Bool) → Writes o to o' r (sig (param_types (ty_of texts types) (signature_at words at f).params))
+  pub candidate_past : (at : ℕ) → length words < at → (f : Bool) → sig (param_types (ty_of texts types) (signature_at words at f).params) ≡ []
   unfolding fields_from arg_types sig joined
-  candidate_past at h p f = writes_as (ap sig (sym (candidate_is at f)) ∙ rw (drop_of_length-le words {i = at} (omega arith)) refl) p
+  candidate_past at h f = ap sig (sym (candidate_is at f)) ∙ rw (drop_of_length-le words {i = at} (omega arith)) refl
 
 -- ── All of them: `count` are written, the others are owed ──
 
@@ -60,30 +56,29 @@ module _ (texts : Texts) (types name words : List ℕ) (flags from k : ℕ) wher
   abbrev pub listed : (first left : ℕ) → List (List ℕ)
   listed first left = map sig (candidate_types (ty_of texts types) (group texts name words flags first left))
 
-  pub record Listing (o₀ : List ℕ) (to₀ : Wrote) (o : List ℕ) (to : Wrote) (first left count : ℕ) : Type 0 where
-    pub owes : Owes o₀ to₀ (joined (text " | ") (listed from k)) o to (joined_after count (text " | ") (listed first left))
+  pub record Listing (w₀ w : Writer) (first left count : ℕ) : Type 0 where
+    pub owes : Owes w₀ (joined (text " | ") (listed from k)) w (joined_after count (text " | ") (listed first left))
     pub most : count + left ≤ k
-    pub long : length o ≡ length o₀
 
-  pub listing-begin : {o : List ℕ} {to : Wrote} → Listing o to o to from k 0
-  listing-begin = record { owes = owes-all (sym (joined-start _ _)); most = omega arith; long = refl }
+  pub listing-begin : (w : Writer) → Listing w w from k 0
+  listing-begin w = record { owes = (refl, rw (joined-start (text " | ") (listed from k))); most = omega arith }
 
-  module _ {o₀ : List ℕ} {to₀ : Wrote} {o : List ℕ} {to : Wrote} {first left count : ℕ} (l : Listing o₀ to₀ o to first left count) where
-    ends : {o' : List ℕ} {r : Wrote} → group texts name words flags first left ≡ [] → Writes o to o' r [] → Writes o₀ to₀ o' r (joined (text " | ") (listed from k))
-    ends e p = l.owes.ends (writes_as (rw e (joined_end count (text " | "))) p)
+  module _ {w₀ w : Writer} {first left count : ℕ} (l : Listing w₀ w first left count) where
+    -- none are left
+    ends : group texts name words flags first left ≡ [] → Owes w₀ (joined (text " | ") (listed from k)) w []
+    ends e = (l.owes.0, l.owes.1 ∙ rw (e, joined_end count (text " | ")))
 
-    pub listing_none : {o' : List ℕ} {r : Wrote} → left ≤ 0 → Writes o to o' r [] → Writes o₀ to₀ o' r (joined (text " | ") (listed from k))
-    listing_none h p = ends (none_left_lem texts name words flags first left h) p
+    pub listing_none : left ≤ 0 → Owes w₀ (joined (text " | ") (listed from k)) w []
+    listing_none h = ends (none_left_lem texts name words flags first left h)
 
     module _ {r : Option Entry} (found : Finds texts name words flags first left r) where
-      pub listing-over : {o' : List ℕ} {w : Wrote} → r ≡ None → Writes o to o' w [] → Writes o₀ to₀ o' w (joined (text " | ") (listed from k))
-      listing-over e p = ends (over-is texts name words flags found e) p
+      pub listing-over : r ≡ None → Owes w₀ (joined (text " | ") (listed from k)) w []
+      listing-over e = ends (over-is texts name words flags found e)
 
-      pub listing-more : {x : Entry} {o' : List ℕ} {w : Wrote} → r ≡ Some x → 0 < left
-          → ((f : Bool) → Writes o to o' w (separated count (text " | ") ++ sig (param_types (ty_of texts types) (signature_at words x.at f).params))) → length o' ≡ length o
-          → Listing o₀ to₀ o' w x.next x.left (count + 1)
-      listing-more {x} e h p q = record {
-        owes = owes-less l.owes (rw (one-is texts name words flags found e) (joined-turn count (text " | ") (sig (param_types (ty_of texts types) (signature_at words x.at x.slotted).params)) (listed x.next x.left))) (p x.slotted);
-        most = omega (arith, l.most, rw e at found.fewer);
-        long = q ∙ l.long;
-      }
+      -- one is found: it is owed after the separator, and then the others
+      pub listing-turn : {x : Entry} → r ≡ Some x
+          → joined_after count (text " | ") (listed first left) ≡ separated count (text " | ") ++ sig (param_types (ty_of texts types) (signature_at words x.at x.slotted).params) ++ joined_after (count + 1) (text " | ") (listed x.next x.left)
+      listing-turn {x} e = rw (one-is texts name words flags found e) (joined-turn count (text " | ") (sig (param_types (ty_of texts types) (signature_at words x.at x.slotted).params)) (listed x.next x.left))
+
+      pub listing-more : {x : Entry} {v : Writer} → r ≡ Some x → 0 < left → Owes w₀ (joined (text " | ") (listed from k)) v (joined_after (count + 1) (text " | ") (listed x.next x.left)) → Listing w₀ v x.next x.left (count + 1)
+      listing-more {x} e h p = record { owes = p; most = omega (arith, l.most, rw e at found.fewer) }

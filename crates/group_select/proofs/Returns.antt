@@ -1,48 +1,25 @@
 -- A call of a group as the code has it, one law for each way out. Assumes nothing.
 use Rattle.std.specs.Prelude.{Some, None, Option as Found}
 use Prim.Native.Nat.{ℕ}
-use mathlib.Core.Path.{◌≡◌, refl, sym, ap, ◌∙◌}
+use mathlib.Core.Path.{◌≡◌, sym, ap, ◌∙◌}
 use mathlib.Core.Bool.{Bool, true, false}
-use mathlib.Core.Option.{Option, none, some}
-use mathlib.Core.List.{List, [], ◌∷◌, map, map-map}
+use mathlib.Core.List.{List, ◌∷◌, map, map-map}
 use lib.ListN.{get_or}
 use Rattle.tok.specs.Text.{Texts}
-use Rattle.tok.specs.Step.{ok, next, return, when}
-use Rattle.ptype.specs.Ty.{Ty}
+use Rattle.tok.specs.Step.{when}
 use Rattle.ptype.specs.Words.{ty_of}
-use Rattle.err.specs.Message.{no_specialisation}
-use Rattle.err.specs.Report.{Reports}
-use Rattle.library.specs.Package.{Signature, Package}
+use Rattle.library.specs.Package.{Signature}
+use Rattle.rules.specs.declared.Answer.{Answer}
 use Rattle.rules.specs.Steps.{set_known, on_option}
-use Rattle.rules.specs.Calls.{Provided, common_return, select}
+use Rattle.rules.specs.Calls.{Provided, select}
 use Rattle.state.specs.declared.Used.{Used}
-use Rattle.state.specs.declared.Step.{Step}
-use Rattle.state.specs.declared.Step.TheVariants as S
-use Rattle.state.specs.declared.Went.{Went}
-use Rattle.state.specs.declared.Went.TheVariants as W
 use Rattle.state.specs.Context.{ctx}
 use Rattle.state.specs.Signatures.{signature_at}
-use Rattle.state.specs.World.{Rest, world, Steps}
-use Rattle.state.specs.Reporting.{told_of, reports_step, on-steps, refused-steps}
+use Rattle.state.specs.World.{world, Step, Steps}
 use Rattle.signatures.specs.declared.Entry.{Entry}
 use Rattle.selection.specs.Candidates.{position_of, position_in, CommonReturn}
 use Rattle.selection.proofs.Read.{provided-are, candidates-are, position-is}
-use Rattle.group_select.specs.Selects.{candidate_types, NoneFits, Selects}
-use Rattle.err.specs.declared.Counts.{Counts}
-
--- ── None fits ──
-
-module _ (texts : Texts) (n slot token : ℕ) (call_name : List ℕ) (provided : List Ty) {fs : List Signature} (s t d m : List ℕ) (u : Used) {d' m' : List ℕ} {r : Found Counts} {went : Went}
-    (p : Reports (no_specialisation token call_name provided (candidate_types (ty_of texts t) fs)) d m u.told d' m' r) (e : went ≡ told_of n u r) where
-  pub fits_told : {s' : List ℕ} {v : Used} {x : Step} → went ≡ W.On v → CommonReturn texts slot fs s t v s' x → NoneFits texts n slot token call_name provided fs s t d m u s' d' m' x
-  fits_told {s'} {v} {x} o c = record {
-    of = λ f others q library void. on-steps (rw (sym e ∙ o) at (reports_step n {s = s} {t = t} {u = u} p)) (c.of f others q library void d' m');
-  }
-
-  pub fits_refused : {k at : ℕ} → went ≡ W.Refused k at → NoneFits texts n slot token call_name provided fs s t d m u s d' m' (S.Refused k at)
-  fits_refused o = record {
-    of = λ f others q library void. refused-steps (common_return (ctx texts library void) slot f others) (rw (sym e ∙ o) at (reports_step n {s = s} {t = t} {u = u} p));
-  }
+use Rattle.group_select.specs.Selects.{NoneFits, Selects}
 
 -- ── Selecting ──
 
@@ -51,12 +28,12 @@ provided-is : (texts : Texts) (s t provided : List ℕ) (given : List Provided) 
 provided-is texts s t provided given e = sym (map-map (ty_of texts t) (λ a. get_or s a.slot 0) given) ∙ ap (map (ty_of texts t)) e
 
 module _ (texts : Texts) (n slot token : ℕ) (call_name provided : List ℕ) {poisoned : Bool} {fs : List Signature} (s t d m : List ℕ) (u : Used) where
-  pub select-poisoned : {s' : List ℕ} {r : Step} → poisoned ≡ true → CommonReturn texts slot fs s t u s' r → Selects texts n slot token call_name provided poisoned fs s t d m u s' d m r
+  pub select-poisoned : {s' : List ℕ} {r : Step Answer} → poisoned ≡ true → CommonReturn texts slot fs s t u s' r → Selects texts n slot token call_name provided poisoned fs s t d m u s' d m r
   unfolding select when
   select-poisoned y c = record { of = λ f others q given e library void. record { step = λ w. rw y ((c.of f others q library void d m).step w) } }
 
   module _ (no : poisoned ≡ false) (words : List ℕ) {taken : Found Entry} (p : position_of (ty_of texts t) (map (ty_of texts t) provided) fs ≡ position_in words taken) where
-    pub select-taken : {x : Entry} {ret : ℕ} {s' : List ℕ} {r : Step} → taken ≡ Some x → ((f : Bool) → ret ≡ (signature_at words x.at f).ret)
+    pub select-taken : {x : Entry} {ret : ℕ} {s' : List ℕ} {r : Step Answer} → taken ≡ Some x → ((f : Bool) → ret ≡ (signature_at words x.at f).ret)
         → ((t d m : List ℕ) → Steps (set_known slot ret) s t d m u s' t d m r) → Selects texts n slot token call_name provided poisoned fs s t d m u s' d m r
     unfolding select when on_option
     select-taken {x} o er k = record {
@@ -67,7 +44,7 @@ module _ (texts : Texts) (n slot token : ℕ) (call_name provided : List ℕ) {p
       };
     }
 
-    pub select-none : {s' d' m' : List ℕ} {r : Step} → taken ≡ None → NoneFits texts n slot token call_name (map (ty_of texts t) provided) fs s t d m u s' d' m' r
+    pub select-none : {s' d' m' : List ℕ} {r : Step Answer} → taken ≡ None → NoneFits texts n slot token call_name (map (ty_of texts t) provided) fs s t d m u s' d' m' r
         → Selects texts n slot token call_name provided poisoned fs s t d m u s' d' m' r
     unfolding select when on_option
     select-none o k = record {

@@ -16,32 +16,31 @@ ghost use Rattle.signatures.specs.Entries.{flag_words};
 ghost use Rattle.selection.specs.Candidates.{group, param_types};
 ghost use Rattle.group_select.specs.Selects.{candidate_types, NoneFits, Selects};
 
-use display::Wrote;
+use display::{Full, Writer};
 use err::{CallName, Counts};
-use state::{Step, Used, Went};
+use rules::Answer;
+use state::{Step, Used};
 use tok::Texts;
 
 // Writes the types of the arguments of the signature whose argument count stands at a place of `words`, joined by `, `.
 fn put_candidate(
-    rest: &mut [u8],
-    to: Wrote,
+    out: &mut Writer,
     types: &[u32],
     texts: &Texts,
     words: &[u32],
     at: usize,
-) -> Wrote
-    ensures { ((f : Bool) → Writes rest.old to rest.new result (sig (param_types (ty_of texts.now types.now) (signature_at words.now at f).params))) }
+) -> Result<(), Full>
+    ensures { ((f : Bool) → Writes out.old out.new result (sig (param_types (ty_of texts.now types.now) (signature_at words.now at f).params))) }
 {
     if at <= words.len() {
-        return display::show_arg_types(rest, to, types, texts, &words[at..]);
+        return display::show_arg_types(out, types, texts, &words[at..]);
     }
-    display::put_at(rest, to, b"")
+    out.put(b"")
 }
 
 // Writes the candidates of a name among k entries from a place on, joined by ` | `.
 fn put_candidates(
-    rest: &mut [u8],
-    to: Wrote,
+    out: &mut Writer,
     types: &[u32],
     texts: &Texts,
     words: &[u32],
@@ -49,25 +48,24 @@ fn put_candidates(
     from: usize,
     k: usize,
     name: &[u8],
-) -> Wrote
-    ensures { Writes rest.old to rest.new result
+) -> Result<(), Full>
+    ensures { Writes out.old out.new result
         (joined (text " | ") (map sig (candidate_types (ty_of texts.now types.now) (group texts.now name.now words.now (flag_words flagged) from k)))) }
 {
-    let mut to = to;
     let mut first = from;
     let mut left = k;
     let mut count = 0;
     while left > 0 {
         let Some(entry) = signatures::find_entry(texts, words, flagged, first, left, name) else {
-            return display::put_at(rest, to, b"");
+            return out.put(b"");
         };
-        to = display::put_separator(rest, to, count, b" | ");
-        to = put_candidate(rest, to, types, texts, words, entry.at);
+        out.put_separator(count, b" | ")?;
+        put_candidate(out, types, texts, words, entry.at)?;
         count += 1;
         first = entry.next;
         left = entry.left;
     }
-    display::put_at(rest, to, b"")
+    out.put(b"")
 }
 
 // 18: A call of a group of several, none of which takes these argument types.
@@ -91,13 +89,22 @@ fn no_specialisation(
         (no_specialisation token (call_name texts.now callee) (map U provided.now) (candidate_types U (group texts.now name.now words.now (flag_words flagged) from k)))
         diagnostics.old rest.old counts diagnostics.new rest.new result }
 {
-    let a = display::put_at(rest, Wrote::All(0), b"no specialisation of ");
-    let b = err_text::put_call_name(rest, a, texts, callee);
-    let c = display::put_at(rest, b, b" accepts (");
-    let d = display::show_types(rest, c, types, texts, provided);
-    let e = display::put_at(rest, d, b"); available: ");
-    let f = put_candidates(rest, e, types, texts, words, flagged, from, k, name);
-    err_text::report(diagnostics, counts, 18, tok::token_span(token), f, f)
+    let mut out = Writer::new(rest);
+    let a = out.put(b"no specialisation of ");
+    let b = a.and(err_text::put_call_name(&mut out, texts, callee));
+    let c = b.and(out.put(b" accepts ("));
+    let d = c.and(display::show_types(&mut out, types, texts, provided));
+    let e = d.and(out.put(b"); available: "));
+    let f = e.and(put_candidates(&mut out, types, texts, words, flagged, from, k, name));
+    err_text::report(
+        diagnostics,
+        counts,
+        18,
+        tok::token_span(token),
+        f,
+        out.at,
+        out.at,
+    )
 }
 
 // No candidate fits: 18, and what all return is still known.
@@ -118,7 +125,7 @@ fn none_fits(
     from: usize,
     k: usize,
     name: &[u8],
-) -> Step
+) -> Step<Answer>
     ensures { NoneFits texts.now n slot token (call_name texts.now callee) (map (ty_of texts.now types.now) provided.now)
         (group texts.now name.now words.now (flag_words flagged) from k) slots.old types.now diagnostics.old messages.old used
         slots.new diagnostics.new messages.new result }
@@ -139,17 +146,10 @@ fn none_fits(
         k,
         name,
     );
-    let went = state::told(n, used, r);
-    match went {
-        Went::On(after) => {
-            return selection::common_return(
-                slots, types, texts, after, slot, words, flagged, from, k, name,
-            );
-        }
-        Went::Refused(number, place) => {
-            return Step::Refused(number, place);
-        }
-    }
+    let (_, used) = state::told(n, used, r, ())?;
+    selection::common_return(
+        slots, types, texts, used, slot, words, flagged, from, k, name,
+    )
 }
 
 // A group of several: the first that fits; where an argument is poisoned, or none fits, what all return.
@@ -171,7 +171,7 @@ pub fn select(
     k: usize,
     name: &[u8],
     poisoned: bool,
-) -> Step
+) -> Step<Answer>
     ensures { Selects texts.now n slot token (call_name texts.now callee) provided.now poisoned (group texts.now name.now words.now (flag_words flagged) from k) slots.old
         types.now diagnostics.old messages.old used slots.new diagnostics.new messages.new result }
 {
@@ -181,30 +181,26 @@ pub fn select(
         );
     }
     let taken = selection::position(types, texts, words, flagged, from, k, name, provided);
-    match taken {
-        Some(entry) => {
-            let ret = signatures::return_type(words, entry.at);
-            return operators::set_known(slots, used, slot, ret);
-        }
-        None => {
-            return none_fits(
-                slots,
-                types,
-                diagnostics,
-                messages,
-                texts,
-                used,
-                n,
-                slot,
-                token,
-                callee,
-                provided,
-                words,
-                flagged,
-                from,
-                k,
-                name,
-            );
-        }
-    }
+    let Some(entry) = taken else {
+        return none_fits(
+            slots,
+            types,
+            diagnostics,
+            messages,
+            texts,
+            used,
+            n,
+            slot,
+            token,
+            callee,
+            provided,
+            words,
+            flagged,
+            from,
+            k,
+            name,
+        );
+    };
+    let ret = signatures::return_type(words, entry.at);
+    operators::set_known(slots, used, slot, ret)
 }

@@ -1,3 +1,3 @@
+pub mod Limits
 pub mod NodeRows
 pub mod TypeRows
-pub mod Whole

@@ -9,26 +9,28 @@ use native.Mathlib.Decide.{dec_lt}
 use lib.ListN.{length, set, length-append, get_or-append}
 use lib.Seq.{get_or-set_same, get_or-set_other, get_or_at}
 use Rattle.tok.specs.Word.{kind_of}
-use Rattle.reader.specs.declared.Reading.{Reading}
-use Rattle.reader.specs.Reading.{place_of, next_word, onward, gave}
+use Rattle.std.specs.Prelude.{Ok, Err}
+use Rattle.reader.specs.declared.Place.{Place}
+use Rattle.reader.specs.declared.Fault.{Fault}
+use Rattle.reader.specs.Reading.{next_word, onward, gave}
 use Rattle.ast.specs.Outline.{Outline, Counts}
 use Rattle.ast.specs.NodeRecords.{no_node}
 use Rattle.ast.specs.Nodes.{node, nodes}
 use Rattle.image_laws.specs.OutlineAt.{outline_from}
-use Rattle.image_words.specs.Leads.{Leads, leads-word, leads-return}
+use Rattle.image_words.specs.Leads.{unanswered, Leads}
 use Rattle.image_nodes.specs.Site.{Kept}
 
 -- the loop before node i: the outlines of the nodes before, whose kinds are kept; and what the others lead to, all lead to
-pub record Before (words : List ℕ) (from : Reading) (c : Counts) (n : ℕ) (kinds : List ℕ) (to : Reading) (i : ℕ) : Type 0 where
+pub record Before (words : List ℕ) (from : Place) (c : Counts) (n : ℕ) (kinds : List ℕ) (to : Place) (i : ℕ) : Type 0 where
   pub outlines : List Outline
   pub many : length outlines ≡ i
   pub kept : Kept kinds outlines i
-  pub rest : (end : Reading) → Leads words to (nodes c (n - i) i outlines) end → Leads words from (nodes c n 0 []) end
+  pub rest : unanswered (onward words to (nodes c (n - i) i outlines)) ≡ unanswered (onward words from (nodes c n 0 []))
 
-pub at_first : {words : List ℕ} {from : Reading} {c : Counts} {n : ℕ} (kinds : List ℕ) → Before words from c n kinds from 0
+pub at_first : {words : List ℕ} {from : Place} {c : Counts} {n : ℕ} (kinds : List ℕ) → Before words from c n kinds from 0
 at_first {n = n} kinds =
     let e : n - 0 ≡ n = omega arith in
-    record { outlines = []; many = refl; kept = record { kept = λ p h. absurd (not-suc-le-zero h) }; rest = λ end l. rw e at l }
+    record { outlines = []; many = refl; kept = record { kept = λ p h. absurd (not-suc-le-zero h) }; rest = rw e refl }
 
 -- one kind more
 keep : (kinds : List ℕ) (before : List Outline) (i : ℕ) (o : Outline) → length before ≡ i → i < length kinds → Kept kinds before i
@@ -46,22 +48,30 @@ keep kinds before i o e fits k =
           ];
     }
 
-pub one_more : {words : List ℕ} {from to mid : Reading} {c : Counts} {n : ℕ} {kinds : List ℕ} {i : ℕ} (kind : ℕ) → Before words from c n kinds to i → i < n → i < length kinds
-    → kind ≡ kind_of (next_word words to)
-    → ((before : List Outline) → Kept kinds before i → onward words to (node c before i) ≡ gave words (outline_from words (place_of to)) mid)
-    → Before words from c n (set kinds i kind) mid (i + 1)
-unfolding nodes
-one_more {words} {from} {to} {mid} {c} {n} {kinds} {i} kind b h fits k read =
-    let o : Outline = outline_from words (place_of to) in
-    let e : n - i ≡ suc (n - (i + 1)) = omega arith in
-    record {
-      outlines = b.outlines ++ (o ∷ []);
-      many = length-append b.outlines (o ∷ []) ∙ rw b.many refl;
-      kept = rw k (keep kinds b.outlines i o b.many fits b.kept);
-      rest = λ end l. b.rest end (rw e (leads-word _ _ o (read b.outlines b.kept) l));
-    }
+module _ {words : List ℕ} {from to : Place} {c : Counts} {n : ℕ} {kinds : List ℕ} {i : ℕ} (b : Before words from c n kinds to i) where
+  module _ (h : i < n) where
+    pub one_more : (mid : Place) (kind : ℕ) → i < length kinds → kind ≡ kind_of (next_word words to)
+        → ((before : List Outline) → Kept kinds before i → onward words to (node c before i) ≡ gave words (outline_from words to.at) (Ok mid))
+        → Before words from c n (set kinds i kind) mid (i + 1)
+    unfolding nodes gave
+    one_more mid kind fits k read =
+        let o : Outline = outline_from words to.at in
+        let e : n - i ≡ suc (n - (i + 1)) = omega arith in
+        record {
+          outlines = b.outlines ++ (o ∷ []);
+          many = length-append b.outlines (o ∷ []) ∙ rw b.many refl;
+          kept = rw k (keep kinds b.outlines i o b.many fits b.kept);
+          rest = rw (e, read b.outlines b.kept) at b.rest;
+        }
 
-pub at_last : {words : List ℕ} {from to : Reading} {c : Counts} {n : ℕ} {kinds : List ℕ} {i : ℕ} → Before words from c n kinds to i → n ≤ i
-    → Leads words from (nodes c n 0 []) to
-unfolding nodes
-at_last {n = n} {i = i} b h = let e : n - i ≡ 0 = omega arith in b.rest _ (rw e (leads-return _))
+    pub stops_there : (fault : Fault)
+        → ((before : List Outline) → Kept kinds before i → onward words to (node c before i) ≡ gave words (outline_from words to.at) (Err fault))
+        → Leads words from (nodes c n 0 []) (Err fault)
+    unfolding nodes gave unanswered
+    stops_there fault read =
+        let e : n - i ≡ suc (n - (i + 1)) = omega arith in
+        sym (rw (e, read b.outlines b.kept) at b.rest)
+
+  pub at_last : n ≤ i → Leads words from (nodes c n 0 []) (Ok to)
+  unfolding nodes gave unanswered
+  at_last h = let e : n - i ≡ 0 = omega arith in sym (rw e at b.rest)

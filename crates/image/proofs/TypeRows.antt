@@ -1,47 +1,19 @@
--- The type records, as the code reads them: each kind's words, the rows of the table of kinds, and one record after the other.
--- Assumes nothing.
-use Prim.Native.Nat.{ℕ, zero, suc, ◌+◌, ◌-◌, ◌/◌, ◌%◌, ◌≤◌, ◌<◌}
-use mathlib.Core.Bool.{false, ◌&&◌}
+-- The type records, as the code reads them: the rows of the table of kinds, and one record after the other. Assumes nothing.
+use Prim.Native.Nat.{ℕ, zero, suc, ◌+◌, ◌-◌, ◌≤◌, ◌<◌}
+use mathlib.Core.Bool.{false}
 use mathlib.Core.Path.{◌≡◌, refl, sym, ap, ◌∙◌}
 use mathlib.Core.List.{List}
 use native.Mathlib.Omega.{arith}
-use lib.Dec.{leb, eqb}
-use borrow.Author.Tests.{lt-leb, le-leb}
-use Rattle.utf8.specs.Rfc3629.{range}
-use Rattle.tok.specs.Name.{good_name, in_script}
+use Rattle.std.specs.Prelude.{Result, Ok}
 use Rattle.tok.specs.Word.{kind_of, payload_of}
-use Rattle.tok.specs.Reader.{Read, word, owing, below, many}
-use Rattle.reader.specs.declared.Reading.{Reading}
-use Rattle.reader.specs.Reading.{onward, gave}
+use Rattle.tok.specs.Step.{◌>>=◌, return}
+use Rattle.reader.specs.declared.Place.{Place}
+use Rattle.reader.specs.declared.Fault.{Fault}
+use Rattle.reader.specs.Reading.{gave}
 use Rattle.ast.specs.Outline.{Counts}
-use Rattle.ast.specs.TypeRecords.{type_atom, type_foreign, type_inner, type_field, type_record, type_kinds, type_kind, good_type_head, type_expression, type_expressions}
-use Rattle.image_laws.proofs.RecordLaws.{pair_rule}
-use Rattle.image_words.specs.Leads.{Leads, leads-word, leads-then, leads-return}
-
--- what one word's reader ensures
-abbrev Took : List ℕ → Reading → Read ℕ → ℕ → Reading → Type 0
-Took words from rule a to = onward words from rule ≡ gave words a to
-
--- ── The kinds ──
-
-module _ {words : List ℕ} {from to : Reading} (c : Counts) (number left : ℕ) where
-  pub type-atom-leads : (a b : ℕ) (r₁ : Reading) → Took words from (word (good_name in_script c.text)) a r₁ → Took words r₁ (word (range 1 5)) b to
-      → Leads words from (type_atom c number left) to
-  unfolding type_atom
-  type-atom-leads a b r₁ p q = leads-word _ _ a p (leads-word _ _ b q (leads-return _))
-
-  pub type-foreign-leads : (a : ℕ) → Took words from (word (good_name in_script c.text)) a to → Leads words from (type_foreign c number left) to
-  unfolding type_foreign
-  type-foreign-leads a p = leads-word _ _ a p (leads-return _)
-
-  pub type-inner-leads : (a : ℕ) → Took words from (below number) a to → Leads words from (type_inner c number left) to
-  unfolding type_inner
-  type-inner-leads a p = leads-word _ _ a p (leads-return _)
-
-  pub type_record_leads : (a k : ℕ) (r₁ : Reading) → Took words from (word (good_name in_script c.text)) a r₁ → k ≡ left - 1
-      → Leads words r₁ (many (k / 2) (pair_rule c.text number)) to → Leads words from (type_record c number left) to
-  unfolding type_record type_field
-  type_record_leads a k r₁ p e fs = leads-word _ _ a p (leads-then _ _ (rw e at fs) λ _. leads-return _)
+use Rattle.ast.specs.TypeRecords.{type_kinds, type_kind, good_type_head, type_expression, type_expressions}
+use Rattle.image_words.specs.Leads.{unanswered, Leads}
+use Rattle.image_words.specs.LeadLaws.{leads}
 
 -- ── The rows of the table of kinds ──
 
@@ -56,9 +28,9 @@ unfolding good_type_head
 head-by w v long p e = ap (λ κ. κ.long long) (sym (same_row w v e)) ∙ ap (type_kind w).long p
 
 -- its words, likewise
-pub rest-by : {words : List ℕ} {from to : Reading} (head v k : ℕ) (c : Counts) (number left : ℕ) → kind_of head ≡ k → k ≡ kind_of v
+pub rest-by : (words : List ℕ) (from : Place) (to : Result Place Fault) (head v k : ℕ) (c : Counts) (number left : ℕ) → kind_of head ≡ k → k ≡ kind_of v
     → Leads words from ((type_kind v).rest c number left) to → Leads words from ((type_kind head).rest c number left) to
-rest-by head v k c number left p q l = rw (same_row head v (p ∙ q)) l
+rest-by words from to head v k c number left p q l = rw (same_row head v (p ∙ q)) l
 
 -- a number that is none of the table's
 abbrev Beyond : ℕ → Type 0
@@ -76,26 +48,22 @@ pub no-head : (w k : ℕ) → k ≡ kind_of w → Beyond k → false ≡ good_ty
 unfolding good_type_head type_kind type_kinds
 no-head w k e r = let s = beyond k r in rw (sym e ∙ s.1, good_type_head) refl
 
-pub no-rest : {words : List ℕ} {from : Reading} (head k : ℕ) (c : Counts) (number left : ℕ) → kind_of head ≡ k → Beyond k
-    → Leads words from ((type_kind head).rest c number left) from
-unfolding type_kind type_kinds
-no-rest head k c number left e r = let s = beyond k r in rw (e ∙ s.1) (leads-return _)
+pub no-rest : (words : List ℕ) (from : Place) (head k : ℕ) (c : Counts) (number left : ℕ) → kind_of head ≡ k → Beyond k
+    → Leads words from ((type_kind head).rest c number left) (Ok from)
+unfolding type_kind type_kinds unanswered gave
+no-rest words from head k c number left e r = let s = beyond k r in rw (e ∙ s.1) refl
 
 -- ── One record after the other ──
 
-module _ {words : List ℕ} {from to : Reading} (c : Counts) where
-  pub expression_leads : (number head left : ℕ) (r₁ : Reading) → Took words from (owing good_type_head (λ w. payload_of w - 2)) head r₁ → left ≡ payload_of head - 1
-      → Leads words r₁ ((type_kind head).rest c number left) to → Leads words from (type_expression c number) to
-  unfolding type_expression
-  expression_leads number head left r₁ p e l = leads-word _ _ head p (rw e at l)
-
-  pub types-one : (count i : ℕ) (mid : Reading) → i < count → Leads words from (type_expression c i) mid → Leads words mid (type_expressions c (count - (i + 1)) (i + 1)) to
-      → Leads words from (type_expressions c (count - i) i) to
-  unfolding type_expressions
-  types-one count i mid h l others =
-      let e : count - i ≡ suc (count - (i + 1)) = omega arith in
-      rw e (leads-then _ _ l λ _. others)
-
-pub types-none : {words : List ℕ} {from : Reading} (c : Counts) (count i : ℕ) → count ≤ i → Leads words from (type_expressions c (count - i) i) from
+pub types_some : (c : Counts) (count i : ℕ) → i < count → type_expressions c (count - i) i ≡ (do
+  _ ← type_expression c i
+  type_expressions c (count - (i + 1)) (i + 1))
 unfolding type_expressions
-types-none c count i h = let e : count - i ≡ 0 = omega arith in rw e (leads-return _)
+types_some c count i h = let e : count - i ≡ suc (count - (i + 1)) = omega arith in rw e refl
+
+pub types_none : (c : Counts) (count i : ℕ) → count ≤ i → type_expressions c (count - i) i ≡ return tt
+unfolding type_expressions
+types_none c count i h = let e : count - i ≡ 0 = omega arith in rw e refl
+
+-- what the loop goes by
+pub ruleset types_ways = (types_some, types_none, leads)

@@ -7,45 +7,55 @@ ghost use Rattle.tok.specs.Word.{kind_of};
 ghost use Rattle.reader.specs.Reading.{next_word, offending};
 ghost use Rattle.ast.specs.Nodes.{nodes};
 ghost use Rattle.ast.specs.TypeRecords.{type_atom, type_foreign, type_inner, type_record, type_kind, good_type_head, type_expression, type_expressions};
-ghost use Rattle.ast.specs.ImageFault.{image_fault};
+ghost use Rattle.ast.specs.ImageFault.{image, image_fault};
 ghost use Rattle.image_words.specs.Leads.{Leads};
 ghost use Rattle.image_nodes.specs.Site.{counts_of};
 ghost use Rattle.image.specs.Counted.{counted};
 
 use image_nodes::Sizes;
-use image_words::{between, numbers, pairs, stopped, token};
-use reader::{Fault, Reading};
+use image_words::{between, numbers, pairs, token};
+use reader::{Fault, Place};
 
 // Type records: the words after the first, by kind.
 
 // 0 Atom: token, kind 1 to 5.
-fn type_atom(script: &[u8], words: &[u32], from: Reading) -> Reading
+#[tactic(auto, unfolding(ast::specs::TypeRecords::type_atom, reader::specs::Reading::gave, image_words::specs::Leads::unanswered), using(image_words::specs::LeadLaws::leads))]
+fn type_atom(script: &[u8], words: &[u32], from: Place) -> Result<Place, Fault>
     ensures { (n t v number left : ℕ) → Leads words.now from (type_atom (counted script.now n t v) number left) result }
 {
-    let at = token(script, words, from);
+    let at = token(script, words, from)?;
     let kind = reader::next_word(words, at) as usize;
     reader::word(words, at, between(1, 5, kind))
 }
 
 // 1 Foreign: token.
-fn type_foreign(script: &[u8], words: &[u32], from: Reading) -> Reading
+#[tactic(auto, unfolding(ast::specs::TypeRecords::type_foreign, reader::specs::Reading::gave, image_words::specs::Leads::unanswered), using(image_words::specs::LeadLaws::leads))]
+fn type_foreign(script: &[u8], words: &[u32], from: Place) -> Result<Place, Fault>
     ensures { (n t v number left : ℕ) → Leads words.now from (type_foreign (counted script.now n t v) number left) result }
 {
     token(script, words, from)
 }
 
 // 2 Option, 3 Array: inner.
-fn type_inner(words: &[u32], from: Reading, number: usize) -> Reading
+#[tactic(auto, unfolding(ast::specs::TypeRecords::type_inner, reader::specs::Reading::gave, image_words::specs::Leads::unanswered), using(image_words::specs::LeadLaws::leads))]
+fn type_inner(words: &[u32], from: Place, number: usize) -> Result<Place, Fault>
     ensures { (text : List ℕ) (n t v left : ℕ) → Leads words.now from (type_inner (counted text n t v) number left) result }
 {
     reader::below(words, from, number)
 }
 
 // 4 Record: token, pairs.
-fn type_record(script: &[u8], words: &[u32], from: Reading, number: usize, left: usize) -> Reading
+#[tactic(auto, unfolding(ast::specs::TypeRecords::type_record, ast::specs::TypeRecords::type_field, reader::specs::Reading::gave, image_words::specs::Leads::unanswered), using(image_words::specs::LeadLaws::leads))]
+fn type_record(
+    script: &[u8],
+    words: &[u32],
+    from: Place,
+    number: usize,
+    left: usize,
+) -> Result<Place, Fault>
     ensures { (n t v : ℕ) → Leads words.now from (type_record (counted script.now n t v) number left) result }
 {
-    let at = token(script, words, from);
+    let at = token(script, words, from)?;
     pairs(script, words, at, left.saturating_sub(1) / 2, number)
 }
 
@@ -76,11 +86,11 @@ fn good_type_head(head: u32) -> bool
 fn type_rest(
     script: &[u8],
     words: &[u32],
-    from: Reading,
+    from: Place,
     kind: u32,
     number: usize,
     left: usize,
-) -> Reading
+) -> Result<Place, Fault>
     ensures { (head n t v : ℕ) → kind_of head ≡ kind → Leads words.now from ((type_kind head).rest (counted script.now n t v) number left) result }
 {
     match kind {
@@ -89,17 +99,18 @@ fn type_rest(
         2 => type_inner(words, from, number),
         3 => type_inner(words, from, number),
         4 => type_record(script, words, from, number, left),
-        _ => from,
+        _ => Ok(from),
     }
 }
 
 // The record of a type: its first word, and the rest by kind.
-fn type_expression(script: &[u8], words: &[u32], from: Reading, number: usize) -> Reading
+#[tactic(auto, unfolding(ast::specs::TypeRecords::type_expression, reader::specs::Reading::gave, image_words::specs::Leads::unanswered), using(image_words::specs::LeadLaws::leads))]
+fn type_expression(script: &[u8], words: &[u32], from: Place, number: usize) -> Result<Place, Fault>
     ensures { (n t v : ℕ) → Leads words.now from (type_expression (counted script.now n t v) number) result }
 {
     let head = reader::next_word(words, from);
     let long = tok::payload(head);
-    let at = reader::owing(words, from, good_type_head(head), long.saturating_sub(2));
+    let at = reader::owing(words, from, good_type_head(head), long.saturating_sub(2))?;
     type_rest(
         script,
         words,
@@ -111,79 +122,80 @@ fn type_expression(script: &[u8], words: &[u32], from: Reading, number: usize) -
 }
 
 // All `count` type records.
-fn type_expressions(script: &[u8], words: &[u32], from: Reading, count: usize) -> Reading
+#[tactic(auto, unfolding(reader::specs::Reading::gave, image_words::specs::Leads::unanswered), using(crate::proofs::TypeRows::types_ways))]
+fn type_expressions(script: &[u8], words: &[u32], from: Place, count: usize) -> Result<Place, Fault>
     ensures { (n t v : ℕ) → Leads words.now from (type_expressions (counted script.now n t v) count 0) result }
 {
     let mut to = from;
     for i in 0..count {
-        if stopped(to) {
-            return to;
-        }
-        to = type_expression(script, words, to, i);
+        to = type_expression(script, words, to, i)?;
     }
-    to
+    Ok(to)
 }
 
 // Nodes.
 
 // The kind of the record before which a reading stands.
-fn kind_there(words: &[u32], from: Reading) -> u8
+fn kind_there(words: &[u32], from: Place) -> u8
     ensures { result ≡ kind_of (next_word words.now from) }
 {
     tok::kind(reader::next_word(words, from)) as u8
 }
 
 // All node records. The kinds of those before are kept in `kinds`, for a call's target.
-fn nodes_by(script: &[u8], words: &[u32], kinds: &mut [u8], from: Reading, sizes: Sizes) -> Reading
+fn nodes_by(
+    script: &[u8],
+    words: &[u32],
+    kinds: &mut [u8],
+    from: Place,
+    sizes: Sizes,
+) -> Result<Place, Fault>
     requires { sizes.nodes ≤ length kinds.old }
     ensures { Leads words.now from (nodes (counts_of script.now sizes) sizes.nodes 0 []) result }
 {
     let mut to = from;
     for i in 0..sizes.nodes {
-        if stopped(to) {
-            return to;
-        }
         let kind = kind_there(words, to);
-        to = image_nodes::node(script, words, kinds, to, sizes, i);
+        to = image_nodes::node(script, words, kinds, to, sizes, i)?;
         kinds[i] = kind;
     }
-    to
-}
-
-// The same, of at most 2,048 nodes.
-fn nodes(script: &[u8], words: &[u32], from: Reading, sizes: Sizes) -> Reading
-    requires { sizes.nodes ≤ 2048 }
-    ensures { Leads words.now from (nodes (counts_of script.now sizes) sizes.nodes 0 []) result }
-{
-    let mut kinds = [0u8; 2048];
-    nodes_by(script, words, &mut kinds, from, sizes)
+    Ok(to)
 }
 
 // The whole image.
 
-// Whether an image is accepted; if not, the first offending word, or its length.
-pub fn read(script: &[u8], words: &[u32]) -> Result<(), Fault>
-    ensures { (library : List ℕ) → offending result ≡ image_fault (texts_of script.now library) words.now }
+// Counts, roots, nodes, types, the end. The nodes' kinds stand in this frame, which lies in its caller's: what the caller has for another refusal then is not there
+// beside them (docs/PERFORMANCE.md, "Stack").
+#[tactic(auto, unfolding(ast::specs::ImageFault::image, reader::specs::Reading::gave, image_words::specs::Leads::unanswered), using(image_words::specs::LeadLaws::leads))]
+fn whole(script: &[u8], words: &[u32], from: Place) -> Result<Place, Fault>
+    ensures { (library : List ℕ) → Leads words.now from (image (texts_of script.now library)) result }
 {
-    let at = reader::begin(script, 4);
-    let n = reader::next_word(words, at) as usize;
-    let at = reader::owing(words, at, n <= 2048, 3 * n);
-    if stopped(at) {
-        return reader::conclude(at);
-    }
+    let n = reader::next_word(words, from) as usize;
+    let at = reader::owing(words, from, n <= 2048, 3 * n)?;
     let t = reader::next_word(words, at) as usize;
-    let at = reader::owing(words, at, t <= 512, 2 * t);
+    let at = reader::owing(words, at, t <= 512, 2 * t)?;
     let r = reader::next_word(words, at) as usize;
-    let at = reader::owing(words, at, r <= 512, r);
+    let at = reader::owing(words, at, r <= 512, r)?;
     let v = reader::next_word(words, at) as usize;
-    let at = reader::word(words, at, v <= 4096);
-    let at = numbers(words, at, r, n);
+    let at = reader::word(words, at, v <= 4096)?;
+    let at = numbers(words, at, r, n)?;
     let sizes = Sizes {
         nodes: n,
         types: t,
         slots: v,
     };
-    let at = nodes(script, words, at, sizes);
-    let at = type_expressions(script, words, at, t);
-    reader::conclude(reader::ends(words, at))
+    let mut kinds = [0u8; 2048];
+    let at = nodes_by(script, words, &mut kinds, at, sizes)?;
+    let at = type_expressions(script, words, at, t)?;
+    reader::ends(words, at)
+}
+
+// Whether an image is accepted; if not, the first offending word, or its length.
+#[tactic(auto, using(crate::proofs::Limits::long_fault, crate::proofs::Limits::read_fault))]
+pub fn read(script: &[u8], words: &[u32]) -> Result<(), Fault>
+    ensures { (library : List ℕ) → offending result ≡ image_fault (texts_of script.now library) words.now }
+{
+    let at = reader::begin(script, 4)?;
+    whole(script, words, at)?;
+    Ok(())
 }

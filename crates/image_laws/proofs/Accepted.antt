@@ -8,9 +8,9 @@ use Rattle.std.proofs.Math.Decide.{dec_lt}
 use Rattle.tok.specs.Text.{Texts}
 use Rattle.tok.specs.Step.{Result, ok, refused}
 use Rattle.tok.specs.Reader.{Cursor, most_words, most_bytes, ends, start, fault_of, unless_long}
-use Rattle.reader.specs.Reading.{standing, onward, gave}
+use Rattle.reader.specs.Reading.{standing, gave}
 use Rattle.reader.specs.Reads.{Within}
-use Rattle.reader.specs.Laws.{ends-left, ends-here}
+use Rattle.reader.specs.Laws.{ends_left, ends_here}
 use Rattle.ast.specs.Image.{node_count, type_count, root_count, slot_count, record_after, node_place, type_place}
 use Rattle.ast.specs.Outline.{Counts}
 use Rattle.ast.specs.ImageFault.{Outlines, image, image_read, image_fault}
@@ -43,10 +43,10 @@ pub record Accepted (text image : List ℕ) : Type 0 where
 
 -- "nothing after"
 ends-give : (words : List ℕ) (at least : ℕ) → Within words at → Gives words tt at (length words ≤ at) (ends (standing words at least))
-unfolding onward gave
+unfolding gave
 ends-give words at least w = elim (dec_lt at (length words)) [
-  | yes h ↦ subst (Gives words tt at (length words ≤ at)) (sym (ends-left words at least h)) (stops at)
-  | no h ↦ let l : length words ≤ at = omega arith in subst (Gives words tt at (length words ≤ at)) (sym (ends-here words at least l)) (gives least w l)
+  | yes h ↦ subst (Gives words tt at (length words ≤ at)) (sym (ends_left words at least h)) (stops at)
+  | no h ↦ let l : length words ≤ at = omega arith in subst (Gives words tt at (length words ≤ at)) (sym (ends_here words at least l)) (gives least w l)
 ]
 
 -- the four counts, the roots, the nodes, the types, the end

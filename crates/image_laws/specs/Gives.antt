@@ -3,15 +3,13 @@
 use Rattle.std.specs.Prelude.{ℕ, suc, ◌+◌, ◌<◌, Bool, ◌≡◌, List, length, get_or, ltb}
 use Rattle.std.proofs.Math.Bool.{true, false, and-eq-true_iff}
 use Rattle.std.proofs.Math.Path.{refl, subst}
-use Rattle.std.proofs.Common.{sym, ap, ◌∙◌}
+use Rattle.std.proofs.Common.{sym}
 use native.Mathlib.Omega.{arith}
 use Rattle.std.proofs.Math.Decide.{dec_lt}
 use borrow.Author.Tests.{ltb-true}
 use Rattle.tok.specs.Step.{Result, ok, refused, next}
 use Rattle.tok.specs.Reader.{Cursor, Read, most_words, owing}
-use Rattle.reader.specs.declared.Reading.{Reading}
-use Rattle.reader.specs.declared.Reading.TheVariants.{At, Fault}
-use Rattle.reader.specs.Reading.{standing, place_of, onward, gave}
+use Rattle.reader.specs.Reading.{standing, gave}
 use Rattle.reader.specs.Reads.{Within}
 use Rattle.reader.specs.Laws.{admitted, short, taken, offends}
 
@@ -30,7 +28,7 @@ gives_then f (stops place) k = stops place
 module _ (rule : ℕ → Bool) (owes : ℕ → ℕ) (words : List ℕ) (at least : ℕ) where
   tried : (h : at < length words) (b : Bool) → admitted rule owes at least (get_or words at 0) ≡ b
       → Gives words (get_or words at 0) (at + 1) (rule (get_or words at 0) ≡ true) (owing rule owes (standing words at least))
-  unfolding onward gave
+  unfolding gave
   tried h true e =
       let both = (and-eq-true_iff (ltb at most_words) _).0 e in
       let l : at < 8192 = ltb-true at 8192 both.0 in
@@ -40,7 +38,7 @@ module _ (rule : ℕ → Bool) (owes : ℕ → ℕ) (words : List ℕ) (at least
       subst (Gives words (get_or words at 0) (at + 1) (rule (get_or words at 0) ≡ true)) (sym (offends rule owes words at least 0 h e)) (stops at)
 
   pub gives-word : Gives words (get_or words at 0) (at + 1) (rule (get_or words at 0) ≡ true) (owing rule owes (standing words at least))
-  unfolding onward gave
+  unfolding gave
   gives-word = elim (dec_lt at (length words)) [
     | yes h ↦ tried h _ refl
     | no h ↦ subst (Gives words (get_or words at 0) (at + 1) (rule (get_or words at 0) ≡ true)) (sym (short rule owes words at least 0 (omega arith))) (stops at)
@@ -75,18 +73,3 @@ module _ {A : Type 0} {words : List ℕ} {a : A} {to : ℕ} {P : Type 0} where
   pub gives_self : {r : Result Cursor ℕ A} → Gives words a to P r → Gives words a to ((after : ℕ) × (r ≡ ok a (standing words to after)) × P) r
   gives_self (gives least w p) = gives least w (least, refl, p)
   gives_self (stops place) = stops place
-
-  -- an answer that was read is the one that stands there
-  pub gives_same : {r : Result Cursor ℕ A} {b : A} {c : Cursor} → Gives words a to P r → r ≡ ok b c → b ≡ a
-  gives_same (gives least w p) e = cc
-  gives_same (stops place) e = cc
-
--- so that an answer found on the way may be said by place
-pub gives-there : {A : Type 0} (words : List ℕ) (from to : Reading) (m : Read A) (a b : A) (end : ℕ) (P : Type 0)
-    → ((least : ℕ) → Gives words a end P (m (standing words (place_of from) least)))
-    → onward words from m ≡ gave words b to → onward words from m ≡ gave words a to
-unfolding onward gave
-gives-there words (At at least) (At at' least') m a b end P g e = e ∙ ap (λ x. ok x (standing words at' least')) (gives_same (g least) e)
-gives-there words (At at least) (Fault place) m a b end P g e = e
-gives-there words (Fault place) (At at least) m a b end P g e = cc
-gives-there words (Fault place) (Fault place') m a b end P g e = e

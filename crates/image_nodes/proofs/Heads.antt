@@ -1,17 +1,16 @@
 -- The rows of the table of kinds: a word's kind says how long its record may be and how its words are read. Assumes nothing.
-use Prim.Native.Nat.{ℕ, zero, suc, ◌-◌, ◌%◌, ◌≤◌, ◌<◌}
-use mathlib.Core.Bool.{false, ◌&&◌}
+use Prim.Native.Nat.{ℕ, zero, suc}
+use mathlib.Core.Bool.{false}
 use mathlib.Core.Path.{◌≡◌, refl, sym, ap, ◌∙◌}
 use mathlib.Core.List.{List}
-use lib.Dec.{leb, eqb}
-use borrow.Author.Tests.{lt-leb, le-leb}
+use Rattle.std.specs.Prelude.{Result, Ok}
 use Rattle.tok.specs.Word.{kind_of, payload_of}
-use Rattle.tok.specs.Reader.{owing, below}
-use Rattle.reader.specs.declared.Reading.{Reading}
-use Rattle.ast.specs.Outline.{Outline, Counts, Here}
-use Rattle.ast.specs.Nodes.{node_kinds, node_kind, good_node_head, node}
-use Rattle.image_words.specs.Leads.{Leads, leads-word, leads-return}
-use Rattle.image_nodes.proofs.Rows.{Took}
+use Rattle.reader.specs.declared.Place.{Place}
+use Rattle.reader.specs.declared.Fault.{Fault}
+use Rattle.reader.specs.Reading.{gave}
+use Rattle.ast.specs.Outline.{Here}
+use Rattle.ast.specs.Nodes.{node_kinds, node_kind, good_node_head}
+use Rattle.image_words.specs.Leads.{unanswered, Leads}
 
 -- words of one kind have one row
 pub same_row : (w v : ℕ) → kind_of w ≡ kind_of v → node_kind w ≡ node_kind v
@@ -24,9 +23,9 @@ unfolding good_node_head
 head-by w v long p e = ap (λ κ. κ.long long) (sym (same_row w v e)) ∙ ap (node_kind w).long p
 
 -- its words, likewise
-pub rest-by : {words : List ℕ} {from to : Reading} (head v k : ℕ) (h : Here) → kind_of head ≡ k → k ≡ kind_of v → Leads words from ((node_kind v).rest h) to
-    → Leads words from ((node_kind head).rest h) to
-rest-by head v k h p q l = rw (same_row head v (p ∙ q)) l
+pub rest-by : (words : List ℕ) (from : Place) (to : Result Place Fault) (head v k : ℕ) (h : Here) → kind_of head ≡ k → k ≡ kind_of v
+    → Leads words from ((node_kind v).rest h) to → Leads words from ((node_kind head).rest h) to
+rest-by words from to head v k h p q l = rw (same_row head v (p ∙ q)) l
 
 -- a number that is none of the table's
 abbrev pub Beyond : ℕ → Type 0
@@ -56,14 +55,6 @@ pub no-head : (w k : ℕ) → k ≡ kind_of w → Beyond k → false ≡ good_no
 unfolding good_node_head node_kind node_kinds
 no-head w k e r = let s = beyond k r in rw (sym e ∙ s.1, good_node_head) refl
 
-pub no-rest : {words : List ℕ} {from : Reading} (head k : ℕ) (h : Here) → kind_of head ≡ k → Beyond k → Leads words from ((node_kind head).rest h) from
-unfolding node_kind node_kinds
-no-rest head k h e r = let s = beyond k r in rw (e ∙ s.1) (leads-return _)
-
--- the whole record: head, slot, rest
-pub node-leads : {words : List ℕ} {from to : Reading} (c : Counts) (before : List Outline) (i head slot kind left : ℕ) (r₁ r₂ : Reading)
-    → Took words from (owing good_node_head (λ w. payload_of w - 3)) head r₁ → Took words r₁ (below c.slots) slot r₂ → kind ≡ kind_of head → left ≡ payload_of head - 2
-    → Leads words r₂ ((node_kind head).rest (record { counts = c; before = before; number = i; kind = kind; slot = slot; left = left })) to
-    → Leads words from (node c before i) to
-unfolding node
-node-leads c before i head slot kind left r₁ r₂ p q e f l = leads-word _ _ head p (leads-word _ _ slot q (rw (e, f) at l))
+pub no-rest : (words : List ℕ) (from : Place) (head k : ℕ) (h : Here) → kind_of head ≡ k → Beyond k → Leads words from ((node_kind head).rest h) (Ok from)
+unfolding node_kind node_kinds unanswered gave
+no-rest words from head k h e r = let s = beyond k r in rw (e ∙ s.1) refl

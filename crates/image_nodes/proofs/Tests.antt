@@ -25,21 +25,6 @@ module _ (h : Here) (n a : ℕ) (e : a ≡ h.left - 3) where
       (same (ltb n b) (ltb (h.slot + n) h.counts.slots) (λ p. let l : n < b = ltb-true n b p in lt-ltb (h.slot + n) h.counts.slots (omega arith))
       (λ p. let l : h.slot + n < h.counts.slots = ltb-true _ _ p in lt-ltb n b (omega arith)))
 
--- what is left after a pair for each
-pub twice-less : (k b a n : ℕ) {room : ℕ} → k ≡ b - n → b ≡ a - n → a ≡ room → k ≡ room - 2 * n
-twice-less k b a n {room} p q r = omega arith
-
--- ── Match ──
-
-module _ (n others room : ℕ) where
-  pub cases-over : room / 3 < others → false ≡ leb (n + 3 * others + 1) room
-  cases-over g = sym (lt-leb (n + 3 * others + 1) room (omega arith))
-
-  pub cases-within : others ≤ room / 3 → ltb n (room - 3 * others) ≡ leb (n + 3 * others + 1) room
-  cases-within g =
-      same (ltb n (room - 3 * others)) (leb (n + 3 * others + 1) room) (λ p. let l : n < room - 3 * others = ltb-true _ _ p in le-leb (n + 3 * others + 1) room (omega arith))
-      (λ p. let l : n + 3 * others + 1 ≤ room = leb-true _ _ p in lt-ltb n (room - 3 * others) (omega arith))
-
 -- ── Extern ──
 
 module _ (n room : ℕ) where

@@ -3,7 +3,7 @@
 
 ghost use Rattle.std.specs.Prelude.{◌≡◌, ◌&&◌, ◌||◌, List, ℕ, ◌+◌, ◌*◌, ◌-◌, ◌%◌, get_or, leb, ltb, eqb};
 ghost use Rattle.tok.specs.Word.{kind_of};
-ghost use Rattle.reader.specs.Reading.{onward, gave, place_of};
+ghost use Rattle.reader.specs.Reading.{onward, gave};
 ghost use Rattle.ast.specs.Outline.{Outline};
 ghost use Rattle.ast.specs.NodeRecords.{atom, ident, bin, unary, binding, good_arguments, fn, cases, match, call, field, cast, imports, good_extern_count, extern_functions, good_function_count, extern, record_node, array};
 ghost use Rattle.ast.specs.Nodes.{node_kind, good_node_head, node};
@@ -11,8 +11,8 @@ ghost use Rattle.image_laws.specs.OutlineAt.{outline_from};
 ghost use Rattle.image_words.specs.Leads.{Leads};
 ghost use Rattle.image_nodes.specs.Site.{counts_of, here_of, Kept};
 
-use image_words::{between, names, numbers, pairs, stopped, token};
-use reader::Reading;
+use image_words::{between, names, numbers, pairs, token};
+use reader::{Fault, Place};
 
 // The counts of an image that its records go by.
 #[derive(Clone, Copy)]
@@ -40,45 +40,50 @@ pub struct Site {
 const OPERATORS: usize = 9;
 
 // 0 Atom: token, type kind 2 to 5.
-fn atom(script: &[u8], words: &[u32], from: Reading, site: Site) -> Reading
+#[tactic(auto, unfolding(ast::specs::NodeRecords::atom, reader::specs::Reading::gave, image_words::specs::Leads::unanswered), using(image_words::specs::LeadLaws::leads))]
+fn atom(script: &[u8], words: &[u32], from: Place, site: Site) -> Result<Place, Fault>
     ensures { (before : List Outline) → Leads words.now from (atom (here_of script.now before site)) result }
 {
-    let at = token(script, words, from);
+    let at = token(script, words, from)?;
     let kind = reader::next_word(words, at) as usize;
     reader::word(words, at, between(2, 5, kind))
 }
 
 // 1 Ident: name.
-fn ident(script: &[u8], words: &[u32], from: Reading, site: Site) -> Reading
+#[tactic(auto, unfolding(ast::specs::NodeRecords::ident, reader::specs::Reading::gave, image_words::specs::Leads::unanswered), using(image_words::specs::LeadLaws::leads))]
+fn ident(script: &[u8], words: &[u32], from: Place, site: Site) -> Result<Place, Fault>
     ensures { (before : List Outline) → Leads words.now from (ident (here_of script.now before site)) result }
 {
     token(script, words, from)
 }
 
 // 2 Bin: token, operator, left, right.
-fn bin(script: &[u8], words: &[u32], from: Reading, site: Site) -> Reading
+#[tactic(auto, unfolding(ast::specs::NodeRecords::bin, reader::specs::Reading::gave, image_words::specs::Leads::unanswered), using(image_words::specs::LeadLaws::leads))]
+fn bin(script: &[u8], words: &[u32], from: Place, site: Site) -> Result<Place, Fault>
     ensures { (before : List Outline) → Leads words.now from (bin (here_of script.now before site)) result }
 {
-    let at = token(script, words, from);
-    let at = reader::below(words, at, OPERATORS);
-    let at = reader::below(words, at, site.number);
+    let at = token(script, words, from)?;
+    let at = reader::below(words, at, OPERATORS)?;
+    let at = reader::below(words, at, site.number)?;
     reader::below(words, at, site.number)
 }
 
 // 3 Unary: token, operator, right.
-fn unary(script: &[u8], words: &[u32], from: Reading, site: Site) -> Reading
+#[tactic(auto, unfolding(ast::specs::NodeRecords::unary, reader::specs::Reading::gave, image_words::specs::Leads::unanswered), using(image_words::specs::LeadLaws::leads))]
+fn unary(script: &[u8], words: &[u32], from: Place, site: Site) -> Result<Place, Fault>
     ensures { (before : List Outline) → Leads words.now from (unary (here_of script.now before site)) result }
 {
-    let at = token(script, words, from);
-    let at = reader::below(words, at, OPERATORS);
+    let at = token(script, words, from)?;
+    let at = reader::below(words, at, OPERATORS)?;
     reader::below(words, at, site.number)
 }
 
 // 4 Let: name, right.
-fn binding(script: &[u8], words: &[u32], from: Reading, site: Site) -> Reading
+#[tactic(auto, unfolding(ast::specs::NodeRecords::binding, reader::specs::Reading::gave, image_words::specs::Leads::unanswered), using(image_words::specs::LeadLaws::leads))]
+fn binding(script: &[u8], words: &[u32], from: Place, site: Site) -> Result<Place, Fault>
     ensures { (before : List Outline) → Leads words.now from (binding (here_of script.now before site)) result }
 {
-    let at = token(script, words, from);
+    let at = token(script, words, from)?;
     reader::below(words, at, site.number)
 }
 
@@ -90,19 +95,16 @@ fn arguments_fit(site: Site, n: usize) -> bool
 }
 
 // 5 Fn: name, return type, argument count, name and type of each, body.
-fn function(script: &[u8], words: &[u32], from: Reading, site: Site) -> Reading
+#[tactic(auto, unfolding(ast::specs::Outline::typed_name, reader::specs::Reading::gave, image_words::specs::Leads::unanswered), using(crate::proofs::Rows::fn_words, image_words::specs::LeadLaws::leads))]
+fn function(script: &[u8], words: &[u32], from: Place, site: Site) -> Result<Place, Fault>
     ensures { (before : List Outline) → Leads words.now from (fn (here_of script.now before site)) result }
 {
-    let at = token(script, words, from);
-    let at = reader::below(words, at, site.types);
+    let at = token(script, words, from)?;
+    let at = reader::below(words, at, site.types)?;
     let n = reader::next_word(words, at) as usize;
-    let at = reader::word(words, at, arguments_fit(site, n));
-    let at = pairs(script, words, at, n, site.types);
-    let body = site
-        .left
-        .saturating_sub(3)
-        .saturating_sub(n)
-        .saturating_sub(n);
+    let at = reader::word(words, at, arguments_fit(site, n))?;
+    let at = pairs(script, words, at, n, site.types)?;
+    let body = site.left.saturating_sub(3).saturating_sub(2 * n);
     numbers(words, at, body, site.number)
 }
 
@@ -114,41 +116,40 @@ fn cases_fit(n: usize, others: usize, room: usize) -> bool
 }
 
 // `count` cases and the default, in `left` words: per case token, condition, body count, body; then default token, body.
+#[tactic(auto, unfolding(reader::specs::Reading::gave, image_words::specs::Leads::unanswered), using(crate::proofs::Loops::cases_ways))]
 fn cases(
     script: &[u8],
     words: &[u32],
-    from: Reading,
+    from: Place,
     site: Site,
     count: usize,
     left: usize,
-) -> Reading
+) -> Result<Place, Fault>
     ensures { (before : List Outline) → Leads words.now from (cases (here_of script.now before site) count left) result }
 {
     let mut to = from;
     let mut room = left;
     for others in (0..count).rev() {
-        if stopped(to) {
-            return to;
-        }
-        to = token(script, words, to);
-        to = reader::below(words, to, site.number);
+        to = token(script, words, to)?;
+        to = reader::below(words, to, site.number)?;
         let n = reader::next_word(words, to) as usize;
         room = room.saturating_sub(3);
-        to = reader::word(words, to, cases_fit(n, others, room));
-        to = numbers(words, to, n, site.number);
+        to = reader::word(words, to, cases_fit(n, others, room))?;
+        to = numbers(words, to, n, site.number)?;
         room = room.saturating_sub(n);
     }
-    to = token(script, words, to);
-    numbers(words, to, room.saturating_sub(1), site.number)
+    let at = token(script, words, to)?;
+    numbers(words, at, room.saturating_sub(1), site.number)
 }
 
 // 6 Match: case count; the cases.
-fn matching(script: &[u8], words: &[u32], from: Reading, site: Site) -> Reading
+#[tactic(auto, unfolding(reader::specs::Reading::gave, image_words::specs::Leads::unanswered), using(crate::proofs::Rows::match_words, image_words::specs::LeadLaws::leads))]
+fn matching(script: &[u8], words: &[u32], from: Place, site: Site) -> Result<Place, Fault>
     ensures { (before : List Outline) → Leads words.now from (match (here_of script.now before site)) result }
 {
     let count = reader::next_word(words, from) as usize;
     let room = site.left.saturating_sub(1);
-    let at = reader::word(words, from, cases_fit(0, count, room));
+    let at = reader::word(words, from, cases_fit(0, count, room))?;
     cases(script, words, at, site, count, room)
 }
 
@@ -160,36 +161,40 @@ fn callable(kinds: &[u8], p: usize, n: usize) -> bool
 }
 
 // 7 Call: target (Ident or Field), arguments.
-fn call(words: &[u32], kinds: &[u8], from: Reading, site: Site) -> Reading
+#[tactic(auto, unfolding(ast::specs::NodeRecords::call, reader::specs::Reading::gave, image_words::specs::Leads::unanswered), using(image_words::specs::LeadLaws::leads))]
+fn call(words: &[u32], kinds: &[u8], from: Place, site: Site) -> Result<Place, Fault>
     ensures { (text : List ℕ) (before : List Outline) → Kept kinds.now before site.number → Leads words.now from (call (here_of text before site)) result }
 {
     let target = reader::next_word(words, from) as usize;
-    let at = reader::word(words, from, callable(kinds, target, site.number));
+    let at = reader::word(words, from, callable(kinds, target, site.number))?;
     numbers(words, at, site.left.saturating_sub(1), site.number)
 }
 
 // 8 Field: target, name.
-fn field(script: &[u8], words: &[u32], from: Reading, site: Site) -> Reading
+#[tactic(auto, unfolding(ast::specs::NodeRecords::field, reader::specs::Reading::gave, image_words::specs::Leads::unanswered), using(image_words::specs::LeadLaws::leads))]
+fn field(script: &[u8], words: &[u32], from: Place, site: Site) -> Result<Place, Fault>
     ensures { (before : List Outline) → Leads words.now from (field (here_of script.now before site)) result }
 {
-    let at = reader::below(words, from, site.number);
+    let at = reader::below(words, from, site.number)?;
     token(script, words, at)
 }
 
 // 9 Cast: token, left, type.
-fn cast(script: &[u8], words: &[u32], from: Reading, site: Site) -> Reading
+#[tactic(auto, unfolding(ast::specs::NodeRecords::cast, reader::specs::Reading::gave, image_words::specs::Leads::unanswered), using(image_words::specs::LeadLaws::leads))]
+fn cast(script: &[u8], words: &[u32], from: Place, site: Site) -> Result<Place, Fault>
     ensures { (before : List Outline) → Leads words.now from (cast (here_of script.now before site)) result }
 {
-    let at = token(script, words, from);
-    let at = reader::below(words, at, site.number);
+    let at = token(script, words, from)?;
+    let at = reader::below(words, at, site.number)?;
     reader::below(words, at, site.types)
 }
 
 // 10 Import: token, paths.
-fn imports(script: &[u8], words: &[u32], from: Reading, site: Site) -> Reading
+#[tactic(auto, unfolding(ast::specs::NodeRecords::imports, reader::specs::Reading::gave, image_words::specs::Leads::unanswered), using(image_words::specs::LeadLaws::leads))]
+fn imports(script: &[u8], words: &[u32], from: Place, site: Site) -> Result<Place, Fault>
     ensures { (before : List Outline) → Leads words.now from (imports (here_of script.now before site)) result }
 {
-    let at = token(script, words, from);
+    let at = token(script, words, from)?;
     names(script, words, at, site.left.saturating_sub(1))
 }
 
@@ -209,31 +214,29 @@ fn function_fits(n: usize, others: usize, room: usize) -> bool
 }
 
 // `count` functions of an Extern, in `left` words: each: name, return type, argument count, pairs.
+#[tactic(auto, unfolding(ast::specs::Outline::typed_name, reader::specs::Reading::gave, image_words::specs::Leads::unanswered), using(crate::proofs::Loops::functions_ways))]
 fn functions(
     script: &[u8],
     words: &[u32],
-    from: Reading,
+    from: Place,
     site: Site,
     count: usize,
     left: usize,
-) -> Reading
+) -> Result<Place, Fault>
     ensures { (before : List Outline) → Leads words.now from (extern_functions (here_of script.now before site) count left) result }
 {
     let mut to = from;
     let mut room = left;
     for others in (0..count).rev() {
-        if stopped(to) {
-            return to;
-        }
-        to = token(script, words, to);
-        to = reader::below(words, to, site.types);
+        to = token(script, words, to)?;
+        to = reader::below(words, to, site.types)?;
         let n = reader::next_word(words, to) as usize;
         room = room.saturating_sub(3);
-        to = reader::word(words, to, function_fits(n, others, room));
-        to = pairs(script, words, to, n, site.types);
-        room = room.saturating_sub(n).saturating_sub(n);
+        to = reader::word(words, to, function_fits(n, others, room))?;
+        to = pairs(script, words, to, n, site.types)?;
+        room = room.saturating_sub(2 * n);
     }
-    to
+    Ok(to)
 }
 
 // Whether `count` functions lie within `room` words; of no function there are none.
@@ -248,22 +251,24 @@ fn functions_fit(count: usize, room: usize) -> bool
 }
 
 // 11 Extern: token, name, function count; the functions.
-fn externs(script: &[u8], words: &[u32], from: Reading, site: Site) -> Reading
+#[tactic(auto, unfolding(reader::specs::Reading::gave, image_words::specs::Leads::unanswered), using(crate::proofs::Rows::extern_words, image_words::specs::LeadLaws::leads))]
+fn externs(script: &[u8], words: &[u32], from: Place, site: Site) -> Result<Place, Fault>
     ensures { (before : List Outline) → Leads words.now from (extern (here_of script.now before site)) result }
 {
-    let at = token(script, words, from);
-    let at = token(script, words, at);
+    let at = token(script, words, from)?;
+    let at = token(script, words, at)?;
     let count = reader::next_word(words, at) as usize;
     let room = site.left.saturating_sub(3);
-    let at = reader::word(words, at, functions_fit(count, room));
+    let at = reader::word(words, at, functions_fit(count, room))?;
     functions(script, words, at, site, count, room)
 }
 
 // 12 Record: token, name and value pairs.
-fn record_node(script: &[u8], words: &[u32], from: Reading, site: Site) -> Reading
+#[tactic(auto, unfolding(ast::specs::NodeRecords::record_node, ast::specs::NodeRecords::named_part, reader::specs::Reading::gave, image_words::specs::Leads::unanswered), using(image_words::specs::LeadLaws::leads))]
+fn record_node(script: &[u8], words: &[u32], from: Place, site: Site) -> Result<Place, Fault>
     ensures { (before : List Outline) → Leads words.now from (record_node (here_of script.now before site)) result }
 {
-    let at = token(script, words, from);
+    let at = token(script, words, from)?;
     pairs(
         script,
         words,
@@ -274,10 +279,11 @@ fn record_node(script: &[u8], words: &[u32], from: Reading, site: Site) -> Readi
 }
 
 // 13 Array: token, members.
-fn array(script: &[u8], words: &[u32], from: Reading, site: Site) -> Reading
+#[tactic(auto, unfolding(ast::specs::NodeRecords::array, reader::specs::Reading::gave, image_words::specs::Leads::unanswered), using(image_words::specs::LeadLaws::leads))]
+fn array(script: &[u8], words: &[u32], from: Place, site: Site) -> Result<Place, Fault>
     ensures { (before : List Outline) → Leads words.now from (array (here_of script.now before site)) result }
 {
-    let at = token(script, words, from);
+    let at = token(script, words, from)?;
     numbers(words, at, site.left.saturating_sub(1), site.number)
 }
 
@@ -316,7 +322,7 @@ fn good_head(head: u32) -> bool
 }
 
 // The words after the slot, by kind.
-fn rest(script: &[u8], words: &[u32], kinds: &[u8], from: Reading, site: Site) -> Reading
+fn rest(script: &[u8], words: &[u32], kinds: &[u8], from: Place, site: Site) -> Result<Place, Fault>
     ensures { (head : ℕ) (before : List Outline) → kind_of head ≡ site.kind → Kept kinds.now before site.number → Leads words.now from
         ((node_kind head).rest (here_of script.now before site)) result }
 {
@@ -335,27 +341,28 @@ fn rest(script: &[u8], words: &[u32], kinds: &[u8], from: Reading, site: Site) -
         11 => externs(script, words, from, site),
         12 => record_node(script, words, from, site),
         13 => array(script, words, from, site),
-        _ => from,
+        _ => Ok(from),
     }
 }
 
 // The record of a node: its first word, its slot, and the rest by kind. `kinds`: of the nodes before it.
+#[tactic(auto, unfolding(ast::specs::Nodes::node, reader::specs::Reading::gave), using(reader::specs::Laws::by_rule))]
 pub fn node(
     script: &[u8],
     words: &[u32],
     kinds: &[u8],
-    from: Reading,
+    from: Place,
     sizes: Sizes,
     number: usize,
-) -> Reading
+) -> Result<Place, Fault>
     ensures { (before : List Outline) → Kept kinds.now before number → onward words.now from (node (counts_of script.now sizes) before number) ≡ gave
-        words.now (outline_from words.now (place_of from)) result }
+        words.now (outline_from words.now from.at) result }
 {
     let head = reader::next_word(words, from);
     let long = tok::payload(head);
-    let at = reader::owing(words, from, good_head(head), long.saturating_sub(3));
+    let at = reader::owing(words, from, good_head(head), long.saturating_sub(3))?;
     let slot = reader::next_word(words, at) as usize;
-    let at = reader::below(words, at, sizes.slots);
+    let at = reader::below(words, at, sizes.slots)?;
     let site = Site {
         nodes: sizes.nodes,
         types: sizes.types,

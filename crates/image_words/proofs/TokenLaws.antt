@@ -19,25 +19,25 @@ pub span-low : (w : ℕ) {s : Span} → s ≡ token_span w → s.start + s.len �
 span-low w e = rw e (omega arith)
 
 module _ (script : List ℕ) (w : ℕ) where
-  pub good_token-name : good_token script w ≡ good_name in_script script w
+  pub good_token_name : good_token script w ≡ good_name in_script script w
   unfolding good_token good_name good_payload reads_well token_bytes
-  good_token-name = refl
+  good_token_name = refl
 
   pub token-kind : (kind_of w ≡ 12 → ⊥) → false ≡ good_token script w
-  token-kind h = sym (good_token-name ∙ good_name-other in_script script w h)
+  token-kind h = sym (good_token_name ∙ good_name-other in_script script w h)
 
   module _ (k : kind_of w ≡ 12) where
     pub token-rest : (name_rest w ≡ 0 → ⊥) → false ≡ good_token script w
-    token-rest h = sym (good_token-name ∙ good_name_12 in_script script w k ∙ bad_good_payload in_script script w (λ g. h g.rest))
+    token-rest h = sym (good_token_name ∙ good_name_12 in_script script w k ∙ bad_good_payload in_script script w (λ g. h g.rest))
 
     pub token-home : (name_bit w ≡ in_script → ⊥) → false ≡ good_token script w
-    token-home h = sym (good_token-name ∙ good_name_12 in_script script w k ∙ bad_good_payload in_script script w (λ g. h g.home))
+    token-home h = sym (good_token_name ∙ good_name_12 in_script script w k ∙ bad_good_payload in_script script w (λ g. h g.home))
 
     pub token-past : {s : Span} → s ≡ token_span w → length script < s.start + s.len → false ≡ good_token script w
-    token-past e h = sym (good_token-name ∙ good_name_12 in_script script w k ∙ bad_good_payload in_script script w (λ g. omega (arith, g.lies, rw e at h)))
+    token-past e h = sym (good_token_name ∙ good_name_12 in_script script w k ∙ bad_good_payload in_script script w (λ g. omega (arith, g.lies, rw e at h)))
 
     pub token-reads :
         {s : Span} {bytes : List ℕ} → name_rest w ≡ 0 → name_bit w ≡ in_script → s ≡ token_span w → s.start + s.len ≤ length script → bytes ≡ token_bytes script w →
         well_formed bytes ≡ good_token script w
     unfolding token_bytes
-    token-reads r b e h t = ap well_formed t ∙ sym (good_token-name ∙ good_name_12 in_script script w k ∙ good_payload-reads in_script script w r b (rw e at h))
+    token-reads r b e h t = ap well_formed t ∙ sym (good_token_name ∙ good_name_12 in_script script w k ∙ good_payload-reads in_script script w r b (rw e at h))

@@ -1,38 +1,24 @@
 // Words of an image's records, read forward: names, numbers below others, lists of them (document 01, "Words").
 #![tactic(auto)]
 
-ghost use Rattle.std.specs.Prelude.{◌≡◌, ◌-◌};
+ghost use Rattle.std.specs.Prelude.{◌≡◌};
 ghost use Rattle.utf8.specs.Rfc3629.{range};
 ghost use Rattle.tok.specs.Name.{good_name, in_script};
 ghost use Rattle.tok.specs.Reader.{word, below, many};
 ghost use Rattle.reader.specs.Reading.{onward, gave, next_word};
 ghost use Rattle.image_laws.proofs.RecordLaws.{pair_rule};
-ghost use Rattle.image_words.specs.Leads.{Leads, is_fault};
+ghost use Rattle.image_words.specs.Leads.{Leads};
 ghost use Rattle.image_words.specs.Token.{good_token};
 
-use reader::Reading;
+use reader::{Fault, Place};
 
 // Numbers.
-
-// The difference, or 0.
-pub fn less(a: usize, b: usize) -> usize
-    ensures { result ≡ a - b }
-{
-    a.saturating_sub(b)
-}
 
 // Whether a number lies from `low` to `high`.
 pub fn between(low: usize, high: usize, n: usize) -> bool
     ensures { result ≡ range low high n }
 {
     low <= n && n <= high
-}
-
-// Whether a fault has ended a reading.
-pub fn stopped(from: Reading) -> bool
-    ensures { result ≡ is_fault from }
-{
-    matches!(from, Reading::Fault(_))
 }
 
 // One word, and lists.
@@ -58,7 +44,8 @@ fn good_token(script: &[u8], w: u32) -> bool
 }
 
 // A name or token of the script text.
-pub fn token(script: &[u8], words: &[u32], from: Reading) -> Reading
+#[tactic(auto, unfolding(tok::specs::Name::good_name), using(reader::specs::Laws::by_rule, crate::proofs::TokenLaws::good_token_name))]
+pub fn token(script: &[u8], words: &[u32], from: Place) -> Result<Place, Fault>
     ensures { onward words.now from (word (good_name in_script script.now)) ≡ gave words.now (next_word words.now from) result }
 {
     let w = reader::next_word(words, from);
@@ -66,44 +53,41 @@ pub fn token(script: &[u8], words: &[u32], from: Reading) -> Reading
 }
 
 // n numbers below `most`.
-pub fn numbers(words: &[u32], from: Reading, n: usize, most: usize) -> Reading
+pub fn numbers(words: &[u32], from: Place, n: usize, most: usize) -> Result<Place, Fault>
     ensures { Leads words.now from (many n (below most)) result }
 {
     let mut to = from;
     for _ in 0..n {
-        if stopped(to) {
-            return to;
-        }
-        to = reader::below(words, to, most);
+        to = reader::below(words, to, most)?;
     }
-    to
+    Ok(to)
 }
 
 // n pairs of a name and a number below `most`.
-pub fn pairs(script: &[u8], words: &[u32], from: Reading, n: usize, most: usize) -> Reading
+pub fn pairs(
+    script: &[u8],
+    words: &[u32],
+    from: Place,
+    n: usize,
+    most: usize,
+) -> Result<Place, Fault>
     ensures { Leads words.now from (many n (pair_rule script.now most)) result }
 {
     let mut to = from;
     for _ in 0..n {
-        if stopped(to) {
-            return to;
-        }
-        let at = token(script, words, to);
-        to = reader::below(words, at, most);
+        let at = token(script, words, to)?;
+        to = reader::below(words, at, most)?;
     }
-    to
+    Ok(to)
 }
 
 // n names.
-pub fn names(script: &[u8], words: &[u32], from: Reading, n: usize) -> Reading
+pub fn names(script: &[u8], words: &[u32], from: Place, n: usize) -> Result<Place, Fault>
     ensures { Leads words.now from (many n (word (good_name in_script script.now))) result }
 {
     let mut to = from;
     for _ in 0..n {
-        if stopped(to) {
-            return to;
-        }
-        to = token(script, words, to);
+        to = token(script, words, to)?;
     }
-    to
+    Ok(to)
 }

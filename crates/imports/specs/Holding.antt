@@ -1,14 +1,14 @@
 -- One more package of the library held. Laws of it. Assumes nothing.
-use Rattle.std.specs.Prelude.{ℕ, zero, suc, ◌+◌, ◌-◌, ◌*◌, ◌≤◌, ◌<◌, ◌≡◌, refl, Bool, true, false, ◌&&◌, List, [], ◌∷◌, length, get_or, set, eqb, ltb}
-use Rattle.std.proofs.Common.{sym, ap, ◌∙◌, arith, length-set, eqb-true, ltb-true, ltb-false}
+use Rattle.std.specs.Prelude.{ℕ, ◌+◌, ◌-◌, ◌≤◌, ◌<◌, ◌≡◌, refl, Bool, true, false, List, [], ◌∷◌, length, get_or, set, eqb, ltb}
+use Rattle.std.proofs.Common.{ap, ◌∙◌, arith, length-set, eqb-true, ltb-true, ltb-false}
 use Rattle.std.proofs.Math.Bool.{and-eq-true_iff}
-use Rattle.std.proofs.Math.Option.{Option, none, some, none-ne-some}
+use Rattle.std.proofs.Math.Option.{some, none-ne-some}
 use Rattle.std.proofs.Math.ListN.{get_or-eq_default}
 use Rattle.std.proofs.lemmas.List.{take-set-le}
 use Rattle.tok.specs.Word.{kind_of}
 use Rattle.tok.specs.Text.{Texts, name_bytes, same_bytes}
-use Rattle.tok.specs.Step.{◌>>=◌, ◌>>◌}
-use Rattle.tok.specs.Name.{good_name, good_payload, in_library}
+use Rattle.tok.specs.Step.{◌>>◌}
+use Rattle.tok.specs.Name.{good_name}
 use Rattle.library.specs.Each.{Each}
 use Rattle.library.specs.Pool.{Pool}
 use Rattle.library.specs.Package.{Package, packages_of, find_package}
@@ -83,12 +83,6 @@ module _ {T : Texts} {words : List ℕ} (fine : LibraryFine T words) where
 module _ {st : State} {e : List ℕ} (free : Free 1 st e) where
   pub held-near : held_end e st.held st.packages ≤ 16384
   held-near = omega (arith, reach-end e st.packages st.held, free.ends)
-
-  pub some-room : 0 < st.held
-  some-room = omega (arith, free.between)
-
-  pub few-packages : st.packages ≤ 8192
-  few-packages = omega (arith, free.few)
 
   below : st.held - 1 < length e
   below = omega (arith, held_low free, free.long, free.between)

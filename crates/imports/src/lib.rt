@@ -10,12 +10,12 @@ ghost use Rattle.state.specs.Context.{ctx};
 ghost use Rattle.state.specs.World.{More};
 ghost use Rattle.visit.specs.Whole.{Lent, lent};
 ghost use Rattle.visit.specs.Within.{Visits};
-ghost use Rattle.visit.specs.Walks.{Walks};
 ghost use Rattle.imports.specs.Holding.{one_held, CanHold, CanHoldAll, import_rule};
 
+use rules::Answer;
 use scope::Held;
 use tok::Texts;
-use visit::{State, Visit, Walked};
+use visit::{State, Visit};
 
 // The word of Void.
 const VOID_WORD: u32 = 0x1000_0000;
@@ -42,39 +42,27 @@ pub fn import_one(
     st: State,
     n: u32,
     path: u32,
-) -> Walked
+) -> Visit<()>
     requires { CanHold texts.now words.now st scratch.old }
     ensures { let W : List ℕ = words.now in
         ((v : ℕ) (s f t : List ℕ) (o : More) →
         let b : Lent = lent s f t diagnostics.old messages.old scratch.old o in
         let b' : Lent = lent s f t diagnostics.new messages.new scratch.new o in
-        Walks (import_one (ctx texts.now (packages_of W) v) n path) 1 0 W st b b' result) }
+        Visits (import_one (ctx texts.now (packages_of W) v) n path) 1 0 W st b b' result) }
 {
     let held = scope::find_held(texts, words, &scratch[..], st.held, st.packages, path);
     let Held::Nothing = held else {
-        return Walked::On(st);
+        return Ok(((), st));
     };
     let name = tok::name_bytes(texts, path);
-    let found = library::find_package(texts, words, name);
-    match found {
-        Some(at) => {
-            operators::store(scratch, st.held - 1, at as u32);
-            return Walked::On(one_held(st));
-        }
-        None => {
-            let used = st.used;
-            let counts = used.told;
-            let free = err_text::first_free(messages, counts);
-            let none = err_names::no_import(
-                diagnostics,
-                &mut messages[free..],
-                counts,
-                texts,
-                path,
-            );
-            return visit::went_on(st, state::told(n, used, none));
-        }
-    }
+    let Some(at) = library::find_package(texts, words, name) else {
+        let counts = st.used.told;
+        let free = err_text::first_free(messages, counts);
+        let none = err_names::no_import(diagnostics, &mut messages[free..], counts, texts, path);
+        return visit::answered(st, state::told(n, st.used, none, ()));
+    };
+    operators::store(scratch, st.held - 1, at as u32);
+    Ok(((), one_held(st)))
 }
 
 // All paths, of which `count` stand in the image from word `at` on: 25 where there is none.
@@ -90,31 +78,26 @@ pub fn import_all(
     token: u32,
     at: usize,
     count: usize,
-) -> Walked
+) -> Visit<()>
     requires { CanHoldAll texts.now words.now st scratch.old at count }
     ensures { let W : List ℕ = words.now in
         ((v : ℕ) (s f t : List ℕ) (o : More) →
         let b : Lent = lent s f t diagnostics.old messages.old scratch.old o in
         let b' : Lent = lent s f t diagnostics.new messages.new scratch.new o in
-        Walks (import_all (ctx texts.now (packages_of W) v) n token (words_from image.now at count)) count 0 W st b b' result) }
+        Visits (import_all (ctx texts.now (packages_of W) v) n token (words_from image.now at count)) count 0 W st b b' result) }
 {
     if count == 0 {
-        let used = st.used;
-        let counts = used.told;
+        let counts = st.used.told;
         let free = err_text::first_free(messages, counts);
         let none = err_names::empty_import(diagnostics, &mut messages[free..], counts, token);
-        return visit::went_on(st, state::told(n, used, none));
+        return visit::answered(st, state::told(n, st.used, none, ()));
     }
     let mut after = st;
     for k in 0..count {
         let path = tok::word_at(image, at + k);
-        let one = import_one(diagnostics, messages, scratch, texts, words, after, n, path);
-        let Walked::On(next) = one else {
-            return one;
-        };
-        after = next;
+        (_, after) = import_one(diagnostics, messages, scratch, texts, words, after, n, path)?;
     }
-    Walked::On(after)
+    Ok(((), after))
 }
 
 // Node::Import: its paths, and its slot is Void.
@@ -132,7 +115,7 @@ pub fn import_node(
     token: u32,
     at: usize,
     count: usize,
-) -> Visit
+) -> Visit<Answer>
     requires { CanHoldAll texts.now words.now st scratch.old at count }
     ensures { let W : List ℕ = words.now in
         ((v : ℕ) (f t : List ℕ) (o : More) →
@@ -140,7 +123,7 @@ pub fn import_node(
         let b' : Lent = lent slots.new f t diagnostics.new messages.new scratch.new o in
         Visits (import_rule (ctx texts.now (packages_of W) v) n slot token (words_from image.now at count)) count 0 W st b b' result) }
 {
-    let all = import_all(
+    let (_, after) = import_all(
         diagnostics,
         messages,
         scratch,
@@ -152,14 +135,7 @@ pub fn import_node(
         token,
         at,
         count,
-    );
-    match all {
-        Walked::Refused(number, place) => {
-            return Visit::Refused(number, place);
-        }
-        Walked::On(after) => {
-            operators::store(slots, tok::wide(slot), VOID_WORD);
-            return Visit::Known(slot, after);
-        }
-    }
+    )?;
+    let void = operators::set_known(slots, after.used, slot, VOID_WORD);
+    visit::answered(after, void)
 }

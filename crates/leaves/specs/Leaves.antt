@@ -1,22 +1,21 @@
 -- A node below which nothing is visited: what its rule asks for, and one law for each kind. Assumes nothing.
-use Rattle.std.specs.Prelude.{ℕ, ◌+◌, ◌-◌, ◌*◌, ◌≤◌, ◌<◌, ◌≡◌, refl, List, [], length, get_or}
-use Rattle.std.proofs.Common.{sym, ◌∙◌, arith}
+use Rattle.std.specs.Prelude.{ℕ, ◌+◌, ◌-◌, ◌≤◌, ◌<◌, ◌≡◌, refl, List, length, get_or}
+use Rattle.std.proofs.Common.{◌∙◌, arith}
 use Rattle.std.proofs.Math.Path.{ap}
 use Rattle.tok.specs.Text.{Texts}
 use Rattle.tok.specs.Word.{kind_of, payload_of, word_of}
 use Rattle.library.specs.Package.{packages_of}
 use Rattle.library.specs.Accepted.{LibraryFine}
-use Rattle.ast.specs.Image.{word_at, record_length, slot_count}
-use Rattle.ast.specs.Node.{Node, Atom, Ident, Import, Extern, ExternFn, words_from, externs_from, read_atom, read_ident, read_import, read_extern, tree_of}
-use Rattle.rules.specs.World.{Ctx}
+use Rattle.ast.specs.Image.{record_length, slot_count}
+use Rattle.ast.specs.Node.{words_from, externs_from, tree_of}
+use Rattle.rules.specs.declared.Answer.{Answer}
 use Rattle.rules.specs.Steps.{set_known}
 use Rattle.rules.specs.Rules.{ident, node}
 use Rattle.state.specs.Context.{ctx}
 use Rattle.places.specs.NodesAt.{NodeReady, record_room, node-atom, words-atom, node-ident, node_import, words_import, node-extern, words-extern}
 use Rattle.room_laws.specs.Room.{room, rows, extern_words}
 use Rattle.visit.specs.declared.State.{State}
-use Rattle.visit.specs.declared.Visit.{Visit}
-use Rattle.visit.specs.Whole.{Lent}
+use Rattle.visit.specs.Whole.{Lent, Visit}
 use Rattle.visit.specs.Within.{Visits}
 use Rattle.visit.specs.Free.{Free, free-top}
 use Rattle.imports.specs.Holding.{import_rule, CanHoldAll}
@@ -81,7 +80,7 @@ module _ {T : Texts} {image places words : List ℕ} {n : ℕ} {st : State} {scr
 -- ── The rule of each kind ──
 
 module _ (T : Texts) {image places : List ℕ} (words : List ℕ) {n : ℕ} (is : NodeReady image places n) {at h k : ℕ} (e : at ≡ get_or places n 0) (eh : h ≡ get_or image at 0) (ek : k ≡ kind_of h)
-    {st : State} {b b' : Lent} {v : Visit} where
+    {st : State} {b b' : Lent} {v : Visit Answer} where
   pub atom-visited : {slot w t : ℕ} → k ≡ 0 → slot ≡ get_or image (at + 1) 0 → w ≡ get_or image (at + 3) 0 → t ≡ word_of w 0 → Visits (set_known slot t) 0 0 words st b b' v → NodeVisited T image words n st b b' v
   unfolding node room rows
   atom-visited q es ew et x = rw (node-atom is e eh ek q, ← es, ← ew, ← et) x

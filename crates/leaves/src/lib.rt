@@ -8,6 +8,7 @@ ghost use Rattle.visit.specs.Whole.{Lent, lent};
 ghost use Rattle.walking.specs.Visited.{NodeVisited};
 ghost use Rattle.leaves.specs.Leaves.{LeafReady};
 
+use rules::Answer;
 use tok::{Texts, kind, payload, word_at};
 use visit::{State, Visit};
 
@@ -38,7 +39,7 @@ pub fn leaf(
     places: &[u16],
     st: State,
     n: u32,
-) -> Visit
+) -> Visit<Answer>
     requires { LeafReady texts.now image.now places.now words.now n st scratch.old }
     ensures { ((f : List ℕ) (o : More) →
         let b : Lent = lent slots.old f types.old diagnostics.old messages.old scratch.old o in

@@ -5,108 +5,110 @@ use mathlib.Core.Bool.{Bool}
 use mathlib.Core.List.{List}
 use native.Mathlib.Omega.{arith}
 use borrow.Author.Tests.{lt-ltb, le-ltb}
+use Rattle.std.specs.Prelude.{Result, Ok, Err}
 use Rattle.tok.specs.Text.{texts_of}
-use Rattle.tok.specs.Name.{good_name, in_library}
+use Rattle.tok.specs.Step.{◌>>=◌, return}
 use Rattle.tok.specs.Reader.{word}
-use Rattle.reader.specs.declared.Reading.{Reading}
-use Rattle.reader.specs.declared.Reading.TheVariants.{Fault}
+use Rattle.reader.specs.declared.Place.{Place}
+use Rattle.reader.specs.declared.Fault.{Fault}
 use Rattle.reader.specs.Reading.{next_word, onward, gave}
-use Rattle.reader.specs.Laws.{by-rule, onward-fault, onward-return, onward_then}
+use Rattle.reader.specs.Laws.{owed}
 use Rattle.library.specs.Pool.{Pool, pool_at, good_type, name, fields, good_pool_word, pairs_after, pool_from}
 
--- a word whose rule was tried
-pub word-by : (rule : ℕ → Bool) (words : List ℕ) (from r : Reading) (w : ℕ) (good : Bool) → w ≡ next_word words from → good ≡ rule w
-    → onward words from (word (λ _. good)) ≡ gave words (next_word words from) r → onward words from (word rule) ≡ gave words (next_word words from) r
-word-by rule words from r w good e f g = by-rule rule (λ _. 0) words from good 0 (sym (f ∙ ap rule e)) refl ∙ g
+-- ── The fields: k of n are read ──
 
-module _ (words : List ℕ) (p : Pool) where
+module _ (p : Pool) (n k i : ℕ) where
   -- one pair, then those after it
-  fields-pair : (n i : ℕ) (c d e : Reading) (a b : ℕ) → onward words c (name p) ≡ gave words a d → onward words d (word (good_type p (i + 1))) ≡ gave words b e
-      → onward words c (fields p (suc n) i) ≡ onward words e (fields p n (i + 2))
+  pub fields_some : k < n → fields p (n - k) (i + 2 * k) ≡ (do
+    _ ← name p
+    _ ← word (good_type p (i + 2 * k + 1))
+    fields p (n - (k + 1)) (i + 2 * (k + 1)))
   unfolding fields
-  fields-pair n i c d e a b f g = onward_then words c d _ _ a f ∙ onward_then words d e _ _ b g
+  fields_some h =
+      let s : n - k ≡ suc (n - (k + 1)) = omega arith in
+      let m : i + 2 * (k + 1) ≡ i + 2 * k + 2 = omega arith in
+      rw (s, m) refl
 
-  fields-none : (i : ℕ) (c : Reading) → onward words c (fields p 0 i) ≡ gave words i c
+  pub fields_none : n ≤ k → k ≤ n → fields p (n - k) (i + 2 * k) ≡ return (i + 2 * n)
   unfolding fields
-  fields-none i c = onward-return words c i
-
--- The loop over the fields: `left` of them are left, the next at index `at`.
-pub record FieldsLeft (library words pool : List ℕ) (n i : ℕ) (from c : Reading) (left at : ℕ) : Type 0 where
-  pub place : at + 2 * left ≡ i + 2 * n
-  pub rest : (script : List ℕ) (size : ℕ)
-      → onward words from (fields (pool_at (texts_of script library) size pool) n i) ≡ onward words c (fields (pool_at (texts_of script library) size pool) left at)
-
-module _ {library words pool : List ℕ} {n i : ℕ} {from : Reading} where
-  pub fields-begin : {left at : ℕ} → left ≡ n → at ≡ i → FieldsLeft library words pool n i from from left at
-  fields-begin e f = record { place = omega arith; rest = λ s z. rw (e, f) refl }
-
-  module _ {c : Reading} {left at : ℕ} (h : FieldsLeft library words pool n i from c left at) where
-    pub fields-turn : {left' at' : ℕ} (d e : Reading) (a b : ℕ) → left ≡ suc left' → at' ≡ at + 2 → onward words c (word (good_name in_library library)) ≡ gave words a d
-        → ((script : List ℕ) (size : ℕ) → onward words d (word (good_type (pool_at (texts_of script library) size pool) (at + 1))) ≡ gave words b e)
-        → FieldsLeft library words pool n i from e left' at'
-    fields-turn {left'} d e a b s m f g = record {
-      place = omega (arith, h.place);
-      rest = λ t z.
-          h.rest t z ∙ ap (λ k. onward words c (fields (pool_at (texts_of t library) z pool) k at)) s
-          ∙ rw m (fields-pair words _ left' at c d e a b f (g t z));
-    }
-
-    pub fields-ended : (place : ℕ) → c ≡ Fault place → (script : List ℕ) (size : ℕ)
-        → onward words from (fields (pool_at (texts_of script library) size pool) n i) ≡ gave words (i + 2 * n) c
-    fields-ended place e t z = h.rest t z ∙ rw e (onward-fault words _ place _)
-
-    pub fields-done : left ≤ 0 → (script : List ℕ) (size : ℕ) → onward words from (fields (pool_at (texts_of script library) size pool) n i) ≡ gave words (i + 2 * n) c
-    fields-done l t z =
-        let s : left ≡ 0 = omega arith in
-        let q : at ≡ i + 2 * n = omega (arith, h.place) in
-        h.rest t z ∙ rw (s, q) (fields-none words _ (i + 2 * n) c)
+  fields_none h g =
+      let s : n - k ≡ 0 = omega arith in
+      let m : k ≡ n = omega arith in
+      rw (s, m) refl
 
 -- ── The pool ──
 
-module _ (words : List ℕ) (p : Pool) where
-  pool-head : (turns i : ℕ) (c d e : Reading) (w j : ℕ) → i < p.size → onward words c (word (good_pool_word p i)) ≡ gave words w d
-      → onward words d (fields p (pairs_after w) (i + 1)) ≡ gave words j e → onward words c (pool_from p (suc turns) i) ≡ onward words e (pool_from p turns j)
-  unfolding pool_from
-  pool-head turns i c d e w j l f g = rw (lt-ltb i p.size l) (onward_then words c d _ _ w f ∙ onward_then words d e _ _ j g)
+module _ (words : List ℕ) (p : Pool) (turns i : ℕ) (l : i < p.size) (to : Place) (w : ℕ) where
+  abbrev Head : Result Place Fault → Type 0
+  Head r = onward words to (word (good_pool_word p i)) ≡ gave words w r
 
-  pool-none : (turns i : ℕ) (c : Reading) → p.size ≤ i → onward words c (pool_from p turns i) ≡ gave words tt c
-  unfolding pool_from
-  pool-none zero i c l = onward-return words c tt
-  pool-none (suc turns) i c l = rw (le-ltb i p.size l) (onward-return words c tt)
+  module _ (at : Place) (head : Head (Ok at)) (j : ℕ) where
+    pool_some : (next : Place) → onward words at (fields p (pairs_after w) (i + 1)) ≡ gave words j (Ok next)
+        → onward words to (pool_from p (suc turns) i) ≡ onward words next (pool_from p turns j)
+    unfolding pool_from gave
+    pool_some next f = rw (lt-ltb i p.size l, head, f) refl
+
+    fields_stop : (fault : Fault) → onward words at (fields p (pairs_after w) (i + 1)) ≡ gave words j (Err fault)
+        → onward words to (pool_from p (suc turns) i) ≡ gave words tt (Err fault)
+    unfolding pool_from gave
+    fields_stop fault f = rw (lt-ltb i p.size l, head, f) refl
+
+  head_stops : (fault : Fault) → Head (Err fault) → onward words to (pool_from p (suc turns) i) ≡ gave words tt (Err fault)
+  unfolding pool_from gave
+  head_stops fault f = rw (lt-ltb i p.size l, f) refl
+
+pool_none : (words : List ℕ) (p : Pool) (turns i : ℕ) (to : Place) → p.size ≤ i → onward words to (pool_from p turns i) ≡ gave words tt (Ok to)
+unfolding pool_from gave
+pool_none words p zero i to l = refl
+pool_none words p (suc turns) i to l = rw (le-ltb i p.size l) refl
 
 -- The loop over the pool: the next word is at index i, and no more than `turns` heads are left.
-pub record PoolLeft (library words pool : List ℕ) (size : ℕ) (from c : Reading) (i : ℕ) : Type 0 where
+pub record PoolLeft (library words pool : List ℕ) (size : ℕ) (from to : Place) (i : ℕ) : Type 0 where
   pub turns : ℕ
   pub enough : size ≤ i + turns
   pub rest : (script : List ℕ)
-      → onward words from (pool_from (pool_at (texts_of script library) size pool) size 0) ≡ onward words c (pool_from (pool_at (texts_of script library) size pool) turns i)
+      → onward words to (pool_from (pool_at (texts_of script library) size pool) turns i) ≡ onward words from (pool_from (pool_at (texts_of script library) size pool) size 0)
 
-module _ {library words pool : List ℕ} {size : ℕ} {from : Reading} where
+module _ {library words pool : List ℕ} {size : ℕ} {from : Place} where
   pub pool-begin : PoolLeft library words pool size from from 0
   pool-begin = record { turns = size; enough = omega arith; rest = λ s. refl }
 
-  module _ {c : Reading} {i : ℕ} (h : PoolLeft library words pool size from c i) where
-    pub pool-turn : (d e : Reading) (w : ℕ) (good : Bool) (n : ℕ) → i < size → w ≡ next_word words c
-        → ((script : List ℕ) → good ≡ good_pool_word (pool_at (texts_of script library) size pool) i w)
-        → onward words c (word (λ _. good)) ≡ gave words (next_word words c) d → n ≡ pairs_after w
-        → ((script : List ℕ) (z : ℕ) → onward words d (fields (pool_at (texts_of script library) z pool) n (i + 1)) ≡ gave words (i + 1 + 2 * n) e)
-        → PoolLeft library words pool size from e (i + (1 + 2 * n))
-    pool-turn d e w good n l ew eg f en g =
+  module _ {to : Place} {i : ℕ} (h : PoolLeft library words pool size from to i) where
+    -- the pool, beside a script
+    abbrev beside : List ℕ → Pool
+    beside script = pool_at (texts_of script library) size pool
+
+    from-here : (script : List ℕ) → i < size → onward words from (pool_from (beside script) size 0) ≡ onward words to (pool_from (beside script) (suc (h.turns - 1)) i)
+    from-here script l =
         let s : h.turns ≡ suc (h.turns - 1) = omega (arith, h.enough) in
-        let j : i + 1 + 2 * n ≡ i + (1 + 2 * n) = omega arith in
-        record {
-          turns = h.turns - 1;
-          enough = omega (arith, h.enough);
-          rest = λ t.
-              h.rest t
-              ∙ ap (λ k. onward words c (pool_from (pool_at (texts_of t library) size pool) k i)) s
-              ∙ pool-head words _ (h.turns - 1) i c d e w (i + (1 + 2 * n)) l
-              (word-by _ words c d w good ew (eg t) f ∙ ap (λ v. gave words v d) (sym ew)) (rw (← en, ← j) (g t size));
-        }
+        sym (rw s at (h.rest script))
 
-    module _ (count : ℕ) (es : size ≡ count) (script : List ℕ) where
-      pub pool-ended : (place : ℕ) → c ≡ Fault place → onward words from (pool_from (pool_at (texts_of script library) count pool) count 0) ≡ gave words tt c
-      pool-ended place e = rw (← es) (h.rest script ∙ rw e (onward-fault words _ place tt))
+    module _ (l : i < size) (w : ℕ) (good : Bool) (ew : w ≡ next_word words to) (eg : (script : List ℕ) → good ≡ good_pool_word (beside script) i w) where
+      head-by : (script : List ℕ) (r : Result Place Fault) → onward words to (word (λ _. good)) ≡ gave words (next_word words to) r
+          → onward words to (word (good_pool_word (beside script) i)) ≡ gave words w r
+      head-by script r read =
+          owed (good_pool_word (beside script) i) (λ _. 0) words to r w 0 good ew (eg script) refl read
 
-      pub pool-done : size ≤ i → onward words from (pool_from (pool_at (texts_of script library) count pool) count 0) ≡ gave words tt c
-      pool-done l = rw (← es) (h.rest script ∙ pool-none words _ h.turns i c l)
+      pub pool-head_stops : (fault : Fault) → onward words to (word (λ _. good)) ≡ gave words (next_word words to) (Err fault)
+          → (script : List ℕ) → onward words from (pool_from (beside script) size 0) ≡ gave words tt (Err fault)
+      pool-head_stops fault read script = from-here script l ∙ head_stops words (beside script) (h.turns - 1) i l to w fault (head-by script (Err fault) read)
+
+      module _ (at : Place) (read : onward words to (word (λ _. good)) ≡ gave words (next_word words to) (Ok at)) (n : ℕ) (en : n ≡ pairs_after w) where
+        pub pool-fields_stop : (fault : Fault) → ((script : List ℕ) (z : ℕ) → onward words at (fields (pool_at (texts_of script library) z pool) n (i + 1)) ≡ gave words (i + 1 + 2 * n) (Err fault))
+            → (script : List ℕ) → onward words from (pool_from (beside script) size 0) ≡ gave words tt (Err fault)
+        pool-fields_stop fault g script =
+            from-here script l ∙ fields_stop words (beside script) (h.turns - 1) i l to w at (head-by script (Ok at) read) (i + 1 + 2 * n) fault (ap (λ k. onward words at (fields (beside script) k (i + 1))) (sym en) ∙ g script size)
+
+        pub pool-turn : (next : Place) → ((script : List ℕ) (z : ℕ) → onward words at (fields (pool_at (texts_of script library) z pool) n (i + 1)) ≡ gave words (i + 1 + 2 * n) (Ok next))
+            → PoolLeft library words pool size from next (i + (1 + 2 * n))
+        pool-turn next g =
+            let j : i + (1 + 2 * n) ≡ i + 1 + 2 * n = omega arith in
+            record {
+              turns = h.turns - 1;
+              enough = omega (arith, h.enough);
+              rest = λ script.
+                  rw j (sym (from-here script l ∙ pool_some words (beside script) (h.turns - 1) i l to w at (head-by script (Ok at) read) (i + 1 + 2 * n) next (ap (λ k. onward words at (fields (beside script) k (i + 1))) (sym en) ∙ g script size)));
+            }
+
+    pub pool-done : size ≤ i → (script : List ℕ) → onward words from (pool_from (beside script) size 0) ≡ gave words tt (Ok to)
+    pool-done l script = sym (h.rest script) ∙ pool_none words (beside script) h.turns i to l

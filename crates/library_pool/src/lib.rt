@@ -8,7 +8,7 @@ ghost use Rattle.tok.specs.Reader.{word};
 ghost use Rattle.reader.specs.Reading.{next_word, onward, gave};
 ghost use Rattle.library.specs.Pool.{pool_at, good_plain, good_wrapped, good_record, good_named, good_type, fields, good_pool_word, pairs_after, pool_from};
 
-use reader::Reading;
+use reader::{Fault, Place};
 
 // Type words.
 
@@ -66,7 +66,8 @@ pub fn good_type(library: &[u8], pool: &[u32], own: usize, w: u32) -> bool
 // Reading.
 
 // A name of the library.
-pub fn name(library: &[u8], words: &[u32], from: Reading) -> Reading
+#[tactic(auto, using(reader::specs::Laws::by_rule))]
+pub fn name(library: &[u8], words: &[u32], from: Place) -> Result<Place, Fault>
     ensures { onward words.now from (word (good_name in_library library.now)) ≡ gave words.now (next_word words.now from) result }
 {
     let w = reader::next_word(words, from);
@@ -74,7 +75,14 @@ pub fn name(library: &[u8], words: &[u32], from: Reading) -> Reading
 }
 
 // A type word that refers below `own`.
-fn type_word(library: &[u8], words: &[u32], pool: &[u32], own: usize, from: Reading) -> Reading
+#[tactic(auto, using(reader::specs::Laws::by_rule))]
+fn type_word(
+    library: &[u8],
+    words: &[u32],
+    pool: &[u32],
+    own: usize,
+    from: Place,
+) -> Result<Place, Fault>
     ensures { (script : List ℕ) (size : ℕ) → onward words.now from (word (good_type (pool_at (texts_of script library.now) size pool.now) own))
         ≡ gave words.now (next_word words.now from) result }
 {
@@ -83,20 +91,25 @@ fn type_word(library: &[u8], words: &[u32], pool: &[u32], own: usize, from: Read
 }
 
 // n pairs of a field list, the first at pool index i: a name and a type word each.
-fn fields(library: &[u8], words: &[u32], pool: &[u32], n: usize, i: usize, from: Reading) -> Reading
+#[tactic(auto, unfolding(reader::specs::Reading::gave), using(crate::proofs::PoolWays::fields_some, crate::proofs::PoolWays::fields_none))]
+fn fields(
+    library: &[u8],
+    words: &[u32],
+    pool: &[u32],
+    n: usize,
+    i: usize,
+    from: Place,
+) -> Result<Place, Fault>
     requires { i + 2 * n < 2 ^ 40 }
     ensures { (script : List ℕ) (size : ℕ) → onward words.now from (fields (pool_at (texts_of script library.now) size pool.now) n i)
         ≡ gave words.now (i + 2 * n) result }
 {
-    let mut c = from;
+    let mut to = from;
     for k in 0..n {
-        let Reading::At(_, _) = c else {
-            return c;
-        };
-        let d = name(library, words, c);
-        c = type_word(library, words, pool, i + 2 * k + 1, d);
+        let at = name(library, words, to)?;
+        to = type_word(library, words, pool, i + 2 * k + 1, at)?;
     }
-    c
+    Ok(to)
 }
 
 // A field count whose pairs all stand in the pool, or a type word.
@@ -124,22 +137,25 @@ fn pairs_after(w: u32) -> usize
 }
 
 // The pool of `count` words, from its first word to its last.
-pub fn pool_words(library: &[u8], words: &[u32], pool: &[u32], count: u32, from: Reading) -> Reading
+pub fn pool_words(
+    library: &[u8],
+    words: &[u32],
+    pool: &[u32],
+    count: u32,
+    from: Place,
+) -> Result<Place, Fault>
     ensures { (script : List ℕ) → onward words.now from (pool_from (pool_at (texts_of script library.now) count pool.now) count 0)
         ≡ gave words.now tt result }
 {
     let size = count as usize;
-    let mut c = from;
+    let mut to = from;
     let mut i = 0;
     while i < size {
-        let Reading::At(_, _) = c else {
-            return c;
-        };
-        let w = reader::next_word(words, c);
-        let d = reader::word(words, c, good_pool_word(library, pool, size, i, w));
+        let w = reader::next_word(words, to);
+        let at = reader::word(words, to, good_pool_word(library, pool, size, i, w))?;
         let n = pairs_after(w);
-        c = fields(library, words, pool, n, i + 1, d);
+        to = fields(library, words, pool, n, i + 1, at)?;
         i += 1 + 2 * n;
     }
-    c
+    Ok(to)
 }

@@ -5,7 +5,7 @@
 ghost use Rattle.std.specs.Prelude.{◌≡◌, true, false, ◌&&◌, List, [], map, ℕ, ◌+◌, ◌*◌, length, get_or, take, drop};
 ghost use Rattle.tok.specs.Text.{texts_of};
 ghost use Rattle.tok.specs.Reader.{many};
-ghost use Rattle.reader.specs.Reading.{place_of, onward, gave, offending};
+ghost use Rattle.reader.specs.Reading.{onward, gave, offending};
 ghost use Rattle.library.specs.Pool.{pool_at, pool_in};
 ghost use Rattle.library.specs.Slots.{return_stands};
 ghost use Rattle.library.specs.SlotMarks.{types_in};
@@ -17,7 +17,7 @@ ghost use Rattle.library.specs.PackageRecords.{any_function, same_group, good_gr
 ghost use Rattle.library.specs.LibraryFault.{library_fault};
 ghost use Rattle.library_read.specs.Ready.{Ready, Ordered, Placed};
 
-use reader::{Fault, Reading};
+use reader::{Fault, Place};
 use tok::Texts;
 
 // Groups and flags.
@@ -87,21 +87,22 @@ fn good_signature_type(library: &[u8], pool: &[u32], sums: &[u16], flag: u32, w:
 }
 
 // An argument: its name and its type.
+#[tactic(auto, unfolding(library::specs::PackageRecords::argument, reader::specs::Reading::gave))]
 fn argument(
     library: &[u8],
     words: &[u32],
     pool: &[u32],
     sums: &[u16],
     flag: u32,
-    from: Reading,
-) -> Reading
+    from: Place,
+) -> Result<Place, Fault>
     ensures { (script : List ℕ) → Ready (texts_of script library.now) pool.now sums.now
         → onward words.now from (argument (pool_in (texts_of script library.now) pool.now) flag)
-        ≡ gave words.now (param (get_or words.now (place_of from) 0) (get_or words.now (place_of from + 1) 0)) result }
+        ≡ gave words.now (param (get_or words.now from.at 0) (get_or words.now (from.at + 1) 0)) result }
 {
-    let c = library_pool::name(library, words, from);
-    let w = reader::next_word(words, c);
-    reader::word(words, c, good_signature_type(library, pool, sums, flag, w))
+    let at = library_pool::name(library, words, from)?;
+    let w = reader::next_word(words, at);
+    reader::word(words, at, good_signature_type(library, pool, sums, flag, w))
 }
 
 // All arguments.
@@ -112,20 +113,17 @@ fn arguments(
     sums: &[u16],
     flag: u32,
     count: u32,
-    from: Reading,
-) -> Reading
+    from: Place,
+) -> Result<Place, Fault>
     ensures { (script : List ℕ) → Ready (texts_of script library.now) pool.now sums.now
         → onward words.now from (many count (argument (pool_in (texts_of script library.now) pool.now) flag))
-        ≡ gave words.now (params_from words.now (place_of from) count) result }
+        ≡ gave words.now (params_from words.now from.at count) result }
 {
-    let mut c = from;
+    let mut to = from;
     for _ in 0..count {
-        let Reading::At(_, _) = c else {
-            return c;
-        };
-        c = argument(library, words, pool, sums, flag, c);
+        to = argument(library, words, pool, sums, flag, to)?;
     }
-    c
+    Ok(to)
 }
 
 // The words of `count` pairs from a place on, as far as the list goes.
@@ -172,36 +170,26 @@ fn function_record(
     start: usize,
     k: usize,
     kept: bool,
-    from: Reading,
-) -> Reading
+    from: Place,
+) -> Result<Place, Fault>
     ensures { (Ready texts.now pool.now sums.now → Ordered texts.now words.now pool.now order.now n
-        → (kept ≡ true → GroupFine (pool_in texts.now pool.now) (functions_from words.now start k) (function_at words.now (place_of from)))
+        → (kept ≡ true → GroupFine (pool_in texts.now pool.now) (functions_from words.now start k) (function_at words.now from.at))
         → onward words.now from (function_record (pool_in texts.now pool.now) (functions_from words.now start k))
-        ≡ gave words.now (function_at words.now (place_of from)) result) }
+        ≡ gave words.now (function_at words.now from.at) result) }
 {
     let group = reader::next_word(words, from);
-    let c = reader::word(words, from, good_group(texts, words, start, k, kept, group));
-    let flag = reader::next_word(words, c);
-    let d = reader::word(
-        words,
-        c,
-        good_flag(texts, words, start, k, kept, group, flag),
-    );
-    let count = reader::next_word(words, d);
-    let e = reader::owing(words, d, true, 2 * count as usize);
-    let f = arguments(texts.library, words, pool, sums, flag, count, e);
-    let Reading::At(_, _) = f else {
-        return f;
-    };
-    let ret = reader::next_word(words, f);
-    let first = reader::place(e);
-    let pairs = pairs_at(words, first, count);
-    let end = reader::place(f);
-    reader::word(
-        words,
-        f,
-        good_return(texts, pool, sums, order, n, flag, pairs, ret, first, end),
-    )
+    let good = good_group(texts, words, start, k, kept, group);
+    let at = reader::word(words, from, good)?;
+    let flag = reader::next_word(words, at);
+    let good = good_flag(texts, words, start, k, kept, group, flag);
+    let at = reader::word(words, at, good)?;
+    let count = reader::next_word(words, at);
+    let args = reader::owing(words, at, true, 2 * count as usize)?;
+    let end = arguments(texts.library, words, pool, sums, flag, count, args)?;
+    let w = reader::next_word(words, end);
+    let pairs = pairs_at(words, args.at, count);
+    let good = good_return(texts, pool, sums, order, n, flag, pairs, w, args.at, end.at);
+    reader::word(words, end, good)
 }
 
 // All functions of a package.
@@ -213,25 +201,21 @@ fn function_records(
     order: &[u16],
     n: usize,
     count: u32,
-    from: Reading,
-) -> Reading
+    from: Place,
+) -> Result<Place, Fault>
     ensures { (Ready texts.now pool.now sums.now → Ordered texts.now words.now pool.now order.now n
         → onward words.now from (function_records (pool_in texts.now pool.now) count [])
-        ≡ gave words.now (functions_from words.now (place_of from) count) result) }
+        ≡ gave words.now (functions_from words.now from.at count) result) }
 {
-    let Reading::At(start, _) = from else {
-        return from;
-    };
+    let start = from.at;
     let end = count as usize;
     let kept = library_groups::kept_up_to(texts, words, start, end);
-    let mut c = from;
+    let mut to = from;
     for k in 0..end {
-        let Reading::At(at, _) = c else {
-            return c;
-        };
-        c = function_record(texts, words, pool, sums, order, n, start, k, at < kept, c);
+        let known = to.at < kept;
+        to = function_record(texts, words, pool, sums, order, n, start, k, known, to)?;
     }
-    c
+    Ok(to)
 }
 
 // A package.
@@ -242,16 +226,16 @@ fn package_record(
     sums: &[u16],
     order: &[u16],
     n: usize,
-    from: Reading,
-) -> Reading
+    from: Place,
+) -> Result<Place, Fault>
     ensures { (Ready texts.now pool.now sums.now → Ordered texts.now words.now pool.now order.now n
         → onward words.now from (package_record (pool_in texts.now pool.now))
-        ≡ gave words.now (package_at words.now (place_of from)) result) }
+        ≡ gave words.now (package_at words.now from.at) result) }
 {
-    let c = library_pool::name(texts.library, words, from);
-    let count = reader::next_word(words, c);
-    let d = reader::owing(words, c, true, 4 * count as usize);
-    function_records(texts, words, pool, sums, order, n, count, d)
+    let at = library_pool::name(texts.library, words, from)?;
+    let count = reader::next_word(words, at);
+    let at = reader::owing(words, at, true, 4 * count as usize)?;
+    function_records(texts, words, pool, sums, order, n, count, at)
 }
 
 // All packages.
@@ -263,40 +247,35 @@ fn packages(
     order: &[u16],
     n: usize,
     count: u32,
-    from: Reading,
-) -> Reading
+    from: Place,
+) -> Result<Place, Fault>
     ensures { (Ready texts.now pool.now sums.now → Ordered texts.now words.now pool.now order.now n
         → onward words.now from (many count (package_record (pool_in texts.now pool.now)))
-        ≡ gave words.now (packages_from words.now (place_of from) count) result) }
+        ≡ gave words.now (packages_from words.now from.at count) result) }
 {
-    let mut c = from;
+    let mut to = from;
     for _ in 0..count {
-        let Reading::At(_, _) = c else {
-            return c;
-        };
-        c = package_record(texts, words, pool, sums, order, n, c);
+        to = package_record(texts, words, pool, sums, order, n, to)?;
     }
-    c
+    Ok(to)
 }
 
 // The library: pool length, package count, pool, packages, nothing after. Accepted, or the first offending word.
 pub fn library_fault(texts: &Texts, words: &[u32]) -> Result<(), Fault>
     ensures { library_fault texts.now words.now ≡ offending result }
 {
-    let c = reader::begin(texts.library, 2);
-    let size = reader::next_word(words, c);
-    let d = reader::owing(words, c, true, size as usize);
-    let count = reader::next_word(words, d);
-    let e = reader::owing(words, d, true, 2 * count as usize);
+    let at = reader::begin(texts.library, 2)?;
+    let size = reader::next_word(words, at);
+    let at = reader::owing(words, at, true, size as usize)?;
+    let count = reader::next_word(words, at);
+    let at = reader::owing(words, at, true, 2 * count as usize)?;
     let pool = library::pool(words);
-    let f = library_pool::pool_words(texts.library, words, pool, size, e);
-    let Reading::At(_, _) = f else {
-        return reader::conclude(f);
-    };
+    let at = library_pool::pool_words(texts.library, words, pool, size, at)?;
     let mut sums = [0u16; 8193];
     library_slots::slot_sums(pool, &mut sums);
     let mut order = [0u16; 8192];
     let n = library_slots::named_slots(texts, words, pool, &sums, &mut order);
-    let g = packages(texts, words, pool, &sums, &order, n, count, f);
-    reader::conclude(reader::ends(words, g))
+    let at = packages(texts, words, pool, &sums, &order, n, count, at)?;
+    reader::ends(words, at)?;
+    Ok(())
 }

@@ -1,3 +1,2 @@
--- The returns of the functions, and what a test of a turn shows.
+-- The returns of the functions.
 mod Returns
-pub mod Tested

@@ -1,13 +1,12 @@
 -- Node::Array put together of the visits of its members and its end: what each asks for, and one law for each way out of the code. Assumes
 -- nothing.
-use Rattle.std.specs.Prelude.{ℕ, ◌+◌, ◌*◌, ◌-◌, ◌<◌, ◌≤◌, ◌≡◌, refl, Bool, false, get_or}
+use Rattle.std.specs.Prelude.{ℕ, ◌+◌, ◌*◌, ◌-◌, ◌<◌, ◌≤◌, ◌≡◌, refl, Bool, false, get_or, Option, Some, None, Ok, Err}
 use Rattle.std.proofs.Common.{sym, ◌∙◌, arith}
 use Rattle.std.proofs.Math.Path.{ap}
-use Rattle.std.proofs.Math.Option.{Option, some}
 use mathlib.Core.List.{List, [], ◌++◌}
 use Rattle.tok.specs.Word.{kind_of, payload_of}
 use Rattle.tok.specs.Text.{Texts}
-use Rattle.tok.specs.Step.{next, return, ◌>>=◌}
+use Rattle.tok.specs.Step.{◌>>=◌}
 use Rattle.tok.specs.declared.Span.{Span}
 use Rattle.ast.specs.Image.{node_count, record_length}
 use Rattle.ast.specs.Node.{Nodes, Array, then, tree_of, nodes_from}
@@ -17,7 +16,7 @@ use Rattle.err.specs.Message.{empty_array}
 use Rattle.rules.specs.declared.Answer.{Answer}
 use Rattle.rules.specs.declared.Answer.TheVariants.{Poison}
 use Rattle.rules.specs.World.{Walk}
-use Rattle.rules.specs.Steps.{on_option, poison}
+use Rattle.rules.specs.Steps.{poison}
 use Rattle.rules.specs.Rules.{node, array, members, array_of}
 use Rattle.rules.specs.Visited.{visited_among}
 use Rattle.accepts.proofs.Fresh.{visited_from, Fresh, Apart, fresh-first, fresh-rest, member_apart}
@@ -26,79 +25,40 @@ use Rattle.room_laws.specs.Room.{room, rooms, rows, rows_all}
 use Rattle.onerun.specs.Claim.{AnswerOk}
 use Rattle.onerun.specs.Logic.{g_next, g_return}
 use Rattle.onerun.proofs.Scope.{Any}
+use Rattle.state.specs.declared.Refusal.{Refusal}
 use Rattle.visit.specs.declared.State.{State}
-use Rattle.visit.specs.declared.Visit.{Visit}
-use Rattle.visit.specs.declared.Visit.TheVariants as X
-use Rattle.visit.specs.Whole.{Lent, whole, visited}
-use Rattle.visit.specs.Within.{Within, within-then, within-most, Keeps, knows, poisons, refuses, Visits}
-use Rattle.visiting.specs.Then.{Came, Stopped, visits-most}
-use Rattle.visiting.specs.Leads.{Beginning, Whole, Leads, leads-then, leads-stop}
+use Rattle.visit.specs.Whole.{Lent, Visit, whole, visited}
+use Rattle.visit.specs.Within.{Visits}
+use Rattle.visiting.specs.Then.{visits-most}
+use Rattle.visiting.specs.Leads.{Beginning, Leads, leads-less, leads-then, leads-stop, leads-return}
 use Rattle.ready.specs.Ready.{walk_run, Ready, NodeVisit, node-ready}
-use Rattle.ready.specs.Passes.{Passes, ready-less, ready-then, ready-step, passes_answer, rule_passes}
+use Rattle.ready.specs.Passes.{Passes, ready-less, ready-then, ready-step, passes_answer, visit_passes}
 use Rattle.ready.specs.After.{after-node, member-gives}
 use Rattle.ready.specs.Parts.{nodes-turn}
 use Rattle.ready.specs.Unvisited.{array-fresh, nodes-fresh, visit-apart}
 use Rattle.walking.specs.Kinds.{Is}
 use Rattle.walking.specs.Visited.{ctx_in, NodeVisited, ClassVisit, nodes_at}
-use Rattle.members.specs.declared.Turn.{Turn}
-use Rattle.members.specs.declared.Turn.TheVariants as R
-use Rattle.members.specs.Turns.{turn_of, member_turn, turn_in, KeepsTurn, goes, ends, Turns, Ended, by_difference, by-refusal, ended_of, rest_of, members-turn}
+use Rattle.members.specs.Turns.{turn_of, member_turn, rest_of, members-turn}
 
--- ── What is left after a turn ──
+-- ── A turn ──
 
-after_turn : {r w : ℕ} {st st₁ : State} {b b₁ b₂ : Lent} {poisoned : Bool} {v : Visit} → KeepsTurn st b b₁ (R.On poisoned st₁) → Keeps r w st₁ b₁ b₂ v → Keeps r w st b b₂ v
-after_turn (goes p) (knows q) = knows (within-most (within-then p q) (omega arith) (omega arith))
-after_turn (goes p) (poisons q) = poisons (within-most (within-then p q) (omega arith) (omega arith))
-after_turn (goes p) refuses = refuses
-
-ended-keeps : {r w : ℕ} {st : State} {b b₁ : Lent} {v : Turn} → Ended v → KeepsTurn st b b₁ v → Keeps r w st b b₁ (ended_of v)
-unfolding ended_of
-ended-keeps by_difference (ends p) = poisons (within-most p (omega arith) (omega arith))
-ended-keeps by-refusal k = refuses
-
-ended-there : (library : List ℕ) (b : Lent) (f : Bool → Walk Answer) {v : Turn} → Ended v → next (turn_in library b v) (λ p. on_option p (return Poison) f) ≡ visited library b (ended_of v)
-unfolding turn_in ended_of on_option visited
-ended-there library b f by_difference = refl
-ended-there library b f by-refusal = refl
-
-module _ {o : Beginning} where
-  -- a rule that goes on as another does
-  leads_as : {m : Walk Answer} (m' : Walk Answer) {r w : ℕ} {st : State} {b : Lent} → m (whole o.library st b) ≡ m' (whole o.library st b) → Leads o m r w st b → Leads o m' r w st b
-  leads_as m' e l = record { onto = λ b' v x. l.onto b' v (record { step = e ∙ x.step; keeps = x.keeps }) }
-
-  leads-turn : {m : Walk (Option Bool)} (f : Option Bool → Walk Answer) {r w : ℕ} {st st₁ : State} {b b₁ : Lent} {v : Turn} {poisoned : Bool} → Leads o (◌>>=◌ m f) r w st b → Turns m o.library st b b₁ v → v ≡ R.On poisoned st₁
-      → Leads o (f (some poisoned)) r w st₁ b₁
-  unfolding turn_in
-  leads-turn {m} f {r} {w} {st} {st₁} {b} {b₁} {poisoned = poisoned} l x e = record { onto = λ b' v' y. l.onto b' v' (on (rw e at x) y) }
-    where
-      on : {b' : Lent} {v' : Visit} → Turns m o.library st b b₁ (R.On poisoned st₁) → Visits (f (some poisoned)) r w o.library st₁ b₁ b' v' → Visits (◌>>=◌ m f) r w o.library st b b' v'
-      on x y = record { step = ap (λ z. next z f) x.step ∙ y.step; keeps = after_turn x.keeps y.keeps }
-
-  turn-stops : {m : Walk (Option Bool)} (f : Bool → Walk Answer) {r w : ℕ} {st : State} {b b₁ : Lent} {v : Turn} → Leads o (◌>>=◌ m (λ p. on_option p (return Poison) f)) r w st b → Turns m o.library st b b₁ v → Ended v
-      → Whole o b₁ (ended_of v)
-  turn-stops f {b₁ = b₁} {v = v} l x s = l.onto b₁ (ended_of v) (record { step = ap (λ z. next z (λ p. on_option p (return Poison) f)) x.step ∙ ended-there o.library b₁ f s; keeps = ended-keeps s x.keeps })
+-- a rule that goes on as another does
+leads_as : {o : Beginning} {m : Walk Answer} (m' : Walk Answer) {r w : ℕ} {st : State} {b : Lent} → m (whole o.library st b) ≡ m' (whole o.library st b) → Leads o m r w st b → Leads o m' r w st b
+leads_as m' e l = record { onto = λ b' v x. l.onto b' v (record { step = e ∙ x.step; keeps = x.keeps }) }
 
 -- what a visit asks for holds again after a turn
-turn-within : {st st₁ : State} {b b₁ : Lent} {poisoned : Bool} → KeepsTurn st b b₁ (R.On poisoned st₁) → Within 0 0 st b st₁ b₁
-turn-within (goes p) = p
-
-turn_passes : {T : Texts} {image places words : List ℕ} {r w : ℕ} {st st₁ : State} {b b₁ : Lent} (n : ℕ) (span : Span) {first second : Answer} (poisoned : Bool) {q : Bool} {v : Turn} → Ready T image places words r w st b
+turn_passes : {T : Texts} {image places words : List ℕ} {r w : ℕ} {st st₁ : State} {b b₁ : Lent} (n : ℕ) (span : Span) {first second : Answer} (poisoned : Bool) {q : Option Bool} → Ready T image places words r w st b
     → AnswerOk (walk_run T image words) (whole words st b) first → AnswerOk (walk_run T image words) (whole words st b) second
-    → Turns (member_turn (ctx_in T image words) n span first second poisoned) words st b b₁ v → v ≡ R.On q st₁ → Passes T image words (Any (walk_run T image words)) 0 0 st b st₁ b₁ (some q)
-unfolding member_turn turn_in
-turn_passes {T} {image} {words = words} {st = st} {st₁ = st₁} {b = b} {b₁ = b₁} n span {first = first} {second = second} poisoned {q = q} y o k x e =
-    let z : Turns (member_turn (ctx_in T image words) n span first second poisoned) words st b b₁ (R.On q st₁) = rw e at x in
-    rule_passes (member_turn (ctx_in T image words) n span first second poisoned)
-    (g_next (walk_run T image words) _ (member-gives y n span o k) (λ m u t f. g_return (walk_run T image words) (λ i. (f i).holds) (λ i. tt)))
-    z.step (turn-within z.keeps)
+    → Visits (member_turn (ctx_in T image words) n span first second poisoned) 0 0 words st b b₁ (Ok (q, st₁)) → Passes T image words (Any (walk_run T image words)) 0 0 st b st₁ b₁ q
+unfolding member_turn
+turn_passes {T} {image} {words = words} n span poisoned y o k x =
+    visit_passes x (g_next (walk_run T image words) _ (member-gives y n span o k) (λ m u t f. g_return (walk_run T image words) (λ i. (f i).holds) (λ i. tt)))
 
 -- a turn touches no slot
-turn-apart : (T : Texts) (image : List ℕ) (n : ℕ) (span : Span) (first second : Answer) (poisoned : Bool) {words : List ℕ} {st st₁ : State} {b b₁ : Lent} {q : Bool} {v : Turn}
-    → Turns (member_turn (ctx_in T image words) n span first second poisoned) words st b b₁ v → v ≡ R.On q st₁ → Apart [] b.slots b₁.slots
-unfolding member_turn turn_in
-turn-apart T image n span first second poisoned {words} {st} {st₁} {b} {b₁} {q} x e =
-    let z : Turns (member_turn (ctx_in T image words) n span first second poisoned) words st b b₁ (R.On q st₁) = rw e at x in
-    member_apart (ctx_in T image words) n span first second (λ m. turn_of m poisoned) (whole words st b) z.step
+turn-apart : (T : Texts) (image : List ℕ) (n : ℕ) (span : Span) (first second : Answer) (poisoned : Bool) {words : List ℕ} {st st₁ : State} {b b₁ : Lent} {q : Option Bool}
+    → Visits (member_turn (ctx_in T image words) n span first second poisoned) 0 0 words st b b₁ (Ok (q, st₁)) → Apart [] b.slots b₁.slots
+unfolding member_turn visited
+turn-apart T image n span first second poisoned {words} {st} {b = b} x = member_apart (ctx_in T image words) n span first second (λ m. turn_of m poisoned) (whole words st b) x.step
 
 -- ── The members that are left ──
 
@@ -116,7 +76,7 @@ pub record Turning (T : Texts) (image places words : List ℕ) (n slot place lef
 module _ {T : Texts} {image places words : List ℕ} {n slot place left : ℕ} {st₀ : State} {b₀ : Lent} {first : Answer} {poisoned : Bool} {st : State} {b : Lent}
     (t : Turning T image places words n slot place left st₀ b₀ first poisoned st b) where
   -- no member is left
-  pub array-ended : left ≡ 0 → {b' : Lent} {v : Visit} → Visits (array_of (ctx_in T image words) n slot first poisoned) 0 0 words st b b' v → NodeVisited T image words n st₀ b₀ b' v
+  pub array-ended : left ≡ 0 → {b' : Lent} {v : Visit Answer} → Visits (array_of (ctx_in T image words) n slot first poisoned) 0 0 words st b b' v → NodeVisited T image words n st₀ b₀ b' v
   unfolding members nodes_from
   array-ended e {b'} {v} x = t.leads.onto b' v (rw e (visits-most (omega arith) (omega arith) (record { step = x.step; keeps = x.keeps })))
 
@@ -148,31 +108,41 @@ module _ {T : Texts} {image places words : List ℕ} {n slot place left : ℕ} {
         (members-turn (ctx_in T image words) n slot first poisoned others (tree_of image part) (whole words st b))
         (rw all-nodes at t.leads)
 
-    module _ {b₁ : Lent} {v : Visit} (x : NodeVisited T image words part st b b₁ v) where
+    module _ {b₁ : Lent} where
       -- its visit is refused
-      pub member-stopped : Stopped v → NodeVisited T image words n st₀ b₀ b₁ v
-      member-stopped s = leads-stop rest-after member-leads x s
+      pub member-stopped : {e : Refusal} → NodeVisited T image words part st b b₁ (Err e) → NodeVisited T image words n st₀ b₀ b₁ (Err e)
+      member-stopped x = leads-stop rest-after member-leads x
 
-      module _ (below : part < node_count image) {a : Answer} {st₁ : State} (c : Came v a st₁) {b₂ : Lent} {r : Turn}
-          (z : Turns (member_turn (ctx_in T image words) n (span_of (tree_of image part)) first a poisoned) words st₁ b₁ b₂ r) where
-        turn-leads : Leads (array_from T image words n st₀ b₀) (rest-after a) (rooms others) (rows_all others) st₁ b₁
-        turn-leads = leads-then rest-after member-leads x c
+      module _ (below : part < node_count image) {a : Answer} {st₁ : State} (x : NodeVisited T image words part st b b₁ (Ok (a, st₁))) where
+        abbrev turn : Walk (Option Bool)
+        turn = member_turn (ctx_in T image words) n (span_of (tree_of image part)) first a poisoned
 
-        -- it differs, or there is no room for the diagnostic
-        pub member-ended : {w : Visit} → Ended r → w ≡ ended_of r → NodeVisited T image words n st₀ b₀ b₂ w
-        member-ended s e = rw e (turn-stops (λ q. members (ctx_in T image words) n slot first q others) turn-leads z s)
+        abbrev members-after : Option Bool → Walk Answer
+        members-after = rest_of (ctx_in T image words) n slot first poisoned others
+
+        turn-leads : Leads (array_from T image words n st₀ b₀) (rest-after a) (0 + rooms others) (0 + rows_all others) st₁ b₁
+        turn-leads = leads-less (omega arith) (omega arith) (leads-then rest-after member-leads x)
+
+        -- there is no room for the diagnostic
+        pub turn-stopped : {b₂ : Lent} {e : Refusal} → Visits turn 0 0 words st₁ b₁ b₂ (Err e) → NodeVisited T image words n st₀ b₀ b₂ (Err e)
+        turn-stopped z = leads-stop members-after turn-leads z
+
+        -- it differs
+        pub member-differs : {b₂ : Lent} {st₂ : State} {o : Option Bool} → Visits turn 0 0 words st₁ b₁ b₂ (Ok (o, st₂)) → o ≡ None → NodeVisited T image words n st₀ b₀ b₂ (Ok (Poison, st₂))
+        unfolding rest_of
+        member-differs z is = leads-return Poison (leads-then members-after turn-leads (rw is at z))
 
         -- the next one's turn
-        pub member-passed : {q : Bool} {st₂ : State} → r ≡ R.On q st₂ → Turning T image places words n slot (place + 1) (left - 1) st₀ b₀ first q st₂ b₂
-        unfolding on_option
-        member-passed e =
-            let passed = after-node member-ready below x c in
+        pub member-passed : {b₂ : Lent} {st₂ : State} {q : Bool} → Visits turn 0 0 words st₁ b₁ b₂ (Ok (Some q, st₂)) → Turning T image places words n slot (place + 1) (left - 1) st₀ b₀ first q st₂ b₂
+        unfolding rest_of
+        member-passed z =
+            let passed = after-node member-ready below x in
             let ready₁ = ready-then member-ready passed in
-            let turned = turn_passes n (span_of (tree_of image part)) poisoned ready₁ (passes_answer passed t.answer) passed.after.value.own.answer z e in
+            let turned = turn_passes n (span_of (tree_of image part)) poisoned ready₁ (passes_answer passed t.answer) passed.after.value.own.answer z in
             record {
-              leads = leads-turn (rest_of (ctx_in T image words) n slot first poisoned others) turn-leads z e;
+              leads = leads-then members-after turn-leads z;
               ready = ready-step ready₁ turned;
-              fresh = fresh-rest [] _ (fresh-rest _ _ member-fresh (visit-apart (ctx_in T image words) (tree_of image part) x c)) (turn-apart T image n (span_of (tree_of image part)) first a poisoned z e);
+              fresh = fresh-rest [] _ (fresh-rest _ _ member-fresh (visit-apart (ctx_in T image words) (tree_of image part) x)) (turn-apart T image n (span_of (tree_of image part)) first a poisoned z);
               answer = passes_answer turned (passes_answer passed t.answer);
             }
 
@@ -192,10 +162,10 @@ module _ {T : Texts} {image places words : List ℕ} {n slot q count : ℕ} {fir
   turned-start = record { on = λ o b' t. t }
 
   module _ {i : ℕ} {poisoned : Bool} {st : State} {b : Lent} (t : Turned T image places words n slot q count first i₀ poisoned₀ st₀ b₀ i poisoned st b) (h : i < count) {part : ℕ} (ep : part ≡ get_or image (q + i) 0)
-      {b₁ : Lent} {v : Visit} (x : NodeVisited T image words part st b b₁ v) (below : part < node_count image) {a : Answer} {st₁ : State} (c : Came v a st₁) {b₂ : Lent} {r : Turn}
-      (z : Turns (member_turn (ctx_in T image words) n (span_of (tree_of image part)) first a poisoned) words st₁ b₁ b₂ r) where
-    pub turned-next : {p : Bool} {st₂ : State} → r ≡ R.On p st₂ → Turned T image places words n slot q count first i₀ poisoned₀ st₀ b₀ (i + 1) p st₂ b₂
-    turned-next {p} {st₂} e = record { on = λ o b' s. again (member-passed (t.on o b' s) (some_left h) ep x below c z e) }
+      {b₁ : Lent} (below : part < node_count image) {a : Answer} {st₁ : State} (x : NodeVisited T image words part st b b₁ (Ok (a, st₁))) {b₂ : Lent} where
+    pub turned-next : {p : Bool} {st₂ : State} {o : Option Bool} → Visits (member_turn (ctx_in T image words) n (span_of (tree_of image part)) first a poisoned) 0 0 words st₁ b₁ b₂ (Ok (o, st₂)) → o ≡ Some p
+        → Turned T image places words n slot q count first i₀ poisoned₀ st₀ b₀ (i + 1) p st₂ b₂
+    turned-next {p} {st₂} z is = record { on = λ o b' s. again (member-passed (t.on o b' s) (some_left h) ep below x (rw is at z)) }
       where
         again : {o : State} {b' : Lent} → Turning T image places words n slot (q + i + 1) (count - i - 1) o b' first p st₂ b₂ → Turning T image places words n slot (q + (i + 1)) (count - (i + 1)) o b' first p st₂ b₂
         again s =
@@ -247,7 +217,7 @@ module _ {T : Texts} {image places words : List ℕ} {n : ℕ} {st : State} {b :
 
   -- ── The ways out ──
 
-  pub array-empty : l - 3 ≡ 0 → {b' : Lent} {v : Visit} → Visits (poison n (empty_array (get_or image (at + 2) 0))) 0 0 words st b b' v → NodeVisited T image words n st b b' v
+  pub array-empty : l - 3 ≡ 0 → {b' : Lent} {v : Visit Answer} → Visits (poison n (empty_array (get_or image (at + 2) 0))) 0 0 words st b b' v → NodeVisited T image words n st b b' v
   unfolding node array nodes_from
   array-empty e x = rw (tree, e) (visits-most (omega arith) (omega arith) (record { step = x.step; keeps = x.keeps }))
 
@@ -277,22 +247,23 @@ module _ {T : Texts} {image places words : List ℕ} {n : ℕ} {st : State} {b :
     pub first-visit : NodeVisit T image places words part st b
     first-visit = record { below = first_below; ready = ready-less (omega arith) (omega arith) first-ready; fresh = fresh-first _ _ first-fresh }
 
-    abbrev members-after : Answer → Walk Answer
-    members-after first = members (ctx_in T image words) n (get_or image (at + 1) 0) first false rest
+    abbrev after-first : Answer → Walk Answer
+    after-first first = members (ctx_in T image words) n (get_or image (at + 1) 0) first false rest
 
-    first-leads : Leads (array_from T image words n st b) (◌>>=◌ (node (ctx_in T image words) (tree_of image part)) members-after) (room (tree_of image part) + rooms rest) (rows (tree_of image part) + rows_all rest) st b
+    first-leads : Leads (array_from T image words n st b) (◌>>=◌ (node (ctx_in T image words) (tree_of image part)) after-first) (room (tree_of image part) + rooms rest) (rows (tree_of image part) + rows_all rest) st b
     unfolding node array room rows
     first-leads = record { onto = λ b' v x. rw tree-first (record { step = x.step; keeps = x.keeps }) }
 
-    module _ {b₁ : Lent} {v : Visit} (x : NodeVisited T image words part st b b₁ v) where
-      pub first-stopped : Stopped v → NodeVisited T image words n st b b₁ v
-      first-stopped s = leads-stop members-after first-leads x s
+    module _ {b₁ : Lent} where
+      pub first-stopped : {e : Refusal} → NodeVisited T image words part st b b₁ (Err e) → NodeVisited T image words n st b b₁ (Err e)
+      first-stopped x = leads-stop after-first first-leads x
 
       -- the turn of the member after it
-      pub first-passed : {first : Answer} {st₁ : State} → Came v first st₁ → Turning T image places words n (get_or image (at + 1) 0) (at + 3 + 1) (l - 3 - 1) st b first false st₁ b₁
-      first-passed c = record {
-        leads = leads-then members-after first-leads x c;
-        ready = ready-then first-ready (after-node first-ready first_below x c);
-        fresh = fresh-rest _ _ first-fresh (visit-apart (ctx_in T image words) (tree_of image part) x c);
-        answer = (after-node first-ready first_below x c).after.value.own.answer;
+      pub first-passed : {first : Answer} {st₁ : State} → NodeVisited T image words part st b b₁ (Ok (first, st₁))
+          → Turning T image places words n (get_or image (at + 1) 0) (at + 3 + 1) (l - 3 - 1) st b first false st₁ b₁
+      first-passed x = record {
+        leads = leads-then after-first first-leads x;
+        ready = ready-then first-ready (after-node first-ready first_below x);
+        fresh = fresh-rest _ _ first-fresh (visit-apart (ctx_in T image words) (tree_of image part) x);
+        answer = (after-node first-ready first_below x).after.value.own.answer;
       }

@@ -15,23 +15,12 @@ ghost use Rattle.places.specs.NodesAt.{NodeReady};
 ghost use Rattle.state.specs.World.{More};
 ghost use Rattle.visit.specs.Whole.{Lent, lent};
 ghost use Rattle.visit.specs.Within.{Visits};
-ghost use Rattle.visit.specs.Plain.{with_used};
-ghost use Rattle.members.specs.Turns.{member_turn, Turns, ended_of};
+ghost use Rattle.members.specs.Turns.{member_turn};
 
 use rules::Answer;
-use state::Used;
 use tok::{Texts, word_at};
 use values::Compared;
 use visit::{State, Visit};
-
-// What a member after the first answers: whether one is poisoned so far, with the state then; that it differs, which was reported; or a
-// refusal's number and place.
-#[derive(Clone, Copy)]
-pub enum Turn {
-    On(bool, State),
-    Differs(State),
-    Refused(u32, u32),
-}
 
 // An array of no members, whose record stands at `at`: 1.
 pub fn empty(
@@ -41,7 +30,7 @@ pub fn empty(
     at: usize,
     st: State,
     n: u32,
-) -> Visit
+) -> Visit<Answer>
     requires { at ≤ 8192 }
     ensures { ((words s f t e : List ℕ) (o : More) →
         let b : Lent = lent s f t diagnostics.old messages.old e o in
@@ -53,14 +42,8 @@ pub fn empty(
     visit::answered(st, step)
 }
 
-// The state with other used counts.
-fn with_used(st: State, used: Used) -> State
-    ensures { result ≡ with_used st used }
-{
-    State { used, ..st }
-}
-
-// The member `part` of the Array n, which answered `second`, against the first, which answered `first`: 2 where their types differ.
+// The member `part` of the Array n, which answered `second`, against the first, which answered `first`: 2 where their types differ, and then none;
+// else whether a member is poisoned so far.
 pub fn member(
     slots: &[u32],
     types: &[u32],
@@ -75,16 +58,16 @@ pub fn member(
     first: Answer,
     second: Answer,
     poisoned: bool,
-) -> Turn
+) -> Visit<Option<bool>>
     requires { NodeReady image.now places.now part }
     ensures { ((ls : List Package) (v : ℕ) (words f e : List ℕ) (o : More) →
         let b : Lent = lent slots.now f types.now diagnostics.old messages.old e o in
         let b' : Lent = lent slots.now f types.now diagnostics.new messages.new e o in
-        Turns (member_turn (ctx texts.now ls v) n (span_of (tree_of image.now part)) first second poisoned) words st b b' result) }
+        Visits (member_turn (ctx texts.now ls v) n (span_of (tree_of image.now part)) first second poisoned) 0 0 words st b b' result) }
 {
     let used = st.used;
     let span = spans::span_of(image, places, part);
-    let compared = values::member(
+    let (compared, after) = values::member(
         slots,
         types,
         diagnostics,
@@ -95,38 +78,13 @@ pub fn member(
         span,
         first,
         second,
-    );
-    match compared {
-        Compared::Alike(after) => {
-            return Turn::On(poisoned, with_used(st, after));
-        }
-        Compared::Silent(after) => {
-            return Turn::On(true, with_used(st, after));
-        }
-        Compared::Differs(after) => {
-            return Turn::Differs(with_used(st, after));
-        }
-        Compared::Refused(number, place) => {
-            return Turn::Refused(number, place);
-        }
-    }
-}
-
-// A turn that ends the visits, as the rule's answer.
-pub fn ended(turn: Turn) -> Visit
-    ensures { result ≡ ended_of turn }
-{
-    match turn {
-        Turn::On(_, _) => {
-            return Visit::Refused(0, 0);
-        }
-        Turn::Differs(st) => {
-            return Visit::Poison(st);
-        }
-        Turn::Refused(number, place) => {
-            return Visit::Refused(number, place);
-        }
-    }
+    )?;
+    let turn = match compared {
+        Compared::Alike => Some(poisoned),
+        Compared::Silent => Some(true),
+        Compared::Differs => None,
+    };
+    Ok((turn, State { used: after, ..st }))
 }
 
 // The end of Node::Array, whose record stands at `at`, when all members are visited: an Array of the first's type, unless one is poisoned.
@@ -139,7 +97,7 @@ pub fn end(
     n: u32,
     first: Answer,
     poisoned: bool,
-) -> Visit
+) -> Visit<Answer>
     requires { at ≤ 8192 }
     ensures { ((T : Texts) (ls : List Package) (v : ℕ) (words f d m e : List ℕ) (o : More) →
         let b : Lent = lent slots.old f types.old d m e o in

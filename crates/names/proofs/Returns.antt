@@ -1,98 +1,102 @@
 -- Each return of the functions, from what the callees answered. By rewriting. Assumes nothing.
-use Rattle.std.specs.Prelude.{Option as Found}
-use Prim.Native.Nat.{ℕ, ◌+◌, ◌*◌, ◌^◌}
-use mathlib.Core.Path.{◌≡◌, refl, sym, ap, ◌∙◌}
-use mathlib.Core.Option.{Option, none, some}
-use mathlib.Core.List.{List, [], ◌∷◌}
-use native.Mathlib.Omega.{arith}
-use lib.ListN.{set}
-use Rattle.tok.specs.Word.{kind_of}
+use Rattle.std.specs.Prelude.{ℕ, ◌+◌, ◌*◌, ◌^◌, ◌≡◌, List, [], ◌∷◌, Option as Found, Some, None, Ok, Err}
+use Rattle.std.proofs.Common.{refl, sym, ap, ◌∙◌}
+use Rattle.std.specs.Result.{IsErrAnd}
 use Rattle.tok.specs.Text.{Texts, name_bytes}
-use Rattle.tok.specs.Step.{return}
 use Rattle.ptype.specs.Words.{void_word}
 use Rattle.ptype.specs.Add.{write}
+use Rattle.err.specs.declared.Counts.{Counts}
 use Rattle.err.specs.Message.{no_binding}
 use Rattle.err.specs.Report.{Reports}
 use Rattle.library.specs.Package.{Package}
 use Rattle.rules.specs.declared.Answer.{Answer}
 use Rattle.rules.specs.declared.Answer.TheVariants as A
-use Rattle.rules.specs.World.{Walk}
-use Rattle.rules.specs.Steps.{on_option, poison, set_known, env_get, env_insert}
+use Rattle.rules.specs.Steps.{on_option, set_known, env_get, env_insert}
 use Rattle.rules.specs.Rules.{ident, let_binding}
+use Rattle.state.specs.declared.Refusal.{Refusal}
 use Rattle.state.specs.declared.Used.{Used}
-use Rattle.state.specs.declared.Step.{Step}
 use Rattle.state.specs.Context.{ctx}
-use Rattle.state.specs.Reporting.{poison_of, poisons-step}
+use Rattle.state.specs.Reporting.{told_of, poisons-step, passed}
 use Rattle.state.specs.Store.{env_up}
-use Rattle.state.specs.World.{More, Steps}
+use Rattle.state.specs.World.{More, Step, with_answer, Steps}
 use Rattle.scope.specs.declared.Binding.{Binding}
 use Rattle.scope.specs.declared.Binding.TheVariants as B
 use Rattle.scope.specs.Found.{binding_of}
-use Rattle.values.specs.declared.Binding as L
-use Rattle.values.specs.declared.Binding.TheVariants as N
-use Rattle.values.specs.Answers.{bound, Binds}
+use Rattle.values.specs.Answers.{found_of}
 use Rattle.visit.specs.declared.State.{State}
-use Rattle.visit.specs.declared.Visit.{Visit}
-use Rattle.visit.specs.declared.Visit.TheVariants as X
-use Rattle.visit.specs.Whole.{Lent, lent, rest_of, whole, visited}
-use Rattle.visit.specs.Within.{Visits, knows, refuses, poisons}
+use Rattle.visit.specs.Whole.{Visit, lent, visited}
+use Rattle.visit.specs.Within.{top, Within, goes, Visits}
 use Rattle.visit.specs.StoreLaws.{env-bound, env-unbound}
-use Rattle.visit.specs.Plain.{visit_of, within-plain, steps-visits}
-use Rattle.names.specs.Bound.{one_more, Bindable, let_end, few-names, fits, packages-kept, within-bound}
-use Rattle.err.specs.declared.Counts.{Counts}
-
--- a rule that goes on as another does
-same-visits : {rule rule' : Walk Answer} {library : List ℕ} {st : State} {b b' : Lent} {r : Visit} → rule (whole library st b) ≡ rule' (whole library st b)
-    → Visits rule' 0 0 library st b b' r → Visits rule 0 0 library st b b' r
-same-visits e p = record { step = e ∙ p.step; keeps = p.keeps }
+use Rattle.visit.specs.Plain.{with_used, visit_of, steps-visits}
+use Rattle.visiting.specs.Then.{within_same, visits-stop, visits-then}
+use Rattle.names.specs.Bound.{local_words, one_more, Bindable, let_end, fits, packages-kept, within-bound}
 
 -- ── Node::Ident ──
 
-unfoldable choose : Texts → (n slot name : ℕ) → Option (Option ℕ) → Walk Answer
-choose T n slot name o = on_option o (poison n (no_binding name (name_bytes T name))) (λ binding. on_option binding (return A.Poison) (λ w. set_known slot w))
-
-module _ (T : Texts) (n slot name : ℕ) (found : Binding) (st : State) (e : List ℕ) (ef : binding_of found ≡ env_get T (name_bytes T name) (env_up e st.base st.depth)) where
-  chosen : {q : Option (Option ℕ)} → binding_of found ≡ q → (ls : List Package) (v : ℕ) (words s f t d m : List ℕ) (o : More)
-      → ident (ctx T ls v) n slot name (whole words st (lent s f t d m e o)) ≡ choose T n slot name q (whole words st (lent s f t d m e o))
-  unfolding ident choose
-  chosen eo ls v words s f t d m o = ap (λ x. choose T n slot name x (whole words st (lent s f t d m e o))) (sym ef ∙ eo)
-
-  pub ident-bound : {w : ℕ} {s s' : List ℕ} {r : Step} {x : Visit} → found ≡ B.Bound w → ((t d m : List ℕ) → Steps (set_known slot w) s t d m st.used s' t d m r) → x ≡ visit_of st r
+module _ (T : Texts) (n slot name : ℕ) (found : Binding) {st : State} {e : List ℕ} (is : binding_of found ≡ env_get T (name_bytes T name) (env_up e st.base st.depth)) where
+  pub ident-bound : {w : ℕ} {s s' : List ℕ} {r : Step Answer} {x : Visit Answer} → found ≡ B.Bound w
+      → ((t d m : List ℕ) → Steps (set_known slot w) s t d m st.used s' t d m r) → x ≡ visit_of st r
       → (ls : List Package) (v : ℕ) (words f t d m : List ℕ) (o : More) → Visits (ident (ctx T ls v) n slot name) 0 0 words st (lent s f t d m e o) (lent s' f t d m e o) x
-  unfolding choose on_option
-  ident-bound {w} {s} eb p ex ls v words f t d m o = rw ex (same-visits {rule' = set_known slot w} (chosen (ap (λ b. binding_of b) eb) ls v words s f t d m o) (steps-visits (p t d m) words f e o))
+  unfolding ident on_option
+  ident-bound eb p ex ls v words f t d m o =
+      let known = steps-visits (p t d m) words f e o in
+      rw ex (record { step = rw (sym is ∙ ap (λ b. binding_of b) eb) known.step; keeps = known.keeps })
 
   pub ident-poisoned : found ≡ B.Poisoned
-      → (ls : List Package) (v : ℕ) (words s f t d m : List ℕ) (o : More) → Visits (ident (ctx T ls v) n slot name) 0 0 words st (lent s f t d m e o) (lent s f t d m e o) (X.Poison st)
-  unfolding choose on_option visited
-  ident-poisoned eb ls v words s f t d m o = record { step = chosen (ap (λ b. binding_of b) eb) ls v words s f t d m o; keeps = poisons (within-plain st st.used s t d m s t d m f e o) }
+      → (ls : List Package) (v : ℕ) (words s f t d m : List ℕ) (o : More) → Visits (ident (ctx T ls v) n slot name) 0 0 words st (lent s f t d m e o) (lent s f t d m e o) (Ok (A.Poison, st))
+  unfolding ident on_option visited
+  ident-poisoned eb ls v words s f t d m o = record { step = rw (sym is ∙ ap (λ b. binding_of b) eb) refl; keeps = goes (within_same st (lent s f t d m e o)) }
 
-  pub ident-none : {d m d' m' : List ℕ} {q : Found Counts} {r : Step} {x : Visit} → found ≡ B.Nothing → Reports (no_binding name (name_bytes T name)) d m st.used.told d' m' q → r ≡ poison_of n st.used q → x ≡ visit_of st r
+  pub ident-none : {d m d' m' : List ℕ} {q : Found Counts} {r : Step Answer} {x : Visit Answer} → found ≡ B.Nothing → Reports (no_binding name (name_bytes T name)) d m st.used.told d' m' q
+      → r ≡ told_of n st.used q A.Poison → x ≡ visit_of st r
       → (ls : List Package) (v : ℕ) (words s f t : List ℕ) (o : More) → Visits (ident (ctx T ls v) n slot name) 0 0 words st (lent s f t d m e o) (lent s f t d' m' e o) x
-  unfolding choose on_option
-  ident-none {d} {m} eb p er ex ls v words s f t o = rw (ex, er) (same-visits {rule' = poison n (no_binding name (name_bytes T name))} (chosen (ap (λ b. binding_of b) eb) ls v words s f t d m o) (steps-visits (poisons-step n p) words f e o))
+  unfolding ident on_option
+  ident-none eb p er ex ls v words s f t o =
+      let told = steps-visits (poisons-step n p) words f e o in
+      rw (ex, er) (record { step = rw (sym is ∙ ap (λ b. binding_of b) eb) told.step; keeps = told.keeps })
 
 -- ── The end of Node::Let ──
-module _ (n slot name : ℕ) (answer : Answer) {st : State} {e : List ℕ} (h : Bindable st e name)
-    {s d m d' m' : List ℕ} {b : L.Binding} (p : (t : List ℕ) → Binds (let_binding n name answer) s t d m st.used d' m' b) where
-  pub let_refused : {k place : ℕ} {s' e' : List ℕ} → b ≡ N.Refused k place
-      → (words f t : List ℕ) (o : More) → Visits (let_end n slot name answer) 2 0 words st (lent s f t d m e o) (lent s' f t d' m' e' o) (X.Refused k place)
-  unfolding let_end bound visited
-  let_refused eb words f t o = record { step = rw ((p t).step (rest_of words st (lent s f t d m e o)), eb) refl; keeps = refuses }
 
-  module _ {u : Used} {s' e' : List ℕ} {at : ℕ} {st' : State} where
-    pub let_bound : {w : ℕ} → b ≡ N.Bound w u → e' ≡ write e (2 * (st.base + st.depth)) (name ∷ w ∷ []) → at ≡ slot → s' ≡ set s at void_word → st' ≡ one_more st u
-        → (words f t : List ℕ) (o : More) → Visits (let_end n slot name answer) 2 0 words st (lent s f t d m e o) (lent s' f t d' m' e' o) (X.Known slot st')
-    unfolding let_end bound visited env_insert set_known
-    let_bound {w} eb ee ea es et words f t o = record {
-      step = rw ((p t).step (rest_of words st (lent s f t d m e o)), eb, et, ee, es, ea, packages-kept h.free name w words, env-bound e st.base st.depth name w h.kind (fits h.free)) refl;
-      keeps = rw (et, ee) (knows (within-bound h.free name w u s f t d m s' t d' m' o));
-    }
+-- a name is bound
+module _ {st : State} {e : List ℕ} {name : ℕ} (h : Bindable st e name) (u : Used) (words s f t d m : List ℕ) (o : More) where
+  within : (x w : ℕ) → Within 2 0 (with_used st u) (lent s f t d m e o) (one_more st u) (lent s f t d m (write e (top st) (x ∷ w ∷ [])) o)
+  within x w =
+      let p = within-bound h.free x w u s f t d m s t d m o in
+      record {
+        base = p.base;
+        deeper = p.deeper;
+        taken = p.taken;
+        written = p.written;
+        names = p.names;
+        held = p.held;
+        packages = p.packages;
+        scratch = p.scratch;
+        functions = p.functions;
+      }
 
-    pub let_unbound : b ≡ N.Nothing u → e' ≡ write e (2 * (st.base + st.depth)) ((name + 2 ^ 28) ∷ 0 ∷ []) → at ≡ slot → s' ≡ set s at void_word → st' ≡ one_more st u
-        → (words f t : List ℕ) (o : More) → Visits (let_end n slot name answer) 2 0 words st (lent s f t d m e o) (lent s' f t d' m' e' o) (X.Known slot st')
-    unfolding let_end bound visited env_insert set_known
-    let_unbound eb ee ea es et words f t o = record {
-      step = rw ((p t).step (rest_of words st (lent s f t d m e o)), eb, et, ee, es, ea, packages-kept h.free (name + 2 ^ 28) 0 words, env-unbound e st.base st.depth name 0 h.kind (fits h.free)) refl;
-      keeps = rw (et, ee) (knows (within-bound h.free (name + 2 ^ 28) 0 u s f t d m s' t d' m' o));
-    }
+  binds : (bound : Found ℕ) → Visits (env_insert name (found_of bound)) 2 0 words (with_used st u) (lent s f t d m e o) (lent s f t d m (write e (top st) (local_words name bound)) o)
+      (Ok (tt, one_more st u))
+  unfolding env_insert found_of local_words visited
+  binds (Some w) = record { step = rw (packages-kept h.free name w words, env-bound e st.base st.depth name w h.kind (fits h.free)) refl; keeps = goes (within name w) }
+  binds None = record {
+    step = rw (packages-kept h.free (name + 2 ^ 28) 0 words, env-unbound e st.base st.depth name 0 h.kind (fits h.free)) refl;
+    keeps = goes (within (name + 2 ^ 28) 0);
+  }
+
+module _ (n slot name : ℕ) (answer : Answer) {st : State} {e : List ℕ} {s d m d' m' : List ℕ} {r : Step (Found ℕ)}
+    (p : (t : List ℕ) → Steps (let_binding n name answer) s t d m st.used s t d' m' (with_answer (λ x. found_of x) r)) where
+  pub let_refused : {x : Refusal} {q : Visit Answer} → r ≡ Err x → IsErrAnd q (λ y. y ≡ x)
+      → (words f t : List ℕ) (o : More) → Visits (let_end n slot name answer) 2 0 words st (lent s f t d m e o) (lent s f t d' m' e o) q
+  unfolding let_end with_answer visit_of
+  let_refused {q = q} er eq words f t o = rw (passed q eq) (visits-stop _ (steps-visits (rw er at (p t)) words f e o) 2 0)
+
+  pub let_bound : {bound : Found ℕ} {u : Used} {e' s' : List ℕ} {st' : State} {w : Step Answer} {q : Visit Answer} → Bindable st e name → r ≡ Ok (bound, u)
+      → e' ≡ write e (2 * (st.base + st.depth)) (local_words name bound) → st' ≡ one_more st u
+      → ((t d m : List ℕ) → Steps (set_known slot void_word) s t d m st'.used s' t d m w) → q ≡ visit_of st' w
+      → (words f t : List ℕ) (o : More) → Visits (let_end n slot name answer) 2 0 words st (lent s f t d m e o) (lent s' f t d' m' e' o) q
+  unfolding let_end with_answer visit_of
+  let_bound {bound} {u} {e'} h er ee et known eq words f t o =
+      let from = steps-visits (rw er at (p t)) words f e o in
+      let bind = binds h u words s f t d' m' o bound in
+      let void = steps-visits {st = one_more st u} (rw et at (known t d' m')) words f e' o in
+      rw (eq, et, ee) (visits-then _ from (visits-then _ bind (rw ee at void)))

@@ -1,6 +1,6 @@
--- One more name in scope, and the end of a let. Laws of it. Assumes nothing.
-use Rattle.std.specs.Prelude.{ℕ, ◌+◌, ◌*◌, ◌≤◌, ◌≡◌, refl, List, [], ◌∷◌, length, take}
-use Rattle.std.proofs.Common.{sym, ap, ◌∙◌, arith}
+-- One more name in scope, and the end of a let. Definitions; laws of it. Assumes nothing.
+use Rattle.std.specs.Prelude.{ℕ, ◌+◌, ◌*◌, ◌^◌, ◌≤◌, ◌≡◌, refl, List, [], ◌∷◌, length, Option, Some, None}
+use Rattle.std.proofs.Common.{arith}
 use Rattle.tok.specs.Word.{kind_of}
 use Rattle.tok.specs.Step.{◌>>=◌, ◌>>◌}
 use Rattle.ptype.specs.Words.{void_word}
@@ -17,8 +17,13 @@ use Rattle.visit.specs.declared.State.{State}
 use Rattle.state.specs.World.{More}
 use Rattle.visit.specs.Whole.{lent}
 use Rattle.visit.specs.Within.{top, Within}
-use Rattle.visit.specs.Free.{Free, held_low, free-top}
+use Rattle.visit.specs.Free.{Free, free-top}
 use Rattle.visit.specs.StoreLaws.{write-alike, held-past, reach-past}
+
+-- the words of a name and its type; without a type the binding is poisoned, and the name has kind 13 in place of 12
+unfoldable pub local_words : (name : ℕ) → (type : Option ℕ) → List ℕ
+local_words name (Some w) = name ∷ w ∷ []
+local_words name None = (name + 2 ^ 28) ∷ 0 ∷ []
 
 -- the state with one more name in scope
 abbrev pub one_more : State → Used → State

@@ -12,9 +12,10 @@ ghost use Rattle.state.specs.World.{More};
 ghost use Rattle.visit.specs.Whole.{Lent, lent};
 ghost use Rattle.visit.specs.Within.{Visits};
 ghost use Rattle.visit.specs.Free.{Free};
-ghost use Rattle.names.specs.Bound.{one_more, Bindable, let_end};
+ghost use Rattle.names.specs.Bound.{local_words, one_more, Bindable, let_end};
 
 use rules::Answer;
+use scope::Binding;
 use state::Used;
 use tok::Texts;
 use visit::{State, Visit};
@@ -36,6 +37,18 @@ pub fn bind_poisoned(scratch: &mut [u32], base: usize, depth: usize, name: u32)
     ensures { scratch.new ≡ write scratch.old (2 * (base + depth)) ((name + 2 ^ 28) ∷ 0 ∷ []) }
 {
     add::set_pair(scratch, 2 * (base + depth), name + 0x1000_0000, 0);
+}
+
+// Either of the two, by whether there is a type.
+#[tactic(auto, unfolding(crate::specs::Bound::local_words))]
+fn bind(scratch: &mut [u32], base: usize, depth: usize, name: u32, ty: Option<u32>)
+    requires { (base + depth ≤ 4096) × (kind_of name ≡ 12) }
+    ensures { scratch.new ≡ write scratch.old (2 * (base + depth)) (local_words name ty) }
+{
+    match ty {
+        Some(w) => bind_name(scratch, base, depth, name, w),
+        None => bind_poisoned(scratch, base, depth, name),
+    }
 }
 
 // The state with one more name in scope.
@@ -61,7 +74,7 @@ pub fn ident(
     n: u32,
     slot: u32,
     name: u32,
-) -> Visit
+) -> Visit<Answer>
     requires { st.base + st.depth ≤ 4096 }
     ensures { ((ls : List Package) (v : ℕ) (words f t : List ℕ) (o : More) →
         let b : Lent = lent slots.old f t diagnostics.old messages.old scratch.now o in
@@ -69,15 +82,10 @@ pub fn ident(
         Visits (ident (ctx texts.now ls v) n slot name) 0 0 words st b b' result) }
 {
     let used = st.used;
-    let found = scope::env_get(texts, scratch, st.base, st.depth, name);
-    match found {
-        scope::Binding::Bound(w) => {
-            return visit::answered(st, operators::set_known(slots, used, slot, w));
-        }
-        scope::Binding::Poisoned => {
-            return Visit::Poison(st);
-        }
-        scope::Binding::Nothing => {
+    match scope::env_get(texts, scratch, st.base, st.depth, name) {
+        Binding::Bound(w) => visit::answered(st, operators::set_known(slots, used, slot, w)),
+        Binding::Poisoned => Ok((Answer::Poison, st)),
+        Binding::Nothing => {
             let counts = used.told;
             let free = err_text::first_free(messages, counts);
             let none = err_names::no_binding(
@@ -87,7 +95,7 @@ pub fn ident(
                 texts,
                 name,
             );
-            return visit::answered(st, state::poisoned(n, used, none));
+            visit::answered(st, state::told(n, used, none, Answer::Poison))
         }
     }
 }
@@ -103,28 +111,15 @@ pub fn let_end(
     slot: u32,
     name: u32,
     answer: Answer,
-) -> Visit
+) -> Visit<Answer>
     requires { Bindable st scratch.old name }
     ensures { ((words f t : List ℕ) (o : More) →
         let b : Lent = lent slots.old f t diagnostics.old messages.old scratch.old o in
         let b' : Lent = lent slots.new f t diagnostics.new messages.new scratch.new o in
         Visits (let_end n slot name answer) 2 0 words st b b' result) }
 {
-    let used = st.used;
-    let bound = values::let_binding(&slots[..], diagnostics, messages, used, n, name, answer);
-    match bound {
-        values::Binding::Bound(w, after) => {
-            bind_name(scratch, st.base, st.depth, name, w);
-            operators::store(slots, tok::wide(slot), VOID_WORD);
-            return Visit::Known(slot, one_more(st, after));
-        }
-        values::Binding::Nothing(after) => {
-            bind_poisoned(scratch, st.base, st.depth, name);
-            operators::store(slots, tok::wide(slot), VOID_WORD);
-            return Visit::Known(slot, one_more(st, after));
-        }
-        values::Binding::Refused(number, place) => {
-            return Visit::Refused(number, place);
-        }
-    }
+    let (ty, used) = values::let_binding(slots, diagnostics, messages, st.used, n, name, answer)?;
+    bind(scratch, st.base, st.depth, name, ty);
+    let st = one_more(st, used);
+    visit::answered(st, operators::set_known(slots, st.used, slot, VOID_WORD))
 }

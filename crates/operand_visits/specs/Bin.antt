@@ -1,6 +1,7 @@
 -- Node::Bin, put together of the visits of its sides and of what comes after: what the calls ask for, and one law for each return.
 -- Assumes nothing.
-use Rattle.std.specs.Prelude.{ℕ, ◌+◌, ◌≤◌, ◌<◌, ◌≡◌, refl, List, ◌++◌, get_or}
+use Rattle.state.specs.declared.Refusal.{Refusal}
+use Rattle.std.specs.Prelude.{ℕ, ◌+◌, ◌≤◌, ◌<◌, ◌≡◌, refl, List, ◌++◌, get_or, Ok, Err}
 use Rattle.std.proofs.Common.{arith}
 use Rattle.tok.specs.Text.{Texts}
 use Rattle.ast.specs.Image.{word_at, record_kind}
@@ -12,10 +13,9 @@ use Rattle.rules.specs.Rules.{node}
 use Rattle.room_laws.specs.Room.{room, rows}
 use Rattle.accepts.proofs.Fresh.{visited_from, Fresh, fresh-first, fresh-rest}
 use Rattle.visit.specs.declared.State.{State}
-use Rattle.visit.specs.declared.Visit.{Visit}
-use Rattle.visit.specs.Whole.{Lent}
+use Rattle.visit.specs.Whole.{Lent, Visit}
 use Rattle.visit.specs.Within.{Visits}
-use Rattle.visiting.specs.Then.{Came, Stopped, visits-then, visits-most}
+use Rattle.visiting.specs.Then.{visits-then, visits-most}
 use Rattle.visiting.specs.Operands.{Visiting, bin-left-stops, bin-right-stops}
 use Rattle.ready.specs.Ready.{Ready, NodeVisit, node-ready}
 use Rattle.ready.specs.Passes.{ready-then}
@@ -59,33 +59,33 @@ module _ {T : Texts} {image places words : List ℕ} {n : ℕ} {st : State} {b :
       let l : i < n = left-under e in
       node-visit (room (tree_of image (word_at image (at + 5)))) (rows (tree_of image (word_at image (at + 5)))) (omega (arith, there.below)) (rw e rooms) (rw e (fresh-first _ _ sides))
 
-  module _ {i : ℕ} (ei : i ≡ get_or image (at + 4) 0) {b₁ : Lent} {v : Visit} (x : NodeVisited T image words i st b b₁ v) where
-    left-visited : Visiting (ctx_in T image words) words (tree_of image (word_at image (at + 4))) st b b₁ v
-    left-visited = rw ei at x
+  module _ {i : ℕ} (ei : i ≡ get_or image (at + 4) 0) {b₁ : Lent} where
+    left-visited : {v : Visit Answer} → NodeVisited T image words i st b b₁ v → Visiting (ctx_in T image words) words (tree_of image (word_at image (at + 4))) st b b₁ v
+    left-visited x = rw ei at x
 
-    pub left-stops : Stopped v → NodeVisited T image words n st b b₁ v
-    left-stops s = rw tree_is (bin-left-stops _ _ _ _ _ _ (tree_of image (word_at image (at + 5))) left-visited s)
+    pub left-stops : {e : Refusal} → NodeVisited T image words i st b b₁ (Err e) → NodeVisited T image words n st b b₁ (Err e)
+    left-stops x = rw tree_is (bin-left-stops _ _ _ _ _ _ (tree_of image (word_at image (at + 5))) (left-visited x))
 
-    module _ {l : Answer} {st₁ : State} (came : Came v l st₁) where
+    module _ {l : Answer} {st₁ : State} (x : NodeVisited T image words i st b b₁ (Ok (l, st₁))) where
       pub right-visit : {j : ℕ} → j ≡ get_or image (at + 5) 0 → NodeVisit T image places words j st₁ b₁
       right-visit {j} e =
           let k : word_at image (at + 4) < n = left-under refl in
           let l : j < n = right-under e in
-          let p = after-node rooms (omega (arith, there.below)) left-visited came in
-          let f = fresh-rest _ _ sides (visit-apart (ctx_in T image words) (tree_of image (word_at image (at + 4))) left-visited came) in
+          let p = after-node rooms (omega (arith, there.below)) (left-visited x) in
+          let f = fresh-rest _ _ sides (visit-apart (ctx_in T image words) (tree_of image (word_at image (at + 4))) (left-visited x)) in
           record { below = omega (arith, there.below); ready = rw e (ready-then rooms p); fresh = rw e f }
 
-      module _ {j : ℕ} (ej : j ≡ get_or image (at + 5) 0) {b₂ : Lent} {v₂ : Visit} (y : NodeVisited T image words j st₁ b₁ b₂ v₂) where
-        right-visited : Visiting (ctx_in T image words) words (tree_of image (word_at image (at + 5))) st₁ b₁ b₂ v₂
-        right-visited = rw ej at y
+      module _ {j : ℕ} (ej : j ≡ get_or image (at + 5) 0) {b₂ : Lent} where
+        right-visited : {v : Visit Answer} → NodeVisited T image words j st₁ b₁ b₂ v → Visiting (ctx_in T image words) words (tree_of image (word_at image (at + 5))) st₁ b₁ b₂ v
+        right-visited y = rw ej at y
 
-        pub right-stops : Stopped v₂ → NodeVisited T image words n st b b₂ v₂
-        right-stops s = rw tree_is (bin-right-stops _ _ _ _ _ _ _ left-visited came right-visited s)
+        pub right-stops : {e : Refusal} → NodeVisited T image words j st₁ b₁ b₂ (Err e) → NodeVisited T image words n st b b₂ (Err e)
+        right-stops y = rw tree_is (bin-right-stops _ _ _ _ _ _ _ (left-visited x) (right-visited y))
 
-        ends : {r : Answer} {st₂ : State} {b₃ : Lent} {v₃ : Visit} → Came v₂ r st₂ → Visits (bin_end (ctx_in T image words) image n at l r) 0 0 words st₂ b₂ b₃ v₃
+        ends : {r : Answer} {st₂ : State} {b₃ : Lent} {v₃ : Visit Answer} → NodeVisited T image words j st₁ b₁ b₂ (Ok (r, st₂)) → Visits (bin_end (ctx_in T image words) image n at l r) 0 0 words st₂ b₂ b₃ v₃
             → Visiting (ctx_in T image words) words (read_bin (tree_of image) image n at) st b b₃ v₃
         unfolding node room rows bin_end
-        ends came₂ z = visits-then _ left-visited came (visits-most (omega arith) (omega arith) (visits-then _ right-visited came₂ z))
+        ends y z = visits-then _ (left-visited x) (visits-most (omega arith) (omega arith) (visits-then _ (right-visited y) z))
 
-        pub bin-ends : {r : Answer} {st₂ : State} {b₃ : Lent} {v₃ : Visit} → Came v₂ r st₂ → Visits (bin_end (ctx_in T image words) image n at l r) 0 0 words st₂ b₂ b₃ v₃ → NodeVisited T image words n st b b₃ v₃
-        bin-ends came₂ z = rw tree_is (ends came₂ z)
+        pub bin-ends : {r : Answer} {st₂ : State} {b₃ : Lent} {v₃ : Visit Answer} → NodeVisited T image words j st₁ b₁ b₂ (Ok (r, st₂)) → Visits (bin_end (ctx_in T image words) image n at l r) 0 0 words st₂ b₂ b₃ v₃ → NodeVisited T image words n st b b₃ v₃
+        bin-ends y z = rw tree_is (ends y z)

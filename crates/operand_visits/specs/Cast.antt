@@ -1,6 +1,7 @@
 -- Node::Cast, put together of its type, the visit of its operand and what comes after: what the calls ask for, and one law for each
 -- return. Assumes nothing.
-use Rattle.std.specs.Prelude.{ℕ, ◌+◌, ◌≤◌, ◌<◌, ◌≡◌, refl, get_or}
+use Rattle.state.specs.declared.Refusal.{Refusal}
+use Rattle.std.specs.Prelude.{ℕ, ◌+◌, ◌≤◌, ◌<◌, ◌≡◌, refl, get_or, Ok, Err}
 use mathlib.Core.List.{List, []}
 use Rattle.std.proofs.Common.{arith}
 use Rattle.tok.specs.Text.{Texts}
@@ -15,23 +16,18 @@ use Rattle.rules.specs.Rules.{node}
 use Rattle.accepts.proofs.Fresh.{visited_from, Fresh, fresh-rest}
 use Rattle.room_laws.specs.Room.{room, rows}
 use Rattle.visit.specs.declared.State.{State}
-use Rattle.visit.specs.declared.Visit.{Visit}
-use Rattle.visit.specs.declared.Gave.{Gave}
-use Rattle.visit.specs.declared.Gave.TheVariants as G
-use Rattle.visit.specs.Whole.{Lent}
+use Rattle.visit.specs.Whole.{Lent, Visit}
 use Rattle.visit.specs.Within.{Visits}
-use Rattle.visit.specs.Walks.{Gives}
-use Rattle.visiting.specs.Then.{Came, Stopped, visits-stop, visits-then, visits-most}
-use Rattle.visiting.specs.Leads.{Beginning, Whole, Leads, leads-begin, leads-less, leads-word, leads-word-stop}
+use Rattle.visiting.specs.Then.{visits-stop, visits-then, visits-most}
+use Rattle.visiting.specs.Leads.{Beginning, Whole, Leads, leads-begin, leads-less, leads-then, leads-stop}
 use Rattle.visiting.specs.Operands.{Visiting}
 use Rattle.ready.specs.Ready.{Ready, NodeVisit, node-ready}
-use Rattle.ready.specs.Passes.{word_passes, ready-step}
+use Rattle.ready.specs.Passes.{visit_passes, ready-step}
 use Rattle.ready.specs.After.{type-gives}
 use Rattle.ready.specs.Parts.{cast-room}
 use Rattle.ready.specs.Unvisited.{cast-fresh, type-apart}
 use Rattle.ready.specs.Asked.{cast-type}
 use Rattle.walking.specs.Kinds.{Is}
-use Rattle.walking.specs.Stops.{refused_of}
 use Rattle.walking.specs.Visited.{ctx_in, NodeVisited, ClassVisit}
 use Rattle.operands.specs.Ends.{cast_type, cast_end}
 use Rattle.operands.specs.Ready.{CastReady}
@@ -75,26 +71,25 @@ module _ {T : Texts} {image places words : List ℕ} {n : ℕ} {st : State} {b :
     b = b;
   }
 
-  as_read : {b' : Lent} {v : Visit} → Whole start b' v → Visiting (ctx_in T image words) words (read_cast (tree_of image) image n at) st b b' v
+  as_read : {b' : Lent} {v : Visit Answer} → Whole start b' v → Visiting (ctx_in T image words) words (read_cast (tree_of image) image n at) st b b' v
   unfolding node room rows cast_type cast_end
   as_read x = record { step = x.step; keeps = x.keeps }
 
-  as_node_lem : {b' : Lent} {v : Visit} → Whole start b' v → NodeVisited T image words n st b b' v
+  as_node_lem : {b' : Lent} {v : Visit Answer} → Whole start b' v → NodeVisited T image words n st b b' v
   as_node_lem x = rw tree_is (as_read x)
 
-  module _ {b₀ : Lent} {made : Gave} (g : Gives (cast_type (ctx_in T image words) image n at) 0 0 words st b b₀ made) where
-    pub type-stops : {number place : ℕ} {r : Visit} → made ≡ G.Refused number place → r ≡ refused_of made → NodeVisited T image words n st b b₀ r
-    unfolding refused_of
-    type-stops em er = rw (er, em) (as_node_lem (leads-word-stop left (leads-begin start) g em))
+  module _ {b₀ : Lent} where
+    pub type-stops : {e : Refusal} → Visits (cast_type (ctx_in T image words) image n at) 0 0 words st b b₀ (Err e) → NodeVisited T image words n st b b₀ (Err e)
+    type-stops g = as_node_lem (leads-stop left (leads-begin start) g)
 
-    module _ {to : ℕ} {begun : State} (em : made ≡ G.Word to begun) where
+    module _ {to : ℕ} {begun : State} (g : Visits (cast_type (ctx_in T image words) image n at) 0 0 words st b b₀ (Ok (to, begun))) where
       begun-ready : Ready T image places words (room (tree_of image (word_at image (at + 3)))) (rows (tree_of image (word_at image (at + 3)))) begun b₀
       unfolding cast_type
-      begun-ready = ready-step rooms (word_passes g (type-gives rooms n (word_at image (at + 4)) cast-ready.type.below) em)
+      begun-ready = ready-step rooms (visit_passes g (type-gives rooms n (word_at image (at + 4)) cast-ready.type.below))
 
       begun_fresh : Fresh (visited_from (tree_of image (word_at image (at + 3)))) b₀.slots
       unfolding cast_type
-      begun_fresh = fresh-rest [] _ (cast-fresh pre.visit tree_is) (type-apart (ctx_in T image words) n _ g em)
+      begun_fresh = fresh-rest [] _ (cast-fresh pre.visit tree_is) (type-apart (ctx_in T image words) n _ g)
 
       pub operand-visit : {i : ℕ} → i ≡ get_or image (at + 3) 0 → NodeVisit T image places words i begun b₀
       operand-visit {i} e =
@@ -102,14 +97,14 @@ module _ {T : Texts} {image places words : List ℕ} {n : ℕ} {st : State} {b :
           record { below = omega (arith, there.below); ready = rw e begun-ready; fresh = rw e begun_fresh }
 
       leads : Leads start (left to) (room (tree_of image (word_at image (at + 3)))) (rows (tree_of image (word_at image (at + 3)))) begun b₀
-      leads = leads-word left (leads-less (omega arith) (omega arith) (leads-begin start)) g em
+      leads = leads-then left (leads-less (omega arith) (omega arith) (leads-begin start)) g
 
-      module _ {i : ℕ} (ei : i ≡ get_or image (at + 3) 0) {b₁ : Lent} {v : Visit} (x : NodeVisited T image words i begun b₀ b₁ v) where
-        visited : Visiting (ctx_in T image words) words (tree_of image (word_at image (at + 3))) begun b₀ b₁ v
-        visited = rw ei at x
+      module _ {i : ℕ} (ei : i ≡ get_or image (at + 3) 0) {b₁ : Lent} where
+        visited : {v : Visit Answer} → NodeVisited T image words i begun b₀ b₁ v → Visiting (ctx_in T image words) words (tree_of image (word_at image (at + 3))) begun b₀ b₁ v
+        visited x = rw ei at x
 
-        pub operand-stops : Stopped v → NodeVisited T image words n st b b₁ v
-        operand-stops s = as_node_lem (leads.onto b₁ v (visits-stop (λ a. cast_end (ctx_in T image words) image n at to a) visited _ _ s))
+        pub operand-stops : {e : Refusal} → NodeVisited T image words i begun b₀ b₁ (Err e) → NodeVisited T image words n st b b₁ (Err e)
+        operand-stops {e} x = as_node_lem (leads.onto b₁ (Err e) (visits-stop (λ a. cast_end (ctx_in T image words) image n at to a) (visited x) _ _))
 
-        pub cast_ends : {a : Answer} {end : State} {b₂ : Lent} {v₂ : Visit} → Came v a end → Visits (cast_end (ctx_in T image words) image n at to a) 0 0 words end b₁ b₂ v₂ → NodeVisited T image words n st b b₂ v₂
-        cast_ends {b₂ = b₂} {v₂ = v₂} came z = as_node_lem (leads.onto b₂ v₂ (visits-most (omega arith) (omega arith) (visits-then (λ a. cast_end (ctx_in T image words) image n at to a) visited came z)))
+        pub cast_ends : {a : Answer} {end : State} {b₂ : Lent} {v₂ : Visit Answer} → NodeVisited T image words i begun b₀ b₁ (Ok (a, end)) → Visits (cast_end (ctx_in T image words) image n at to a) 0 0 words end b₁ b₂ v₂ → NodeVisited T image words n st b b₂ v₂
+        cast_ends {b₂ = b₂} {v₂ = v₂} x z = as_node_lem (leads.onto b₂ v₂ (visits-most (omega arith) (omega arith) (visits-then (λ a. cast_end (ctx_in T image words) image n at to a) (visited x) z)))

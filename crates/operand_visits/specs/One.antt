@@ -1,6 +1,7 @@
 -- Node::Unary, Node::Let and Node::Field, put together of the visit of their operand and of what comes after: what the calls ask for, and
 -- one law for each return. Assumes nothing.
-use Rattle.std.specs.Prelude.{ℕ, ◌+◌, ◌≤◌, ◌<◌, ◌≡◌, List, get_or}
+use Rattle.state.specs.declared.Refusal.{Refusal}
+use Rattle.std.specs.Prelude.{ℕ, ◌+◌, ◌≤◌, ◌<◌, ◌≡◌, List, get_or, Ok, Err}
 use Rattle.std.proofs.Math.Path.{refl, ap}
 use Rattle.std.proofs.Common.{sym, ◌∙◌, arith}
 use Rattle.std.proofs.Math.Decide.{ℕ_discrete}
@@ -15,10 +16,9 @@ use Rattle.rules.specs.Visited.{visited_below}
 use Rattle.accepts.proofs.Fresh.{visited_from}
 use Rattle.room_laws.specs.Room.{room, rows}
 use Rattle.visit.specs.declared.State.{State}
-use Rattle.visit.specs.declared.Visit.{Visit}
-use Rattle.visit.specs.Whole.{Lent, whole}
+use Rattle.visit.specs.Whole.{Lent, whole, Visit}
 use Rattle.visit.specs.Within.{Visits}
-use Rattle.visiting.specs.Then.{Came, Stopped, visits-stop, visits-then, visits-most}
+use Rattle.visiting.specs.Then.{visits-stop, visits-then, visits-most}
 use Rattle.visiting.specs.Operands.{Visiting}
 use Rattle.ready.specs.Ready.{Ready, NodeVisit, node-ready}
 use Rattle.ready.specs.Passes.{ready-then, ready-less}
@@ -109,20 +109,20 @@ module _ {T : Texts} {image places words : List ℕ} {n : ℕ} {st : State} {b :
       let l : i < n = operand-under e in
       record { below = omega (arith, there.below); ready = rw e (ready-less (omega arith) (omega arith) both); fresh = rw (e, ← is_one.below) (below-fresh pre.visit) }
 
-  module _ {i : ℕ} (ei : i ≡ operand_at image at) {b₁ : Lent} {v : Visit} (x : NodeVisited T image words i st b b₁ v) where
-    visited : Visiting (ctx_in T image words) words (tree_of image (operand_at image at)) st b b₁ v
-    visited = rw ei at x
+  module _ {i : ℕ} (ei : i ≡ operand_at image at) {b₁ : Lent} where
+    visited : {v : Visit Answer} → NodeVisited T image words i st b b₁ v → Visiting (ctx_in T image words) words (tree_of image (operand_at image at)) st b b₁ v
+    visited x = rw ei at x
 
-    pub operand-stops : Stopped v → NodeVisited T image words n st b b₁ v
-    operand-stops s =
-        let y = visits-stop (λ a. one_end (ctx_in T image words) image n at a) visited (room (tree_of image n)) (rows (tree_of image n)) s in
+    pub operand-stops : {e : Refusal} → NodeVisited T image words i st b b₁ (Err e) → NodeVisited T image words n st b b₁ (Err e)
+    operand-stops x =
+        let y = visits-stop (λ a. one_end (ctx_in T image words) image n at a) (visited x) (room (tree_of image n)) (rows (tree_of image n)) in
         record { step = is_one.rule (whole words st b) ∙ y.step; keeps = y.keeps }
 
-    module _ {a : Answer} {end : State} (came : Came v a end) where
+    module _ {a : Answer} {end : State} (x : NodeVisited T image words i st b b₁ (Ok (a, end))) where
       left : Ready T image places words (one_room image at) 0 end b₁
       left =
           let l = is_one.under in
-          ready-then both (after-node both (omega (arith, there.below)) visited came)
+          ready-then both (after-node both (omega (arith, there.below)) (visited x))
 
       pub end-ready : OneReady image at end b₁.scratch
       end-ready = record {
@@ -130,7 +130,7 @@ module _ {T : Texts} {image places words : List ℕ} {n : ℕ} {st : State} {b :
         binds = λ q. let_bindable left there ea (words_let there ea refl refl q) refl (omega (arith, room_let image at q));
       }
 
-      pub one-ends : {b₂ : Lent} {v₂ : Visit} → Visits (one_end (ctx_in T image words) image n at a) (one_room image at) 0 words end b₁ b₂ v₂ → NodeVisited T image words n st b b₂ v₂
+      pub one-ends : {b₂ : Lent} {v₂ : Visit Answer} → Visits (one_end (ctx_in T image words) image n at a) (one_room image at) 0 words end b₁ b₂ v₂ → NodeVisited T image words n st b b₂ v₂
       one-ends z =
-          let y = visits-most {r' = room (tree_of image n)} {w' = rows (tree_of image n)} (omega (arith, is_one.room)) (omega (arith, is_one.rows)) (visits-then (λ a. one_end (ctx_in T image words) image n at a) visited came z) in
+          let y = visits-most {r' = room (tree_of image n)} {w' = rows (tree_of image n)} (omega (arith, is_one.room)) (omega (arith, is_one.rows)) (visits-then (λ a. one_end (ctx_in T image words) image n at a) (visited x) z) in
           record { step = is_one.rule (whole words st b) ∙ y.step; keeps = y.keeps }

@@ -8,10 +8,7 @@ use Rattle.rules.specs.World.{Ctx, Walk}
 use Rattle.rules.specs.Steps.{known, type_from_expr}
 use Rattle.rules.specs.Operators.{fuse, unary, cast}
 use Rattle.rules.specs.Rules.{field}
-use Rattle.visit.specs.declared.State.{State}
-use Rattle.visit.specs.Plain.{with_used}
 use Rattle.names.specs.Bound.{let_end}
-use Rattle.parameters.specs.Typing.{with_types_used}
 
 -- by the kind of a node of one operand: 3 Unary, 4 Let, else 8 Field
 unfoldable pub by_kind : {A : Type 0} → (kind : ℕ) → (unary binding field : A) → A
@@ -44,7 +41,3 @@ cast_type c image n at = type_from_expr c n (type_of image (word_at image (at + 
 -- after it
 unfoldable pub cast_end : Ctx → (image : List ℕ) → (n at to : ℕ) → Answer → Walk Answer
 cast_end c image n at to a = known a (λ i. cast c n (word_at image (at + 1)) (word_at image (at + 2)) i to)
-
--- the state with so much of the types used
-abbrev pub more_types : State → (types : ℕ) → State
-more_types st n = with_used st (with_types_used st.used n)

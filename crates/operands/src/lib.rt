@@ -10,15 +10,12 @@ ghost use Rattle.state.specs.Context.{ctx};
 ghost use Rattle.state.specs.World.{More};
 ghost use Rattle.visit.specs.Whole.{Lent, lent};
 ghost use Rattle.visit.specs.Within.{Visits};
-ghost use Rattle.visit.specs.Walks.{Gives};
-ghost use Rattle.operands.specs.Ends.{operand_at, bin_end, one_end, one_room, cast_type, cast_end, more_types};
+ghost use Rattle.operands.specs.Ends.{operand_at, bin_end, one_end, one_room, cast_type, cast_end};
 ghost use Rattle.operands.specs.Ready.{OneReady, CastReady};
 
-use add::Added;
 use rules::Answer;
-use state::Used;
 use tok::{Texts, kind, word_at};
-use visit::{Gave, State, Visit};
+use visit::{State, Visit};
 
 // The kinds of nodes of one operand; the third is Field.
 const UNARY: u32 = 3;
@@ -26,6 +23,7 @@ const UNARY: u32 = 3;
 const LET: u32 = 4;
 
 // The number of the operand of a Unary, a Let or a Field.
+#[tactic(auto, unfolding(crate::specs::Ends::operand_at, crate::specs::Ends::by_kind))]
 pub fn operand_of(image: &[u32], at: usize) -> u32
     requires { at ≤ 8192 }
     ensures { result ≡ operand_at image.now at }
@@ -53,7 +51,7 @@ pub fn bin_end(
     n: u32,
     left: Answer,
     right: Answer,
-) -> Visit
+) -> Visit<Answer>
     requires { at ≤ 8192 }
     ensures { ((ls : List Package) (v : ℕ) (words f e : List ℕ) (o : More) →
         let b : Lent = lent slots.old f types.now diagnostics.old messages.old e o in
@@ -61,10 +59,10 @@ pub fn bin_end(
         Visits (bin_end (ctx texts.now ls v) image.now n at left right) 0 0 words st b b' result) }
 {
     let Answer::Known(left_slot) = left else {
-        return Visit::Poison(st);
+        return Ok((Answer::Poison, st));
     };
     let Answer::Known(right_slot) = right else {
-        return Visit::Poison(st);
+        return Ok((Answer::Poison, st));
     };
     let used = st.used;
     let slot = word_at(image, at + 1);
@@ -102,7 +100,7 @@ pub fn one_end(
     st: State,
     n: u32,
     answer: Answer,
-) -> Visit
+) -> Visit<Answer>
     requires { OneReady image.now at st scratch.old }
     ensures { ((ls : List Package) (v : ℕ) (words f : List ℕ) (o : More) →
         let b : Lent = lent slots.old f types.now diagnostics.old messages.old scratch.old o in
@@ -127,7 +125,7 @@ pub fn one_end(
         );
     }
     let Answer::Known(operand) = answer else {
-        return Visit::Poison(st);
+        return Ok((Answer::Poison, st));
     };
     let used = st.used;
     if k == UNARY {
@@ -165,16 +163,6 @@ pub fn one_end(
     )
 }
 
-// The state with more of the types used.
-fn more_types(st: State, types: usize) -> State
-    ensures { result ≡ more_types st types }
-{
-    State {
-        used: Used { types, ..st.used },
-        ..st
-    }
-}
-
 // Node::Cast before its operand: the type that it casts to. Gives its word.
 pub fn cast_begin(
     types: &mut [u32],
@@ -183,20 +171,17 @@ pub fn cast_begin(
     at: usize,
     st: State,
     n: u32,
-) -> Gave
+) -> Visit<u32>
     requires { CastReady image.now places.now at }
     ensures { ((T : Texts) (ls : List Package) (v : ℕ) (words s f d m e : List ℕ) (o : More) →
         let b : Lent = lent s f types.old d m e o in
         let b' : Lent = lent s f types.new d m e o in
-        Gives (cast_type (ctx T ls v) image.now n at) 0 0 words st b b' result) }
+        Visits (cast_type (ctx T ls v) image.now n at) 0 0 words st b b' result) }
 {
     let used = st.used;
     let expr = word_at(image, at + 4);
     let added = type_expr::type_from_type_expr(types, used.types, image, places, expr);
-    let Added::Put(word, more) = added else {
-        return Gave::Refused(parameters::refusal_number(added), n);
-    };
-    Gave::Word(word, more_types(st, more))
+    visit::answered(st, state::added(n, used, added))
 }
 
 // Node::Cast after its operand.
@@ -212,7 +197,7 @@ pub fn cast_end(
     n: u32,
     to: u32,
     answer: Answer,
-) -> Visit
+) -> Visit<Answer>
     requires { at ≤ 8192 }
     ensures { ((ls : List Package) (v : ℕ) (words f e : List ℕ) (o : More) →
         let b : Lent = lent slots.old f types.now diagnostics.old messages.old e o in
@@ -220,7 +205,7 @@ pub fn cast_end(
         Visits (cast_end (ctx texts.now ls v) image.now n at to answer) 0 0 words st b b' result) }
 {
     let Answer::Known(value) = answer else {
-        return Visit::Poison(st);
+        return Ok((Answer::Poison, st));
     };
     let used = st.used;
     let slot = word_at(image, at + 1);

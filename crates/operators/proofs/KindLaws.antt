@@ -1,16 +1,18 @@
--- The operator table and the kinds that are cast, by the branches that read them. Assumes nothing.
-use Prim.Native.Nat.{ℕ, zero, suc, ◌≤◌, ◌<◌, ◌^◌}
+-- The operator table, by the branches that read it. Assumes nothing.
+use Rattle.std.specs.Prelude.{Option, Some, None, cond}
+use Rattle.std.proofs.lemmas.Option.{none-some, same_Some}
+use mathlib.Core.Logic.{◌⊎◌, inl, inr}
+use Prim.Native.Nat.{ℕ, zero, suc, ◌≤◌, ◌<◌}
 use mathlib.Core.Path.{◌≡◌, refl, sym, ap, ◌∙◌}
-use mathlib.Core.Bool.{Bool, true, false, ◌&&◌, ◌||◌}
+use mathlib.Core.Bool.{Bool, true, false, ◌&&◌}
 use mathlib.Core.List.{List, [], ◌∷◌}
 use native.Mathlib.Omega.{arith}
 use lib.Dec.{eqb, leb}
 use lib.ListN.{get_or, length, get_or-eq_default}
-use borrow.Author.Tests.{eq-eqb, ne_eqb, le-leb, lt-leb, leb-true}
+use borrow.Author.Tests.{ne_eqb, leb-true}
 use Rattle.facts.specs.Tests.{both}
-use Rattle.tok.specs.Word.{kind_of}
 use Rattle.err.specs.Message.{class_of}
-use Rattle.rules.specs.Operators.{Table, arithmetic, remainder, equality, order, operator_tables, result_kind, castable}
+use Rattle.rules.specs.Operators.{Table, arithmetic, remainder, equality, order, operator_tables, result_kind}
 
 -- ---- the table
 -- a test that each entry of a list passes, and what stands in for one past its end too
@@ -58,74 +60,50 @@ module _ (class l r : ℕ) where
   unfolding good_row
   row-length = leb-true (length row) 6 (both (leb (length row) 6) (each (λ k. leb k 4) row) row-good).0
 
-module _ (op left right : ℕ) {class l r : ℕ} (hc : class ≡ class_of op) (hl : l ≡ left) (hr : r ≡ right) where
-  pub kind-is : get_or (get_or (get_or operator_tables class []) l []) r 0 ≡ result_kind op left right
+-- the answer where 0 says that there is none
+abbrev pub unless_none : ℕ → Option ℕ
+unless_none k = cond (eqb k 0) None (Some k)
+
+module _ (op left right : ℕ) {class : ℕ} (hc : class ≡ class_of op) where
+  kind-is : get_or (get_or (get_or operator_tables class []) left []) right 0 ≡ result_kind op left right
   unfolding result_kind
-  kind-is = rw (hc, hl, hr)
+  kind-is = rw hc
 
-  pub no_class : 4 ≤ class → 0 ≡ result_kind op left right
+  -- none past the tables' ends
+  past : (4 ≤ class) ⊎ ((class < 4 × 6 ≤ left) ⊎ (class < 4 × left < 6 × 6 ≤ right)) → result_kind op left right ≡ 0
   unfolding operator_tables
-  no_class h = sym (ap (λ t. get_or (get_or t l []) r 0) (get_or-eq_default operator_tables [] h)) ∙ kind-is
+  past (inl h) = sym kind-is ∙ ap (λ t. get_or (get_or t left []) right 0) (get_or-eq_default operator_tables [] h)
+  past (inr (inl (_, h))) = sym kind-is ∙ ap (λ t. get_or t right 0) (get_or-eq_default (table class left right) [] (omega (arith, table-length class left right)))
+  past (inr (inr (_, _, h))) = sym kind-is ∙ get_or-eq_default (row class left right) 0 (omega (arith, row-length class left right))
 
-  pub no-left : 6 ≤ l → 0 ≡ result_kind op left right
-  no-left h = sym (ap (λ t. get_or t r 0) (get_or-eq_default (table class l r) [] (omega (arith, table-length class l r)))) ∙ kind-is
+  pub none_past : (4 ≤ class) ⊎ ((class < 4 × 6 ≤ left) ⊎ (class < 4 × left < 6 × 6 ≤ right)) → None ≡ unless_none (result_kind op left right)
+  none_past h = rw (past h)
 
-  pub no-right : 6 ≤ r → 0 ≡ result_kind op left right
-  no-right h = sym (get_or-eq_default (row class l r) 0 (omega (arith, row-length class l r))) ∙ kind-is
+  module _ {k : ℕ} (hk : k ≡ get_or (get_or (get_or operator_tables class []) left []) right 0) where
+    pub none-0 : k ≡ 0 → None ≡ unless_none (result_kind op left right)
+    none-0 e = rw (← kind-is, ← hk, e)
 
-pub kind-below : (op left right : ℕ) {k : ℕ} → k ≡ result_kind op left right → k < 16
+    pub some-kind : (k ≡ 0 → ⊥) → Some k ≡ unless_none (result_kind op left right)
+    some-kind h = rw (← kind-is, ← hk, ne_eqb k 0 h)
+
+none_by : (b : Bool) (n : ℕ) → None ≡ cond b None (Some n) → b ≡ true
+none_by true n h = refl
+none_by false n h = absurd (none-some n h)
+
+some-by : (b : Bool) (n k : ℕ) → Some k ≡ cond b None (Some n) → (b ≡ false) × (k ≡ n)
+some-by true n k h = absurd (none-some k (sym h))
+some-by false n k h = (refl, same_Some k n h)
+
+pub none_of : (n : ℕ) → None ≡ unless_none n → eqb n 0 ≡ true
+none_of n h = none_by (eqb n 0) n h
+
+pub some_of : (n k : ℕ) → Some k ≡ unless_none n → (eqb n 0 ≡ false) × (k ≡ n)
+some_of n k h = some-by (eqb n 0) n k h
+
+-- a kind that it answers
+pub kind-below : (op left right : ℕ) {r : Option ℕ} {k : ℕ} → r ≡ unless_none (result_kind op left right) → r ≡ Some k → k < 16
 unfolding result_kind
-kind-below op left right e =
-    let h = leb-true (result_kind op left right) 4 (kind-good (class_of op) left right) in
-    omega arith
-
--- ---- kinds
-pub word-kind : (w : ℕ) {k : ℕ} → w < 2 ^ 32 → k ≡ kind_of w → k < 16
-word-kind w h e = omega arith
-
--- what a unary operator takes
-module _ (k : ℕ) where
-  pub number-int : k ≡ 3 → true ≡ (eqb k 3 || eqb k 4)
-  number-int e = rw e
-
-  pub number_by : (k ≡ 3 → ⊥) → eqb k 4 ≡ (eqb k 3 || eqb k 4)
-  number_by h = rw (ne_eqb k 3 h)
-
-module _ (op k : ℕ) where
-  pub takes_none : 1 < op → false ≡ (leb op 1 && (eqb k 3 || eqb k 4))
-  takes_none h = rw (lt-leb op 1 h)
-
-  pub takes_by : {q : Bool} → op ≤ 1 → q ≡ (eqb k 3 || eqb k 4) → q ≡ (leb op 1 && (eqb k 3 || eqb k 4))
-  takes_by h e = rw (le-leb op 1 h) e
-
--- the casts
-nothing : (a b : Bool) → (false && false) || ((a && false) || ((b && false) || (false && false))) ≡ false
-nothing true true = refl
-nothing true false = refl
-nothing false true = refl
-nothing false false = refl
-
-alone : (a : Bool) → ((a && true) || false) ≡ a
-alone true = refl
-alone false = refl
-
-module _ (f t : ℕ) where
-  pub int-double : f ≡ 3 → t ≡ 4 → true ≡ castable f t
-  unfolding castable
-  int-double e h = rw (e, h)
-
-  pub int-by : f ≡ 3 → (t ≡ 4 → ⊥) → eqb t 2 ≡ castable f t
-  unfolding castable
-  int-by e h = rw (e, ne_eqb t 4 h)
-
-  pub to-other : (f ≡ 3 → ⊥) → (t ≡ 3 → ⊥) → false ≡ castable f t
-  unfolding castable
-  to-other e h = rw (ne_eqb f 3 e, ne_eqb t 3 h) (sym (nothing (eqb f 4) (eqb f 2)))
-
-  pub double-int : f ≡ 4 → t ≡ 3 → true ≡ castable f t
-  unfolding castable
-  double-int e h = rw (e, h)
-
-  pub bool_by : (f ≡ 3 → ⊥) → t ≡ 3 → (f ≡ 4 → ⊥) → eqb f 2 ≡ castable f t
-  unfolding castable
-  bool_by e h g = rw (ne_eqb f 3 e, h, ne_eqb f 4 g) (sym (alone (eqb f 2)))
+kind-below op left right {r} {k} e h =
+    let p = leb-true (result_kind op left right) 4 (kind-good (class_of op) left right) in
+    let (_, q) = some_of (result_kind op left right) k (sym h ∙ e) in
+    omega (arith, p, q)

@@ -2,7 +2,7 @@
 // The buffers are lent in one order: slots, types, diagnostics, messages; then the two texts.
 #![tactic(auto)]
 
-ghost use Rattle.std.specs.Prelude.{◌≡◌, ◌&&◌, ◌||◌, List, ℕ, ◌<◌, eqb, leb, set};
+ghost use Rattle.std.specs.Prelude.{◌≡◌, ◌&&◌, ◌||◌, List, ℕ, ◌<◌, cond, eqb, leb, set, None, Some};
 ghost use Rattle.tok.specs.Word.{word_of};
 ghost use Rattle.library.specs.Package.{Package};
 ghost use Rattle.rules.specs.Steps.{set_known};
@@ -10,8 +10,9 @@ ghost use Rattle.rules.specs.Operators.{result_kind, fuse, unary, castable, cast
 ghost use Rattle.state.specs.Context.{ctx};
 ghost use Rattle.state.specs.World.{Steps};
 
+use rules::Answer;
 use state::{Step, Used};
-use tok::{Texts, kind, wide, word_at};
+use tok::{Texts, kind, word_at};
 
 // Slots.
 
@@ -25,11 +26,11 @@ pub fn store(slots: &mut [u32], slot: usize, word: u32)
 }
 
 // Typechecker::set_known: a slot's type.
-pub fn set_known(slots: &mut [u32], used: Used, slot: u32, word: u32) -> Step
+pub fn set_known(slots: &mut [u32], used: Used, slot: u32, word: u32) -> Step<Answer>
     ensures { (t d m : List ℕ) → Steps (set_known slot word) slots.old t d m used slots.new t d m result }
 {
-    store(slots, wide(slot), word);
-    Step::Known(slot, used)
+    store(slots, slot as usize, word);
+    Ok((Answer::Known(slot), used))
 }
 
 // The word of a kind that has no payload.
@@ -88,30 +89,22 @@ const ORDER: [[u8; 6]; 6] = [
 // "a table of tables": by the class of the operator.
 const TABLES: [[[u8; 6]; 6]; 4] = [ARITHMETIC, REMAINDER, EQUALITY, ORDER];
 
-// A kind in the tables, which keep it in a byte: each operator's visit holds a copy of them in its frame.
-fn widened(kind: u8) -> u32
-    ensures { result ≡ kind }
-{
-    kind as u32
-}
-
-// The kind of an operator's result, by the kinds of its operands; 0 where it does not take them.
-fn result_kind(op: u32, left: u32, right: u32) -> u32
-    ensures { result ≡ result_kind op left right }
+// The kind of an operator's result, by the kinds of its operands; none where it does not take them. The tables keep a kind in a byte: each
+// operator's visit holds a copy of them in its frame.
+fn result_kind(op: u32, left: u32, right: u32) -> Option<u32>
+    ensures { let k = result_kind op left right in result ≡ cond (eqb k 0) None (Some k) }
 {
     let class = err_text::class_of(op);
-    let l = wide(left);
-    let r = wide(right);
-    if class >= 4 {
-        return 0;
+    let l = left as usize;
+    let r = right as usize;
+    if class >= 4 || l >= 6 || r >= 6 {
+        return None;
     }
-    if l >= 6 {
-        return 0;
+    let k = TABLES[class][l][r];
+    if k == 0 {
+        return None;
     }
-    if r >= 6 {
-        return 0;
-    }
-    widened(TABLES[class][l][r])
+    Some(k as u32)
 }
 
 // Typechecker::fuse, of two slots: the table's type; else 4 where both types are equal, 5 where they differ.
@@ -128,14 +121,13 @@ pub fn fuse(
     op: u32,
     left: u32,
     right: u32,
-) -> Step
+) -> Step<Answer>
     ensures { ((ls : List Package) (v : ℕ) → Steps (fuse (ctx texts.now ls v) n slot token op left right) slots.old types.now diagnostics.old
         messages.old used slots.new types.now diagnostics.new messages.new result) }
 {
-    let l = word_at(slots, wide(left));
-    let r = word_at(slots, wide(right));
-    let k = result_kind(op, kind(l), kind(r));
-    if k != 0 {
+    let l = word_at(slots, left as usize);
+    let r = word_at(slots, right as usize);
+    if let Some(k) = result_kind(op, kind(l), kind(r)) {
         return set_known(slots, used, slot, plain_word(k));
     }
     let counts = used.told;
@@ -151,7 +143,7 @@ pub fn fuse(
             op,
             l,
         );
-        return state::poisoned(n, used, told);
+        return state::told(n, used, told, Answer::Poison);
     }
     let told = err_values::incompatible(
         diagnostics,
@@ -164,27 +156,14 @@ pub fn fuse(
         l,
         r,
     );
-    state::poisoned(n, used, told)
-}
-
-// Whether a kind is Int or Double.
-fn is_number(kind: u32) -> bool
-    ensures { result ≡ eqb kind 3 || eqb kind 4 }
-{
-    if kind == 3 {
-        return true;
-    }
-    kind == 4
+    state::told(n, used, told, Answer::Poison)
 }
 
 // Whether a unary operator takes a kind: + and - take Int and Double.
 fn takes(op: u32, kind: u32) -> bool
     ensures { result ≡ leb op 1 && (eqb kind 3 || eqb kind 4) }
 {
-    if op > 1 {
-        return false;
-    }
-    is_number(kind)
+    op <= 1 && (kind == 3 || kind == 4)
 }
 
 // The Unary arm, of a slot: Int or Double under + or -, else 6.
@@ -200,11 +179,11 @@ pub fn unary(
     token: u32,
     op: u32,
     right: u32,
-) -> Step
+) -> Step<Answer>
     ensures { ((ls : List Package) (v : ℕ) → Steps (unary (ctx texts.now ls v) n slot token op right) slots.old types.now diagnostics.old messages.old
         used slots.new types.now diagnostics.new messages.new result) }
 {
-    let r = word_at(slots, wide(right));
+    let r = word_at(slots, right as usize);
     let k = kind(r);
     if takes(op, k) {
         return set_known(slots, used, slot, plain_word(k));
@@ -221,28 +200,20 @@ pub fn unary(
         op,
         r,
     );
-    state::poisoned(n, used, told)
+    state::told(n, used, told, Answer::Poison)
 }
 
 // Casts.
 
 // Whether there is a cast from one kind to another.
+#[tactic(auto, unfolding(rules::specs::Operators::castable))]
 fn castable(from: u32, to: u32) -> bool
     ensures { result ≡ castable from to }
 {
-    if from == 3 {
-        if to == 4 {
-            return true;
-        }
-        return to == 2;
-    }
-    if to != 3 {
-        return false;
-    }
-    if from == 4 {
-        return true;
-    }
-    from == 2
+    (from == 3 && to == 4)
+        || (from == 4 && to == 3)
+        || (from == 2 && to == 3)
+        || (from == 3 && to == 2)
 }
 
 // Typechecker::cast, of a slot to a type: a cast to the same type is reported (10), yet known; one that does not exist is 11.
@@ -258,11 +229,11 @@ pub fn cast(
     token: u32,
     left: u32,
     to: u32,
-) -> Step
+) -> Step<Answer>
     ensures { ((ls : List Package) (v : ℕ) → Steps (cast (ctx texts.now ls v) n slot token left to) slots.old types.now diagnostics.old messages.old used
         slots.new types.now diagnostics.new messages.new result) }
 {
-    let i = word_at(slots, wide(left));
+    let i = word_at(slots, left as usize);
     if castable(kind(i), kind(to)) {
         return set_known(slots, used, slot, to);
     }
@@ -279,7 +250,7 @@ pub fn cast(
             i,
             to,
         );
-        return state::poisoned(n, used, bad);
+        return state::told(n, used, bad, Answer::Poison);
     }
     let reported = err_values::redundant_cast(
         diagnostics,
@@ -290,18 +261,6 @@ pub fn cast(
         token,
         i,
     );
-    let Some(after) = reported else {
-        return Step::Refused(9, n);
-    };
-    let kept = used.kept;
-    set_known(
-        slots,
-        Used {
-            types: used.types,
-            told: after,
-            kept,
-        },
-        slot,
-        to,
-    )
+    let (_, used) = state::told(n, used, reported, ())?;
+    set_known(slots, used, slot, to)
 }

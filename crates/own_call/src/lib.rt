@@ -6,6 +6,7 @@ ghost use Rattle.call_args.specs.Given.{given_from};
 ghost use Rattle.own_call.specs.OwnCalls.{OwnReady, OwnCalls};
 
 use err::CallName;
+use rules::Answer;
 use state::{Step, Used};
 use tok::Texts;
 
@@ -26,43 +27,40 @@ pub fn resolve_call(
     name: u32,
     args: usize,
     count: usize,
-) -> Step
+) -> Step<Answer>
     requires { OwnReady functions.now k image.now places.now n args count }
     ensures { OwnCalls texts.now n slot name (given_from image.now args count) functions.now k slots.old types.now diagnostics.old
         messages.old used slots.new diagnostics.new messages.new result }
 {
-    let found = scope::find_own(texts, functions, k, name);
-    match found {
-        Some(at) => {
-            return call_args::check_plain(
-                slots,
-                types,
-                diagnostics,
-                messages,
-                texts,
-                image,
-                places,
-                used,
-                n,
-                slot,
-                name,
-                CallName::Own(name),
-                functions,
-                at,
-                args,
-                count,
-            );
-        }
+    match scope::find_own(texts, functions, k, name) {
+        Some(at) => call_args::check_plain(
+            slots,
+            types,
+            diagnostics,
+            messages,
+            texts,
+            image,
+            places,
+            used,
+            n,
+            slot,
+            name,
+            CallName::Own(name),
+            functions,
+            at,
+            args,
+            count,
+        ),
         None => {
             let free = err_text::first_free(messages, used.told);
-            let r = err_calls::undefined_own(
+            let reported = err_calls::undefined_own(
                 diagnostics,
                 &mut messages[free..],
                 used.told,
                 texts,
                 name,
             );
-            return state::poisoned(n, used, r);
+            state::told(n, used, reported, Answer::Poison)
         }
     }
 }

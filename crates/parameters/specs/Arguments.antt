@@ -1,33 +1,32 @@
 -- The arguments of a function that is defined: what the functions that bind them ask for and say. Laws of it. Assumes nothing.
-use Prim.Native.Nat.{ℕ, zero, suc, ◌+◌, ◌*◌, ◌-◌, ◌≤◌, ◌<◌}
-use Rattle.std.specs.Prelude.{◌≡◌, true, ◌&&◌, get_or, eqb}
+use Prim.Native.Nat.{ℕ, zero, suc, ◌+◌, ◌*◌, ◌≤◌, ◌<◌}
+use Rattle.std.specs.Prelude.{◌≡◌, eqb, Ok, Err}
 use Rattle.std.proofs.Math.Path.{refl}
-use Rattle.std.proofs.Common.{sym, ap, ◌∙◌, add-zero}
+use Rattle.std.proofs.Common.{ap}
 use Rattle.std.proofs.Math.Bool.{and-eq-true_iff}
 use Rattle.std.proofs.Math.Option.{some}
-use mathlib.Core.List.{List, [], ◌∷◌, ◌++◌, append_assoc}
+use mathlib.Core.List.{List, [], ◌∷◌, ◌++◌}
 use native.Mathlib.Omega.{arith}
 use Rattle.std.proofs.Math.ListN.{length}
 use borrow.Author.Tests.{eqb-true}
 use Rattle.tok.specs.Word.{kind_of}
-use Rattle.tok.specs.Name.{good_name, good_payload, in_script}
-use Rattle.tok.specs.Step.{Result, ok, refused, Refusal, refusal, next, return}
+use Rattle.tok.specs.Name.{good_name}
+use Rattle.tok.specs.Step.{Result, ok, refused, Refusal, next, return}
 use Rattle.ast.specs.Image.{word_at, type_count}
 use Rattle.ast.specs.TypeExpr.{Arg, args_from}
 use Rattle.image_laws.specs.Many.{Each}
-use Rattle.image_laws.specs.RecordWords.{Named, Pair}
+use Rattle.image_laws.specs.RecordWords.{Pair}
 use Rattle.library.specs.Package.{Param, param, params_from}
 use Rattle.places.specs.Readable.{Readable}
 use Rattle.type_expr.specs.Ready.{TypeReady}
 use Rattle.rules.specs.World.{Ctx, World, Walk}
-use Rattle.rules.specs.Steps.{set_known, env_insert, type_from_expr}
+use Rattle.rules.specs.Steps.{Done, set_known, env_insert, type_from_expr}
 use Rattle.rules.specs.Rules.{fn_arguments}
+use Rattle.state.specs.declared.Refusal.{Refusal as Refused}
+use Rattle.state.specs.World.{with_answer}
 use Rattle.visit.specs.declared.State.{State}
-use Rattle.visit.specs.declared.Walked.{Walked}
-use Rattle.visit.specs.declared.Walked.TheVariants as W
-use Rattle.visit.specs.Whole.{Lent, whole}
-use Rattle.visit.specs.Within.{top}
-use Rattle.visit.specs.Walks.{KeepsOn}
+use Rattle.visit.specs.Whole.{Lent, Visit}
+use Rattle.visit.specs.Within.{top, Visits}
 use Rattle.visit.specs.Free.{Free}
 
 -- ── What is asked for ──
@@ -61,19 +60,14 @@ module _ {image places : List ℕ} {at k : ℕ} (a : Arguments image places at k
 
 -- ── What is said ──
 
--- k arguments were bound: their parameters are the pairs written after the names in scope
-unfoldable pub argued_in : (library : List ℕ) → (at k : ℕ) → Lent → Walked → Result World Refusal (List Param)
-argued_in library at k b (W.On st) = ok (params_from b.scratch at k) (whole library st b)
-argued_in library at k b (W.Refused number place) = refused (refusal number place)
-
 -- as many names more
-pub data Deeper (k : ℕ) (st : State) : Walked → Type 0 where
-  deeper : {st' : State} → st'.depth ≡ st.depth + k → Deeper k st (W.On st')
-  stops : {number place : ℕ} → Deeper k st (W.Refused number place)
+pub data Deeper (k : ℕ) (st : State) : Visit Done → Type 0 where
+  deeper : {d : Done} {st' : State} → st'.depth ≡ st.depth + k → Deeper k st (Ok (d, st'))
+  stops : {e : Refused} → Deeper k st (Err e)
 
-pub record Argues (rule : Walk (List Param)) (k : ℕ) (library : List ℕ) (st : State) (b b' : Lent) (r : Walked) : Type 0 where
-  pub step : rule (whole library st b) ≡ argued_in library (top st) k b' r
-  pub keeps : KeepsOn (2 * k) 0 st b b' r
+-- k arguments were bound: their parameters are the pairs written after the names in scope
+pub record Argues (rule : Walk (List Param)) (k : ℕ) (library : List ℕ) (st : State) (b b' : Lent) (r : Visit Done) : Type 0 where
+  pub visits : Visits rule (2 * k) 0 library st b b' (with_answer (λ _. params_from b'.scratch (top st) k) r)
   pub names : Deeper k st r
 
 -- ── The rule in parts ──

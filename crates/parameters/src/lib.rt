@@ -5,7 +5,6 @@
 ghost use Rattle.std.specs.Prelude.{◌≡◌, List, ℕ, ◌+◌, ◌*◌, ◌≤◌, ◌<◌};
 ghost use Rattle.tok.specs.Text.{Texts};
 ghost use Rattle.library.specs.Package.{Package};
-ghost use Rattle.add.specs.Answer.{number_of};
 ghost use Rattle.ast.specs.TypeExpr.{args_from};
 ghost use Rattle.rules.specs.Rules.{fn_arguments};
 ghost use Rattle.state.specs.Context.{ctx};
@@ -13,28 +12,9 @@ ghost use Rattle.state.specs.World.{More};
 ghost use Rattle.visit.specs.Whole.{Lent, lent};
 ghost use Rattle.parameters.specs.Arguments.{ArgumentReady, ArgumentsReady, Argues};
 
-use add::Added;
-use state::Used;
 use tok::word_at;
 use type_expr::type_from_type_expr;
-use visit::{State, Walked};
-
-// The number of a refusal to add a type: 7 or 8, and 0 where it was added.
-pub fn refusal_number(added: Added) -> u32
-    ensures { result ≡ number_of added }
-{
-    match added {
-        Added::Put(_, _) => {
-            return 0;
-        }
-        Added::Full => {
-            return 7;
-        }
-        Added::TooDeep => {
-            return 8;
-        }
-    }
-}
+use visit::{State, Visit};
 
 // One argument, whose name and type stand at a word of the image: its type is added, recorded in its slot, and its name bound.
 pub fn one_argument(
@@ -47,7 +27,7 @@ pub fn one_argument(
     n: u32,
     slot: usize,
     at: usize,
-) -> Walked
+) -> Visit<()>
     requires { ArgumentReady image.now places.now st scratch.old at }
     ensures { ((T : Texts) (ls : List Package) (v : ℕ) (words f d m : List ℕ) (o : More) →
         let b : Lent = lent slots.old f types.old d m scratch.old o in
@@ -55,23 +35,12 @@ pub fn one_argument(
         Argues (fn_arguments (ctx T ls v) n slot (args_from image.now at 1)) 1 words st b b' result) }
 {
     let name = word_at(image, at);
-    let used = st.used;
-    let added = type_from_type_expr(types, used.types, image, places, word_at(image, at + 1));
-    let Added::Put(w, more) = added else {
-        return Walked::Refused(refusal_number(added), n);
-    };
+    let t = word_at(image, at + 1);
+    let added = type_from_type_expr(types, st.used.types, image, places, t);
+    let (w, used) = state::added(n, st.used, added)?;
     operators::store(slots, slot, w);
     names::bind_name(scratch, st.base, st.depth, name, w);
-    let counts = used.told;
-    let kept = used.kept;
-    Walked::On(names::one_more(
-        st,
-        Used {
-            types: more,
-            told: counts,
-            kept,
-        },
-    ))
+    Ok(((), names::one_more(st, used)))
 }
 
 // The arguments, of which `count` stand in the image from word `at` on; "An Fn owns its slot and one after it per argument".
@@ -86,7 +55,7 @@ pub fn fn_arguments(
     slot: usize,
     at: usize,
     count: usize,
-) -> Walked
+) -> Visit<()>
     requires { ArgumentsReady image.now places.now st scratch.old slot at count }
     ensures { ((T : Texts) (ls : List Package) (v : ℕ) (words f d m : List ℕ) (o : More) →
         let b : Lent = lent slots.old f types.old d m scratch.old o in
@@ -95,7 +64,7 @@ pub fn fn_arguments(
 {
     let mut after = st;
     for k in 0..count {
-        let one = one_argument(
+        (_, after) = one_argument(
             slots,
             types,
             scratch,
@@ -105,11 +74,7 @@ pub fn fn_arguments(
             n,
             slot + k,
             at + 2 * k,
-        );
-        let Walked::On(next) = one else {
-            return one;
-        };
-        after = next;
+        )?;
     }
-    Walked::On(after)
+    Ok(((), after))
 }

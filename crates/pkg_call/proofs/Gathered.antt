@@ -1,28 +1,26 @@
 -- The words of the arguments' types are written between the names in scope and the packages held, bindings from word 8,192 on: those stay
 -- as they were. Assumes nothing.
-use Prim.Native.Nat.{ℕ, ◌+◌, ◌*◌, ◌-◌, ◌≤◌, ◌<◌}
-use mathlib.Core.Path.{◌≡◌, refl, sym, ap, ap₂, ◌∙◌}
+use Rattle.std.specs.Prelude.{Ok, Err}
+use Prim.Native.Nat.{ℕ, ◌+◌, ◌-◌, ◌≤◌, ◌<◌}
+use mathlib.Core.Path.{◌≡◌, refl, sym, ap, ◌∙◌}
 use mathlib.Core.Bool.{Bool}
 use mathlib.Core.List.{List, ◌++◌}
 use native.Mathlib.Omega.{arith}
-use lib.ListN.{length, get_or, take, drop, length-append, length-take, length-drop}
+use lib.ListN.{length, get_or, take, drop, length-append, length-drop}
 use lib.Seq.{length-take-le, take_all, take_at, take-take, drop_at, drop-drop}
 use Rattle.tok.specs.Text.{Texts}
 use Rattle.library.specs.Package.{Package}
-use Rattle.rules.specs.World.{Local}
+use Rattle.rules.specs.declared.Answer.{Answer}
 use Rattle.rules.specs.Calls.{Provided, resolve_pkg_call}
-use Rattle.state.specs.declared.Step.{Step}
-use Rattle.state.specs.declared.Step.TheVariants as S
 use Rattle.state.specs.declared.Used.{Used}
 use Rattle.state.specs.Context.{ctx}
 use Rattle.state.specs.Store.{env_up, held_from}
-use Rattle.state.specs.World.{More, Rest, stepped}
+use Rattle.state.specs.World.{More, Step, stepped}
 use Rattle.call_args.specs.Given.{given_from}
 use Rattle.call_types.specs.Gather.{words_in, Gatherable}
 use Rattle.visit.specs.declared.State.{State}
-use Rattle.visit.specs.declared.Visit.{Visit}
-use Rattle.visit.specs.Whole.{lent, rest_of, visited}
-use Rattle.visit.specs.Within.{top, Within, Keeps, knows, poisons, refuses, Visits}
+use Rattle.visit.specs.Whole.{Visit, lent, rest_of, visited}
+use Rattle.visit.specs.Within.{top, Within, Keeps, goes, stops, Visits}
 use Rattle.visit.specs.Reach.{held_reach}
 use Rattle.visit.specs.Free.{Free, held_low, free-top}
 use Rattle.visit.specs.StoreLaws.{get_d_front, AlikeFrom, past-alike, env-front, held-past, held_below, reach-past, reach-below}
@@ -106,19 +104,17 @@ module _ {count : ℕ} {st : State} {e e₁ e' : List ℕ} (free : Free count st
       functions = refl;
     }
 
-    keeps : (r : Step) → Keeps count 0 st (lent s f t d m e o) (lent s' f t' d' m' e' o) (visit_of st r)
+    keeps : (r : Step Answer) → Keeps count 0 st (lent s f t d m e o) (lent s' f t' d' m' e' o) (visit_of st r)
     unfolding visit_of
-    keeps (S.Known slot u) = knows (within u)
-    keeps (S.Poison u) = poisons (within u)
-    keeps (S.Refused number place) = refuses
+    keeps (Ok (a, u)) = goes (within u)
+    keeps (Err x) = stops
 
-    visited-is : (words : List ℕ) (r : Step) → stepped (rest_of words st (lent s' f t' d' m' e' o)) s' t' d' m' r ≡ visited words (lent s' f t' d' m' e' o) (visit_of st r)
+    visited-is : (words : List ℕ) (r : Step Answer) → stepped (rest_of words st (lent s' f t' d' m' e' o)) s' t' d' m' r ≡ visited words (lent s' f t' d' m' e' o) (visit_of st r)
     unfolding visit_of stepped visited
-    visited-is words (S.Known slot u) = refl
-    visited-is words (S.Poison u) = refl
-    visited-is words (S.Refused number place) = refl
+    visited-is words (Ok (a, u)) = refl
+    visited-is words (Err x) = refl
 
-  pub calls-visit : (texts : Texts) (n slot pkg name : ℕ) (given : List Provided) (poisoned : Bool) (words s t d m : List ℕ) {s' t' d' m' : List ℕ} {r : Step} {v : Visit}
+  pub calls-visit : (texts : Texts) (n slot pkg name : ℕ) (given : List Provided) (poisoned : Bool) (words s t d m : List ℕ) {s' t' d' m' : List ℕ} {r : Step Answer} {v : Visit Answer}
       → HeldCalls texts n slot pkg name given poisoned words st.held st.packages e₁ s t d m st.used e' s' t' d' m' r → v ≡ visit_of st r
       → (library : List Package) (void : ℕ) (f : List ℕ) (o : More)
       → Visits (resolve_pkg_call (ctx texts library void) n slot pkg name given poisoned) count 0 words st (lent s f t d m e o) (lent s' f t' d' m' e' o) v
@@ -155,7 +151,7 @@ module _ {texts : Texts} {image places words : List ℕ} {st : State} {e : List 
       ends = rw (reach-past e (back e ys (top st) count ee fits long) (past_same e ys (top st) count ee fits long) st.held st.packages p.free.between) p.free.ends;
     }
 
-    pub pkg-visits : (slot pkg name : ℕ) (poisoned : Bool) (d m : List ℕ) {e' s' t' d' m' : List ℕ} {r : Step} {v : Visit}
+    pub pkg-visits : (slot pkg name : ℕ) (poisoned : Bool) (d m : List ℕ) {e' s' t' d' m' : List ℕ} {r : Step Answer} {v : Visit Answer}
         → HeldCalls texts n slot pkg name (given_from image args count) poisoned words st.held st.packages
         (take (top st) e ++ (ys ++ drop (end - top st) (drop (top st) e))) slots types d m st.used e' s' t' d' m' r
         → length e' ≡ length (take (top st) e ++ (ys ++ drop (end - top st) (drop (top st) e)))

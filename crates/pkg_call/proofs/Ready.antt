@@ -4,12 +4,8 @@ use mathlib.Core.Path.{◌≡◌, refl, sym, ap, subst, ◌∙◌}
 use mathlib.Core.Bool.{Bool, true, false, true≢false}
 use mathlib.Core.Option.{Option, none, some}
 use mathlib.Core.List.{List, [], ◌∷◌}
-use mathlib.Core.Logic.{⊎_elim}
 use native.Mathlib.Omega.{arith}
 use native.Mathlib.Decide.{dec_le}
-use types.Run.{OneOf}
-use denote.Enum.Declared.{tag_of}
-use borrow.Author.Tests.{eqb-false}
 use lib.ListN.{length, get_or, take, drop, length-drop, get_or-eq_default}
 use lib.Seq.{length-take-le}
 use Rattle.tok.specs.Text.{Texts, name_bytes, same_bytes}
@@ -31,7 +27,6 @@ use Rattle.pkg_group.specs.declared.Candidates.TheVariants as C
 use Rattle.pkg_group.specs.GroupSize.{group_size, size_found}
 use Rattle.pkg_group.specs.GroupSizeLaws.{size-one}
 use Rattle.pkg_group.specs.Groups.{GroupReady}
-use Rattle.pkg_group.specs.contracts.Candidates.{the_type}
 use Rattle.pkg_call.specs.Ready.{SlotsReady, MayBind, PackageBinds, GatheredReady, LibraryReady, HeldReady}
 
 -- ── Among many ──
@@ -74,9 +69,6 @@ entries-begin words flags at = elim (dec_le at (length words)) [
       rw z refl
 ]
 
-pub count_past : (words : List ℕ) (at : ℕ) → length words ≤ at → 0 ≡ get_or words (at + 1) 0
-count_past words at h = sym (get_or-eq_default words 0 (omega arith))
-
 module _ (texts : Texts) (name words : List ℕ) (at : ℕ) {k from : ℕ} (ek : k ≡ get_or words (at + 1) 0) (ef : from ≡ min at (length words) + 2) where
   pub library-group : group texts name words (flag_words true) from k ≡ group_of texts name (package_at words at).functions
   library-group = rw (ek, ef) (ap (group_of texts name) (entries-begin words 1 at ∙ entries-library words (get_or words (at + 1) 0) (at + 2)))
@@ -101,13 +93,6 @@ module _ (texts : Texts) (name words : List ℕ) (from k : ℕ) {found : Candida
       let all : Every (λ (f : Signature). f.with_slots ≡ false) (group texts name words 0 from k) = group-every _ texts name (entries_from words 0 from k) (plain-entries words k from) in
       let one : Every (λ (f : Signature). f.with_slots ≡ false) (signature_at words at true ∷ []) = rw e at all in
       true≢false one.0
-
--- a match says which ones they may still be
-pub not-slotted : {found : Candidates} → OneOf (0 ∷ 1 ∷ 3 ∷ []) (tag_of the_type found) → (at : ℕ) → found ≡ C.Slotted at → ⊥
-not-slotted {found} h at o = two (rw o at h)
-  where
-    two : OneOf (0 ∷ 1 ∷ 3 ∷ []) 2 → ⊥
-    two t = ⊎_elim (λ z. eqb-false 2 0 refl z) (λ t. ⊎_elim (λ z. eqb-false 2 1 refl z) (λ z. eqb-false 2 3 refl z) t) t
 
 -- ── From what is gathered to the group ──
 

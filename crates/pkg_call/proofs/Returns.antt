@@ -3,25 +3,26 @@ use Rattle.std.specs.Prelude.{Option as Found}
 use Prim.Native.Nat.{ℕ, ◌+◌, ◌≤◌, min}
 use mathlib.Core.Path.{◌≡◌, refl, sym, ap, subst, ◌∙◌}
 use mathlib.Core.Bool.{Bool, true, false}
-use mathlib.Core.Option.{Option, none, some}
+use mathlib.Core.Option.{some}
 use mathlib.Core.List.{List, [], ◌∷◌, ◌++◌}
 use lib.ListN.{length, get_or, take}
 use lib.Seq.{length-take-le, take_at}
 use Rattle.tok.specs.Text.{Texts, name_bytes}
 use Rattle.err.specs.declared.CallName.TheVariants.{OfPackage}
-use Rattle.err.specs.Message.{pkg_name, call_name, missing_package}
+use Rattle.err.specs.Message.{call_name, missing_package}
 use Rattle.err.specs.Report.{Reports}
-use Rattle.library.specs.Package.{Signature, Package, find_package, group_of}
+use Rattle.library.specs.Package.{Package, find_package, group_of}
 use Rattle.library.specs.PackagesRead.{package_at}
+use Rattle.rules.specs.declared.Answer.{Answer}
+use Rattle.rules.specs.declared.Answer.TheVariants.{Poison}
 use Rattle.rules.specs.Steps.{on_option}
 use Rattle.rules.specs.Calls.{Provided, check_call_args, in_group, resolve_pkg_call}
 use Rattle.state.specs.declared.Used.{Used}
-use Rattle.state.specs.declared.Step.{Step}
 use Rattle.state.specs.Context.{ctx}
-use Rattle.state.specs.Reporting.{poison_of, poisons-step}
+use Rattle.state.specs.Reporting.{told_of, poisons-step}
 use Rattle.state.specs.Signatures.{signature_at}
 use Rattle.state.specs.Store.{held_from, extern_at}
-use Rattle.state.specs.World.{Rest, world, Steps}
+use Rattle.state.specs.World.{Step, Steps}
 use Rattle.scope.specs.declared.Held as F
 use Rattle.scope.specs.declared.Held.TheVariants as H
 use Rattle.scope.specs.Found.{held_of}
@@ -43,7 +44,7 @@ front-stays e rest l = record { same = take_at (take 8192 e) rest 8192 (length-t
 -- ── Into one package ──
 
 module _ (texts : Texts) (n slot pkg name : ℕ) (given : List Provided) (poisoned : Bool) (words : List ℕ) (at : ℕ)
-    {k from : ℕ} (ek : k ≡ get_or words (at + 1) 0) (ef : from ≡ min at (length words) + 2) (s t d m : List ℕ) (u : Used) {s' t' d' m' : List ℕ} {r : Step} where
+    {k from : ℕ} (ek : k ≡ get_or words (at + 1) 0) (ef : from ≡ min at (length words) + 2) (s t d m : List ℕ) (u : Used) {s' t' d' m' : List ℕ} {r : Step Answer} where
   pub library-calls : (e : List ℕ) → InGroup texts n slot pkg name given poisoned (group texts (name_bytes texts name) words (flag_words true) from k) s t d m u s' t' d' m' r
       → LibraryCalls texts n slot pkg name given poisoned (package_at words at) e s t d m u e s' t' d' m' r
   library-calls e c = record {
@@ -70,7 +71,7 @@ module _ (texts : Texts) (n slot pkg name : ℕ) (given : List Provided) (poison
 
 module _ (texts : Texts) (n slot pkg name : ℕ) (given : List Provided) (poisoned : Bool) (words : List ℕ) (held packages : ℕ) (e s t d m : List ℕ) (u : Used) (found : F.Held)
     (q : held_of words e found ≡ find_package texts (name_bytes texts pkg) (held_from words e held packages)) where
-  pub no_package : {d' m' : List ℕ} {x : Found Counts} {r : Step} → found ≡ H.Nothing → Reports (missing_package pkg (name_bytes texts pkg)) d m u.told d' m' x → r ≡ poison_of n u x
+  pub no_package : {d' m' : List ℕ} {x : Found Counts} {r : Step Answer} → found ≡ H.Nothing → Reports (missing_package pkg (name_bytes texts pkg)) d m u.told d' m' x → r ≡ told_of n u x Poison
       → HeldCalls texts n slot pkg name given poisoned words held packages e s t d m u e s t d' m' r
   unfolding resolve_pkg_call on_option
   no_package o p w = record {
@@ -78,7 +79,7 @@ module _ (texts : Texts) (n slot pkg name : ℕ) (given : List Provided) (poison
     low = record { same = refl };
   }
 
-  module _ {s' t' d' m' : List ℕ} {r : Step} where
+  module _ {s' t' d' m' : List ℕ} {r : Step Answer} where
     -- the package found, and the candidates in it
     in_package : (p : Package) {e' : List ℕ} → held_of words e found ≡ some p
         → InGroup texts n slot pkg name given poisoned (group_of texts (name_bytes texts name) p.functions) s t d m u s' t' d' m' r → Low e e'

@@ -20,6 +20,7 @@ ghost use Rattle.pkg_call.specs.Calls.{LibraryCalls, HeldCalls};
 
 use err::CallName;
 use pkg_group::{Candidates, in_group};
+use rules::Answer;
 use scope::Held;
 use state::{Step, Used};
 use tok::Texts;
@@ -34,17 +35,14 @@ fn function_count(words: &[u32], at: usize) -> usize
     if at >= words.len() {
         return 0;
     }
-    tok::wide(tok::word_at(words, at + 1))
+    tok::word_at(words, at + 1) as usize
 }
 
 // Where their entries begin; past the end of the words there are none.
 fn first_entry(words: &[u32], at: usize) -> usize
     ensures { result ≡ min at (length words.now) + 2 }
 {
-    if at >= words.len() {
-        return words.len() + 2;
-    }
-    at + 2
+    at.min(words.len()) + 2
 }
 
 // A call into the library's package at word `at`. The bindings of a function with slots stand in scratch from word 8,192 on, where the walk
@@ -70,7 +68,7 @@ fn in_library(
     args: usize,
     count: usize,
     poisoned: bool,
-) -> Step
+) -> Step<Answer>
     requires { LibraryReady texts.now image.now places.now words.now scratch.old top n at args count slots.old types.old used.types }
     ensures { LibraryCalls texts.now n slot pkg name (given_from image.now args count) poisoned (package_at words.now at)
         scratch.old slots.old types.old diagnostics.old messages.old used
@@ -146,7 +144,7 @@ fn in_extern(
     args: usize,
     count: usize,
     poisoned: bool,
-) -> Step
+) -> Step<Answer>
     requires { GatheredReady texts.now image.now places.now scratch.now top n args count slots.old types.now used.types }
     ensures { InGroup texts.now n slot pkg name (given_from image.now args count) poisoned (group_of texts.now (name_bytes texts.now name) (extern_at scratch.now at).functions)
         slots.old types.now diagnostics.old messages.old used
@@ -203,7 +201,7 @@ fn in_held(
     args: usize,
     count: usize,
     poisoned: bool,
-) -> Step
+) -> Step<Answer>
     requires { HeldReady texts.now image.now places.now words.now scratch.old held packages top n args count slots.old types.old used.types }
     ensures { HeldCalls texts.now n slot pkg name (given_from image.now args count) poisoned words.now held packages
         scratch.old slots.old types.old diagnostics.old messages.old used
@@ -211,51 +209,47 @@ fn in_held(
 {
     let found = scope::find_held(texts, words, &scratch[..], held, packages, pkg);
     match found {
-        Held::Library(at) => {
-            return in_library(
-                slots,
-                types,
-                diagnostics,
-                messages,
-                scratch,
-                texts,
-                image,
-                places,
-                words,
-                used,
-                top,
-                n,
-                slot,
-                pkg,
-                name,
-                at,
-                args,
-                count,
-                poisoned,
-            );
-        }
-        Held::Extern(at) => {
-            return in_extern(
-                slots,
-                &types[..],
-                diagnostics,
-                messages,
-                &scratch[..],
-                texts,
-                image,
-                places,
-                used,
-                top,
-                n,
-                slot,
-                pkg,
-                name,
-                at,
-                args,
-                count,
-                poisoned,
-            );
-        }
+        Held::Library(at) => in_library(
+            slots,
+            types,
+            diagnostics,
+            messages,
+            scratch,
+            texts,
+            image,
+            places,
+            words,
+            used,
+            top,
+            n,
+            slot,
+            pkg,
+            name,
+            at,
+            args,
+            count,
+            poisoned,
+        ),
+        Held::Extern(at) => in_extern(
+            slots,
+            &types[..],
+            diagnostics,
+            messages,
+            &scratch[..],
+            texts,
+            image,
+            places,
+            used,
+            top,
+            n,
+            slot,
+            pkg,
+            name,
+            at,
+            args,
+            count,
+            poisoned,
+        ),
         Held::Nothing => {
             let free = err_text::first_free(messages, used.told);
             let r = err_calls::missing_package(
@@ -265,7 +259,7 @@ fn in_held(
                 texts,
                 pkg,
             );
-            return state::poisoned(n, used, r);
+            state::told(n, used, r, Answer::Poison)
         }
     }
 }
@@ -290,7 +284,7 @@ pub fn resolve_pkg_call(
     args: usize,
     count: usize,
     poisoned: bool,
-) -> Visit
+) -> Visit<Answer>
     requires { PkgReady texts.now image.now places.now words.now st scratch.old n args count slots.old types.old }
     ensures { ((ls : List Package) (v : ℕ) (f : List ℕ) (o : More) →
         let b : Lent = lent slots.old f types.old diagnostics.old messages.old scratch.old o in
@@ -307,7 +301,6 @@ pub fn resolve_pkg_call(
         args,
         count,
     );
-    let used = st.used;
     let step = in_held(
         slots,
         types,
@@ -318,7 +311,7 @@ pub fn resolve_pkg_call(
         image,
         places,
         words,
-        used,
+        st.used,
         st.held,
         st.packages,
         top,

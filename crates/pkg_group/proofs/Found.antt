@@ -1,11 +1,10 @@
 -- The candidates of a name, one law for each way out of the code. Assumes nothing.
 use Rattle.std.specs.Prelude.{Option, Some, None}
 use Prim.Native.Nat.{ℕ}
-use mathlib.Core.Path.{◌≡◌, refl, sym, ap, ◌∙◌}
-use mathlib.Core.Bool.{Bool, true, false}
-use mathlib.Core.List.{List, [], ◌∷◌}
+use mathlib.Core.Path.{◌≡◌, ap, ◌∙◌}
+use mathlib.Core.Bool.{true, false}
+use mathlib.Core.List.{List, ◌∷◌}
 use Rattle.tok.specs.Text.{Texts}
-use Rattle.library.specs.Package.{Signature}
 use Rattle.state.specs.Signatures.{signature_at}
 use Rattle.signatures.specs.declared.Entry.{Entry}
 use Rattle.signatures.specs.Entries.{Finds}

@@ -11,6 +11,7 @@ ghost use Rattle.pkg_group.specs.GroupSize.{group_size, size_found};
 ghost use Rattle.pkg_group.specs.Groups.{GroupReady, InGroup};
 
 use err::CallName;
+use rules::Answer;
 use state::{Step, Used};
 use tok::Texts;
 
@@ -73,7 +74,7 @@ pub fn in_group(
     args: usize,
     count: usize,
     poisoned: bool,
-) -> Step
+) -> Step<Answer>
     requires { GroupReady image.now places.now n args count slots.old provided.now words.now
         (group texts.now (name_bytes texts.now name) words.now (flag_words flagged) from k) found }
     ensures { InGroup texts.now n slot pkg name (given_from image.now args count) poisoned
@@ -92,34 +93,31 @@ pub fn in_group(
                 pkg,
                 name,
             );
-            return state::poisoned(n, used, r);
+            state::told(n, used, r, Answer::Poison)
         }
-        Candidates::Plain(at) => {
-            return call_args::check_plain(
-                slots,
-                types,
-                diagnostics,
-                messages,
-                texts,
-                image,
-                places,
-                used,
-                n,
-                slot,
-                name,
-                CallName::OfPackage(pkg, name),
-                words,
-                at,
-                args,
-                count,
-            );
-        }
-        Candidates::Slotted(_) => {
-            return Step::Refused(0, 0);
-        }
+        Candidates::Plain(at) => call_args::check_plain(
+            slots,
+            types,
+            diagnostics,
+            messages,
+            texts,
+            image,
+            places,
+            used,
+            n,
+            slot,
+            name,
+            CallName::OfPackage(pkg, name),
+            words,
+            at,
+            args,
+            count,
+        ),
+        // it is checked by itself, with its bindings
+        Candidates::Slotted(_) => unreachable!(),
         Candidates::Several => {
             let wanted = tok::name_bytes(texts, name);
-            return group_select::select(
+            group_select::select(
                 slots,
                 types,
                 diagnostics,
@@ -137,7 +135,7 @@ pub fn in_group(
                 k,
                 wanted,
                 poisoned,
-            );
+            )
         }
     }
 }

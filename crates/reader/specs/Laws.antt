@@ -1,13 +1,14 @@
 -- Laws of reading forward: one word, and one rule after another. Each says what the definitions come to where the code's reading stands.
 -- Assumes nothing.
-use Rattle.std.specs.Prelude.{ℕ, ◌+◌, ◌≤◌, ◌<◌, Bool, true, false, ◌&&◌, cond, ◌≡◌, List, [], ◌∷◌, length, get_or, drop, leb, ltb}
+use Rattle.std.specs.Prelude.{ℕ, ◌+◌, ◌≤◌, ◌<◌, Bool, true, false, ◌&&◌, cond, ◌≡◌, List, [], ◌∷◌, length, get_or, drop, leb, ltb, Result, Ok, Err}
 use Rattle.std.proofs.Math.Path.{refl}
-use Rattle.std.proofs.Common.{ap, ◌∙◌, add-zero, arith, add-one, drop_of_length-le, drop-cons, get_or-drop}
-use Rattle.tok.specs.Step.{ok, next, ◌>>=◌}
-use Rattle.tok.specs.Reader.{Read, most_words, take_word, owing, ends, ends_at, start, unless_long, fault_of, most_bytes}
-use Rattle.reader.specs.declared.Reading.{Reading}
-use Rattle.reader.specs.declared.Reading.TheVariants.{At, Fault}
-use Rattle.reader.specs.Reading.{beginning, place_of, next_word, onward, gave, fault_in}
+use Rattle.std.proofs.Common.{sym, ap, ◌∙◌, add-zero, add-one, drop_of_length-le, drop-cons, get_or-drop}
+use Rattle.tok.specs.Step.{next, ◌>>=◌, return}
+use Rattle.tok.specs.Step as step
+use Rattle.tok.specs.Reader.{Cursor, Read, most_words, take_word, owing, ends, ends_at, start, unless_long, fault_of, most_bytes}
+use Rattle.reader.specs.declared.Place.{Place}
+use Rattle.reader.specs.declared.Fault.{Fault}
+use Rattle.reader.specs.Reading.{standing, beginning, onward, gave, offending}
 
 -- ── One word ──
 
@@ -17,29 +18,29 @@ admitted rule owes at least w = ltb at most_words && (rule w && leb (least + owe
 
 module _ (rule : ℕ → Bool) (owes : ℕ → ℕ) (words : List ℕ) (at least : ℕ) where
   -- "first offending word, or its length"
-  pub short : (w : ℕ) → length words ≤ at → onward words (At at least) (owing rule owes) ≡ gave words w (Fault at)
-  unfolding take_word onward gave
+  pub short : (w : ℕ) → length words ≤ at → owing rule owes (standing words at least) ≡ gave words w (Err (record { 0 = at }))
+  unfolding take_word gave
   short w h = rw (drop_of_length-le words h) refl
 
   pub offends : (w : ℕ) → at < length words → admitted rule owes at least (get_or words at 0) ≡ false
-      → onward words (At at least) (owing rule owes) ≡ gave words w (Fault at)
-  unfolding take_word onward gave
+      → owing rule owes (standing words at least) ≡ gave words w (Err (record { 0 = at }))
+  unfolding take_word gave
   offends w h e = rw (drop-cons words at 0 h, e) refl
 
   pub taken : at < length words → admitted rule owes at least (get_or words at 0) ≡ true
-      → onward words (At at least) (owing rule owes) ≡ gave words (get_or words at 0) (At (at + 1) (least + owes (get_or words at 0)))
-  unfolding take_word onward gave
+      → owing rule owes (standing words at least) ≡ gave words (get_or words at 0) (Ok (record { at = at + 1; least = least + owes (get_or words at 0) }))
+  unfolding take_word gave
   taken h e = rw (drop-cons words at 0 h, e, add-one) refl
 
 -- "nothing after"
 module _ (words : List ℕ) (at least : ℕ) where
-  pub ends-left : at < length words → onward words (At at least) ends ≡ gave words tt (Fault at)
-  unfolding ends_at onward gave
-  ends-left h = rw (drop-cons words at 0 h) refl
+  pub ends_left : at < length words → ends (standing words at least) ≡ gave words tt (Err (record { 0 = at }))
+  unfolding ends_at gave
+  ends_left h = rw (drop-cons words at 0 h) refl
 
-  pub ends-here : length words ≤ at → onward words (At at least) ends ≡ gave words tt (At at least)
-  unfolding ends_at onward gave
-  ends-here h = rw (drop_of_length-le words h) refl
+  pub ends_here : length words ≤ at → ends (standing words at least) ≡ gave words tt (Ok (record { at = at; least = least }))
+  unfolding ends_at gave
+  ends_here h = rw (drop_of_length-le words h) refl
 
 -- A rule counts only at the word that is read: a reader that has tried it there is a reader of the rule.
 by_first : (rule : ℕ → Bool) (owes : ℕ → ℕ) (at least : ℕ) (l : List ℕ) (good : Bool) (n : ℕ) → rule (get_or l 0 0) ≡ good → owes (get_or l 0 0) ≡ n
@@ -48,64 +49,69 @@ unfolding take_word
 by_first rule owes at least [] good n p q = refl
 by_first rule owes at least (w ∷ l) good n p q = rw (p, q) refl
 
-pub by-rule-at : (rule : ℕ → Bool) (owes : ℕ → ℕ) (words : List ℕ) (from : Reading) (good : Bool) (n : ℕ)
-    → ((at least : ℕ) → from ≡ At at least → (rule (next_word words from) ≡ good) × (owes (next_word words from) ≡ n))
+pub by_rule : (rule : ℕ → Bool) (owes : ℕ → ℕ) (words : List ℕ) (from : Place) (good : Bool) (n : ℕ)
+    → rule (get_or words from.at 0) ≡ good → owes (get_or words from.at 0) ≡ n
     → onward words from (owing rule owes) ≡ onward words from (owing (λ _. good) (λ _. n))
-unfolding onward
-by-rule-at rule owes words (At at least) good n h =
-    by_first rule owes at least (drop at words) good n (rw (get_or-drop, add-zero) (h at least refl).0) (rw (get_or-drop, add-zero) (h at least refl).1)
-by-rule-at rule owes words (Fault place) good n h = refl
+by_rule rule owes words from good n p q =
+    by_first rule owes from.at from.least (drop from.at words) good n (rw (get_or-drop, add-zero) p) (rw (get_or-drop, add-zero) q)
 
-pub by-rule : (rule : ℕ → Bool) (owes : ℕ → ℕ) (words : List ℕ) (from : Reading) (good : Bool) (n : ℕ)
-    → rule (next_word words from) ≡ good → owes (next_word words from) ≡ n
-    → onward words from (owing rule owes) ≡ onward words from (owing (λ _. good) (λ _. n))
-by-rule rule owes words from good n p q = by-rule-at rule owes words from good n (λ at least e. (p, q))
+-- A word that the code has tried: `w` is the word there, `good` says whether its rule holds of it, and `n` how many words it owes.
+pub owed : (rule : ℕ → Bool) (owes : ℕ → ℕ) (words : List ℕ) (from : Place) (to : Result Place Fault) (w n : ℕ) (good : Bool)
+    → w ≡ get_or words from.at 0 → good ≡ rule w → n ≡ owes w
+    → onward words from (owing (λ _. good) (λ _. n)) ≡ gave words (get_or words from.at 0) to → onward words from (owing rule owes) ≡ gave words w to
+owed rule owes words from to w n good p q o e = by_rule rule owes words from good n (rw p at (sym q)) (rw p at (sym o)) ∙ e ∙ ap (λ a. gave words a to) (sym p)
 
 -- ── One rule after another ──
 
--- a fault ends all
-pub onward-fault : {A : Type 0} (words : List ℕ) (rule : Read A) (place : ℕ) (a : A) → onward words (Fault place) rule ≡ gave words a (Fault place)
-unfolding onward gave
-onward-fault words rule place a = refl
-
 -- a rule that reads nothing more
-pub onward-return : {A : Type 0} (words : List ℕ) (from : Reading) (a : A) → onward words from (λ c. ok a c) ≡ gave words a from
-unfolding onward gave
-onward-return words (At at least) a = refl
-onward-return words (Fault place) a = refl
+pub onward-return : {A : Type 0} (words : List ℕ) (from : Place) (a : A) → onward words from (return a) ≡ gave words a (Ok from)
+unfolding gave
+onward-return words from a = refl
 
-next-gave : {A B : Type 0} (words : List ℕ) (a : A) (mid : Reading) (f : A → Read B) → next (gave words a mid) f ≡ onward words mid (f a)
-unfolding onward gave
-next-gave words a (At at least) f = refl
-next-gave words a (Fault place) f = refl
+module _ {A B : Type 0} (words : List ℕ) (from : Place) (m : Read A) (f : A → Read B) (a : A) where
+  pub onward_then : (mid : Place) → onward words from m ≡ gave words a (Ok mid) → onward words from (◌>>=◌ m f) ≡ onward words mid (f a)
+  unfolding gave
+  onward_then mid e = rw e refl
 
-pub onward_then : {A B : Type 0} (words : List ℕ) (from mid : Reading) (m : Read A) (f : A → Read B) (a : A)
-    → onward words from m ≡ gave words a mid → onward words from (◌>>=◌ m f) ≡ onward words mid (f a)
-unfolding onward
-onward_then words (At at least) mid m f a e = rw e (next-gave words a mid f)
-onward_then words (Fault place) mid m f a e = ap (λ r. next r f) e ∙ next-gave words a mid f
+  -- a fault ends all
+  pub onward_stops : (fault : Fault) (b : B) → onward words from m ≡ gave words a (Err fault) → onward words from (◌>>=◌ m f) ≡ gave words b (Err fault)
+  unfolding gave
+  onward_stops fault b e = rw e refl
 
--- reading that goes on has come without a fault
-pub came_from : {A : Type 0} (words : List ℕ) (from : Reading) (m : Read A) (a : A) (at least : ℕ) → onward words from m ≡ gave words a (At at least)
-    → (l : ℕ) × (from ≡ At (place_of from) l)
-unfolding onward gave
-came_from words (At place l) m a at least e = (l, refl)
-came_from words (Fault place) m a at least e = let z : ◌≡◌ {A = ℕ} 0 1 = cc in absurd (omega arith)
+-- the last rule, of which an answer is made
+pub onward_last : {A B : Type 0} (words : List ℕ) (f : A → B) (a : A) (to : Result Place Fault) (r : step.Result Cursor ℕ A) → r ≡ gave words a to
+    → next r (λ x. return (f x)) ≡ gave words (f a) to
+unfolding gave
+onward_last words f a (Ok to) r e = rw e refl
+onward_last words f a (Err fault) r e = rw e refl
 
 -- ── The beginning and the end ──
 
-long_or_not : {A : Type 0} (b : Bool) (words : List ℕ) (least : ℕ) (m : Read A)
-    → unless_long b (m (start least words)) ≡ onward words (cond b (Fault 0) (At 0 least)) m
-unfolding unless_long onward
-long_or_not true words least m = refl
-long_or_not false words least m = refl
-
 -- "a text over its limit comes first, with place 0"
-pub onward-beginning : {A : Type 0} (words : List ℕ) (n least : ℕ) (m : Read A)
-    → unless_long (ltb most_bytes n) (m (start least words)) ≡ onward words (beginning n least) m
-onward-beginning words n least m = long_or_not (ltb most_bytes n) words least m
+module _ {A : Type 0} (words : List ℕ) (n least : ℕ) (m : Read A) where
+  -- the beginning, by whether the text is too long
+  abbrev begins : Bool → Result Place Fault
+  begins b = cond b (Err (record { 0 = 0 })) (Ok (record { at = 0; least = least }))
 
-pub fault-gave : {A : Type 0} (words : List ℕ) (a : A) (r : Reading) → fault_of (gave words a r) ≡ fault_in r
+  begun : (b : Bool) (from : Place) → begins b ≡ Ok from
+      → unless_long b (m (start least words)) ≡ onward words from m
+  unfolding unless_long
+  begun true from e = cc
+  begun false from e = let same : ◌≡◌ {A = Place} (record { at = 0; least = least }) from = cc in rw (sym same) refl
+
+  too_long : (b : Bool) (fault : Fault) (a : A) → begins b ≡ Err fault
+      → unless_long b (m (start least words)) ≡ gave words a (Err fault)
+  unfolding unless_long gave
+  too_long true fault a e = let same : ◌≡◌ {A = Fault} (record { 0 = 0 }) fault = cc in rw (sym same) refl
+  too_long false fault a e = cc
+
+  pub onward_begun : (from : Place) → beginning n least ≡ Ok from → unless_long (ltb most_bytes n) (m (start least words)) ≡ onward words from m
+  onward_begun from e = begun (ltb most_bytes n) from e
+
+  pub onward_long : (fault : Fault) (a : A) → beginning n least ≡ Err fault → unless_long (ltb most_bytes n) (m (start least words)) ≡ gave words a (Err fault)
+  onward_long fault a e = too_long (ltb most_bytes n) fault a e
+
+pub fault-gave : {A : Type 0} (words : List ℕ) (a : A) (r : Result Place Fault) → fault_of (gave words a r) ≡ offending r
 unfolding fault_of gave
-fault-gave words a (At at least) = refl
-fault-gave words a (Fault place) = refl
+fault-gave words a (Ok to) = refl
+fault-gave words a (Err fault) = refl

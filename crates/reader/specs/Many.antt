@@ -1,14 +1,14 @@
 -- Laws of `many`, the same rule read again and again, as a loop reads it: one more after those before. Assumes nothing.
-use Prim.Native.Nat.{ℕ, zero, suc, ◌≤◌}
-use Rattle.std.specs.Prelude.{◌≡◌, List, [], ◌∷◌, ◌++◌}
+use Prim.Native.Nat.{ℕ, zero, suc, ◌≤◌, ◌<◌}
+use Rattle.std.specs.Prelude.{◌≡◌, List, [], ◌∷◌, ◌++◌, Ok, Err}
 use Rattle.std.proofs.Math.Path.{refl}
 use Rattle.std.proofs.Common.{ap, ◌∙◌, le_of_suc-le-suc, not-suc-le-zero}
 use Rattle.tok.specs.Step.{Result, ok, refused, next, ◌>>=◌, return}
 use Rattle.tok.specs.Reader.{Cursor, Read, many}
-use Rattle.reader.specs.declared.Reading.{Reading}
-use Rattle.reader.specs.declared.Reading.TheVariants.{At, Fault}
+use Rattle.reader.specs.declared.Place.{Place}
+use Rattle.reader.specs.declared.Fault.{Fault}
 use Rattle.reader.specs.Reading.{standing, onward, gave}
-use Rattle.reader.specs.Laws.{onward_then, onward-return}
+use Rattle.reader.specs.Laws.{onward_then, onward_stops}
 
 module _ {A : Type 0} (m : Read A) where
   -- those before, then one more
@@ -53,19 +53,13 @@ module _ {A : Type 0} (m : Read A) where
 
   -- ── As the code's loop reads them ──
 
-  onward-suc : (words : List ℕ) (from : Reading) (n : ℕ) → onward words from (many (suc n) m) ≡ onward words from (◌>>=◌ (many n m) one_more)
-  unfolding onward
-  onward-suc words (At at least) n = many-suc n (standing words at least)
-  onward-suc words (Fault place) n = refl
+  module _ (words : List ℕ) (from mid : Place) (i : ℕ) (xs : List A) (so_far : onward words from (many i m) ≡ gave words xs (Ok mid)) (a : A) where
+    pub many_more : (to : Place) → onward words mid m ≡ gave words a (Ok to) → onward words from (many (suc i) m) ≡ gave words (xs ++ (a ∷ [])) (Ok to)
+    unfolding gave
+    many_more to e = many-suc i (standing words from.at from.least) ∙ onward_then words from (many i m) one_more xs mid so_far ∙ onward_then words mid m (λ b. return (xs ++ (b ∷ []))) a to e
 
-  pub onward-more : (words : List ℕ) (from mid to : Reading) (n : ℕ) (xs : List A) (a : A)
-      → onward words from (many n m) ≡ gave words xs mid → onward words mid m ≡ gave words a to
-      → onward words from (many (suc n) m) ≡ gave words (xs ++ (a ∷ [])) to
-  onward-more words from mid to n xs a p q =
-      onward-suc words from n ∙ onward_then words from mid (many n m) one_more xs p ∙ onward_then words mid to m (λ b. return (xs ++ (b ∷ []))) a q ∙ onward-return words to (xs ++ (a ∷ []))
-
-  pub onward_stops : (words : List ℕ) (from : Reading) (j n place : ℕ) (xs bs : List A) → j ≤ n
-      → onward words from (many j m) ≡ gave words xs (Fault place) → onward words from (many n m) ≡ gave words bs (Fault place)
-  unfolding onward gave
-  onward_stops words (At at least) j n place xs bs h e = many-stops j n h place (standing words at least) e
-  onward_stops words (Fault p) j n place xs bs h e = e
+    pub many_faulted : (fault : Fault) (n : ℕ) (bs : List A) → i < n → onward words mid m ≡ gave words a (Err fault) → onward words from (many n m) ≡ gave words bs (Err fault)
+    unfolding gave
+    many_faulted fault n bs l e =
+        many-stops (suc i) n l fault.0 (standing words from.at from.least)
+        (many-suc i (standing words from.at from.least) ∙ onward_then words from (many i m) one_more xs mid so_far ∙ onward_stops words mid m (λ b. return (xs ++ (b ∷ []))) a fault [] e)

@@ -1,7 +1,8 @@
 -- What a rule reads, by place: the answer that stands at a word, up to the word after it, and what its tests have shown of the words
 -- between. With it, what readers accept is what decoders find there. A relation and its laws.
 -- Assumes nothing.
-use Rattle.std.specs.Prelude.{ℕ, ◌+◌, ◌≤◌, ◌<◌, Bool, ◌&&◌, ◌≡◌, List, length, get_or, ltb}
+use Rattle.std.specs.Prelude.{ℕ, ◌+◌, ◌≤◌, ◌<◌, Bool, ◌&&◌, ◌≡◌, List, length, get_or, ltb, Ok, Err}
+use Rattle.std.specs.Prelude as rust
 use Rattle.std.proofs.Math.Bool.{true, false, and-eq-true_iff}
 use Rattle.std.proofs.Math.Path.{refl, subst}
 use Rattle.std.proofs.Common.{sym, ap, ◌∙◌, arith, ltb-true}
@@ -9,10 +10,10 @@ use Rattle.std.proofs.Math.Decide.{dec_lt}
 use Rattle.std.proofs.Math.Dec.{leb}
 use Rattle.tok.specs.Step.{Result, ok, refused, next}
 use Rattle.tok.specs.Reader.{Cursor, Read, most_words, owing, ends}
-use Rattle.reader.specs.declared.Reading.{Reading}
-use Rattle.reader.specs.declared.Reading.TheVariants.{At, Fault}
-use Rattle.reader.specs.Reading.{standing, place_of, onward, gave}
-use Rattle.reader.specs.Laws.{admitted, short, taken, offends, ends-left, ends-here}
+use Rattle.reader.specs.declared.Place.{Place}
+use Rattle.reader.specs.declared.Fault.{Fault}
+use Rattle.reader.specs.Reading.{standing, gave}
+use Rattle.reader.specs.Laws.{admitted, short, taken, offends, ends_left, ends_here}
 
 -- a place that reading has come to: all before it are words of the list, and of the most that there may be
 pub record Within (words : List ℕ) (to : ℕ) : Type 0 where
@@ -48,14 +49,14 @@ module _ (rule : ℕ → Bool) (owes : ℕ → ℕ) (words : List ℕ) (at least
   AtWord r = Reads words (get_or words at 0) (at + 1) (rule (get_or words at 0) ≡ true) r
 
   at-word : (h : at < length words) (b : Bool) → admitted rule owes at least (get_or words at 0) ≡ b → AtWord (owing rule owes (standing words at least))
-  unfolding onward gave
+  unfolding gave
   at-word h true e =
       let both : (ltb at most_words ≡ true) × ((rule (get_or words at 0) && leb (least + owes (get_or words at 0)) most_words) ≡ true) = (and-eq-true_iff (ltb at most_words) _).0 e in
       subst AtWord (sym (taken rule owes words at least h e)) (reads _ (within-next h both.0) ((and-eq-true_iff _ _).0 both.1).0)
   at-word h false e = subst AtWord (sym (offends rule owes words at least 0 h e)) (faults at)
 
   pub reads_word : Reads words (get_or words at 0) (at + 1) (rule (get_or words at 0) ≡ true) (owing rule owes (standing words at least))
-  unfolding onward gave
+  unfolding gave
   reads_word = elim (dec_lt at (length words)) [
     | yes h ↦ at-word h _ refl
     | no h ↦ subst AtWord (sym (short rule owes words at least 0 (omega arith))) (faults at)
@@ -63,10 +64,10 @@ module _ (rule : ℕ → Bool) (owes : ℕ → ℕ) (words : List ℕ) (at least
 
 -- the end of the list
 pub reads_end : (words : List ℕ) (at least : ℕ) → Within words at → Reads words tt at (length words ≡ at) (ends (standing words at least))
-unfolding onward gave
+unfolding gave
 reads_end words at least w = elim (dec_lt at (length words)) [
-  | yes h ↦ subst (Reads words tt at (length words ≡ at)) (sym (ends-left words at least h)) (faults at)
-  | no h ↦ subst (Reads words tt at (length words ≡ at)) (sym (ends-here words at least (omega arith))) (reads least w (omega (arith, w.in_list)))
+  | yes h ↦ subst (Reads words tt at (length words ≡ at)) (sym (ends_left words at least h)) (faults at)
+  | no h ↦ subst (Reads words tt at (length words ≡ at)) (sym (ends_here words at least (omega arith))) (reads least w (omega (arith, w.in_list)))
 ]
 
 -- ── What is known of a reading by it ──
@@ -89,17 +90,9 @@ module _ {A : Type 0} {words : List ℕ} {a : A} {to : ℕ} {P : Type 0} where
   reads-shown (reads least w p) e = p
   reads-shown (faults place) e = let z : ◌≡◌ {A = ℕ} 0 1 = cc in absurd (omega arith)
 
--- going on from where a reading stands
-pub reads-onward : {A : Type 0} (words : List ℕ) (from : Reading) (m : Read A) {a : A} {to : ℕ} {P : Type 0}
-    → ((least : ℕ) → Reads words a to P (m (standing words (place_of from) least))) → Reads words a to P (onward words from m)
-unfolding onward
-reads-onward words (At at least) m h = h least
-reads-onward words (Fault place) m h = faults place
-
--- and what is known where it goes on from there
-module _ {A : Type 0} (words : List ℕ) (from : Reading) (m : Read A) (b : A) (at least : ℕ) {a : A} {to : ℕ} {P : Type 0}
-    (h : Reads words a to P (onward words from m)) (e : onward words from m ≡ gave words b (At at least)) where
-  pub onward-place : at ≡ to
+-- and what is known where reading has come to a place
+module _ {A : Type 0} {words : List ℕ} {a : A} {end : ℕ} {P : Type 0} {r : Result Cursor ℕ A} (to : Place) (b : A) (h : Reads words a end P r) (e : r ≡ gave words b (Ok to)) where
+  pub onward-place : to.at ≡ end
   unfolding gave
   onward-place = reads-place h e
 
@@ -107,13 +100,13 @@ module _ {A : Type 0} (words : List ℕ) (from : Reading) (m : Read A) (b : A) (
   unfolding gave
   onward-shown = reads-shown h e
 
-  pub onward-within : Within words to
+  pub onward-within : Within words end
   unfolding gave
   onward-within = reads-within h e
 
 -- so that an answer found on the way may be said by place
-pub gave-there : {A : Type 0} (words : List ℕ) (from to : Reading) (m : Read A) (a b : A) (at : ℕ) {P : Type 0}
-    → Reads words a at P (onward words from m) → onward words from m ≡ gave words b to → onward words from m ≡ gave words a to
+pub gave-there : {A : Type 0} (words : List ℕ) (to : rust.Result Place Fault) (a b : A) (end : ℕ) {P : Type 0} (r : Result Cursor ℕ A)
+    → Reads words a end P r → r ≡ gave words b to → r ≡ gave words a to
 unfolding gave
-gave-there words from (At at least) m a b to h e = e ∙ ap (λ x. ok x (standing words at least)) (reads-answer h e)
-gave-there words from (Fault place) m a b to h e = e
+gave-there words (Ok to) a b end r h e = e ∙ ap (λ x. ok x (standing words to.at to.least)) (reads-answer h e)
+gave-there words (Err fault) a b end r h e = e

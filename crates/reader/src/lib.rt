@@ -3,14 +3,18 @@
 
 ghost use Rattle.std.specs.Prelude.{◌≡◌, ◌&&◌, ◌+◌, length, leb, ltb};
 ghost use Rattle.tok.specs.Reader.{most_words, owing, word, below, ends};
-ghost use Rattle.reader.specs.Reading.{beginning, place_of, next_word, onward, gave, offending, fault_in};
+ghost use Rattle.reader.specs.Reading.{beginning, next_word, onward, gave};
 
-// Where a reading stands: before the word `At.0` of a list that has `At.1` words at least; or at the first offending word, which ends it.
+// Where a reading stands: before word `at` of a list that has `least` words at least.
 #[derive(Clone, Copy)]
-pub enum Reading {
-    At(usize, usize),
-    Fault(usize),
+pub struct Place {
+    pub at: usize,
+    pub least: usize,
 }
+
+// The place of the first fault: in a list the word that offends, or the list's length.
+#[derive(Clone, Copy, Debug, PartialEq, Eq)]
+pub struct Fault(pub usize);
 
 // "image and library 8,192 words each"
 const MOST_WORDS: usize = 8192;
@@ -18,32 +22,22 @@ const MOST_WORDS: usize = 8192;
 // "each text 65,536 bytes"
 const MOST_BYTES: usize = 65536;
 
-// Before the first word, with the fewest words that the whole can have; or at a fault at place 0 where the text is over its limit.
-pub fn begin(text: &[u8], least: usize) -> Reading
+// Before the first word, with the fewest words that the whole can have; or a fault at place 0 where the text is over its limit.
+pub fn begin(text: &[u8], least: usize) -> Result<Place, Fault>
     ensures { result ≡ beginning (length text.now) least }
 {
     if text.len() > MOST_BYTES {
-        Reading::Fault(0)
+        Err(Fault(0))
     } else {
-        Reading::At(0, least)
+        Ok(Place { at: 0, least })
     }
 }
 
-// The word before which a reading stands, or the place of its fault.
-pub fn place(from: Reading) -> usize
-    ensures { result ≡ place_of from }
-{
-    match from {
-        Reading::At(at, _) => at,
-        Reading::Fault(place) => place,
-    }
-}
-
-// The word there, and 0 past the end.
-pub fn next_word(words: &[u32], from: Reading) -> u32
+// The word before which a reading stands, and 0 past the end.
+pub fn next_word(words: &[u32], from: Place) -> u32
     ensures { result ≡ next_word words.now from }
 {
-    tok::word_at(words, place(from))
+    tok::word_at(words, from.at)
 }
 
 // Whether a word at `at` that its rule calls good, and that owes more words, lies with all of them within 8,192.
@@ -54,57 +48,41 @@ fn admits(at: usize, least: usize, good: bool, owes: usize) -> bool
 }
 
 // One word that owes more after it: a count or a length. `good`: whether its field's rule holds of it.
-pub fn owing(words: &[u32], from: Reading, good: bool, owes: usize) -> Reading
+pub fn owing(words: &[u32], from: Place, good: bool, owes: usize) -> Result<Place, Fault>
     ensures { onward words.now from (owing (λ _. good) (λ _. owes)) ≡ gave words.now (next_word words.now from) result }
 {
-    let Reading::At(at, least) = from else {
-        return from;
-    };
-    if at < words.len() && admits(at, least, good, owes) {
-        Reading::At(at + 1, least + owes)
+    if from.at < words.len() && admits(from.at, from.least, good, owes) {
+        Ok(Place {
+            at: from.at + 1,
+            least: from.least + owes,
+        })
     } else {
-        Reading::Fault(at)
+        Err(Fault(from.at))
     }
 }
 
 // One word that owes none.
-pub fn word(words: &[u32], from: Reading, good: bool) -> Reading
+pub fn word(words: &[u32], from: Place, good: bool) -> Result<Place, Fault>
     ensures { onward words.now from (word (λ _. good)) ≡ gave words.now (next_word words.now from) result }
 {
     owing(words, from, good, 0)
 }
 
 // One word below a number.
-pub fn below(words: &[u32], from: Reading, n: usize) -> Reading
+#[tactic(auto, using(crate::specs::Laws::by_rule))]
+pub fn below(words: &[u32], from: Place, n: usize) -> Result<Place, Fault>
     ensures { onward words.now from (below n) ≡ gave words.now (next_word words.now from) result }
 {
     word(words, from, (next_word(words, from) as usize) < n)
 }
 
 // No word is left.
-pub fn ends(words: &[u32], from: Reading) -> Reading
+#[tactic(auto, using(crate::specs::Laws::ends_left, crate::specs::Laws::ends_here))]
+pub fn ends(words: &[u32], from: Place) -> Result<Place, Fault>
     ensures { onward words.now from ends ≡ gave words.now tt result }
 {
-    let Reading::At(end, _) = from else {
-        return from;
-    };
-    if end < words.len() {
-        Reading::Fault(end)
-    } else {
-        from
+    if from.at < words.len() {
+        return Err(Fault(from.at));
     }
-}
-
-// The place of the first fault: in a list the word that offends, or the list's length.
-#[derive(Clone, Copy, Debug, PartialEq, Eq)]
-pub struct Fault(pub usize);
-
-// What reading a whole list comes to: it is accepted, or a word of it is the first to offend.
-pub fn conclude(from: Reading) -> Result<(), Fault>
-    ensures { offending result ≡ fault_in from }
-{
-    match from {
-        Reading::At(_, _) => Ok(()),
-        Reading::Fault(place) => Err(Fault(place)),
-    }
+    Ok(from)
 }

@@ -2,7 +2,7 @@
 -- the walk. Assumes nothing.
 use Prim.Native.Nat.{ℕ, zero, suc, ◌+◌, ◌*◌, ◌≤◌, ◌<◌}
 use Rattle.std.proofs.Common.{arith}
-use Rattle.std.specs.Prelude.{◌≡◌, List, get_or}
+use Rattle.std.specs.Prelude.{◌≡◌, List, get_or, Ok}
 use Rattle.tok.specs.Text.{Texts}
 use Rattle.tok.specs.declared.Span.{Span}
 use Rattle.library.specs.Package.{packages_of}
@@ -33,22 +33,14 @@ use Rattle.state.specs.Context.{ctx}
 use Rattle.state.specs.Store.{env_up}
 use Rattle.spans.specs.Ready.{NodesReady}
 use Rattle.visit.specs.declared.State.{State}
-use Rattle.visit.specs.declared.Visit.{Visit}
-use Rattle.visit.specs.declared.Walked.{Walked}
-use Rattle.visit.specs.declared.Walked.TheVariants as W
-use Rattle.visit.specs.declared.Gave.{Gave}
-use Rattle.visit.specs.declared.Gave.TheVariants as G
 use Rattle.visit.specs.Whole.{Lent, whole}
 use Rattle.visit.specs.Within.{Visits}
-use Rattle.visit.specs.Walks.{Walks}
-use Rattle.visit.specs.Walks as K
 use Rattle.room_laws.specs.Room.{room, rows}
-use Rattle.visiting.specs.Then.{Came}
 use Rattle.visiting.specs.Blocks.{inner_of}
 use Rattle.visiting.specs.Operands.{Visiting}
 use Rattle.functions.specs.Defined.{fn_begin}
 use Rattle.ready.specs.Ready.{walk_run, Given, Ready}
-use Rattle.ready.specs.Passes.{Passes, visit_passes, walk_passes, word_passes}
+use Rattle.ready.specs.Passes.{Passes, visit_passes}
 
 -- ── The trees of lists ──
 
@@ -123,29 +115,31 @@ module _ {T : Texts} {image places words : List ℕ} {r w : ℕ} {st : State} {b
   -- ── After a function of the walk ──
 
   -- a node's visit
-  pub after-node : {n : ℕ} {b₁ : Lent} {v : Visit} {a : Answer} {st₁ : State} → n < node_count image → Visiting (ctx T (packages_of words) (slot_count image)) words (tree_of image n) st b b₁ v → Came v a st₁
+  pub after-node : {n : ℕ} {b₁ : Lent} {a : Answer} {st₁ : State} → n < node_count image → Visiting (ctx T (packages_of words) (slot_count image)) words (tree_of image n) st b b₁ (Ok (a, st₁))
       → Passes T image words (Visited (walk_run T image words) (tree_of image n)) (room (tree_of image n)) (rows (tree_of image n)) st b st₁ b₁ a
-  after-node l x k = visit_passes x (node-gives l) k
+  after-node l x = visit_passes x (node-gives l)
 
   -- a block, and the nodes that are left of one
-  pub after_block : {owner at k r₁ w₁ : ℕ} {b₁ : Lent} {v : Visit} {a : Answer} {st₁ : State} → NodesReady image places owner at k → Visits (block (ctx T (packages_of words) (slot_count image)) (nodes_from (tree_of image) image at k)) r₁ w₁ words st b b₁ v → Came v a st₁
+  pub after_block : {owner at k r₁ w₁ : ℕ} {b₁ : Lent} {a : Answer} {st₁ : State} → NodesReady image places owner at k
+      → Visits (block (ctx T (packages_of words) (slot_count image)) (nodes_from (tree_of image) image at k)) r₁ w₁ words st b b₁ (Ok (a, st₁))
       → Passes T image words (BlockOk (walk_run T image words) (visited_among (nodes_from (tree_of image) image at k))) r₁ w₁ st b st₁ b₁ a
-  after_block h x k = visit_passes x (block-gives _ (nodes-proper y.given h)) k
+  after_block h x = visit_passes x (block-gives _ (nodes-proper y.given h))
 
-  pub after_last : {owner at k r₁ w₁ : ℕ} {x₀ : Answer} {b₁ : Lent} {v : Visit} {a : Answer} {st₁ : State} → owner ≤ node_count image → Each (Under owner image) 1 at k → AnswerOk (walk_run T image words) (whole words st b) x₀
-      → Visits (last (ctx T (packages_of words) (slot_count image)) x₀ (nodes_from (tree_of image) image at k)) r₁ w₁ words st b b₁ v → Came v a st₁
+  pub after_last : {owner at k r₁ w₁ : ℕ} {x₀ : Answer} {b₁ : Lent} {a : Answer} {st₁ : State} → owner ≤ node_count image → Each (Under owner image) 1 at k → AnswerOk (walk_run T image words) (whole words st b) x₀
+      → Visits (last (ctx T (packages_of words) (slot_count image)) x₀ (nodes_from (tree_of image) image at k)) r₁ w₁ words st b b₁ (Ok (a, st₁))
       → Passes T image words (BlockOk (walk_run T image words) (visited_among (nodes_from (tree_of image) image at k))) r₁ w₁ st b st₁ b₁ a
-  after_last {owner} {at} {k} l e o x c = visit_passes x (last-gives _ (list-proper y.given owner l k at e) o) c
+  after_last {owner} {at} {k} l e o x = visit_passes x (last-gives _ (list-proper y.given owner l k at e) o)
 
-  pub after-condition : (n token : ℕ) {r₁ w₁ : ℕ} {x₀ : Answer} {b₁ : Lent} {v : Walked} {st₁ : State} → AnswerOk (walk_run T image words) (whole words st b) x₀ → Walks (condition (ctx T (packages_of words) (slot_count image)) n token x₀) r₁ w₁ words st b b₁ v → v ≡ W.On st₁
+  pub after-condition : (n token : ℕ) {r₁ w₁ : ℕ} {x₀ : Answer} {b₁ : Lent} {st₁ : State} → AnswerOk (walk_run T image words) (whole words st b) x₀
+      → Visits (condition (ctx T (packages_of words) (slot_count image)) n token x₀) r₁ w₁ words st b b₁ (Ok (tt, st₁))
       → Passes T image words (Any (walk_run T image words)) r₁ w₁ st b st₁ b₁ (tt {0})
-  after-condition n token o x e = walk_passes x (condition-gives n token o) e
+  after-condition n token o x = visit_passes x (condition-gives n token o)
 
   -- Node::Fn up to its body
-  pub after-begin : (n name : ℕ) {slot word r₁ w₁ : ℕ} {ret : TypeExpr} {args : List Arg} {body : Nodes} {b₁ : Lent} {v : Gave} {st₁ : State} → FnProper T image words slot ret args body
-      → K.Gives (fn_begin (ctx T (packages_of words) (slot_count image)) n (slot + 1) name ret args) r₁ w₁ words st b b₁ v → v ≡ G.Word word st₁
+  pub after-begin : (n name : ℕ) {slot word r₁ w₁ : ℕ} {ret : TypeExpr} {args : List Arg} {body : Nodes} {b₁ : Lent} {st₁ : State} → FnProper T image words slot ret args body
+      → Visits (fn_begin (ctx T (packages_of words) (slot_count image)) n (slot + 1) name ret args) r₁ w₁ words st b b₁ (Ok (word, st₁))
       → Passes T image words (λ u x. Good (walk_run T image words) u.types x) r₁ w₁ st b st₁ b₁ word
-  after-begin n name {slot} {ret = ret} {args = args} {body = body} p x e = word_passes x (begin-gives n slot name ret args body p) e
+  after-begin n name {slot} {ret = ret} {args = args} {body = body} p x = visit_passes x (begin-gives n slot name ret args body p)
 
   -- ── Answers ──
 

@@ -1,9 +1,8 @@
 -- What every visit of the walk asks for, and that it holds again after every step. In reading order: the definitions; a step that came to an
--- end; the steps of the walk, and plain ones; room for a node's parts; what plain functions ask for; what a call's types mean; the beginning.
+-- end; the steps of the walk; room for a node's parts; what plain functions ask for; what a call's types mean; the beginning.
 pub mod Ready
 pub mod Passes
 pub mod After
-pub mod Plain
 pub mod Parts
 pub mod Unvisited
 pub mod Asked

@@ -1,33 +1,23 @@
 -- A step of the walk that came to an end: what it took, and what the run's claim gives of the world after it. With that, what a visit asks
 -- for holds again. Assumes nothing.
-use Rattle.std.specs.Prelude.{ℕ, ◌+◌, ◌≤◌, ◌≡◌, refl, List}
-use Rattle.std.proofs.Common.{arith, ◌∙◌}
+use Rattle.std.specs.Prelude.{ℕ, ◌+◌, ◌≤◌, ◌≡◌, refl, List, Ok}
+use Rattle.std.proofs.Common.{arith}
 use Rattle.tok.specs.Text.{Texts}
 use Rattle.tok.specs.Step.{ok}
 use Rattle.rules.specs.declared.Answer.{Answer}
 use Rattle.rules.specs.World.{World, Walk}
-use Rattle.rules.specs.Steps.{Done}
 use Rattle.tworuns.specs.Means.{grown-trans}
 use Rattle.onerun.specs.Claim.{Good, AnswerOk}
 use Rattle.onerun.specs.Grows.{typed_grow}
 use Rattle.onerun.specs.Logic.{Silent, After, Gives, gives, answer-later}
-use Rattle.state.specs.declared.Went.{Went}
-use Rattle.state.specs.declared.Went.TheVariants as N
 use Rattle.state.specs.declared.Used.{Used}
-use Rattle.state.specs.World.{More, gone, Goes}
+use Rattle.state.specs.World.{More, stepped, Steps}
 use Rattle.visit.specs.declared.State.{State}
-use Rattle.visit.specs.declared.Visit.{Visit}
-use Rattle.visit.specs.declared.Walked.{Walked}
-use Rattle.visit.specs.declared.Walked.TheVariants as W
-use Rattle.visit.specs.declared.Gave.{Gave}
-use Rattle.visit.specs.declared.Gave.TheVariants as G
 use Rattle.visit.specs.Whole.{Lent, lent, rest_of, whole, visited}
-use Rattle.visit.specs.Within.{Within, within-then, within-most, Keeps, knows, poisons, Visits}
-use Rattle.visit.specs.Walks.{walked_in, gave_in, KeepsOn, KeepsGiving, Walks}
-use Rattle.visit.specs.Walks as K
+use Rattle.visit.specs.Within.{Within, within-then, within-most, Visits}
 use Rattle.visit.specs.Plain.{with_used, within-plain}
 use Rattle.visit.specs.Free.{free-less, free-then, rows_then}
-use Rattle.visiting.specs.Then.{Came, as_known, as_poison}
+use Rattle.visiting.specs.Then.{kept}
 use Rattle.ready.specs.Ready.{walk_run, Ready}
 
 -- From state st and buffers b to st₁ and b₁ with answer a, by at most r words of scratch and w words of the functions buffer.
@@ -90,47 +80,8 @@ module _ {T : Texts} {image words : List ℕ} {A : Type 0} {Q : World → A → 
   pub rule_passes : (m : Walk A) → Gives (walk_run T image words) Q (whole words st b) (m (whole words st b)) → m (whole words st b) ≡ ok a (whole words st₁ b₁) → Within r w st b st₁ b₁ → Passes T image words Q r w st b st₁ b₁ a
   rule_passes m g e k = ended_passes k (rw e at g)
 
--- a visit
-came_world : (words : List ℕ) (b₁ : Lent) {v : Visit} {a : Answer} {st₁ : State} → Came v a st₁ → visited words b₁ v ≡ ok a (whole words st₁ b₁)
+-- a visit, or another step of the walk
+pub visit_passes : {T : Texts} {image words : List ℕ} {A : Type 0} {Q : World → A → Type 0} {m : Walk A} {r w : ℕ} {st st₁ : State} {b b₁ : Lent} {a : A}
+    → Visits m r w words st b b₁ (Ok (a, st₁)) → Gives (walk_run T image words) Q (whole words st b) (m (whole words st b)) → Passes T image words Q r w st b st₁ b₁ a
 unfolding visited
-came_world words b₁ as_known = refl
-came_world words b₁ as_poison = refl
-
-came_within : {r w : ℕ} {st : State} {b b₁ : Lent} {v : Visit} {a : Answer} {st₁ : State} → Came v a st₁ → Keeps r w st b b₁ v → Within r w st b st₁ b₁
-came_within as_known (knows k) = k
-came_within as_poison (poisons k) = k
-
-pub visit_passes : {T : Texts} {image words : List ℕ} {Q : World → Answer → Type 0} {m : Walk Answer} {r w : ℕ} {st st₁ : State} {b b₁ : Lent} {v : Visit} {a : Answer}
-    → Visits m r w words st b b₁ v → Gives (walk_run T image words) Q (whole words st b) (m (whole words st b)) → Came v a st₁ → Passes T image words Q r w st b st₁ b₁ a
-visit_passes {words = words} {m = m} {b₁ = b₁} x g c = rule_passes m g (x.step ∙ came_world words b₁ c) (came_within c x.keeps)
-
--- a step that only writes
-on-within : {r w : ℕ} {st st₁ : State} {b b₁ : Lent} → KeepsOn r w st b b₁ (W.On st₁) → Within r w st b st₁ b₁
-on-within (K.goes k) = k
-
-pub walk_passes : {T : Texts} {image words : List ℕ} {Q : World → Done → Type 0} {m : Walk Done} {r w : ℕ} {st st₁ : State} {b b₁ : Lent} {v : Walked}
-    → Walks m r w words st b b₁ v → Gives (walk_run T image words) Q (whole words st b) (m (whole words st b)) → v ≡ W.On st₁ → Passes T image words Q r w st b st₁ b₁ tt
-unfolding walked_in
-walk_passes {words = words} {m = m} {r = r} {w = w} {st = st} {st₁ = st₁} {b = b} {b₁ = b₁} x g e =
-    let y : Walks m r w words st b b₁ (W.On st₁) = rw e at x in
-    rule_passes m g y.step (on-within y.keeps)
-
--- one that gives a type's word
-word-within : {r w word : ℕ} {st st₁ : State} {b b₁ : Lent} → KeepsGiving r w st b b₁ (G.Word word st₁) → Within r w st b st₁ b₁
-word-within (K.gives k) = k
-
-pub word_passes : {T : Texts} {image words : List ℕ} {Q : World → ℕ → Type 0} {m : Walk ℕ} {r w word : ℕ} {st st₁ : State} {b b₁ : Lent} {v : Gave}
-    → K.Gives m r w words st b b₁ v → Gives (walk_run T image words) Q (whole words st b) (m (whole words st b)) → v ≡ G.Word word st₁ → Passes T image words Q r w st b st₁ b₁ word
-unfolding gave_in
-word_passes {words = words} {m = m} {r = r} {w = w} {word = word} {st = st} {st₁ = st₁} {b = b} {b₁ = b₁} x g e =
-    let y : K.Gives m r w words st b b₁ (G.Word word st₁) = rw e at x in
-    rule_passes m g y.step (word-within y.keeps)
-
--- a plain step that only writes
-pub goes_passes : {T : Texts} {image words : List ℕ} {Q : World → Done → Type 0} {m : Walk Done} {st : State} {s t d n s' t' d' n' : List ℕ} {u : Used} {v : Went} (f e : List ℕ) (o : More)
-    → Goes m s t d n st.used s' t' d' n' v → v ≡ N.On u → Gives (walk_run T image words) Q (whole words st (lent s f t d n e o)) (m (whole words st (lent s f t d n e o)))
-    → Passes T image words Q 0 0 st (lent s f t d n e o) (with_used st u) (lent s' f t' d' n' e o) tt
-unfolding gone
-goes_passes {words = words} {m = m} {st = st} {s = s} {t = t} {d = d} {n = n} {s' = s'} {t' = t'} {d' = d'} {n' = n'} {u = u} f e o x q g =
-    let y : Goes m s t d n st.used s' t' d' n' (N.On u) = rw q at x in
-    rule_passes m g (y.step (rest_of words st (lent s f t d n e o))) (within-plain st u s t d n s' t' d' n' f e o)
+visit_passes {m = m} x g = rule_passes m g x.step (kept x.keeps)

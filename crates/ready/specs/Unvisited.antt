@@ -1,12 +1,11 @@
 -- Slots of a node's parts have no type yet before their visits, by its kind; and a visit leaves those of other nodes alone. Assumes nothing.
-use Rattle.std.specs.Prelude.{ℕ, ◌+◌, ◌-◌, ◌<◌, ◌≡◌, refl, List, [], ◌∷◌, ◌++◌, get_or}
-use Rattle.std.proofs.Common.{◌∙◌}
+use Rattle.std.specs.Prelude.{ℕ, ◌+◌, ◌-◌, ◌<◌, ◌≡◌, refl, List, [], ◌∷◌, ◌++◌, get_or, Ok}
 use Rattle.tok.specs.Text.{Texts}
-use Rattle.tok.specs.Step.{Result, ok, Refusal}
+use Rattle.tok.specs.Step.{ok}
 use Rattle.ast.specs.TypeExpr.{TypeExpr, Arg}
 use Rattle.ast.specs.Node.{Node, Nodes, Cases, Values, Bin, Unary, Let, Fn, Match, Call, Field, Cast, Record, Array, then, case, value, nodes_from, cases_from, values_from, tree_of}
 use Rattle.rules.specs.declared.Answer.{Answer}
-use Rattle.rules.specs.World.{Ctx, World}
+use Rattle.rules.specs.World.{Ctx, World, Walk}
 use Rattle.rules.specs.Steps.{type_from_expr}
 use Rattle.rules.specs.Rules.{node, block, last}
 use Rattle.rules.specs.Visited.{visited_below, visited_among, visited_in_cases, visited_in_values}
@@ -17,13 +16,8 @@ use Rattle.accepts.proofs.OtherSlots.{fn-args}
 use Rattle.accepts.proofs.Fresh.{visited_from, Fresh, Apart, fresh-below, none_is, rule-apart, type-from-apart, node-apart, block_apart, last_apart}
 use Rattle.functions.specs.Defined.{fn_begin}
 use Rattle.visit.specs.declared.State.{State}
-use Rattle.visit.specs.declared.Visit.{Visit}
 use Rattle.visit.specs.Whole.{Lent, whole, visited}
-use Rattle.visit.specs.declared.Gave.{Gave}
-use Rattle.visit.specs.declared.Gave.TheVariants as G
 use Rattle.visit.specs.Within.{Visits}
-use Rattle.visit.specs.Walks.{gave_in, Gives}
-use Rattle.visiting.specs.Then.{Came, as_known, as_poison}
 use Rattle.ready.specs.Ready.{NodeVisit}
 use Rattle.ready.specs.Parts.{nodes-turn, values-turn, cases-turn}
 
@@ -99,36 +93,29 @@ module _ (image : List ℕ) (at : ℕ) {k : ℕ} (l : 0 < k) {slots : List ℕ} 
   unfolding visited_in_cases
   cases_fresh ys h = rw (cases-turn image at l) at h
 
--- ── After a visit ──
+-- ── After a visit, or another step of the walk ──
 
-pub came_ok : (words : List ℕ) (b₁ : Lent) {v : Visit} {a : Answer} {st₁ : State} → Came v a st₁ → visited words b₁ v ≡ ok a (whole words st₁ b₁)
+pub came_ok : {A : Type 0} {m : Walk A} {r w : ℕ} {words : List ℕ} {st st₁ : State} {b b₁ : Lent} {a : A} → Visits m r w words st b b₁ (Ok (a, st₁)) → m (whole words st b) ≡ ok a (whole words st₁ b₁)
 unfolding visited
-came_ok words b₁ as_known = refl
-came_ok words b₁ as_poison = refl
+came_ok y = y.step
 
-module _ (c : Ctx) {r w : ℕ} {words : List ℕ} {st st₁ : State} {b b₁ : Lent} {v : Visit} {a : Answer} where
-  pub visit-apart : (x : Node) → Visits (node c x) r w words st b b₁ v → Came v a st₁ → Apart (visited_from x) b.slots b₁.slots
-  visit-apart x y k = node-apart c x (whole words st b) (y.step ∙ came_ok words b₁ k)
+module _ (c : Ctx) {r w : ℕ} {words : List ℕ} {st st₁ : State} {b b₁ : Lent} {a : Answer} where
+  pub visit-apart : (x : Node) → Visits (node c x) r w words st b b₁ (Ok (a, st₁)) → Apart (visited_from x) b.slots b₁.slots
+  visit-apart x y = node-apart c x (whole words st b) (came_ok y)
 
-  pub last-visits-apart : (first : Answer) (xs : Nodes) → Visits (last c first xs) r w words st b b₁ v → Came v a st₁ → Apart (visited_among xs) b.slots b₁.slots
-  last-visits-apart first xs y k = last_apart c first xs (whole words st b) (y.step ∙ came_ok words b₁ k)
+  pub last-visits-apart : (first : Answer) (xs : Nodes) → Visits (last c first xs) r w words st b b₁ (Ok (a, st₁)) → Apart (visited_among xs) b.slots b₁.slots
+  last-visits-apart first xs y = last_apart c first xs (whole words st b) (came_ok y)
 
-  pub block-visits-apart : (xs : Nodes) → Visits (block c xs) r w words st b b₁ v → Came v a st₁ → Apart (visited_among xs) b.slots b₁.slots
-  block-visits-apart xs y k = block_apart c xs (whole words st b) (y.step ∙ came_ok words b₁ k)
+  pub block-visits-apart : (xs : Nodes) → Visits (block c xs) r w words st b b₁ (Ok (a, st₁)) → Apart (visited_among xs) b.slots b₁.slots
+  block-visits-apart xs y = block_apart c xs (whole words st b) (came_ok y)
 
--- ── After a step that gives a word ──
-
-gave-ok : (words : List ℕ) (b₁ : Lent) {v : Gave} {word : ℕ} {st₁ : State} → v ≡ G.Word word st₁ → gave_in words b₁ v ≡ ok word (whole words st₁ b₁)
-unfolding gave_in
-gave-ok words b₁ e = rw e refl
-
-module _ (c : Ctx) (n : ℕ) {r w : ℕ} {words : List ℕ} {st st₁ : State} {b b₁ : Lent} {v : Gave} {word : ℕ} where
+module _ (c : Ctx) (n : ℕ) {r w : ℕ} {words : List ℕ} {st st₁ : State} {b b₁ : Lent} {word : ℕ} where
   -- a type expression's type touches no slot
-  pub type-apart : (e : TypeExpr) → Gives (type_from_expr c n e) r w words st b b₁ v → v ≡ G.Word word st₁ → Apart [] b.slots b₁.slots
-  type-apart e y q = type-from-apart c n e (whole words st b) (y.step ∙ gave-ok words b₁ q)
+  pub type-apart : (e : TypeExpr) → Visits (type_from_expr c n e) r w words st b b₁ (Ok (word, st₁)) → Apart [] b.slots b₁.slots
+  type-apart e y = type-from-apart c n e (whole words st b) (came_ok y)
 
   -- Node::Fn up to its body: its arguments' slots
-  pub begin-apart : (slot name : ℕ) (ret : TypeExpr) (args : List Arg) (body : Nodes) → Gives (fn_begin c n (slot + 1) name ret args) r w words st b b₁ v → v ≡ G.Word word st₁
+  pub begin-apart : (slot name : ℕ) (ret : TypeExpr) (args : List Arg) (body : Nodes) → Visits (fn_begin c n (slot + 1) name ret args) r w words st b b₁ (Ok (word, st₁))
       → Apart (Fn n slot name ret args body ∷ []) b.slots b₁.slots
-  begin-apart slot name ret args body y q =
-      rule-apart (λ a z. fn_leaves a c n (slot + 1) name ret args (fn-args (Other a) n slot name ret args body [] (none_is a (Fn n slot name ret args body ∷ []) z))) (whole words st b) (y.step ∙ gave-ok words b₁ q)
+  begin-apart slot name ret args body y =
+      rule-apart (λ a z. fn_leaves a c n (slot + 1) name ret args (fn-args (Other a) n slot name ret args body [] (none_is a (Fn n slot name ret args body ∷ []) z))) (whole words st b) (came_ok y)

@@ -28,7 +28,9 @@ pub enum Cause {
 // "scratch below 16,384 words"
 const SCRATCH_WORDS: usize = 16384;
 
-// Refusals 1 to 6; `text` is the library text. Of the lent buffers only the lengths matter.
+// Refusals 1 to 6; `text` is the library text. Of the lent buffers only the lengths matter. What it keeps on the stack, some 50 KB, is to be given back before
+// the walk begins, so that it may not stand in its caller's frame.
+#[inline(never)]
 pub fn refuse<'a>(
     script: &'a [u8],
     image: &[u32],

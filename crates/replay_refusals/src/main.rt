@@ -74,20 +74,15 @@ fn print_sums(
 
 fn print_answer(rt: &impl Print, checked: Checked) -> io::Result<()> {
     match checked {
-        Checked::Done {
-            function_words,
-            type_words,
-            diagnostics,
-            message_bytes,
-        } => {
+        Ok(counts) => {
             commands::print(rt, b" answered")?;
-            print_count(rt, function_words)?;
-            print_count(rt, type_words)?;
-            print_count(rt, diagnostics)?;
-            print_count(rt, message_bytes)?;
+            print_count(rt, counts.function_words)?;
+            print_count(rt, counts.type_words)?;
+            print_count(rt, counts.diagnostics)?;
+            print_count(rt, counts.message_bytes)?;
         }
-        Checked::Refused { number, place } => {
-            commands::print_refused(rt, tok::wide(number), place)?;
+        Err(refused) => {
+            commands::print_refused(rt, tok::wide(refused.number), refused.place)?;
         }
     }
     Ok(())

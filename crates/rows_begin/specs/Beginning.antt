@@ -1,11 +1,10 @@
 -- From the printing program's input to the rows that it prints (document 01, "Bench rows"). Definitions.
-use Rattle.std.specs.Prelude.{ℕ, min, ◌≡◌, cond, List}
+use Rattle.std.specs.Prelude.{ℕ, min, ◌≡◌, cond, List, Ok, Err}
 use Rattle.ast.specs.Image.{slot_count}
 use Rattle.refusals.specs.Inputs.{Inputs, Buffers, texts_in}
 use Rattle.rules.specs.Check.{Ended, check_of}
 use Rattle.bench_rows.specs.Bench.{fits, inputs_in}
-use Rattle.ending.specs.declared.Checked.{Checked}
-use Rattle.ending.specs.declared.Checked.TheVariants as C
+use Rattle.ending.specs.Ended.{Checked}
 use Rattle.rows_part.specs.declared.Row.{Row}
 use Rattle.rows_part.specs.declared.Row.TheVariants.{Slot, Refused, Input}
 use Rattle.rows_part.specs.Printing.{Answer, answer_of, first_of}
@@ -24,9 +23,9 @@ abbrev pub narrowed : ℕ → ℕ
 narrowed n = min n 4294967295
 
 -- the same of the check's answer in code
-abbrev pub begun_of : (slots : ℕ) → Checked → Begun
-begun_of v (C.Done f t d m) = record { first = Slot 0; last = v; words = narrowed f; types = t; count = narrowed d; bytes = m }
-begun_of v (C.Refused number place) = record { first = Refused number place; last = v; words = 0; types = 0; count = 0; bytes = 0 }
+unfoldable pub begun_of : (slots : ℕ) → Checked → Begun
+begun_of v (Ok c) = record { first = Slot 0; last = v; words = narrowed c.function_words; types = c.type_words; count = narrowed c.diagnostics; bytes = c.message_bytes }
+begun_of v (Err r) = record { first = Refused r.number r.place; last = v; words = 0; types = 0; count = 0; bytes = 0 }
 
 -- the check of inputs: buffers b came in and b' went out
 pub record Runs (i : Inputs) (b b' : Buffers) (r : Begun) : Type 0 where

@@ -1,13 +1,9 @@
 -- What is printed from the first row on is what document 01 says of the input. Assumes nothing.
 use Rattle.std.specs.Prelude.{ℕ, ◌≡◌, refl, Bool, true, false, List}
-use Rattle.std.proofs.Common.{append-nil}
 use Rattle.refusals.specs.Inputs.{Buffers}
-use Rattle.rules.specs.Check.{check_of}
-use Rattle.rules.specs.Rows.{rows_of}
 use Rattle.bench_rows.specs.Bench.{fits, inputs_in, lent, bench_of}
 use Rattle.rows.specs.Lines.{input_row}
-use Rattle.rows_part.specs.declared.Row.TheVariants.{Input}
-use Rattle.rows_part.specs.Printing.{Answer, rest_from}
+use Rattle.rows_part.specs.Printing.{rest_from}
 use Rattle.rows_part.specs.PrintingLaws.{rows-first, input_first}
 use Rattle.rows_begin.specs.declared.Begun.{Begun}
 use Rattle.rows_begin.specs.Beginning.{ended_from, Begins, printed_from}

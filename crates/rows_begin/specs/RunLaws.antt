@@ -1,5 +1,5 @@
 -- The check of an input's four parts, and its rows: a law for each way to them. Assumes nothing.
-use Rattle.std.specs.Prelude.{ℕ, ◌≤◌, ◌≡◌, Bool, true, false, cond, List, length, take, replicate, eqb}
+use Rattle.std.specs.Prelude.{ℕ, ◌≤◌, ◌≡◌, Bool, true, false, cond, List, length, take, replicate, eqb, Ok, Err}
 use Rattle.std.proofs.Math.Path.{refl}
 use Rattle.std.proofs.Common.{sym, ap, ◌∙◌, arith}
 use Rattle.std.proofs.lemmas.List.{length-replicate}
@@ -9,12 +9,11 @@ use Rattle.refusals.specs.Inputs.{Inputs, Buffers}
 use Rattle.rules.specs.Check.{check_of}
 use Rattle.refuse.specs.Answer.{inputs_of}
 use Rattle.bench_rows.specs.Bench.{image_length, library_length, fits, inputs_in}
-use Rattle.ending.specs.declared.Checked.{Checked}
-use Rattle.ending.specs.declared.Checked.TheVariants as C
-use Rattle.ending.specs.Ended.{ended_of, checked_of}
+use Rattle.ending.specs.declared.Refused.{Refused as Numbered}
+use Rattle.ending.specs.Ended.{Checked, ended_of, checked_of}
 use Rattle.demands.specs.Demands.{check_table}
 use Rattle.rows_input.specs.WordsLaws.{image-whole, library-whole}
-use Rattle.rows_part.specs.declared.Row.TheVariants.{Refused, Input}
+use Rattle.rows_part.specs.declared.Row.TheVariants.{Input}
 use Rattle.rows_part.specs.Printing.{first_row}
 use Rattle.rows_begin.specs.declared.Begun.{Begun}
 use Rattle.rows_begin.specs.Beginning.{begun_in, alone, narrowed, begun_of, Runs, Begins}
@@ -23,31 +22,28 @@ use Rattle.rows_begin.specs.Beginning.{begun_in, alone, narrowed, begun_of, Runs
 
 module _ (i : Inputs) (b b' : Buffers) where
   -- no refusal of number 0 is answered
-  numbered : {number place : ℕ} → C.Refused number place ≡ checked_of (ended_of (C.Refused number place) b') → eqb number 0 ≡ false
-  numbered {number} {place} p = by (eqb number 0) p
+  numbered : (x : Numbered) → Err x ≡ checked_of (ended_of (Err x) b') → eqb x.number 0 ≡ false
+  numbered x p = by (eqb x.number 0) p
     where
-      not_done : C.Refused number place ≡ C.Done 0 0 0 0 → ⊥
-      not_done e = let z : ◌≡◌ {A = ℕ} 0 1 = cc in omega arith
-
-      by : (t : Bool) → C.Refused number place ≡ cond t (C.Done 0 0 0 0) (C.Refused number place) → t ≡ false
-      by true e = absurd (not_done e)
+      by : (t : Bool) → ◌≡◌ {A = Checked} (Err x) (cond t (Ok (record { function_words = 0; type_words = 0; diagnostics = 0; message_bytes = 0 })) (Err x)) → t ≡ false
+      by true e = let z : ◌≡◌ {A = ℕ} 0 1 = cc in absurd (omega arith)
       by false e = refl
 
   -- counts of an answer are small, since so few words of functions are lent
   begun-is : (v : ℕ) (c : Checked) → check_of i b ≡ ended_of c b' → c ≡ checked_of (check_of i b) → length b.functions ≡ 8192 → begun_of v c ≡ begun_in v (ended_of c b')
-  unfolding first_row
-  begun-is v (C.Done f t d m) e a l =
-      let h = (check_table i b b' (C.Done f t d m) e).answered refl in
-      let p : narrowed f ≡ f = omega (arith, h.functions.fits) in
-      let q : narrowed d ≡ d = omega (arith, h.most_diagnostics) in
+  unfolding begun_of first_row
+  begun-is v (Ok c) e a l =
+      let h = (check_table i b b' (Ok c) e).answered refl in
+      let p : narrowed c.function_words ≡ c.function_words = omega (arith, h.functions.fits) in
+      let q : narrowed c.diagnostics ≡ c.diagnostics = omega (arith, h.most_diagnostics) in
       rw (p, q)
-  begun-is v (C.Refused number place) e a l =
-      let z = numbered (rw e at a) in
+  begun-is v (Err x) e a l =
+      let z = numbered x (rw e at a) in
       rw z
 
   after_is : (c : Checked) → b' ≡ (ended_of c b').after
-  after_is (C.Done f t d m) = refl
-  after_is (C.Refused number place) = refl
+  after_is (Ok c) = refl
+  after_is (Err x) = refl
 
   pub runs : {r : Begun} {v : ℕ} (c : Checked) → check_of i b ≡ ended_of c b' → c ≡ checked_of (check_of i b) → length b.functions ≡ 8192 → r ≡ begun_of v c → v ≡ slot_count i.image → Runs i b b' r
   runs {v = v} c e a l p q = record {

@@ -23,10 +23,7 @@ pub struct Begun {
 pub fn first_words<'a>(words: &'a [u32], n: usize) -> &'a [u32]
     ensures { result.now ≡ take n words.now }
 {
-    if n >= words.len() {
-        return words;
-    }
-    &words[0..n]
+    &words[..n.min(words.len())]
 }
 
 // A row alone, of no answer.
@@ -47,41 +44,26 @@ pub fn row_alone(first: Row) -> Begun
 fn narrow(n: usize) -> u32
     ensures { result ≡ narrowed n }
 {
-    if n < 0xFFFF_FFFF {
-        return n as u32;
-    }
-    0xFFFF_FFFF
+    n.min(0xFFFF_FFFF) as u32
 }
 
 // The rows of what the check answered, of an image with so many slots.
+#[tactic(auto, unfolding(crate::specs::Beginning::begun_of))]
 pub fn rows_of(checked: Checked, slots: u32) -> Begun
     ensures { result ≡ begun_of slots checked }
 {
     match checked {
-        Checked::Done {
-            function_words,
-            type_words,
-            diagnostics,
-            message_bytes,
-        } => {
-            return Begun {
-                first: Row::Slot(0),
-                last: slots,
-                words: narrow(function_words),
-                types: type_words,
-                count: narrow(diagnostics),
-                bytes: message_bytes,
-            };
-        }
-        Checked::Refused { number, place } => {
-            return Begun {
-                first: Row::Refused(number, place),
-                last: slots,
-                words: 0,
-                types: 0,
-                count: 0,
-                bytes: 0,
-            };
-        }
+        Ok(counts) => Begun {
+            first: Row::Slot(0),
+            last: slots,
+            words: narrow(counts.function_words),
+            types: counts.type_words,
+            count: narrow(counts.diagnostics),
+            bytes: counts.message_bytes,
+        },
+        Err(refused) => Begun {
+            last: slots,
+            ..row_alone(Row::Refused(refused.number, refused.place))
+        },
     }
 }

@@ -3,7 +3,7 @@ use Prim.Native.Nat.{ℕ, zero, suc, ◌+◌, ◌-◌, ◌≤◌, ◌<◌}
 use mathlib.Core.Path.{◌≡◌, refl, sym, ap, ◌∙◌}
 use mathlib.Core.Bool.{Bool, true, false, cond, true≢false}
 use mathlib.Core.Logic.{⊎_elim}
-use mathlib.Core.List.{List, [], ◌++◌}
+use mathlib.Core.List.{List, [], ◌++◌, append_assoc}
 use native.Mathlib.Omega.{arith}
 use lib.ListN.{length, get_or, drop, length-append, length-take, get_or-eq_default}
 use lib.Dec.{ltb}
@@ -15,10 +15,10 @@ use Rattle.ptype.specs.Words.{field_count, fields_from, unfolded, ty_of}
 use Rattle.ptype.specs.Show.{plain_names, openings, closings, show, show_fields}
 use Rattle.ptype.specs.Kinds.{wraps, one_of, shape, is_plain, is_wrap, is_record, is_named}
 use Rattle.ptype.proofs.UnfoldLaws.{unfolded-plain, unfolded-named}
-use Rattle.display.specs.declared.Wrote.{Wrote}
-use Rattle.display.specs.declared.Wrote.TheVariants.{All, Full}
-use Rattle.display.specs.Writing.{Writes}
-use Rattle.display.specs.WritingLaws.{full_wrote}
+use Rattle.std.specs.Prelude.{Result, Err, ⊤}
+use Rattle.display.specs.declared.Full.{Full}
+use Rattle.display.specs.Writing.{written}
+use Rattle.display.specs.WritingLaws.{written_err}
 use Rattle.display.specs.WriteLaws.{length-write}
 use Rattle.rows_window.specs.declared.Window.{Window}
 use Rattle.rows_window.specs.Showing.{Shows}
@@ -46,7 +46,7 @@ module _ (t : Texts) (types : List ℕ) (w : ℕ) {deep k : ℕ} (p : deep ≡ 0
       {i n : ℕ} → k ≡ 8 → i ≡ payload_of w → n ≡ field_count types w →
       show (unfolded t types deep w) ≡ text "Record<" ++ (show_fields (fields_from (unfolded t types (deep - 1)) t types (i + 1) n) ++ text ">")
   unfolding openings
-  record_shown h ei en = shown_record t types w p ek h ei en ∙ rw h
+  record_shown h ei en = shown_record t types w p ek h ei en ∙ rw h (simp append_assoc)
 
   -- a type with nothing inside is the same at every depth
   pub leaf-shown : Leaf (kind_of w) → show (unfolded t types deep w) ≡ show (ty_of t types w)
@@ -82,7 +82,7 @@ module _ (go : ℕ → Ty) (t : Texts) (words : List ℕ) where
       next ≡ behind_of words i →
       show_fields (fields_from go t words i k) ++ after
       ≡ (name ++ text ": " ++ show (go w) ++ separated (k - 1) (text " ")) ++ (show_fields (fields_from go t words next (k - 1)) ++ after)
-  turn-behind i {k} after h en ew e = fields-turn go t words i after h en ew ∙ rw (e, fields-behind (k - 1) i)
+  turn-behind i {k} after h en ew e = ap (λ s. s ++ after) (fields-turn go t words i h en ew) ∙ rw (e, fields-behind (k - 1) i) (simp append_assoc)
 
 -- ---- lengths
 plain-short : (k : ℕ) → length (get_or plain_names k []) ≤ 264
@@ -130,6 +130,8 @@ leaf-short t types w l = elim (shape (kind_of w)) [
 
 -- so it has room in the local buffer
 pub leaf_room :
-    {o o' : List ℕ} {place : Wrote} (t : Texts) (types : List ℕ) (w : ℕ) → Leaf (kind_of w) →
-    Writes o (All 0) o' place (show (ty_of t types w)) → 264 ≤ length o → place ≡ Full → ⊥
-leaf_room t types w l p h e = omega (arith, full_wrote (rw e at p), leaf-short t types w l)
+    (o : List ℕ) {o₀ : List ℕ} {i : ℕ} {r : Result ⊤ Full} {x : Full} {p : List ℕ × ℕ} (t : Texts) (types : List ℕ) (w : ℕ) → Leaf (kind_of w) → (o ≡ o₀) × (i ≡ 0) →
+    (r, p) ≡ written o i (show (ty_of t types w)) → 264 ≤ length o₀ → r ≡ Err x → ⊥
+leaf_room o {i = i} {p = p} t types w l s e h k =
+    let g = written_err o i (show (ty_of t types w)) (ap (λ z. (z, p)) (sym k) ∙ e) in
+    omega (arith, leaf-short t types w l, ap length s.0)

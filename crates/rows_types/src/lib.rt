@@ -13,7 +13,7 @@ ghost use Rattle.rows_window.specs.Showing.{Shows};
 ghost use Rattle.rows_types.specs.Wrapping.{Wrapping};
 ghost use Rattle.rows_types.specs.Behind.{behind_of};
 
-use display::Wrote;
+use display::Writer;
 use rows_window::{Window, is_full, put};
 use tok::Texts;
 
@@ -52,11 +52,12 @@ fn put_leaf(out: &mut [u8], w: Window, types: &[u32], texts: &Texts, word: u32) 
     ensures { Shows out.old w out.new result (show (ty_of texts.now types.now word)) }
 {
     let mut leaf = [0u8; LONGEST];
-    let place = display::show_type(&mut leaf, Wrote::All(0), types, texts, word);
-    let Wrote::All(n) = place else {
+    let mut writer = Writer::new(&mut leaf);
+    let Ok(()) = display::show_type(&mut writer, types, texts, word) else {
         return w;
     };
-    put(out, w, &leaf[..n])
+    let end = writer.at;
+    put(out, w, &leaf[..end])
 }
 
 // A type, unfolded `depth` levels deep.

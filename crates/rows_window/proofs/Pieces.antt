@@ -1,6 +1,6 @@
 -- One piece through a window, by `display`'s writer, and a number by its digits in a local buffer. Assumes nothing.
-use Prim.Native.Nat.{ℕ, zero, suc, ◌+◌, ◌-◌, ◌/◌, ◌%◌, ◌≤◌, min, max}
-use mathlib.Core.Path.{◌≡◌, refl, ◌∙◌}
+use Prim.Native.Nat.{ℕ, zero, suc, ◌+◌, ◌-◌, ◌/◌, ◌%◌, ◌≤◌, min}
+use mathlib.Core.Path.{◌≡◌, refl, sym, ap, ◌∙◌}
 use mathlib.Core.Bool.{Bool, true, false}
 use mathlib.Core.List.{List, [], ◌∷◌}
 use native.Mathlib.Omega.{arith}
@@ -9,12 +9,12 @@ use lib.Seq.{take_all}
 use lib.Dec.{ltb, leb, eqb}
 use borrow.Author.Tests.{eq-eqb, ne_eqb}
 use Rattle.ptype.specs.Show.{digits, decimal}
-use Rattle.display.specs.declared.Wrote.{Wrote}
-use Rattle.display.specs.declared.Wrote.TheVariants.{All, Full}
-use Rattle.display.specs.Writing.{Writes, buffer_after}
-use Rattle.display.specs.WritingLaws.{all_wrote, full_wrote}
+use Rattle.std.specs.Prelude.{Result, Err, ⊤}
+use Rattle.display.specs.declared.Full.{Full}
+use Rattle.display.specs.Writing.{written}
+use Rattle.display.specs.WritingLaws.{written_buffer, written_place, written_err}
 use Rattle.rows_window.specs.declared.Window.{Window}
-use Rattle.rows_window.specs.Showing.{Shows, is_full, reached_of}
+use Rattle.rows_window.specs.Showing.{Shows, is_full}
 
 -- passing over more than there is leaves nothing, as passing over all of it does
 drop-least : (k : ℕ) (s : List ℕ) {m : ℕ} → m ≡ min k (length s) → drop m s ≡ drop k s
@@ -28,29 +28,19 @@ drop-least (suc k) (x ∷ s) {m} e =
     let n : m ≡ suc (min k (length s)) = omega arith in
     rw n (drop-least k s refl)
 
--- where a piece that was written from a on ends
-reached-end :
-    {o o' : List ℕ} {a : ℕ} {s : List ℕ} (place : Wrote) → Writes o (All a) o' place s → reached_of place a (length o) ≡ a + min (length s) (length o - a)
-unfolding reached_of
-reached-end (All n) p =
-    let w = all_wrote p in
-    omega (arith, w.0, w.1)
-reached-end Full p = omega (arith, full_wrote p)
-
 -- `put`
 pub put_shows :
-    {o o' : List ℕ} {w : Window} {place : Wrote} {s : List ℕ} {m at : ℕ} → m ≡ min w.skip (length s) → Writes o (All w.at) o' place (take (length s - m) (drop m s)) →
-    at ≡ reached_of place w.at (length o) → Shows o w o' (record { skip = w.skip - m; at = at }) s
-unfolding buffer_after
-put_shows {o} {o'} {w} {place} {s} {m} e p r =
+    {o o' back : List ℕ} {w : Window} {r : Result ⊤ Full} (s : List ℕ) {m at : ℕ} → m ≡ min w.skip (length s) → (r, (o', at)) ≡ written o w.at (take (length s - m) (drop m s)) →
+    back ≡ o' → Shows o w back (record { skip = w.skip - m; at = at }) s
+put_shows {o} {o'} {back} {w} {r} s {m} {at} e p f =
     let l : length (drop m s) ≡ length s - m = length-drop m s in
     let rest : take (length s - m) (drop m s) ≡ drop m s = take_all (length s - m) (drop m s) (omega arith) in
-    let q : Writes o (All w.at) o' place (drop m s) = rw rest at p in
+    let q : (r, (o', at)) ≡ written o w.at (drop m s) = rw rest at p in
     let k : length s - m ≡ length s - w.skip = omega arith in
     record {
-      bytes = q.bytes ∙ rw (drop-least w.skip s e);
+      bytes = f ∙ ap (λ z. z.1.0) q ∙ written_buffer o w.at (drop m s) ∙ rw (drop-least w.skip s e);
       skips = omega arith;
-      place = r ∙ reached-end place q ∙ rw (l, k);
+      place = ap (λ z. z.1.1) q ∙ written_place o w.at (drop m s) ∙ rw (l, k);
     }
 
 -- `put_decimal`: ten digits have room for every number
@@ -63,9 +53,12 @@ digits-short (suc k) n = go (ltb n 10) refl (digits-short k (n / 10))
     go true e more = rw (e, digits) (omega arith)
     go false e more = rw (e, digits, length-append (digits k (n / 10)) ((48 + n % 10) ∷ [])) (omega arith)
 
-pub decimal-room : {o o' : List ℕ} {place : Wrote} (n : ℕ) → Writes o (All 0) o' place (decimal n) → 10 ≤ length o → place ≡ Full → ⊥
+pub decimal-room :
+    (o : List ℕ) {o₀ : List ℕ} {i : ℕ} {r : Result ⊤ Full} {x : Full} {p : List ℕ × ℕ} (n : ℕ) → (o ≡ o₀) × (i ≡ 0) → (r, p) ≡ written o i (decimal n) → 10 ≤ length o₀ → r ≡ Err x → ⊥
 unfolding decimal
-decimal-room n p h e = omega (arith, full_wrote (rw e at p), digits-short 10 n)
+decimal-room o {i = i} {p = p} n s e h k =
+    let g = written_err o i (digits 10 n) (ap (λ z. (z, p)) (sym k) ∙ e) in
+    omega (arith, digits-short 10 n, ap length s.0)
 
 -- `is_full`
 module _ (o : List ℕ) (w : Window) where
@@ -76,13 +69,3 @@ module _ (o : List ℕ) (w : Window) where
   pub passing : (w.skip ≡ 0 → ⊥) → eqb w.skip 0 ≡ is_full o w
   unfolding is_full
   passing n = rw (ne_eqb w.skip 0 n)
-
--- `reached`
-module _ {place : Wrote} (at end : ℕ) where
-  pub reached_full : {n : ℕ} → place ≡ Full → n ≡ max at end → n ≡ reached_of place at end
-  unfolding reached_of
-  reached_full e h = rw e h
-
-  pub reached-all : {n : ℕ} → place ≡ All n → n ≡ reached_of place at end
-  unfolding reached_of
-  reached-all e = rw e

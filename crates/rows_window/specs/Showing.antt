@@ -1,8 +1,6 @@
 -- What is written of a text through a window: the part of it that begins so many bytes from its start, as much as has room. Definitions.
-use Rattle.std.specs.Prelude.{ℕ, ◌+◌, ◌-◌, min, max, ◌≡◌, Bool, ◌&&◌, List, length, drop, eqb, leb}
+use Rattle.std.specs.Prelude.{ℕ, ◌+◌, ◌-◌, min, ◌≡◌, Bool, ◌&&◌, List, length, drop, eqb, leb}
 use Rattle.ptype.specs.Add.{write}
-use Rattle.display.specs.declared.Wrote.{Wrote}
-use Rattle.display.specs.declared.Wrote.TheVariants.{All, Full}
 use Rattle.rows_window.specs.declared.Window.{Window}
 
 -- The contract of every writer: the buffer o and the window w came in, the text s was written, o' and r are the buffer and the window now.
@@ -15,8 +13,3 @@ pub record Shows (o : List ℕ) (w : Window) (o' : List ℕ) (r : Window) (s : L
 -- nothing is passed over any more, and nothing has room
 unfoldable pub is_full : List ℕ → Window → Bool
 is_full o w = eqb w.skip 0 && leb (length o) w.at
-
--- the place after a piece from `at` on in a buffer that ends at `end`, all of it or as much as had room
-unfoldable pub reached_of : Wrote → (at end : ℕ) → ℕ
-reached_of (All n) at end = n
-reached_of Full at end = max at end

@@ -1,14 +1,13 @@
 -- Laws of windows: one text after another is their concatenation; windows one behind the other show the whole text. Assumes nothing.
-use Rattle.std.specs.Prelude.{ℕ, zero, suc, ◌+◌, ◌-◌, ◌≤◌, min, ◌≡◌, refl, Bool, true, false, List, [], ◌∷◌, ◌++◌, length, take, drop, eqb}
-use Rattle.std.proofs.Common.{sym, ap, ◌∙◌, true≢false, arith, length-append, length-drop, eqb-true, leb-true}
+use Rattle.std.specs.Prelude.{ℕ, zero, suc, ◌+◌, ◌-◌, ◌≤◌, min, ◌≡◌, refl, Bool, true, false, List, [], ◌∷◌, ◌++◌, length, take, drop, eqb, Result, Ok, ⊤}
+use Rattle.std.proofs.Common.{sym, ap, ◌∙◌, true≢false, arith, length-append, length-drop, length-take, eqb-true, leb-true}
 use Rattle.std.proofs.Math.Nat.{sub-zero, zero-sub, suc-sub-suc, sub-add-eq}
 use Rattle.std.proofs.Math.Seq.{take-length}
 use Rattle.facts.specs.Tests.{by_order}
 use Rattle.ptype.specs.Add.{overwrite, write}
-use Rattle.display.specs.declared.Wrote.{Wrote}
-use Rattle.display.specs.declared.Wrote.TheVariants.{All}
-use Rattle.display.specs.Writing.{buffer_after, Writes}
-use Rattle.display.specs.WritingLaws.{all_wrote, writes-length}
+use Rattle.display.specs.declared.Full.{Full}
+use Rattle.display.specs.Writing.{written}
+use Rattle.display.specs.WritingLaws.{written_buffer, written_place, written_ok}
 use Rattle.display.specs.WriteLaws.{write-past, length-write, write-append}
 use Rattle.rows_window.specs.declared.Window.{Window}
 use Rattle.rows_window.specs.Showing.{Shows, is_full}
@@ -85,24 +84,30 @@ take-over (suc n) (x ∷ o) [] h k =
     absurd z
 take-over (suc n) (x ∷ o) (y ∷ s) h k = ap (λ l. y ∷ l) (take-over n o s (omega arith) (omega arith))
 
--- what was written stands in the buffer's front
-pub front_wrote : {o o' s : List ℕ} {n : ℕ} → Writes o (All 0) o' (All n) s → take n o' ≡ s
-unfolding write buffer_after
-front_wrote {o} {o'} {s} {n} p =
-    let w = all_wrote p in
-    let e : n ≡ length s = omega (arith, w.0) in
-    rw (p.bytes, e, take-over (length s) o s (omega arith) (omega (arith, w.1))) (take-length s)
+-- what was written from the start stands in the buffer's front
+module _ (o s : List ℕ) {o' : List ℕ} {i n : ℕ} {r : Result ⊤ Full} {x : ⊤} (z : i ≡ 0) (k : r ≡ Ok x) (p : (r, (o', n)) ≡ written o i s) where
+  room : i + length s ≤ length o
+  room = written_ok o i s (ap (λ q. (q, (o', n))) (sym k) ∙ p)
 
-pub front-end : {o o' s : List ℕ} {place : Wrote} {n : ℕ} → Writes o (All 0) o' place s → place ≡ All n → n ≤ length o'
-front-end p e =
-    let w = all_wrote (rw e at p) in
-    omega (arith, w.0, w.1, writes-length p)
+  end_is : n ≡ length s
+  end_is = let m = room in ap (λ q. q.1.1) p ∙ written_place o i s ∙ omega arith
 
--- so it is the piece that is lent from there
-pub shows_front :
-    {b b' o o' s : List ℕ} {place : Wrote} {w r : Window} {n : ℕ} →
-    place ≡ All n → Writes b (All 0) b' place s → Shows o w o' r (take n b') → Shows o w o' r s
-shows_front e p q = shows_as (sym (front_wrote (rw e at p))) q
+  bytes_are : o' ≡ write o 0 s
+  bytes_are = ap (λ q. q.1.0) p ∙ written_buffer o i s ∙ rw z
+
+  front_wrote : take n o' ≡ s
+  unfolding write
+  front_wrote = let m = room in rw (bytes_are, end_is) (take-over (length s) o s (omega arith) (omega arith) ∙ take-length s)
+
+  pub front-end : {b : List ℕ} → b ≡ o' → n ≤ length b
+  front-end e = let m = room in rw (e, bytes_are, length-write o 0 s, end_is) (omega arith)
+
+  pub front-length : {b : List ℕ} → b ≡ o' → n ≡ length (take n b)
+  front-length {b} e = let g = front-end e in rw (length-take n b) (omega arith)
+
+  -- so it is the piece that is lent from there
+  pub shows_front : {q q' : List ℕ} {w v : Window} {b : List ℕ} → b ≡ o' → Shows q w q' v (take n b) → Shows q w q' v s
+  shows_front e h = shows_as (sym front_wrote) (rw e at h)
 
 -- ---- loops
 -- Of the text s₀, begun in the buffer o₀ at the window w₀, the text s is still to be written, in the buffer o at w: whoever writes s has written s₀.

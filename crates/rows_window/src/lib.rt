@@ -3,9 +3,9 @@
 
 ghost use Rattle.std.specs.Prelude.{◌≡◌, length};
 ghost use Rattle.ptype.specs.Show.{decimal};
-ghost use Rattle.rows_window.specs.Showing.{Shows, is_full, reached_of};
+ghost use Rattle.rows_window.specs.Showing.{Shows, is_full};
 
-use display::Wrote;
+use display::Writer;
 
 // How many bytes of the text are still passed over, and where the next byte goes.
 #[derive(Clone, Copy)]
@@ -21,26 +21,19 @@ pub fn is_full(out: &[u8], w: Window) -> bool
     w.skip == 0 && w.at >= out.len()
 }
 
-// The place behind a piece that was written from `at` on, or the buffer's end.
-fn reached(place: Wrote, at: usize, end: usize) -> usize
-    ensures { result ≡ reached_of place at end }
-{
-    match place {
-        Wrote::All(n) => n,
-        Wrote::Full => at.max(end),
-    }
-}
-
-// Writes of the next piece of the text what lies in the window.
+// Writes of the next piece of the text what lies in the window, as far as it has room.
 pub fn put(out: &mut [u8], w: Window, piece: &[u8]) -> Window
     ensures { Shows out.old w out.new result piece.now }
 {
     let passed = w.skip.min(piece.len());
-    let end = out.len();
-    let place = display::put_at(out, Wrote::All(w.at), &piece[passed..]);
+    let mut writer = Writer {
+        buffer: out,
+        at: w.at,
+    };
+    let _ = writer.put(&piece[passed..]);
     Window {
         skip: w.skip - passed,
-        at: reached(place, w.at, end),
+        at: writer.at,
     }
 }
 
@@ -52,9 +45,10 @@ pub fn put_decimal(out: &mut [u8], w: Window, n: usize) -> Window
     ensures { Shows out.old w out.new result (decimal n) }
 {
     let mut digits = [0u8; MOST_DIGITS];
-    let place = display::put_decimal(&mut digits, Wrote::All(0), n);
-    let Wrote::All(end) = place else {
+    let mut writer = Writer::new(&mut digits);
+    let Ok(()) = writer.put_decimal(n) else {
         return w;
     };
+    let end = writer.at;
     put(out, w, &digits[..end])
 }

@@ -1,11 +1,11 @@
 -- The rules of selection only read: each is an answer and the same world. By induction on the list. Assumes nothing.
 use Prim.Native.Nat.{ℕ}
-use mathlib.Core.Path.{◌≡◌, refl, sym, ap, ◌∙◌}
+use mathlib.Core.Path.{◌≡◌, refl}
 use mathlib.Core.Bool.{Bool, true, false, ◌&&◌}
-use mathlib.Core.Option.{Option, none, some}
+use mathlib.Core.Option.{some}
 use mathlib.Core.List.{List, [], ◌∷◌, map}
 use lib.ListN.{get_or}
-use Rattle.tok.specs.Step.{Result, ok, Refusal, next, return, when, for_each}
+use Rattle.tok.specs.Step.{ok, return, when, for_each}
 use Rattle.ptype.specs.Ty.{Ty, same_ty}
 use Rattle.ptype.specs.Words.{ty_of}
 use Rattle.library.specs.Package.{Param, Signature}

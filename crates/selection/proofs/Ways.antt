@@ -1,27 +1,27 @@
 -- Selection as the code has it, one law for each way out. Assumes nothing.
-use Rattle.std.specs.Prelude.{Some, None, Option as Found}
-use Prim.Native.Nat.{ℕ, zero, suc, ◌+◌, ◌-◌, ◌≤◌, ◌<◌}
+use Rattle.std.specs.Prelude.{Some, None, Option as Found, Ok}
+use Prim.Native.Nat.{ℕ, suc, ◌+◌, ◌≤◌, ◌<◌}
 use mathlib.Core.Path.{◌≡◌, refl, sym, ap, ◌∙◌}
-use mathlib.Core.Bool.{Bool, true, false, ◌&&◌, not}
-use mathlib.Core.Option.{Option, none, some}
+use mathlib.Core.Bool.{Bool, true, false, ◌&&◌}
+use mathlib.Core.Option.{none, some}
 use mathlib.Core.List.{List, [], ◌∷◌, map}
 use native.Mathlib.Omega.{arith}
 use native.Mathlib.Numerals.{add-one}
 use lib.ListN.{length, get_or, drop, drop_of_length-le, length-map}
 use lib.Seq.{drop-cons}
 use Rattle.tok.specs.Text.{Texts}
-use Rattle.tok.specs.Step.{next, return, when}
+use Rattle.tok.specs.Step.{when}
 use Rattle.ptype.specs.Ty.{Ty, same_ty}
 use Rattle.ptype.specs.Words.{ty_of}
-use Rattle.library.specs.Package.{Param, param, Signature, Package, group_of}
+use Rattle.library.specs.Package.{Param, param, Signature, group_of}
+use Rattle.rules.specs.declared.Answer.{Answer}
+use Rattle.rules.specs.declared.Answer.TheVariants.{Poison}
 use Rattle.rules.specs.Steps.{tree, set_known}
 use Rattle.rules.specs.Calls.{overload_matches, common_return}
 use Rattle.state.specs.declared.Used.{Used}
-use Rattle.state.specs.declared.Step.{Step}
-use Rattle.state.specs.declared.Step.TheVariants as S
 use Rattle.state.specs.Context.{ctx}
 use Rattle.state.specs.Signatures.{signature_at, entries_from}
-use Rattle.state.specs.World.{Rest, world, stepped, Steps}
+use Rattle.state.specs.World.{world, Step, stepped, Steps}
 use Rattle.signatures.specs.declared.Entry.{Entry}
 use Rattle.signatures.specs.Entries.{entries_of, Finds}
 use Rattle.selection.specs.Candidates.{group, param_types, position_of, all_return_of, CommonReturn}
@@ -171,7 +171,7 @@ module _ (texts : Texts) (name words : List ℕ) (flags : ℕ) (U : ℕ → Ty) 
 -- ── The common return type ──
 
 module _ (texts : Texts) (slot : ℕ) (s t : List ℕ) (u : Used) {fs : List Signature} where
-  pub common_none : fs ≡ [] → CommonReturn texts slot fs s t u s (S.Poison u)
+  pub common_none : fs ≡ [] → CommonReturn texts slot fs s t u s (Ok (Poison, u))
   common_none e = record {
     of = λ f others p library void d m.
         let z : ◌≡◌ {A = ℕ} 0 1 = cc in
@@ -180,7 +180,7 @@ module _ (texts : Texts) (slot : ℕ) (s t : List ℕ) (u : Used) {fs : List Sig
 
   module _ (words : List ℕ) (at : ℕ) (slotted : Bool) {rest : List Signature} (e : fs ≡ signature_at words at slotted ∷ rest) {ret : ℕ} {q : Bool} (er : (f : Bool) → ret ≡ (signature_at words at f).ret)
       (eq : q ≡ all_return_of (ty_of texts t) (ty_of texts t ret) rest) where
-    pub common_known : {s' : List ℕ} {r : Step} → q ≡ true → ((t d m : List ℕ) → Steps (set_known slot ret) s t d m u s' t d m r) → CommonReturn texts slot fs s t u s' r
+    pub common_known : {s' : List ℕ} {r : Step Answer} → q ≡ true → ((t d m : List ℕ) → Steps (set_known slot ret) s t d m u s' t d m r) → CommonReturn texts slot fs s t u s' r
     unfolding common_return tree when
     common_known y k = record {
       of = λ f others p library void d m.
@@ -189,7 +189,7 @@ module _ (texts : Texts) (slot : ℕ) (s t : List ℕ) (u : Used) {fs : List Sig
           record { step = λ w. rw (← a, ← b, ← er slotted, returns-are (ctx texts library void) (world w s t d m u) (ty_of texts t ret) rest, ← eq, y) ((k t d m).step w) };
     }
 
-    pub common_poison : q ≡ false → CommonReturn texts slot fs s t u s (S.Poison u)
+    pub common_poison : q ≡ false → CommonReturn texts slot fs s t u s (Ok (Poison, u))
     unfolding common_return tree when stepped
     common_poison n = record {
       of = λ f others p library void d m.

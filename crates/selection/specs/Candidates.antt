@@ -4,12 +4,12 @@ use Rattle.std.proofs.Math.Option.{Option, none, some}
 use Rattle.tok.specs.Text.{Texts}
 use Rattle.ptype.specs.Ty.{Ty, same_ty}
 use Rattle.library.specs.Package.{Param, Signature, Package, group_of}
+use Rattle.rules.specs.declared.Answer.{Answer}
 use Rattle.rules.specs.Calls.{overload_matches, common_return}
 use Rattle.state.specs.declared.Used.{Used}
-use Rattle.state.specs.declared.Step.{Step}
 use Rattle.state.specs.Context.{ctx}
 use Rattle.state.specs.Signatures.{signature_at, entries_from}
-use Rattle.state.specs.World.{Steps}
+use Rattle.state.specs.World.{Step, Steps}
 use Rattle.signatures.specs.declared.Entry.{Entry}
 
 -- the candidates: the entries of a name
@@ -36,6 +36,6 @@ position_in words (Some e) = some (signature_at words e.at e.slotted)
 position_in words None = none
 
 -- `common_return` of a group that is not empty
-pub record CommonReturn (texts : Texts) (slot : ℕ) (fs : List Signature) (s t : List ℕ) (u : Used) (s' : List ℕ) (r : Step) : Type 0 where
+pub record CommonReturn (texts : Texts) (slot : ℕ) (fs : List Signature) (s t : List ℕ) (u : Used) (s' : List ℕ) (r : Step Answer) : Type 0 where
   pub of : (f : Signature) (others : List Signature) → fs ≡ f ∷ others → (library : List Package) (void : ℕ) (d m : List ℕ)
       → Steps (common_return (ctx texts library void) slot f others) s t d m u s' t d m r

@@ -8,6 +8,7 @@ ghost use Rattle.ptype.specs.Words.{ty_of};
 ghost use Rattle.signatures.specs.Entries.{flag_words};
 ghost use Rattle.selection.specs.Candidates.{group, position_of, all_return_of, position_in, CommonReturn};
 
+use rules::Answer;
 use signatures::Entry;
 use state::{Step, Used};
 use tok::Texts;
@@ -90,11 +91,11 @@ pub fn common_return(
     from: usize,
     k: usize,
     name: &[u8],
-) -> Step
+) -> Step<Answer>
     ensures { CommonReturn texts.now slot (group texts.now name.now words.now (flag_words flagged) from k) slots.old types.now used slots.new result }
 {
     let Some(entry) = signatures::find_entry(texts, words, flagged, from, k, name) else {
-        return Step::Poison(used);
+        return Ok((Answer::Poison, used));
     };
     let ret = signatures::return_type(words, entry.at);
     if all_return(
@@ -102,5 +103,5 @@ pub fn common_return(
     ) {
         return operators::set_known(slots, used, slot, ret);
     }
-    Step::Poison(used)
+    Ok((Answer::Poison, used))
 }

@@ -1,6 +1,6 @@
 -- Each return of the functions, over variables for what the calls gave: looking in the pairs, one pair more, and one slot.
 -- By the laws of the definitions. Assumes nothing.
-use Rattle.std.specs.Prelude.{Option, Some, None}
+use Rattle.std.specs.Prelude.{Option, Some, None, Ok, Err}
 use mathlib.Core.Path.{◌≡◌, refl, sym, ap, ◌∙◌}
 use mathlib.Core.Bool.{Bool, true, false}
 use mathlib.Core.Option.{none, some}
@@ -15,9 +15,8 @@ use Rattle.tok.specs.Text.{Texts, name_bytes, same_name}
 use Rattle.ptype.specs.Ty.{same_ty}
 use Rattle.ptype.specs.Words.{ty_of}
 use Rattle.ptype.specs.Slots.{Binding, binding, bound_to, Bound, all_bound, conflict, void_slot, bind_found, bind_one}
-use Rattle.slots.specs.declared.Bind.{Bind}
-use Rattle.slots.specs.declared.Bind.TheVariants.{Done, Conflict, Void, NoRoom}
-use Rattle.slots.specs.Bindings.{first_pairs, pair_room, bindings_in, found_of, bindings_after, fitted, Binds}
+use Rattle.slots.specs.declared.BindError.TheVariants.{Conflict, Void, NoRoom}
+use Rattle.slots.specs.Bindings.{Bind, first_pairs, pair_room, bindings_in, found_of, bindings_after, fitted, Binds}
 use Rattle.slots.specs.BindLaws.{if_true, if_false, bind_one-void, bind_one-found, bound-here, bound-after}
 
 -- the newest of k pairs, and the others
@@ -69,7 +68,7 @@ pub same-binds : {t : Texts} {bind bind' : List Binding → Bound} {l : List ℕ
 same-binds e h = record { is = rw e h.is }
 
 -- nothing more bound
-pub nothing-more : (t : Texts) (bind : List Binding → Bound) (l : List ℕ) (count : ℕ) → bind (bindings_in t l count) ≡ all_bound (bindings_in t l count) → Binds t bind l count (Done count) l
+pub nothing-more : (t : Texts) (bind : List Binding → Bound) (l : List ℕ) (count : ℕ) → bind (bindings_in t l count) ≡ all_bound (bindings_in t l count) → Binds t bind l count (Ok count) l
 unfolding bindings_after
 nothing-more t bind l count e = record { is = rw e (fitted-some (pair_room l) (all_bound (bindings_in t l count)) (bindings-fit t l count)) }
 
@@ -81,7 +80,7 @@ first-same t l m (suc k) h = rw (h (2 * k) (omega arith), h (2 * k + 1) (omega a
 
 -- One pair more.
 module _ (l : List ℕ) (count slot ty : ℕ) {n : ℕ} (hn : n ≡ min count (length l / 2)) (t : Texts) where
-  pub push_put : n < length l / 2 → Binds t (λ bs. all_bound (binding (name_bytes t slot) ty ∷ bs)) l count (Done (n + 1)) (set (set l (2 * n) slot) (2 * n + 1) ty)
+  pub push_put : n < length l / 2 → Binds t (λ bs. all_bound (binding (name_bytes t slot) ty ∷ bs)) l count (Ok (n + 1)) (set (set l (2 * n) slot) (2 * n + 1) ty)
   unfolding bindings_after
   push_put h =
       let m = set (set l (2 * n) slot) (2 * n + 1) ty in
@@ -97,13 +96,13 @@ module _ (l : List ℕ) (count slot ty : ℕ) {n : ℕ} (hn : n ≡ min count (l
             ∙ ap (λ b. some (all_bound b)) (sym (first_more t m k ∙ rw (s, y, o, hn)));
       }
 
-  pub push_full : length l / 2 ≤ n → Binds t (λ bs. all_bound (binding (name_bytes t slot) ty ∷ bs)) l count NoRoom l
+  pub push_full : length l / 2 ≤ n → Binds t (λ bs. all_bound (binding (name_bytes t slot) ty ∷ bs)) l count (Err NoRoom) l
   unfolding bindings_after
   push_full h = record { is = fitted_none (pair_room l) (all_bound (binding (name_bytes t slot) ty ∷ bindings_in t l count)) (omega (arith, length-first t l (min count (length l / 2)))) }
 
 -- A slot and a type.
 module _ (t : Texts) (types l : List ℕ) (slot ty count : ℕ) {k : ℕ} (hk : k ≡ kind_of ty) where
-  pub one-void : k ≡ 1 → Binds t (bind_one t types (name_bytes t slot) ty) l count (Void count slot) l
+  pub one-void : k ≡ 1 → Binds t (bind_one t types (name_bytes t slot) ty) l count (Err (Void count slot)) l
   unfolding bindings_after
   one-void e = record {
     is =
@@ -121,14 +120,14 @@ module _ (t : Texts) (types l : List ℕ) (slot ty count : ℕ) {k : ℕ} (hk : 
     one-new e h = same-binds (one-is ∙ rw e) h
 
     module _ {e : ℕ} {q : Bool} (he : f ≡ Some e) (hq : q ≡ same_ty (ty_of t types e) (ty_of t types ty)) where
-      pub one_same : q ≡ true → Binds t (bind_one t types (name_bytes t slot) ty) l count (Done count) l
+      pub one_same : q ≡ true → Binds t (bind_one t types (name_bytes t slot) ty) l count (Ok count) l
       unfolding bind_found
       one_same h =
           nothing-more t (bind_one t types (name_bytes t slot) ty) l count
           (one-is
           ∙ rw he (if_true (all_bound (bindings_in t l count)) (conflict (bindings_in t l count) (name_bytes t slot) e ty) (same_ty (ty_of t types e) (ty_of t types ty)) (sym hq ∙ h)))
 
-      pub one-conflict : q ≡ false → Binds t (bind_one t types (name_bytes t slot) ty) l count (Conflict count slot e ty) l
+      pub one-conflict : q ≡ false → Binds t (bind_one t types (name_bytes t slot) ty) l count (Err (Conflict count slot e ty)) l
       unfolding bind_found bindings_after
       one-conflict h = record {
         is =

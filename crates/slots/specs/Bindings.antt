@@ -1,10 +1,10 @@
 -- Bindings in a lent part of scratch, and what binding answers ("`HashMap` becomes lists in scratch"). Definitions.
-use Rattle.std.specs.Prelude.{◌≡◌, cond, List, [], ◌∷◌, ℕ, zero, suc, ◌+◌, ◌*◌, ◌/◌, min, length, get_or, leb, Option as Found, Some, None}
+use Rattle.std.specs.Prelude.{◌≡◌, cond, List, [], ◌∷◌, ℕ, zero, suc, ◌+◌, ◌*◌, ◌/◌, min, length, get_or, leb, Option as Found, Some, None, Result, Ok, Err}
 use Rattle.std.proofs.Math.Option.{Option, none, some}
 use Rattle.tok.specs.Text.{Texts, name_bytes}
 use Rattle.ptype.specs.Slots.{Binding, binding, Bound, all_bound, conflict, void_slot}
-use Rattle.slots.specs.declared.Bind.{Bind}
-use Rattle.slots.specs.declared.Bind.TheVariants.{Done, Conflict, Void, NoRoom}
+use Rattle.slots.specs.declared.BindError.{BindError}
+use Rattle.slots.specs.declared.BindError.TheVariants.{Conflict, Void, NoRoom}
 
 -- Pairs of words, a slot's and its type's: the first k of them as bindings, the newest first.
 unfoldable pub first_pairs : Texts → (pairs : List ℕ) → (k : ℕ) → List Binding
@@ -18,6 +18,10 @@ pair_room pairs = length pairs / 2
 -- the bindings that `count` pairs stand for, as far as the lent part goes
 abbrev pub bindings_in : Texts → (pairs : List ℕ) → (count : ℕ) → List Binding
 bindings_in texts pairs count = first_pairs texts pairs (min count (pair_room pairs))
+
+-- how many pairs there are, or why a slot was not bound
+abbrev pub Bind : Type 0
+Bind = Result ℕ BindError
 
 -- bindings.get(slot)
 abbrev pub found_of : Found ℕ → Option ℕ
@@ -36,12 +40,12 @@ fitted room b = cond (leb (length (bindings_after b)) room) (some b) none
 
 -- The paper's values for each case of an answer, with the pairs that it leaves: all bound; "21 and 22 slot conflict and Void"; or no room.
 abbrev pub bound_of : Texts → Bind → (pairs : List ℕ) → Option Bound
-bound_of texts (Done count) pairs = some (all_bound (bindings_in texts pairs count))
-bound_of texts (Conflict count slot existing new) pairs = some (conflict (bindings_in texts pairs count) (name_bytes texts slot) existing new)
-bound_of texts (Void count slot) pairs = some (void_slot (bindings_in texts pairs count) (name_bytes texts slot))
-bound_of texts NoRoom pairs = none
+bound_of texts (Ok count) pairs = some (all_bound (bindings_in texts pairs count))
+bound_of texts (Err (Conflict count slot existing new)) pairs = some (conflict (bindings_in texts pairs count) (name_bytes texts slot) existing new)
+bound_of texts (Err (Void count slot)) pairs = some (void_slot (bindings_in texts pairs count) (name_bytes texts slot))
+bound_of texts (Err NoRoom) pairs = none
 
 -- What a function that binds answers: r, and the pairs after it. Where all bindings have room, it is exactly what `bind` gives of
--- the bindings that there were; else it is NoRoom, and the rules leave open what the pairs then hold.
+-- the bindings that there were; else it is Err NoRoom, and the rules leave open what the pairs then hold.
 pub record Binds (texts : Texts) (bind : List Binding → Bound) (pairs : List ℕ) (count : ℕ) (r : Bind) (pairs' : List ℕ) : Type 0 where
   pub is : fitted (pair_room pairs) (bind (bindings_in texts pairs count)) ≡ bound_of texts r pairs'

@@ -16,11 +16,10 @@ use tok::{Texts, kind, payload, same_name, word_at};
 
 const VOID: u32 = 1;
 
-// How many pairs there are after a binding, and its error: another type than the slot is bound to (21), or Void (22); or that
-// the lent part is too short for the bindings.
-#[derive(Clone, Copy)]
-pub enum Bind {
-    Done(usize),
+// Why a slot is not bound: it is bound to another type (21), or the type is Void (22), with how many pairs there are then; or the lent part is
+// too short for the bindings.
+#[derive(Clone, Copy, Debug, PartialEq, Eq)]
+pub enum BindError {
     Conflict {
         count: usize,
         slot: u32,
@@ -33,6 +32,9 @@ pub enum Bind {
     },
     NoRoom,
 }
+
+// How many pairs there are after a binding.
+pub type Bind = Result<usize, BindError>;
 
 // Whether a kind holds a type: Option and Array.
 pub fn wraps(k: u32) -> bool
@@ -67,9 +69,9 @@ fn push_pair(pairs: &mut [u32], count: usize, slot: u32, ty: u32) -> Bind
     if count < pairs.len() / 2 {
         pairs[2 * count] = slot;
         pairs[2 * count + 1] = ty;
-        Bind::Done(count + 1)
+        Ok(count + 1)
     } else {
-        Bind::NoRoom
+        Err(BindError::NoRoom)
     }
 }
 
@@ -85,20 +87,20 @@ fn bind_one(
     ensures { Binds texts.now (bind_one texts.now types.now (name_bytes texts.now slot) ty) pairs.old count result pairs.new }
 {
     if kind(ty) == VOID {
-        return Bind::Void { count, slot };
+        return Err(BindError::Void { count, slot });
     }
     let Some(existing) = bound_to(texts, pairs, count, slot) else {
         return push_pair(pairs, count, slot, ty);
     };
     if same_type(types, texts, existing, ty) {
-        Bind::Done(count)
+        Ok(count)
     } else {
-        Bind::Conflict {
+        Err(BindError::Conflict {
             count,
             slot,
             existing,
             new: ty,
-        }
+        })
     }
 }
 
@@ -130,13 +132,13 @@ fn bind_within(
     ensures { Binds texts.now (bind_slots texts.now types.now (unfolded texts.now types.now depth expected) provided) pairs.old count result pairs.new }
 {
     if depth == 0 {
-        return Bind::Done(count);
+        return Ok(count);
     }
     let k = kind(expected);
     if k == SLOT {
         bind_one(types, texts, expected, provided, pairs, count)
     } else if k != kind(provided) {
-        Bind::Done(count)
+        Ok(count)
     } else if wraps(k) {
         bind_within(
             types,
@@ -160,7 +162,7 @@ fn bind_within(
             count,
         )
     } else {
-        Bind::Done(count)
+        Ok(count)
     }
 }
 
@@ -183,7 +185,7 @@ fn bind_fields(
 {
     let mut bound = count;
     for k in 0..m.min(n) {
-        let r = bind_within(
+        bound = bind_within(
             types,
             texts,
             field_type(types, i + 2 * k),
@@ -191,13 +193,9 @@ fn bind_fields(
             depth,
             pairs,
             bound,
-        );
-        let Bind::Done(more) = r else {
-            return r;
-        };
-        bound = more;
+        )?;
     }
-    Bind::Done(bound)
+    Ok(bound)
 }
 
 // Whether a slot that is bound stands in a type, as deep as `depth` says. The marks (crate `ptype`) are in this frame, which no caller takes into its

@@ -1,3 +1,3 @@
 -- What the contracts of the crate cite.
-pub mod Argued
+pub mod Argues
 pub mod Meant

@@ -2,29 +2,20 @@
 // pairs in a lent part of scratch. The buffers are lent in one order: slots, types, diagnostics, messages, pairs; then the two texts.
 #![tactic(auto)]
 
-ghost use Rattle.std.specs.Prelude.{◌≡◌, true};
-ghost use Rattle.slots.specs.declared.Bind.TheVariants.{Done};
+ghost use Rattle.std.specs.Prelude.{◌≡◌, true, Ok};
 ghost use Rattle.err.specs.Message.{call_name};
 ghost use Rattle.library.specs.Package.{param};
 ghost use Rattle.rules.specs.Calls.{argument};
 ghost use Rattle.arguments.specs.Argument.{given};
-ghost use Rattle.slotted.specs.Argued.{count_of, counted_of, AfterBinding, Argues};
+ghost use Rattle.slotted.specs.Argues.{AfterBinding, Argues};
 ghost use Rattle.slotted.specs.Meant.{Meant, ArgumentMeant};
 
-use add::Added;
 use err::CallName;
-use slots::Bind;
-use state::{Used, Went};
+use slots::{Bind, BindError};
+use state::{Refusal, Step, Used};
 use tok::{Span, Texts};
 
-// What an argument of a function with slots answers: how many pairs there are then, and what is used; or a refusal's number and place.
-#[derive(Clone, Copy)]
-pub enum Argued {
-    On(usize, Used),
-    Refused(u32, u32),
-}
-
-// The argument bound without an error: the expected type with its slots applied is compared.
+// The argument bound without an error, with `count` pairs then: the expected type with its slots applied is compared.
 fn applied(
     types: &mut [u32],
     diagnostics: &mut [u32],
@@ -39,44 +30,31 @@ fn applied(
     expected: u32,
     provided: u32,
     span: Span,
-) -> Went
+) -> Step<usize>
     requires { Meant texts.now types.old used.types expected × Meant texts.now types.old used.types provided }
-    ensures { AfterBinding texts.now n (call_name texts.now callee) name expected span provided types.old diagnostics.old messages.old used pairs.now (Done count)
+    ensures { AfterBinding texts.now n (call_name texts.now callee) name expected span provided types.old diagnostics.old messages.old used pairs.now (Ok count)
         types.new diagnostics.new messages.new result }
 {
-    let told = used.told;
-    let kept = used.kept;
-    let r = apply::apply_slot_binding(types, used.types, texts, pairs, count, expected);
-    match r {
-        Added::Put(w, u) => {
-            return arguments::compared(
-                &types[..],
-                diagnostics,
-                messages,
-                texts,
-                Used {
-                    types: u,
-                    told,
-                    kept,
-                },
-                n,
-                callee,
-                name,
-                span,
-                w,
-                provided,
-            );
-        }
-        Added::Full => {
-            return Went::Refused(7, n);
-        }
-        Added::TooDeep => {
-            return Went::Refused(8, n);
-        }
-    }
+    let added = apply::apply_slot_binding(types, used.types, texts, pairs, count, expected);
+    let (word, used) = state::added(n, used, added)?;
+    let (_, after) = arguments::compared(
+        &types[..],
+        diagnostics,
+        messages,
+        texts,
+        used,
+        n,
+        callee,
+        name,
+        span,
+        word,
+        provided,
+    )?;
+    Ok((count, after))
 }
 
-// What a binding leads to: an error is reported, 21 or 22, and the argument left; else the types are compared.
+// What a binding leads to, and how many pairs there are then: an error is reported, 21 or 22, and the argument left; else the types are
+// compared.
 fn after_binding(
     types: &mut [u32],
     diagnostics: &mut [u32],
@@ -91,109 +69,69 @@ fn after_binding(
     expected: u32,
     provided: u32,
     span: Span,
-) -> Went
+) -> Step<usize>
     requires { Meant texts.now types.old used.types expected × Meant texts.now types.old used.types provided }
     ensures { AfterBinding texts.now n (call_name texts.now callee) name expected span provided types.old diagnostics.old messages.old used pairs.now bound
         types.new diagnostics.new messages.new result }
 {
     match bound {
-        Bind::Done(count) => {
-            return applied(
-                types,
-                diagnostics,
-                messages,
-                pairs,
-                texts,
-                used,
+        Ok(count) => applied(
+            types,
+            diagnostics,
+            messages,
+            pairs,
+            texts,
+            used,
+            count,
+            n,
+            callee,
+            name,
+            expected,
+            provided,
+            span,
+        ),
+        Err(error) => match error {
+            BindError::Conflict {
                 count,
-                n,
-                callee,
-                name,
-                expected,
-                provided,
-                span,
-            );
-        }
-        Bind::Conflict {
-            count: _,
-            slot,
-            existing,
-            new,
-        } => {
-            let free = err_text::first_free(messages, used.told);
-            let r = err_arguments::slot_conflict(
-                diagnostics,
-                &mut messages[free..],
-                used.told,
-                &types[..],
-                texts,
-                span,
-                callee,
                 slot,
                 existing,
                 new,
-            );
-            return state::told(n, used, r);
-        }
-        Bind::Void { count: _, slot } => {
-            let free = err_text::first_free(messages, used.told);
-            let r = err_arguments::slot_void(
-                diagnostics,
-                &mut messages[free..],
-                used.told,
-                texts,
-                span,
-                callee,
-                slot,
-            );
-            return state::told(n, used, r);
-        }
-        Bind::NoRoom => {
-            return Went::Refused(0, 0);
-        }
+            } => {
+                let free = err_text::first_free(messages, used.told);
+                let reported = err_arguments::slot_conflict(
+                    diagnostics,
+                    &mut messages[free..],
+                    used.told,
+                    &types[..],
+                    texts,
+                    span,
+                    callee,
+                    slot,
+                    existing,
+                    new,
+                );
+                state::told(n, used, reported, count)
+            }
+            BindError::Void { count, slot } => {
+                let free = err_text::first_free(messages, used.told);
+                let reported = err_arguments::slot_void(
+                    diagnostics,
+                    &mut messages[free..],
+                    used.told,
+                    texts,
+                    span,
+                    callee,
+                    slot,
+                );
+                state::told(n, used, reported, count)
+            }
+            // The caller's pairs have room for all bindings of an argument (`ArgumentMeant`), so that no call comes here.
+            BindError::NoRoom => Err(Refusal::TypesFull(n)),
+        },
     }
 }
 
-// How many pairs there are after a binding.
-fn count_of(bound: Bind) -> usize
-    ensures { result ≡ count_of bound }
-{
-    match bound {
-        Bind::Done(count) => {
-            return count;
-        }
-        Bind::Conflict {
-            count,
-            slot: _,
-            existing: _,
-            new: _,
-        } => {
-            return count;
-        }
-        Bind::Void { count, slot: _ } => {
-            return count;
-        }
-        Bind::NoRoom => {
-            return 0;
-        }
-    }
-}
-
-// An answer, with that many pairs.
-fn counted(count: usize, went: Went) -> Argued
-    ensures { result ≡ counted_of count went }
-{
-    match went {
-        Went::On(used) => {
-            return Argued::On(count, used);
-        }
-        Went::Refused(number, place) => {
-            return Argued::Refused(number, place);
-        }
-    }
-}
-
-// An argument of a function with slots. One that contains a Slot is passed over.
+// An argument of a function with slots, and how many pairs there are then. One that contains a Slot is passed over.
 pub fn slotted_argument(
     slots: &[u32],
     types: &mut [u32],
@@ -209,20 +147,20 @@ pub fn slotted_argument(
     expected: u32,
     slot: u32,
     span: Span,
-) -> Argued
+) -> Step<usize>
     requires { ArgumentMeant texts.now slots.now types.old used.types expected slot pairs.old count }
     ensures { Argues texts.now (λ c. argument c n (call_name texts.now callee) true (param name expected) (given slot span)) slots.now types.old diagnostics.old
         messages.old used pairs.old count types.new diagnostics.new messages.new pairs.new result }
 {
-    let w = tok::word_at(slots, tok::wide(slot));
+    let w = tok::word_at(slots, slot as usize);
     if arguments::is_unchecked(&types[..], w) {
-        return Argued::On(count, used);
+        return Ok((count, used));
     }
     if ptype::contains_slot(&types[..], w) {
-        return Argued::On(count, used);
+        return Ok((count, used));
     }
     let bound = slots::bind_slots(&types[..], texts, expected, w, pairs, count);
-    let went = after_binding(
+    after_binding(
         types,
         diagnostics,
         messages,
@@ -236,6 +174,5 @@ pub fn slotted_argument(
         expected,
         w,
         span,
-    );
-    counted(count_of(bound), went)
+    )
 }

@@ -1,7 +1,8 @@
--- What a call of a function with slots takes for granted, and the contracts of its steps. Definitions.
+-- What a call of a function with slots takes for granted, and the contract of its arguments. Definitions.
 use Rattle.std.specs.Prelude.{ℕ, ◌+◌, ◌≤◌, ◌<◌, ◌≡◌, Bool, true, List, [], length, get_or}
+use Rattle.std.specs.Result.{IfOk}
 use Rattle.tok.specs.Text.{Texts}
-use Rattle.tok.specs.Step.{next}
+use Rattle.tok.specs.Step.{◌>>=◌}
 use Rattle.ptype.specs.Words.{ty_of}
 use Rattle.ptype.specs.Add.{buffer}
 use Rattle.ptype.specs.Slots.{Binding, bind_slots, apply_slot_binding}
@@ -9,17 +10,15 @@ use Rattle.add.specs.Means.{Grown}
 use Rattle.slots.specs.Bindings.{pair_room, bindings_in, bindings_after}
 use Rattle.ast.specs.Node.{tree_of, slot_of}
 use Rattle.library.specs.Package.{Param, param, Package}
+use Rattle.rules.specs.declared.Answer.{Answer}
+use Rattle.rules.specs.World.{Walk}
 use Rattle.rules.specs.Steps.{set_known, on_types}
 use Rattle.rules.specs.Calls.{arguments}
 use Rattle.state.specs.declared.Used.{Used}
-use Rattle.state.specs.declared.Step.{Step}
 use Rattle.state.specs.Context.{ctx}
 use Rattle.state.specs.Signatures.{signature_at}
-use Rattle.state.specs.World.{Rest, world, stepped}
+use Rattle.state.specs.World.{Step, with_answer, Steps}
 use Rattle.spans.specs.Ready.{NodesReady}
-use Rattle.slotted.specs.declared.Argued.{Argued}
-use Rattle.slotted.specs.declared.Argued.TheVariants as A
-use Rattle.slotted.specs.Argued.{argued}
 use Rattle.slotted.specs.Meant.{Meant}
 use Rattle.call_args.specs.Given.{given_from}
 
@@ -42,18 +41,14 @@ pub record Counted (texts : Texts) (image places : List ℕ) (n args count : ℕ
   pub ready : SlottedReady texts image places n args count slots types used words at pairs
   pub counts : (f : Bool) → count ≡ length (signature_at words at f).params
 
--- the types buffer after an answer
-abbrev pub GrownTo : (types : List ℕ) (used : ℕ) (types' : List ℕ) → Argued → Type 0
-GrownTo t u t' (A.On count v) = Grown (buffer t u) (buffer t' v.types)
-GrownTo t u t' (A.Refused number place) = Unit {0}
-
 -- All arguments, from no bindings on; the types buffer has grown.
-pub record Arguments (texts : Texts) (n : ℕ) (call_name : List ℕ) (ps : List Param) (image : List ℕ) (args count : ℕ) (s t d m : List ℕ) (u : Used) (t' d' m' pairs' : List ℕ) (r : Argued) : Type 0 where
-  pub step : (library : List Package) (void : ℕ) (rest : Rest)
-      → arguments (ctx texts library void) n call_name true ps (given_from image args count) [] (world rest s t d m u) ≡ argued texts pairs' rest s t' d' m' r
-  pub grown : GrownTo t u.types t' r
+pub record Arguments (texts : Texts) (n : ℕ) (call_name : List ℕ) (ps : List Param) (image : List ℕ) (args count : ℕ) (s t d m : List ℕ) (u : Used) (t' d' m' pairs' : List ℕ) (r : Step ℕ) : Type 0 where
+  pub step : (library : List Package) (void : ℕ)
+      → Steps (arguments (ctx texts library void) n call_name true ps (given_from image args count) []) s t d m u s t' d' m' (with_answer (bindings_in texts pairs') r)
+  pub grown : IfOk r (λ x. Grown (buffer t u.types) (buffer t' x.1.types))
 
--- The return type with its slots applied is the slot's.
-pub record Returns (texts : Texts) (n slot ret : ℕ) (pairs : List ℕ) (bound : ℕ) (s t d m : List ℕ) (u : Used) (s' t' : List ℕ) (r : Step) : Type 0 where
-  pub step : (rest : Rest)
-      → next (on_types (apply_slot_binding texts n (bindings_in texts pairs bound) (ty_of texts t ret) ret) (world rest s t d m u)) (λ w. set_known slot w) ≡ stepped rest s' t' d m r
+-- The return type with its slots applied, which is the slot's.
+abbrev pub known_return : Texts → (n slot ret : ℕ) → (bs : List Binding) → (types : List ℕ) → Walk Answer
+known_return texts n slot ret bs types = do
+  w ← on_types (apply_slot_binding texts n bs (ty_of texts types ret) ret)
+  set_known slot w

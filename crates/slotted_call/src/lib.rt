@@ -10,17 +10,17 @@ ghost use Rattle.rules.specs.Calls.{check_call_args};
 ghost use Rattle.state.specs.Context.{ctx};
 ghost use Rattle.state.specs.Signatures.{signature_at};
 ghost use Rattle.state.specs.World.{Steps};
+ghost use Rattle.slots.specs.Bindings.{bindings_in};
 ghost use Rattle.slotted.specs.Meant.{Meant};
 ghost use Rattle.call_args.specs.Given.{given_from};
-ghost use Rattle.slotted_call.specs.Bindable.{SlottedReady, Counted, Arguments, Returns};
+ghost use Rattle.slotted_call.specs.Bindable.{SlottedReady, Counted, Arguments, known_return};
 
-use add::Added;
 use err::CallName;
-use slotted::Argued;
+use rules::Answer;
 use state::{Step, Used};
 use tok::Texts;
 
-// Each argument, in order.
+// Each argument, in order, and how many pairs there are then.
 fn slotted_arguments(
     slots: &[u32],
     types: &mut [u32],
@@ -37,7 +37,7 @@ fn slotted_arguments(
     at: usize,
     args: usize,
     count: usize,
-) -> Argued
+) -> Step<usize>
     requires { Counted texts.now image.now places.now n args count slots.now types.old used.types words.now at pairs.old }
     ensures { Arguments texts.now n (call_name texts.now callee) (signature_at words.now at true).params image.now args count slots.now types.old
         diagnostics.old messages.old used types.new diagnostics.new messages.new pairs.new result }
@@ -46,7 +46,7 @@ fn slotted_arguments(
     let mut bound = 0;
     for i in 0..count {
         let number = tok::word_at(image, args + i);
-        let r = slotted::slotted_argument(
+        let (more, after) = slotted::slotted_argument(
             slots,
             types,
             diagnostics,
@@ -61,14 +61,11 @@ fn slotted_arguments(
             signatures::argument_type(words, at, i),
             call_args::slot_of(image, places, number),
             spans::span_of(image, places, number),
-        );
-        let Argued::On(more, after) = r else {
-            return r;
-        };
+        )?;
         bound = more;
         used = after;
     }
-    Argued::On(bound, used)
+    Ok((bound, used))
 }
 
 // The return type, with its slots applied.
@@ -82,33 +79,14 @@ fn returned(
     n: u32,
     slot: u32,
     ret: u32,
-) -> Step
+) -> Step<Answer>
     requires { Meant texts.now types.old used.types ret }
-    ensures { ((d m : List ℕ) → Returns texts.now n slot ret pairs.now bound slots.old types.old d m used slots.new types.new result) }
+    ensures { (d m : List ℕ) → Steps (known_return texts.now n slot ret (bindings_in texts.now pairs.now bound) types.old) slots.old types.old d m used slots.new types.new d m
+        result }
 {
-    let told = used.told;
-    let kept = used.kept;
-    let r = apply::apply_slot_binding(types, used.types, texts, pairs, bound, ret);
-    match r {
-        Added::Put(w, u) => {
-            return operators::set_known(
-                slots,
-                Used {
-                    types: u,
-                    told,
-                    kept,
-                },
-                slot,
-                w,
-            );
-        }
-        Added::Full => {
-            return Step::Refused(7, n);
-        }
-        Added::TooDeep => {
-            return Step::Refused(8, n);
-        }
-    }
+    let added = apply::apply_slot_binding(types, used.types, texts, pairs, bound, ret);
+    let (word, used) = state::added(n, used, added)?;
+    operators::set_known(slots, used, slot, word)
 }
 
 // Typechecker::check_call_args, of a function with slots whose signature stands at a place of `words`. Another number of arguments is 19, and
@@ -131,7 +109,7 @@ pub fn check_slotted(
     at: usize,
     args: usize,
     count: usize,
-) -> Step
+) -> Step<Answer>
     requires { SlottedReady texts.now image.now places.now n args count slots.old types.old used.types words.now at pairs.old }
     ensures { ((ls : List Package) (v : ℕ) → Steps
         (check_call_args (ctx texts.now ls v) n slot token (call_name texts.now callee) (signature_at words.now at true) (given_from image.now args count)) slots.old
@@ -140,7 +118,7 @@ pub fn check_slotted(
     let required = signatures::argument_count(words, at);
     if count != required {
         let free = err_text::first_free(messages, used.told);
-        let r = err_calls::argument_count(
+        let reported = err_calls::argument_count(
             diagnostics,
             &mut messages[free..],
             used.told,
@@ -150,9 +128,9 @@ pub fn check_slotted(
             required,
             count,
         );
-        return state::poisoned(n, used, r);
+        return state::told(n, used, reported, Answer::Poison);
     }
-    let argued = slotted_arguments(
+    let (bound, used) = slotted_arguments(
         &slots[..],
         types,
         diagnostics,
@@ -168,14 +146,7 @@ pub fn check_slotted(
         at,
         args,
         count,
-    );
-    match argued {
-        Argued::On(bound, after) => {
-            let ret = signatures::return_type(words, at);
-            return returned(slots, types, &pairs[..], texts, after, bound, n, slot, ret);
-        }
-        Argued::Refused(number, place) => {
-            return Step::Refused(number, place);
-        }
-    }
+    )?;
+    let ret = signatures::return_type(words, at);
+    returned(slots, types, &pairs[..], texts, used, bound, n, slot, ret)
 }

@@ -1,43 +1,38 @@
 -- The three ways out of `begin`, over variables for what the calls gave. By rewriting with the tests. Assumes nothing.
 use Prim.Native.Nat.{ℕ, min}
-use mathlib.Core.Path.{◌≡◌, refl, sym, ap, ◌∙◌}
+use Rattle.std.specs.Prelude.{Ok, Err}
+use mathlib.Core.Path.{◌≡◌, refl, ap, ◌∙◌}
 use mathlib.Core.Bool.{Bool, true, false, cond}
-use mathlib.Core.List.{List, [], ◌∷◌, ◌++◌}
+use mathlib.Core.List.{List, [], ◌∷◌}
 use native.Mathlib.Nat.{zero-add}
-use native.Mathlib.Omega.{arith}
 use lib.ListN.{length, set, replicate, length-replicate}
 use lib.Dec.{leb}
 use Rattle.tok.specs.Text.{Texts, texts_of}
-use Rattle.tok.specs.Step.{Result, ok, refused, Refusal, refusal, next, give, refuse, when}
+use Rattle.tok.specs.Step.{ok, refused, refusal, give, refuse, when}
 use Rattle.ptype.specs.Words.{void_word}
-use Rattle.ptype.specs.Add.{Buffer, buffer, write, type_room}
+use Rattle.ptype.specs.Add.{buffer, write, type_room}
 use Rattle.add.specs.Answer.{words_after}
 use Rattle.add.specs.Pool.{Copies, all_shallow}
 use Rattle.add.specs.Pool as A
 use Rattle.add.specs.WriteLaws.{write-append, write-one}
 use Rattle.library.specs.Package.{pool_of}
 use Rattle.ast.specs.Image.{node_count, slot_count}
-use Rattle.refusals.specs.Inputs.{Inputs, Buffers}
+use Rattle.refusals.specs.Inputs.{Inputs}
 use Rattle.refuse.specs.Answer.{inputs_of, buffers_of}
 use Rattle.rules.specs.World.{World, with_types}
-use Rattle.rules.specs.Steps.{Done, raised}
+use Rattle.rules.specs.Steps.{raised}
 use Rattle.rules.specs.Walk.{ctx_of, empty_slots, start_of, copy_pool, measure}
 use Rattle.tworuns.specs.Accepted.{library_types}
+use Rattle.state.specs.declared.Refusal.TheVariants.{TypesFull, TooDeep}
+use Rattle.state.specs.Refused.{refusal_of}
 use Rattle.state.specs.Signatures.{entries_end, entries_back, own_in}
 use Rattle.state.specs.Store.{env_up, held_from}
 use Rattle.state.specs.World.{no_more}
 use Rattle.visit.specs.declared.State.{State}
-use Rattle.visit.specs.declared.Walked.{Walked}
-use Rattle.visit.specs.declared.Walked.TheVariants.{On, Refused}
-use Rattle.visit.specs.Whole.{lent, whole}
-use Rattle.visit.specs.Walks.{walked_in}
+use Rattle.visit.specs.Whole.{lent, whole, visited}
 use Rattle.zero.specs.Zero.{zero_first}
 use Rattle.start.specs.Begin.{beginning, first_state, with_pool, Starts}
 use Rattle.start.specs.Measured.{measure-all}
-
--- a refusal is not a state
-no-state : {A : Type 0} {number place : ℕ} {st : State} → ◌≡◌ {A = Walked} (Refused number place) (On st) → A
-no-state e = let z : ◌≡◌ {A = ℕ} 0 1 = cc in absurd (omega arith)
 
 -- slots emptied: zeros up to V, and then Void
 pub slots_emptied : (s : List ℕ) (v : ℕ) {s₁ s₂ : List ℕ} → s₁ ≡ zero_first v s → s₂ ≡ set s₁ v void_word → s₂ ≡ empty_slots v s
@@ -111,17 +106,17 @@ module _ (image words s t : List ℕ) {n v : ℕ} {s' t' pool : List ℕ} {q : B
       on : p ≡ true → beginning inputs first ≡ ok tt (whole words (first_state (length (pool_of words))) (lent s' f t' d m e no_more))
       on y = rw (tested, y, after_is)
 
-  pub begin-full : q ≡ false → Starts image words s t s' t' (Refused 7 n)
-  unfolding walked_in
-  begin-full z = record { step = λ script text f d m e. full script text f d m e z; state = λ st y. no-state y; slots = slots-are; types = types_are }
+  pub begin-full : q ≡ false → Starts image words s t s' t' (Err (TypesFull n))
+  unfolding visited refusal_of
+  begin-full z = record { step = λ script text f d m e. full script text f d m e z; state = tt; slots = slots-are; types = types_are }
 
   module _ {p : Bool} (hm : (x : Texts) → p ≡ all_shallow x t' (library_types words)) (z : q ≡ true) where
-    pub begin-deep : p ≡ false → Starts image words s t s' t' (Refused 8 n)
-    unfolding walked_in
-    begin-deep y = record { step = λ script text f d m e. deep script text f d m e hm z y; state = λ st y. no-state y; slots = slots-are; types = types_are }
+    pub begin-deep : p ≡ false → Starts image words s t s' t' (Err (TooDeep n))
+    unfolding visited refusal_of
+    begin-deep y = record { step = λ script text f d m e. deep script text f d m e hm z y; state = tt; slots = slots-are; types = types_are }
 
-    pub begin-on : {st : State} → p ≡ true → st ≡ first_state (length pool) → Starts image words s t s' t' (On st)
-    unfolding walked_in
+    pub begin-on : {st : State} → p ≡ true → st ≡ first_state (length pool) → Starts image words s t s' t' (Ok (tt, st))
+    unfolding visited
     begin-on {st} y h =
         let g : st ≡ first_state (length (pool_of words)) = h ∙ ap (λ l. first_state (length l)) hp in
-        record { step = λ script text f d m e. on script text f d m e hm z y ∙ rw g; state = λ st' k. (cc); slots = slots-are; types = types_are }
+        record { step = λ script text f d m e. on script text f d m e hm z y ∙ rw g; state = g; slots = slots-are; types = types_are }

@@ -1,7 +1,7 @@
 -- The walk up to its roots: what `walk_first` does before it, over all six buffers (document 01, "Answers that end the check"). Definitions, and
 -- that the walk begins so. Assumes nothing.
-use Rattle.std.specs.Prelude.{ℕ, min, ◌≡◌, refl, cond, List, length, leb}
-use Rattle.tok.specs.Step.{Result, ok, refused, Refusal, next, ◌>>=◌, ◌>>◌}
+use Rattle.std.specs.Prelude.{ℕ, min, ◌≡◌, refl, cond, List, length, leb, IfOk, ⊤}
+use Rattle.tok.specs.Step.{Result, ok, refused, Refusal, next, ◌>>◌}
 use Rattle.ptype.specs.Add.{write}
 use Rattle.library.specs.Package.{pool_of}
 use Rattle.ast.specs.Image.{node_count, slot_count}
@@ -16,10 +16,7 @@ use Rattle.rules.specs.Walk.{ctx_of, empty_slots, start_of, copy_pool, measure, 
 use Rattle.tworuns.specs.Accepted.{library_types}
 use Rattle.state.specs.World.{no_more}
 use Rattle.visit.specs.declared.State.{State}
-use Rattle.visit.specs.declared.Walked.{Walked}
-use Rattle.visit.specs.declared.Walked.TheVariants.{On}
-use Rattle.visit.specs.Whole.{lent}
-use Rattle.visit.specs.Walks.{walked_in}
+use Rattle.visit.specs.Whole.{Visit, lent, visited}
 
 -- the pool copied, and every library type measured
 unfoldable pub beginning : Inputs → Walk Done
@@ -36,9 +33,9 @@ unfoldable pub with_pool : (pool types : List ℕ) → List ℕ
 with_pool pool types = cond (leb (length pool) (min (length types) 8192)) (write types 0 pool) types
 
 -- Slots s and types t came in, s' and t' are they now, r is the answer; the texts and the other buffers may be any.
-pub record Starts (image words s t s' t' : List ℕ) (r : Walked) : Type 0 where
-  pub step : (script text f d m e : List ℕ) → beginning (inputs_of script image text words) (start_of (inputs_of script image text words) (buffers_of s f t d m e)) ≡ walked_in words (lent s' f t' d m e no_more) r
-  pub state : (st : State) → r ≡ On st → st ≡ first_state (length (pool_of words))
+pub record Starts (image words s t s' t' : List ℕ) (r : Visit ⊤) : Type 0 where
+  pub step : (script text f d m e : List ℕ) → beginning (inputs_of script image text words) (start_of (inputs_of script image text words) (buffers_of s f t d m e)) ≡ visited words (lent s' f t' d m e no_more) r
+  pub state : IfOk r (λ x. x.1 ≡ first_state (length (pool_of words)))
   pub slots : s' ≡ empty_slots (slot_count image) s
   pub types : t' ≡ with_pool (pool_of words) t
 

@@ -1,26 +1,23 @@
 -- Every library type measured: the rules' `measure` is one test of all words, and the words of the library come part by part. By induction on
 -- lists. Assumes nothing.
-use Prim.Native.Nat.{ℕ, zero, suc, ◌+◌, ◌-◌, ◌<◌, ◌≤◌, min}
-use Rattle.std.specs.Prelude.{◌≡◌, refl, Bool, true, false, ◌&&◌, cond, List, [], ◌∷◌, ◌++◌, length, drop, leb}
+use Prim.Native.Nat.{ℕ, suc, ◌+◌, ◌-◌, ◌<◌, ◌≤◌, min}
+use Rattle.std.specs.Prelude.{◌≡◌, refl, Bool, true, false, ◌&&◌, cond, List, [], ◌∷◌, ◌++◌, length, drop}
 use Rattle.std.proofs.Math.Path.{sym, ap}
 use Rattle.std.proofs.Common.{◌∙◌, append_assoc, add-one, drop_of_length-le, drop-cons}
 use Rattle.std.proofs.Math.Bool.{and-true}
 use native.Mathlib.Omega.{arith}
 use Rattle.std.proofs.Math.ListN.{get_or}
-use Rattle.tok.specs.Word.{kind_of}
 use Rattle.tok.specs.Text.{Texts}
-use Rattle.tok.specs.Step.{Result, ok, refused, Refusal, refusal, when}
-use Rattle.ptype.specs.Ty.{depth_of}
-use Rattle.ptype.specs.Words.{ty_of}
+use Rattle.tok.specs.Step.{ok, refused, refusal, when}
 use Rattle.add.specs.Parts.{shallow}
 use Rattle.add.specs.Pool.{all_shallow}
 use Rattle.add.specs.Pool as A
 use Rattle.add.specs.PoolLaws.{shallow-append}
-use Rattle.library.specs.Package.{Param, param, Function, Package, pool_of, function_at, function_end, functions_from, packages_from, packages_of}
-use Rattle.library.specs.PackagesRead.{package_at, package_end}
+use Rattle.library.specs.Package.{Param, param, Function, pool_of, function_at, function_end, functions_from, packages_from, packages_of}
+use Rattle.library.specs.PackagesRead.{package_end}
 use Rattle.library.specs.Past.{functions-held, packages-held}
 use Rattle.rules.specs.World.{Ctx, World}
-use Rattle.rules.specs.Steps.{Done, tree}
+use Rattle.rules.specs.Steps.{tree}
 use Rattle.rules.specs.Walk.{pool_types, param_types, function_types, package_types, measure}
 use Rattle.tworuns.specs.Accepted.{library_types}
 

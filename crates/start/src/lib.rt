@@ -12,8 +12,8 @@ ghost use Rattle.tworuns.specs.Accepted.{library_types};
 ghost use Rattle.start.specs.Begin.{first_state, Starts};
 
 use err::Counts;
-use state::{Kept, Used};
-use visit::{State, Walked};
+use state::{Kept, Refusal, Used};
+use visit::{State, Visit};
 
 // The word of Void.
 const VOID_WORD: u32 = 0x1000_0000;
@@ -123,17 +123,17 @@ fn first_state(pool: usize) -> State
 }
 
 // "Then the pool is copied (7) and every library type measured (8)": "N for the pool", "N for the library".
-pub fn begin(slots: &mut [u32], types: &mut [u32], image: &[u32], words: &[u32]) -> Walked
+pub fn begin(slots: &mut [u32], types: &mut [u32], image: &[u32], words: &[u32]) -> Visit<()>
     ensures { Starts image.now words.now slots.old types.old slots.new types.new result }
 {
     let nodes = tok::word_at(image, 0);
     empty_slots(slots, tok::wide(tok::word_at(image, 3)));
     let pool = library::pool(words);
     if !add::copy_pool(types, pool) {
-        return Walked::Refused(7, nodes);
+        return Err(Refusal::TypesFull(nodes));
     }
     if !library_is_shallow(&types[..], words) {
-        return Walked::Refused(8, nodes);
+        return Err(Refusal::TooDeep(nodes));
     }
-    Walked::On(first_state(pool.len()))
+    Ok(((), first_state(pool.len())))
 }

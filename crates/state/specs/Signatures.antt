@@ -1,6 +1,6 @@
 -- Signatures and functions by their place in a word list: entries of the functions buffer ("name, argument count, pairs, return type"), of an
 -- Extern's package, and of the library, where a flag stands after the name. Definitions.
-use Rattle.std.specs.Prelude.{ℕ, zero, suc, ◌+◌, ◌*◌, Bool, false, ◌&&◌, List, [], ◌∷◌, get_or, eqb}
+use Rattle.std.specs.Prelude.{ℕ, zero, suc, ◌+◌, ◌*◌, Bool, ◌&&◌, List, [], ◌∷◌, get_or, eqb}
 use Rattle.library.specs.Package.{Signature, signature, Function, function, params_from}
 
 -- the signature whose argument count stands at a word: "argument count, name and type for each argument, return type"

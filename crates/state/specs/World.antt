@@ -1,20 +1,17 @@
 -- The world of the rules, from the lent buffers and what is used of them. Definitions.
-use Rattle.std.specs.Prelude.{ℕ, ◌≡◌, List}
-use Rattle.tok.specs.Step.{Result, ok, refused, Refusal, refusal}
+use Rattle.std.specs.Prelude.{ℕ, ◌≡◌, List, Result as Answered, Ok, Err}
+use Rattle.tok.specs.Step.{Result, ok, refused, Refusal}
 use Rattle.ptype.specs.Add.{Buffer, buffer}
 use Rattle.library.specs.Package.{Function, Package}
-use Rattle.rules.specs.declared.Answer.{Answer}
-use Rattle.rules.specs.declared.Answer.TheVariants.{Known, Poison}
 use Rattle.rules.specs.World.{Local, Log, World, Walk}
-use Rattle.rules.specs.Steps.{Done}
 use Rattle.state.specs.declared.Kept.{Kept}
 use Rattle.state.specs.declared.Used.{Used}
-use Rattle.state.specs.declared.Step.{Step}
-use Rattle.state.specs.declared.Step.TheVariants as S
-use Rattle.state.specs.declared.Went.{Went}
-use Rattle.state.specs.declared.Went.TheVariants as W
-use Rattle.state.specs.declared.Typed.{Typed}
-use Rattle.state.specs.declared.Typed.TheVariants as T
+use Rattle.state.specs.declared.Refusal.{Refusal as Refused}
+use Rattle.state.specs.Refused.{refusal_of}
+
+-- what a step gives with what is used then, or a refusal
+abbrev pub Step : Type 0 → Type 0
+Step A = Answered (A × Used) Refused
 
 -- the buffers that later requests lend: none yet
 pub record More : Type 0 where
@@ -51,26 +48,16 @@ world r s t d m u = record {
   log = log_of r.more u.kept;
 }
 
--- The paper's number and values for each case of an answer. After a refusal the rules say nothing of the buffers: the check sets them to zero.
-unfoldable pub stepped : Rest → (slots types diagnostics messages : List ℕ) → Step → Result World Refusal Answer
-stepped r s t d m (S.Known slot u) = ok (Known slot) (world r s t d m u)
-stepped r s t d m (S.Poison u) = ok Poison (world r s t d m u)
-stepped r s t d m (S.Refused number place) = refused (refusal number place)
+-- What a step comes to. After a refusal the rules say nothing of the buffers: the check sets them to zero.
+unfoldable pub stepped : {A : Type 0} → Rest → (slots types diagnostics messages : List ℕ) → Step A → Result World Refusal A
+stepped r s t d m (Ok (a, u)) = ok a (world r s t d m u)
+stepped r s t d m (Err e) = refused (refusal_of e)
 
-unfoldable pub gone : Rest → (slots types diagnostics messages : List ℕ) → Went → Result World Refusal Done
-gone r s t d m (W.On u) = ok tt (world r s t d m u)
-gone r s t d m (W.Refused number place) = refused (refusal number place)
+-- the step, or visit, with what its answer stands for in the rules
+unfoldable pub with_answer : {A B S : Type 0} → (A → B) → Answered (A × S) Refused → Answered (B × S) Refused
+with_answer f (Ok (a, u)) = Ok (f a, u)
+with_answer f (Err e) = Err e
 
-unfoldable pub typed : Rest → (slots types diagnostics messages : List ℕ) → Typed → Result World Refusal ℕ
-typed r s t d m (T.Word w u) = ok w (world r s t d m u)
-typed r s t d m (T.Refused number place) = refused (refusal number place)
-
--- The contracts of plain steps: slots, types, diagnostics and messages came in with `u` used of them, s' t' d' m' are they now, r the answer.
-pub record Steps (rule : Walk Answer) (s t d m : List ℕ) (u : Used) (s' t' d' m' : List ℕ) (r : Step) : Type 0 where
+-- The contract of a plain step: slots, types, diagnostics and messages came in with `u` used of them, s' t' d' m' are they now, r the answer.
+pub record Steps {A : Type 0} (rule : Walk A) (s t d m : List ℕ) (u : Used) (s' t' d' m' : List ℕ) (r : Step A) : Type 0 where
   pub step : (rest : Rest) → rule (world rest s t d m u) ≡ stepped rest s' t' d' m' r
-
-pub record Goes (rule : Walk Done) (s t d m : List ℕ) (u : Used) (s' t' d' m' : List ℕ) (r : Went) : Type 0 where
-  pub step : (rest : Rest) → rule (world rest s t d m u) ≡ gone rest s' t' d' m' r
-
-pub record Types (rule : Walk ℕ) (s t d m : List ℕ) (u : Used) (s' t' d' m' : List ℕ) (r : Typed) : Type 0 where
-  pub step : (rest : Rest) → rule (world rest s t d m u) ≡ typed rest s' t' d' m' r

@@ -2,8 +2,11 @@
 #![tactic(auto)]
 
 ghost use Rattle.std.specs.Prelude.{◌≡◌};
-ghost use Rattle.state.specs.Reporting.{told_of, poison_of};
+ghost use Rattle.state.specs.Adding.{added_of};
+ghost use Rattle.state.specs.Reporting.{told_of};
+ghost use Rattle.state.specs.Refused.{refusal_of};
 
+use add::{AddError, Added};
 use err::Counts;
 
 // What is used of what later requests add: nothing yet.
@@ -18,45 +21,58 @@ pub struct Used {
     pub kept: Kept,
 }
 
-// What a rule answers: a value's slot, or that an error was reported already (typedefs.rs, `enum TcType`), with what is used then; or a
-// refusal's number and place.
-#[derive(Clone, Copy)]
-pub enum Step {
-    Known(u32, Used),
-    Poison(Used),
-    Refused(u32, u32),
+// Why the walk gives no answer, and the node whose rule ran: "types buffer full", "type depth 33", "diagnostics or messages full".
+#[derive(Clone, Copy, Debug, PartialEq, Eq)]
+pub enum Refusal {
+    TypesFull(u32),
+    TooDeep(u32),
+    ReportsFull(u32),
 }
 
-// What a step answers that only writes: what is used then; or a refusal's number and place.
-#[derive(Clone, Copy)]
-pub enum Went {
-    On(Used),
-    Refused(u32, u32),
-}
+// What a step gives, and what is used then; or a refusal, after which no step is taken.
+pub type Step<A> = Result<(A, Used), Refusal>;
 
-// What a step answers that gives a type's word.
-#[derive(Clone, Copy)]
-pub enum Typed {
-    Word(u32, Used),
-    Refused(u32, u32),
-}
+impl Refusal {
+    // Its number in document 01's table.
+    #[tactic(auto, unfolding(crate::specs::Refused::refusal_of))]
+    pub fn number(self) -> u32
+        ensures { result ≡ (refusal_of self).number }
+    {
+        match self {
+            Refusal::TypesFull(_) => 7,
+            Refusal::TooDeep(_) => 8,
+            Refusal::ReportsFull(_) => 9,
+        }
+    }
 
-// What a step of node n answers after a diagnostic: what is used then, or refusal 9.
-pub fn told(n: u32, used: Used, reported: Option<Counts>) -> Went
-    ensures { result ≡ told_of n used reported }
-{
-    match reported {
-        Some(told) => Went::On(Used { told, ..used }),
-        None => Went::Refused(9, n),
+    // "node whose rule runs"
+    #[tactic(auto, unfolding(crate::specs::Refused::refusal_of))]
+    pub fn place(self) -> u32
+        ensures { result ≡ (refusal_of self).place }
+    {
+        match self {
+            Refusal::TypesFull(n) | Refusal::TooDeep(n) | Refusal::ReportsFull(n) => n,
+        }
     }
 }
 
-// The same, where the rule ends poisoned.
-pub fn poisoned(n: u32, used: Used, reported: Option<Counts>) -> Step
-    ensures { result ≡ poison_of n used reported }
+// What a step of node n gives after a diagnostic is written.
+#[tactic(auto, unfolding(crate::specs::Reporting::told_of))]
+pub fn told<A: Copy>(n: u32, used: Used, reported: Option<Counts>, answer: A) -> Step<A>
+    ensures { result ≡ told_of n used reported answer }
 {
-    match reported {
-        Some(told) => Step::Poison(Used { told, ..used }),
-        None => Step::Refused(9, n),
+    let told = reported.ok_or(Refusal::ReportsFull(n))?;
+    Ok((answer, Used { told, ..used }))
+}
+
+// What a step of node n gives after a type is added: the type's word.
+#[tactic(auto, unfolding(crate::specs::Adding::added_of))]
+pub fn added(n: u32, used: Used, added: Added) -> Step<u32>
+    ensures { result ≡ added_of n used added }
+{
+    match added {
+        Ok((word, types)) => Ok((word, Used { types, ..used })),
+        Err(AddError::Full) => Err(Refusal::TypesFull(n)),
+        Err(AddError::TooDeep) => Err(Refusal::TooDeep(n)),
     }
 }

@@ -1,23 +1,18 @@
 -- Each return of `deep_part`, `deep_field` and of the loop over them, over variables for what the calls gave. By the law that more than 32
 -- levels are refused. Assumes nothing.
-use mathlib.Core.Path.{◌≡◌, refl, ◌∙◌}
-use mathlib.Core.Logic.{⊎_elim}
-use mathlib.Core.List.{List, [], ◌∷◌}
+use Rattle.std.specs.Prelude.{Ok, Err}
+use mathlib.Core.Path.{◌≡◌, refl, ap, ◌∙◌}
+use mathlib.Core.List.{List, ◌∷◌}
 use Prim.Native.Nat.{ℕ, ◌+◌, ◌-◌, ◌/◌, ◌≤◌, ◌<◌}
 use native.Mathlib.Omega.{arith}
 use native.Mathlib.Decide.{ℕ_discrete}
 use lib.ListN.{get_or, length}
-use types.Run.{OneOf}
-use denote.Enum.Declared.{tag_of}
-use borrow.Author.Tests.{eqb-false}
 use Rattle.tok.specs.Word.{kind_of, payload_of}
 use Rattle.tok.specs.Text.{Texts}
 use Rattle.tok.specs.Step.{Result, ok, refused, Refusal, next, return}
 use Rattle.ptype.specs.Add.{Buffer, buffer, add_record}
-use Rattle.add.specs.declared.Added.{Added}
-use Rattle.add.specs.declared.Added.TheVariants.{Put, Full, TooDeep}
-use Rattle.add.specs.Answer.{result_of}
-use Rattle.add.specs.contracts.Added.{the_type}
+use Rattle.add.specs.declared.AddError.{AddError}
+use Rattle.add.specs.Answer.{Added, result_of}
 use Rattle.ast.specs.TypeExpr.{type_of, type_fields_from}
 use Rattle.ast.specs.TypeFrom.{type_from, fields_from_exprs}
 use Rattle.places.specs.Levels.{levels_of, most_levels}
@@ -25,7 +20,7 @@ use Rattle.type_expr.specs.Ready.{TypeReady, PartReady, FieldsReady}
 use Rattle.type_expr.specs.TypesAt.{type-atom, type-foreign, type-option, type-array, type_record_lem, kind-array, option-ready, array-ready, first-ready, rest-ready}
 use Rattle.type_expr.specs.SizeLaws.{fields-first}
 use Rattle.type_expr.specs.LevelLaws.{atoms, deep-refused, levels-there, most-none, most-first}
-use Rattle.type_expr.specs.Onward.{onward, Onward}
+use Rattle.type_expr.specs.Onward.{Onward}
 use Rattle.type_expr.proofs.FieldReturns.{Goes, goes-all, goes-next}
 
 -- ── How deep ──
@@ -58,20 +53,6 @@ module _ {image places : List ℕ} {t at : ℕ} (r : TypeReady image places t) (
   ]
 
 -- ── The fields before the deep one ──
-
-never-put : {p u : ℕ} (a : Added) → OneOf (1 ∷ 2 ∷ []) (tag_of the_type a) → a ≡ Put p u → ⊥
-never-put (Put w v) o e = ⊎_elim (λ z. eqb-false 0 1 refl z) (λ z. eqb-false 0 2 refl z) o
-never-put Full o e =
-    let z : ◌≡◌ {A = ℕ} 0 1 = cc in
-    omega arith
-never-put TooDeep o e =
-    let z : ◌≡◌ {A = ℕ} 0 1 = cc in
-    omega arith
-
-pub onward-stays : (T : Texts) (n : ℕ) (image : List ℕ) (a : Added) (l : List ℕ) → OneOf (1 ∷ 2 ∷ []) (tag_of the_type a) → onward T n image a l ≡ result_of n a l
-onward-stays T n image (Put w v) l o = absurd (⊎_elim (λ z. eqb-false 0 1 refl z) (λ z. eqb-false 0 2 refl z) o)
-onward-stays T n image Full l o = refl
-onward-stays T n image TooDeep l o = refl
 
 -- where the loop stands
 pub record Before (image places : List ℕ) (owner : ℕ) (l₀ : List ℕ) (used at fields : ℕ) (l : List ℕ) (u here left : ℕ) : Type 0 where
@@ -106,25 +87,18 @@ module _ {image places : List ℕ} {owner : ℕ} {l₀ : List ℕ} {used at fiel
     first-is T n = rw (fields-first (type_of image) image here d, ← ex)
 
     -- this one is too deep: what it meets is what the Record meets
-    pub before-deep : 32 < levels → Onward image places owner whole (Put x u) l
-    before-deep e = record { is = λ T n. meets T n (type_from T n (type_of image x) (buffer l u)) refl; part = λ p v z. let y : x ≡ p = cc in rw y at part-ready }
+    pub before-deep : 32 < levels → Onward image places owner whole (Ok (x, u)) l
+    before-deep e = record { is = λ T n. meets T n (type_from T n (type_of image x) (buffer l u)) refl; part = λ p v z. let y : ◌≡◌ {A = ℕ × ℕ} (x, u) (p, v) = cc in rw (ap (λ q. q.0) y) at part-ready }
       where
         meets : (T : Texts) (n : ℕ) (r : Result Buffer Refusal ℕ) → type_from T n (type_of image x) (buffer l u) ≡ r → whole T n ≡ type_from T n (type_of image x) (buffer l u)
         meets T n (ok w b) z = absurd (deep-refused T n (type_of image x) (buffer l u) w b (atoms image places x part-ready.ready) (omega (arith, levels-are)) z)
         meets T n (refused y) z = rw ((h.goes T n).is, first-is T n, z)
 
     module _ (e : levels ≤ 32) (a : Added) (l₁ : List ℕ) (g : (T : Texts) (n : ℕ) → type_from T n (type_of image x) (buffer l u) ≡ result_of n a l₁) where
-      pub before-stop : OneOf (1 ∷ 2 ∷ []) (tag_of the_type a) → Onward image places owner whole a l₁
-      before-stop o = record { is = λ T n. rw ((h.goes T n).is, first-is T n, g T n) (stays T n a o); part = λ p v z. absurd (never-put a o z) }
-        where
-          stays : (T : Texts) (n : ℕ) (r : Added) → OneOf (1 ∷ 2 ∷ []) (tag_of the_type r)
-              → next (next (next (result_of n r l₁) (λ new s. next (fields_from_exprs T n (type_fields_from (type_of image) image (here + 2) (left - 1)) s) (λ others. return (get_or image here 0 ∷ new ∷ others))))
-              (λ others. return ((h.goes T n).before others))) (add_record T n) ≡ onward T n image r l₁
-          stays T n (Put w v) o = absurd (⊎_elim (λ z. eqb-false 0 1 refl z) (λ z. eqb-false 0 2 refl z) o)
-          stays T n Full o = refl
-          stays T n TooDeep o = refl
+      pub before-stop : {y : AddError} → a ≡ Err y → Onward image places owner whole (Err y) l₁
+      before-stop o = record { is = λ T n. rw ((h.goes T n).is, first-is T n, g T n, o); part = λ p v z. let y : ◌≡◌ {A = ℕ} 0 1 = cc in absurd (omega arith) }
 
-      pub before-next : {new v : ℕ} → a ≡ Put new v → length l₁ ≡ length l → Before image places owner l₀ used at fields l₁ v (here + 2) (left - 1)
+      pub before-next : {p : ℕ × ℕ} → a ≡ Ok p → length l₁ ≡ length l → Before image places owner l₀ used at fields l₁ p.1 (here + 2) (left - 1)
       before-next p k = record {
         goes = λ T n. goes-next (type_of image) image T n here l u (h.goes T n) d ex a l₁ (g T n) p;
         ready = rest-ready h.ready d;
@@ -166,8 +140,8 @@ module _ {image places : List ℕ} {t at : ℕ} (r : TypeReady image places t) (
     array-from T n z q = rw (type-array r ea eh ek q, ← ei, z)
 
     -- an Option or an Array meets what is inside it meets
-    pub part-inner : Onward image places t from (Put i used) l
-    part-inner = record { is = λ T n. meets T n (type_from T n (type_of image i) (buffer l used)) refl (ℕ_discrete k 2); part = λ p v z. let y : i ≡ p = cc in rw y at part-inside }
+    pub part-inner : Onward image places t from (Ok (i, used)) l
+    part-inner = record { is = λ T n. meets T n (type_from T n (type_of image i) (buffer l used)) refl (ℕ_discrete k 2); part = λ p v z. let y : ◌≡◌ {A = ℕ × ℕ} (i, used) (p, v) = cc in rw (ap (λ q. q.0) y) at part-inside }
       where
         meets : (T : Texts) (n : ℕ) (x : Result Buffer Refusal ℕ) → type_from T n (type_of image i) (buffer l used) ≡ x → Dec (k ≡ 2) → from T n ≡ type_from T n (type_of image i) (buffer l used)
         meets T n (ok w b) z c =
@@ -187,8 +161,8 @@ same-all l used r = record { is = λ T n. refl; ready = r; long = refl }
 
 module _ {image places : List ℕ} {t : ℕ} {l₀ : List ℕ} {used : ℕ} {l : List ℕ} {u here : ℕ} (h : Same image places t l₀ used l u here) (a : Added) (l₁ : List ℕ)
     (o : Onward image places here (λ T n. type_from T n (type_of image here) (buffer l u)) a l₁) where
-  pub same_stop : OneOf (1 ∷ 2 ∷ []) (tag_of the_type a) → (T : Texts) (n : ℕ) → type_from T n (type_of image t) (buffer l₀ used) ≡ result_of n a l₁
-  same_stop q T n = h.is T n ∙ o.is T n ∙ onward-stays T n image a l₁ q
+  pub same_stop : {e : AddError} → a ≡ Err e → (T : Texts) (n : ℕ) → type_from T n (type_of image t) (buffer l₀ used) ≡ result_of n (Err e) l₁
+  same_stop e T n = h.is T n ∙ o.is T n ∙ rw e
 
-  pub same_next : {p v : ℕ} → a ≡ Put p v → length l₁ ≡ length l → Same image places t l₀ used l₁ v p
+  pub same_next : {p v : ℕ} → a ≡ Ok (p, v) → length l₁ ≡ length l → Same image places t l₀ used l₁ v p
   same_next {p} {v} e k = record { is = λ T n. h.is T n ∙ o.is T n ∙ rw e; ready = (o.part p v e).ready; long = k ∙ h.long }

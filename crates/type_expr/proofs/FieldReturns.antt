@@ -1,35 +1,24 @@
 -- Each return of `fields_from_exprs`, over variables for what the calls gave: by the fields that are left; and the pairs that are set. By
 -- unfolding the definitions, the laws of a Record added in parts, and that of sizes. Assumes nothing.
+use Rattle.std.specs.Prelude.{Ok, Err}
 use mathlib.Core.Path.{◌≡◌, refl, ◌∙◌}
-use mathlib.Core.Logic.{⊎_elim}
 use mathlib.Core.List.{List, [], ◌∷◌}
 use Prim.Native.Nat.{ℕ, zero, suc, ◌+◌, ◌-◌, ◌*◌, ◌≤◌}
 use native.Mathlib.Omega.{arith}
 use lib.ListN.{get_or, length}
-use types.Run.{OneOf}
-use denote.Enum.Declared.{tag_of}
-use borrow.Author.Tests.{eqb-false}
 use Rattle.tok.specs.Word.{payload_of}
 use Rattle.tok.specs.Text.{Texts}
 use Rattle.tok.specs.Step.{Result, ok, refused, Step, Refusal, next, return}
 use Rattle.ptype.specs.Add.{Buffer, buffer, write}
-use Rattle.add.specs.declared.Added.{Added}
-use Rattle.add.specs.declared.Added.TheVariants.{Put, Full, TooDeep}
-use Rattle.add.specs.Answer.{result_of}
+use Rattle.add.specs.declared.AddError.{AddError}
+use Rattle.add.specs.Answer.{Added, result_of}
 use Rattle.add.specs.Parts.{opened, paired, record_from}
 use Rattle.add.specs.StepLaws.{next-ok}
 use Rattle.add.specs.WriteLaws.{write_nil, write-append}
-use Rattle.add.specs.contracts.Added.{the_type}
 use Rattle.ast.specs.TypeExpr.{TypeExpr, TypeFields, type_fields_from}
 use Rattle.ast.specs.TypeFrom.{type_from, fields_from_exprs}
 use Rattle.type_expr.specs.Sizes.{size_of, sizes_of, word_before, pairs_after}
 use Rattle.type_expr.specs.SizeLaws.{opened-room, size-fields, fields-none, fields-first}
-
--- a refusal stays, whatever the buffer holds
-pub refusal-stays : (n : ℕ) (r : Added) (l : List ℕ) (f : ℕ → Step Buffer Refusal ℕ) → OneOf (1 ∷ 2 ∷ []) (tag_of the_type r) → next (result_of n r l) f ≡ result_of n r l
-refusal-stays n (Put w u) l f h = absurd (⊎_elim (λ z. eqb-false 0 1 refl z) (λ z. eqb-false 0 2 refl z) h)
-refusal-stays n Full l f h = refl
-refusal-stays n TooDeep l f h = refl
 
 -- In the loop: the steps of all fields are those of the fields that are left, with pairs put before theirs.
 pub record Goes (whole rest : Result Buffer Refusal (List ℕ)) : Type 0 where
@@ -64,26 +53,17 @@ module _ (go : ℕ → TypeExpr) (image : List ℕ) (T : Texts) (n : ℕ) where
     unfolding fields_from_exprs
     first-is = rw (fields-first go image here d, ← ex, g)
 
-    pub goes-next : {new v : ℕ} → a ≡ Put new v → Goes whole (steps (here + 2) (left - 1) (buffer l₁ v))
-    goes-next {new} {v} e = by (steps (here + 2) (left - 1) (buffer l₁ v)) refl
+    pub goes-next : {p : ℕ × ℕ} → a ≡ Ok p → Goes whole (steps (here + 2) (left - 1) (buffer l₁ p.1))
+    goes-next {p} e = by (steps (here + 2) (left - 1) (buffer l₁ p.1)) refl
       where
-        by : (r : Result Buffer Refusal (List ℕ)) → steps (here + 2) (left - 1) (buffer l₁ v) ≡ r → Goes whole (steps (here + 2) (left - 1) (buffer l₁ v))
-        by (ok others b) q = record { before = λ rest. h.before (get_or image here 0 ∷ new ∷ rest); is = h.is ∙ rw (first-is, e, q) }
+        by : (r : Result Buffer Refusal (List ℕ)) → steps (here + 2) (left - 1) (buffer l₁ p.1) ≡ r → Goes whole (steps (here + 2) (left - 1) (buffer l₁ p.1))
+        by (ok others b) q = record { before = λ rest. h.before (get_or image here 0 ∷ p.0 ∷ rest); is = h.is ∙ rw (first-is, e, q) }
         by (refused x) q = record { before = λ rest. rest; is = h.is ∙ rw (first-is, e, q) }
 
-    pub goes-stop : (at fields used : ℕ) (l₀ : List ℕ) → whole ≡ steps at fields (buffer l₀ used) → OneOf (1 ∷ 2 ∷ []) (tag_of the_type a)
-        → record_from n fields 0 (steps at fields) (buffer l₀ used) ≡ result_of n a l₁
+    pub goes-stop : (at fields used : ℕ) (l₀ : List ℕ) {e : AddError} → whole ≡ steps at fields (buffer l₀ used) → a ≡ Err e
+        → record_from n fields 0 (steps at fields) (buffer l₀ used) ≡ result_of n (Err e) l₁
     unfolding record_from
-    goes-stop at fields used l₀ w o = rw (← w, h.is, first-is) (stays a o)
-      where
-        others-then : ℕ → Step Buffer Refusal (List ℕ)
-        others-then new = λ s. next (steps (here + 2) (left - 1) s) (λ others. return (get_or image here 0 ∷ new ∷ others))
-
-        stays : (r : Added) → OneOf (1 ∷ 2 ∷ []) (tag_of the_type r)
-            → next (next (next (result_of n r l₁) others-then) (λ others. return (h.before others))) (λ pairs s. next (opened n fields s) (paired 0 pairs)) ≡ result_of n r l₁
-        stays (Put w v) o = absurd (⊎_elim (λ z. eqb-false 0 1 refl z) (λ z. eqb-false 0 2 refl z) o)
-        stays Full o = refl
-        stays TooDeep o = refl
+    goes-stop at fields used l₀ w o = rw (← w, h.is, first-is, o)
 
   -- After the loop: the pairs are those that go by the words used, and the Record is opened.
   module _ (at fields used : ℕ) (l₀ : List ℕ) (here : ℕ) (l : List ℕ) (u : ℕ) {left : ℕ} (h : Goes (steps at fields (buffer l₀ used)) (steps here left (buffer l u))) (z : left ≡ 0) where
@@ -101,19 +81,20 @@ module _ (go : ℕ → TypeExpr) (image : List ℕ) (T : Texts) (n : ℕ) where
     after_is = whole_is ∙ rw (size-fields T n all (buffer l₀ used) (h.before []) (buffer l u) whole_is).are
 
     module _ (r : Added) (l₁ : List ℕ) (o : opened n fields (buffer l u) ≡ result_of n r l₁) where
-      pub open_stop : OneOf (1 ∷ 2 ∷ []) (tag_of the_type r) → record_from n fields 0 (steps at fields) (buffer l₀ used) ≡ result_of n r l₁
+      pub open_stop : {e : AddError} → r ≡ Err e → record_from n fields 0 (steps at fields) (buffer l₀ used) ≡ result_of n (Err e) l₁
       unfolding record_from
-      open_stop q = rw (after_is, o) (refusal-stays n r l₁ (paired 0 (pairs_after used all)) q)
+      open_stop e = rw (after_is, o, e)
 
-      pub open_room : {w v : ℕ} → r ≡ Put w v → used + sizes_of all ≤ 8192
-      open_room {w} {v} e = omega (arith, used-after, opened-room n fields l u w (buffer l₁ v) (o ∙ rw e))
+      module _ {p : ℕ × ℕ} (e : r ≡ Ok p) where
+        pub open_room : used + sizes_of all ≤ 8192
+        open_room = omega (arith, used-after, opened-room n fields l u p.0 (buffer l₁ p.1) (o ∙ rw e))
 
-      pub open_put : {w v q : ℕ} {l₂ : List ℕ} → r ≡ Put w v → q ≡ payload_of w → l₂ ≡ write l₁ (q + 1) (pairs_after used all)
-          → record_from n fields 0 (steps at fields) (buffer l₀ used) ≡ ok w (buffer l₂ v)
-      unfolding record_from paired
-      open_put {w} e hq h₂ =
-          let place : payload_of w + 1 + 2 * 0 ≡ payload_of w + 1 = omega arith in
-          rw (after_is, o, e, h₂, hq, place)
+        pub open_put : {q : ℕ} {l₂ : List ℕ} → q ≡ payload_of p.0 → l₂ ≡ write l₁ (q + 1) (pairs_after used all)
+            → record_from n fields 0 (steps at fields) (buffer l₀ used) ≡ ok p.0 (buffer l₂ p.1)
+        unfolding record_from paired
+        open_put hq h₂ =
+            let place : payload_of p.0 + 1 + 2 * 0 ≡ payload_of p.0 + 1 = omega arith in
+            rw (after_is, o, e, h₂, hq, place)
 
 -- Pairs set one after the other.
 module _ (go : ℕ → TypeExpr) (image l : List ℕ) (here end to : ℕ) {left : ℕ} where

@@ -1,28 +1,25 @@
 -- Each return of `type_token`, `type_from_type_expr`, `type_size` and `type_word`, over variables for what the calls gave: by the kind of the record. Assumes nothing.
+use Rattle.std.specs.Prelude.{Ok, Err}
 use mathlib.Core.Path.{◌≡◌, refl, sym, ap, ◌∙◌}
-use mathlib.Core.List.{List, [], ◌∷◌}
+use mathlib.Core.List.{List}
 use Prim.Native.Nat.{ℕ, ◌+◌, ◌-◌, ◌*◌, ◌/◌}
 use native.Mathlib.Decide.{ℕ_discrete}
 use lib.ListN.{get_or}
-use types.Run.{OneOf}
-use denote.Enum.Declared.{tag_of}
 use Rattle.tok.specs.Word.{kind_of, payload_of, word_of}
 use Rattle.tok.specs.Text.{Texts}
 use Rattle.tok.specs.Step.{Result, ok, Refusal, next}
 use Rattle.ptype.specs.Add.{Buffer, buffer, add_wrap}
-use Rattle.add.specs.declared.Added.{Added}
-use Rattle.add.specs.declared.Added.TheVariants.{Put}
-use Rattle.add.specs.Answer.{result_of}
+use Rattle.add.specs.declared.AddError.{AddError}
+use Rattle.add.specs.Answer.{Added, result_of}
 use Rattle.add.specs.Parts.{measured, record_from}
 use Rattle.add.specs.PartsLaws.{record_steps}
-use Rattle.add.specs.contracts.Added.{the_type}
 use Rattle.ast.specs.TypeExpr.{type_of, type_token, type_fields_from}
 use Rattle.ast.specs.TypeFrom.{type_from, fields_from_exprs}
 use Rattle.type_expr.specs.Ready.{TypeReady}
 use Rattle.type_expr.specs.Sizes.{size_of, sizes_of, word_before}
 use Rattle.type_expr.specs.SizeLaws.{fields-long}
 use Rattle.type_expr.specs.TypesAt.{type-atom, type-foreign, type-option, type-array, type_record_lem, kind-array}
-use Rattle.type_expr.proofs.FieldReturns.{refusal-stays, two-each}
+use Rattle.type_expr.proofs.FieldReturns.{two-each}
 
 module _ {image places : List ℕ} {t at : ℕ} (r : TypeReady image places t) (ea : at ≡ get_or places (2048 + t) 0) {h k : ℕ} (eh : h ≡ get_or image at 0) (ek : k ≡ kind_of h) where
   -- ── The token ──
@@ -60,14 +57,20 @@ module _ {image places : List ℕ} {t at : ℕ} (r : TypeReady image places t) (
     unfolding type_from
     from-foreign q ey ex = rw (type-foreign r ea eh ek q, ex, ey)
 
-    pub from_record : {long m : ℕ} (a : Added) (l₁ : List ℕ) {y : Result Buffer Refusal ℕ} → k ≡ 4 → long ≡ payload_of h → m ≡ (long - 2) / 2
-        → record_from n m 0 (fields_from_exprs T n (type_fields_from (type_of image) image (at + 2) m)) (buffer l used) ≡ result_of n a l₁
-        → next (result_of n a l₁) (measured T n) ≡ y → type_from T n (type_of image t) (buffer l used) ≡ y
-    unfolding type_from
-    from_record {long} {m} a l₁ q el em g p =
-        rw (type_record_lem r ea eh ek el q, ← em)
-        (record_steps T n m (fields_from_exprs T n (type_fields_from (type_of image) image (at + 2) m)) (buffer l used) (λ pairs b. two-each (type_of image) image T n m (at + 2) (buffer l used) pairs b)
-        ∙ (ap (λ x. next x (measured T n)) g ∙ p))
+    module _ {long m : ℕ} (a : Added) (l₁ : List ℕ) (q : k ≡ 4) (el : long ≡ payload_of h) (em : m ≡ (long - 2) / 2)
+        (g : record_from n m 0 (fields_from_exprs T n (type_fields_from (type_of image) image (at + 2) m)) (buffer l used) ≡ result_of n a l₁) where
+      record_is : type_from T n (type_of image t) (buffer l used) ≡ next (result_of n a l₁) (measured T n)
+      unfolding type_from
+      record_is =
+          rw (type_record_lem r ea eh ek el q, ← em)
+          (record_steps T n m (fields_from_exprs T n (type_fields_from (type_of image) image (at + 2) m)) (buffer l used) (λ pairs b. two-each (type_of image) image T n m (at + 2) (buffer l used) pairs b)
+          ∙ ap (λ x. next x (measured T n)) g)
+
+      pub record_refused : {e : AddError} → a ≡ Err e → type_from T n (type_of image t) (buffer l used) ≡ result_of n (Err e) l₁
+      record_refused e = record_is ∙ rw e
+
+      pub record_closed : {p : ℕ × ℕ} {y : Result Buffer Refusal ℕ} → a ≡ Ok p → measured T n p.0 (buffer l₁ p.1) ≡ y → type_from T n (type_of image t) (buffer l used) ≡ y
+      record_closed e p = record_is ∙ rw e p
 
     module _ {i : ℕ} (ei : i ≡ get_or image (at + 1) 0) (a : Added) (l₁ : List ℕ) (g : type_from T n (type_of image i) (buffer l used) ≡ result_of n a l₁) where
       option_is : k ≡ 2 → type_from T n (type_of image t) (buffer l used) ≡ next (result_of n a l₁) (add_wrap T n 6)
@@ -79,17 +82,17 @@ module _ {image places : List ℕ} {t at : ℕ} (r : TypeReady image places t) (
       array-is q = rw (type-array r ea eh ek q, ← ei, g)
 
       module _ (na : k ≡ 0 → ⊥) (nf : k ≡ 1 → ⊥) (nr : k ≡ 4 → ⊥) where
-        pub inner-stop : OneOf (1 ∷ 2 ∷ []) (tag_of the_type a) → type_from T n (type_of image t) (buffer l used) ≡ result_of n a l₁
-        inner-stop o = elim (ℕ_discrete k 2) [
-          | yes q ↦ option_is q ∙ refusal-stays n a l₁ (add_wrap T n 6) o
-          | no d ↦ array-is (kind-array r ea eh ek na nf nr d) ∙ refusal-stays n a l₁ (add_wrap T n 7) o
+        pub inner-stop : {e : AddError} → a ≡ Err e → type_from T n (type_of image t) (buffer l used) ≡ result_of n (Err e) l₁
+        inner-stop e = elim (ℕ_discrete k 2) [
+          | yes q ↦ option_is q ∙ rw e
+          | no d ↦ array-is (kind-array r ea eh ek na nf nr d) ∙ rw e
         ]
 
-        module _ {new u : ℕ} (e : a ≡ Put new u) {y : Result Buffer Refusal ℕ} where
-          pub option-put : k ≡ 2 → add_wrap T n 6 new (buffer l₁ u) ≡ y → type_from T n (type_of image t) (buffer l used) ≡ y
+        module _ {v : ℕ × ℕ} (e : a ≡ Ok v) {y : Result Buffer Refusal ℕ} where
+          pub option-put : k ≡ 2 → add_wrap T n 6 v.0 (buffer l₁ v.1) ≡ y → type_from T n (type_of image t) (buffer l used) ≡ y
           option-put q p = option_is q ∙ rw e p
 
-          pub array-put : (k ≡ 2 → ⊥) → add_wrap T n 7 new (buffer l₁ u) ≡ y → type_from T n (type_of image t) (buffer l used) ≡ y
+          pub array-put : (k ≡ 2 → ⊥) → add_wrap T n 7 v.0 (buffer l₁ v.1) ≡ y → type_from T n (type_of image t) (buffer l used) ≡ y
           array-put d p = array-is (kind-array r ea eh ek na nf nr d) ∙ rw e p
 
   -- ── How many words it adds, and its word ──

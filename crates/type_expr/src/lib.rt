@@ -16,7 +16,7 @@ ghost use Rattle.type_expr.specs.Ready.{TypeReady, FieldsReady};
 ghost use Rattle.type_expr.specs.Onward.{Onward};
 ghost use Rattle.type_expr.specs.Sizes.{size_of, sizes_of, word_before, pairs_after};
 
-use add::Added;
+use add::{AddError, Added};
 use places::{type_levels, type_place};
 use tok::{kind, payload, word_at};
 
@@ -84,19 +84,20 @@ pub fn type_from_type_expr(
     let mut u = used;
     let mut here = t;
     while type_levels(places, here) > 33 {
-        let r = deep_part(types, u, image, places, here);
-        let Added::Put(part, more) = r else {
-            return r;
-        };
-        here = part;
-        u = more;
+        (here, u) = deep_part(types, u, image, places, here)?;
     }
     build(types, u, image, places, here)
 }
 
-// Of a type of more than 33 levels, the number of the first part of more than 32, and how many words are used before it (Put); or the
-// refusal that comes before it.
-fn deep_part(types: &mut [u32], used: usize, image: &[u32], places: &[u16], t: u32) -> Added
+// Of a type of more than 33 levels, the number of the first part of more than 32, and how many words are used before it; or why a type before
+// it is not added.
+fn deep_part(
+    types: &mut [u32],
+    used: usize,
+    image: &[u32],
+    places: &[u16],
+    t: u32,
+) -> Result<(u32, usize), AddError>
     requires { TypeReady image.now places.now t × (33 < levels_of (type_of image.now t)) }
     ensures { let whole : Texts → ℕ → Result Buffer Refusal ℕ = λ T n. type_from T n (type_of image.now t) (buffer types.old used) in
         Onward image.now places.now t whole result types.new }
@@ -107,7 +108,7 @@ fn deep_part(types: &mut [u32], used: usize, image: &[u32], places: &[u16], t: u
         let fields = (payload(head) - 2) / 2;
         return deep_field(types, used, image, places, t, at + 2, fields);
     }
-    Added::Put(word_at(image, at + 1), used)
+    Ok((word_at(image, at + 1), used))
 }
 
 // The same of the fields of the type `owner`: the types of those before the part are added.
@@ -119,7 +120,7 @@ fn deep_field(
     owner: u32,
     at: usize,
     fields: usize,
-) -> Added
+) -> Result<(u32, usize), AddError>
     requires { FieldsReady image.now places.now owner at fields × (32 < most_levels (type_fields_from (type_of image.now) image.now at fields)) }
     ensures { let fs : TypeFields = type_fields_from (type_of image.now) image.now at fields in
         let whole : Texts → ℕ → Result Buffer Refusal ℕ = λ T n. next (fields_from_exprs T n fs (buffer types.old used)) (add_record T n) in
@@ -130,16 +131,13 @@ fn deep_field(
     for _ in 0..fields {
         let t = word_at(image, here + 1);
         if type_levels(places, t) > 32 {
-            return Added::Put(t, u);
+            return Ok((t, u));
         }
-        let a = build(types, u, image, places, t);
-        let Added::Put(_, more) = a else {
-            return a;
-        };
-        u = more;
+        (_, u) = build(types, u, image, places, t)?;
         here += 2;
     }
-    Added::TooDeep
+    // not reached: one of the fields has more than 32 levels
+    Err(AddError::TooDeep)
 }
 
 // Adds the type of a type expression of at most 33 levels. It calls itself once for each level.
@@ -152,20 +150,17 @@ fn build(types: &mut [u32], used: usize, image: &[u32], places: &[u16], t: u32) 
     let head = word_at(image, at);
     let k = kind(head);
     if k == ATOM {
-        return Added::Put(plain_word(word_at(image, at + 2)), used);
+        return Ok((plain_word(word_at(image, at + 2)), used));
     }
     if k == FOREIGN {
-        return Added::Put(foreign_word(word_at(image, at + 1)), used);
+        return Ok((foreign_word(word_at(image, at + 1)), used));
     }
     if k == RECORD {
         let fields = (payload(head) - 2) / 2;
-        let r = fields_from_exprs(types, used, image, places, t, at + 2, fields);
-        return add::close_record(&types[..], r);
+        let (new, u) = fields_from_exprs(types, used, image, places, t, at + 2, fields)?;
+        return add::close_record(&types[..], new, u);
     }
-    let r = build(types, used, image, places, word_at(image, at + 1));
-    let Added::Put(inner, u) = r else {
-        return r;
-    };
+    let (inner, u) = build(types, used, image, places, word_at(image, at + 1))?;
     if k == OPTION {
         return add::add_option(types, u, inner);
     }
@@ -191,17 +186,10 @@ fn fields_from_exprs(
     let mut u = used;
     let mut here = at;
     for _ in 0..fields {
-        let a = build(types, u, image, places, word_at(image, here + 1));
-        let Added::Put(_, more) = a else {
-            return a;
-        };
-        u = more;
+        (_, u) = build(types, u, image, places, word_at(image, here + 1))?;
         here += 2;
     }
-    let r = add::open_record(types, u, fields);
-    let Added::Put(record, _) = r else {
-        return r;
-    };
+    let (new, end) = add::open_record(types, u, fields)?;
     set_pairs(
         types,
         used,
@@ -210,9 +198,9 @@ fn fields_from_exprs(
         owner,
         at,
         fields,
-        payload(record) + 1,
+        payload(new) + 1,
     );
-    r
+    Ok((new, end))
 }
 
 // Sets the pairs of fields whose types were added after `used` words, from `place` on.

@@ -10,11 +10,9 @@ ghost use Rattle.ready.specs.Ready.{NodeVisit};
 ghost use Rattle.walking.specs.Kinds.{Operand, OneOperand, Listed, Sequence, Is};
 ghost use Rattle.walking.specs.Visited.{ClassVisit, ListVisit, CaseVisit, NodeVisited, ListVisited, CaseVisited};
 
-use bodies::Begun;
 use rules::Answer;
-use tok::{Texts, kind, payload, wide, word_at};
-use visit::{Gave, State, Visit, Walked};
-use visiting::Onward;
+use tok::{Texts, kind, payload, word_at};
+use visit::{State, Visit};
 
 // The kinds of nodes that have a function of their own.
 const BIN: u32 = 2;
@@ -44,7 +42,7 @@ pub fn node(
     places: &[u16],
     st: State,
     n: u32,
-) -> Visit
+) -> Visit<Answer>
     requires { let b : Lent = lent slots.old functions.old types.old diagnostics.old messages.old scratch.old no_more in
         NodeVisit texts.now image.now places.now words.now n st b }
     ensures { let b : Lent = lent slots.old functions.old types.old diagnostics.old messages.old scratch.old no_more in
@@ -115,7 +113,7 @@ fn part(
     places: &[u16],
     st: State,
     n: u32,
-) -> Visit
+) -> Visit<Answer>
     requires { let b : Lent = lent slots.old functions.old types.old diagnostics.old messages.old scratch.old no_more in
         NodeVisit texts.now image.now places.now words.now n st b }
     ensures { let b : Lent = lent slots.old functions.old types.old diagnostics.old messages.old scratch.old no_more in
@@ -153,7 +151,7 @@ fn operand(
     places: &[u16],
     st: State,
     n: u32,
-) -> Visit
+) -> Visit<Answer>
     requires { let b : Lent = lent slots.old functions.old types.old diagnostics.old messages.old scratch.old no_more in
         ClassVisit Operand texts.now image.now places.now words.now n st b }
     ensures { let b : Lent = lent slots.old functions.old types.old diagnostics.old messages.old scratch.old no_more in
@@ -224,7 +222,7 @@ fn bin(
     places: &[u16],
     st: State,
     n: u32,
-) -> Visit
+) -> Visit<Answer>
     requires { let b : Lent = lent slots.old functions.old types.old diagnostics.old messages.old scratch.old no_more in
         ClassVisit (Is 2) texts.now image.now places.now words.now n st b }
     ensures { let b : Lent = lent slots.old functions.old types.old diagnostics.old messages.old scratch.old no_more in
@@ -232,7 +230,7 @@ fn bin(
         NodeVisited texts.now image.now words.now n st b b' result }
 {
     let at = places::node_place(places, n);
-    let left = part(
+    let (l, between) = part(
         slots,
         functions,
         types,
@@ -245,11 +243,8 @@ fn bin(
         places,
         st,
         word_at(image, at + 4),
-    );
-    let Onward::Goes(l, between) = visiting::after(left) else {
-        return left;
-    };
-    let right = part(
+    )?;
+    let (r, end) = part(
         slots,
         functions,
         types,
@@ -262,10 +257,7 @@ fn bin(
         places,
         between,
         word_at(image, at + 5),
-    );
-    let Onward::Goes(r, end) = visiting::after(right) else {
-        return right;
-    };
+    )?;
     operands::bin_end(
         slots,
         &types[..],
@@ -296,7 +288,7 @@ fn one(
     places: &[u16],
     st: State,
     n: u32,
-) -> Visit
+) -> Visit<Answer>
     requires { let b : Lent = lent slots.old functions.old types.old diagnostics.old messages.old scratch.old no_more in
         ClassVisit OneOperand texts.now image.now places.now words.now n st b }
     ensures { let b : Lent = lent slots.old functions.old types.old diagnostics.old messages.old scratch.old no_more in
@@ -305,7 +297,7 @@ fn one(
 {
     let at = places::node_place(places, n);
     let value = operands::operand_of(image, at);
-    let v = part(
+    let (a, end) = part(
         slots,
         functions,
         types,
@@ -318,10 +310,7 @@ fn one(
         places,
         st,
         value,
-    );
-    let Onward::Goes(a, end) = visiting::after(v) else {
-        return v;
-    };
+    )?;
     operands::one_end(
         slots,
         &types[..],
@@ -352,7 +341,7 @@ fn cast(
     places: &[u16],
     st: State,
     n: u32,
-) -> Visit
+) -> Visit<Answer>
     requires { let b : Lent = lent slots.old functions.old types.old diagnostics.old messages.old scratch.old no_more in
         ClassVisit (Is 9) texts.now image.now places.now words.now n st b }
     ensures { let b : Lent = lent slots.old functions.old types.old diagnostics.old messages.old scratch.old no_more in
@@ -360,11 +349,8 @@ fn cast(
         NodeVisited texts.now image.now words.now n st b b' result }
 {
     let at = places::node_place(places, n);
-    let made = operands::cast_begin(types, image, places, at, st, n);
-    let Gave::Word(to, begun) = made else {
-        return walking::refused(made);
-    };
-    let v = part(
+    let (to, begun) = operands::cast_begin(types, image, places, at, st, n)?;
+    let (a, end) = part(
         slots,
         functions,
         types,
@@ -377,10 +363,7 @@ fn cast(
         places,
         begun,
         word_at(image, at + 3),
-    );
-    let Onward::Goes(a, end) = visiting::after(v) else {
-        return v;
-    };
+    )?;
     operands::cast_end(
         slots,
         &types[..],
@@ -413,7 +396,7 @@ pub fn nodes(
     owner: u32,
     at: usize,
     k: usize,
-) -> Visit
+) -> Visit<Answer>
     requires { let b : Lent = lent slots.old functions.old types.old diagnostics.old messages.old scratch.old no_more in
         ListVisit texts.now image.now places.now words.now owner at k st b }
     ensures { let b : Lent = lent slots.old functions.old types.old diagnostics.old messages.old scratch.old no_more in
@@ -424,7 +407,7 @@ pub fn nodes(
     let mut here = st;
     let mut place = at;
     for _ in 0..k {
-        let v = node(
+        let (a, next) = node(
             slots,
             functions,
             types,
@@ -437,15 +420,12 @@ pub fn nodes(
             places,
             here,
             word_at(image, place),
-        );
-        let Onward::Goes(a, next) = visiting::after(v) else {
-            return v;
-        };
+        )?;
         answer = a;
         here = next;
         place += 1;
     }
-    visiting::came(answer, here)
+    Ok((answer, here))
 }
 
 // Typechecker::block_type: parts of the node `owner`, one after the other; the last one's answer, or slot V where there is none.
@@ -465,7 +445,7 @@ fn block(
     owner: u32,
     at: usize,
     k: usize,
-) -> Visit
+) -> Visit<Answer>
     requires { let b : Lent = lent slots.old functions.old types.old diagnostics.old messages.old scratch.old no_more in
         ListVisit texts.now image.now places.now words.now owner at k st b }
     ensures { let b : Lent = lent slots.old functions.old types.old diagnostics.old messages.old scratch.old no_more in
@@ -476,7 +456,7 @@ fn block(
     let mut here = st;
     let mut place = at;
     for _ in 0..k {
-        let v = part(
+        let (a, next) = part(
             slots,
             functions,
             types,
@@ -489,15 +469,12 @@ fn block(
             places,
             here,
             word_at(image, place),
-        );
-        let Onward::Goes(a, next) = visiting::after(v) else {
-            return v;
-        };
+        )?;
         answer = a;
         here = next;
         place += 1;
     }
-    visiting::came(answer, here)
+    Ok((answer, here))
 }
 
 // A node with a list.
@@ -515,7 +492,7 @@ fn listed(
     places: &[u16],
     st: State,
     n: u32,
-) -> Visit
+) -> Visit<Answer>
     requires { let b : Lent = lent slots.old functions.old types.old diagnostics.old messages.old scratch.old no_more in
         ClassVisit Listed texts.now image.now places.now words.now n st b }
     ensures { let b : Lent = lent slots.old functions.old types.old diagnostics.old messages.old scratch.old no_more in
@@ -586,7 +563,7 @@ fn func(
     places: &[u16],
     st: State,
     n: u32,
-) -> Visit
+) -> Visit<Answer>
     requires { let b : Lent = lent slots.old functions.old types.old diagnostics.old messages.old scratch.old no_more in
         ClassVisit (Is 5) texts.now image.now places.now words.now n st b }
     ensures { let b : Lent = lent slots.old functions.old types.old diagnostics.old messages.old scratch.old no_more in
@@ -594,8 +571,8 @@ fn func(
         NodeVisited texts.now image.now words.now n st b b' result }
 {
     let at = places::node_place(places, n);
-    let count = wide(word_at(image, at + 4));
-    let begun = bodies::begin(
+    let count = word_at(image, at + 4) as usize;
+    let (begun, inner) = bodies::begin(
         slots,
         functions,
         types,
@@ -608,49 +585,42 @@ fn func(
         at,
         st,
         n,
-    );
-    match begun {
-        Begun::Ended(v) => {
-            return v;
-        }
-        Begun::Body(ret, inner) => {
-            let long = payload(word_at(image, at));
-            let v = block(
-                slots,
-                functions,
-                types,
-                diagnostics,
-                messages,
-                scratch,
-                texts,
-                image,
-                words,
-                places,
-                inner,
-                n,
-                at + 5 + 2 * count,
-                long - (5 + 2 * count),
-            );
-            let Onward::Goes(computed, inside) = visiting::after(v) else {
-                return v;
-            };
-            return bodies::end(
-                slots,
-                &types[..],
-                diagnostics,
-                messages,
-                texts,
-                image,
-                places,
-                at,
-                inside,
-                st,
-                n,
-                ret,
-                computed,
-            );
-        }
-    }
+    )?;
+    let Some(ret) = begun else {
+        return Ok((Answer::Poison, inner));
+    };
+    let long = payload(word_at(image, at));
+    let (computed, inside) = block(
+        slots,
+        functions,
+        types,
+        diagnostics,
+        messages,
+        scratch,
+        texts,
+        image,
+        words,
+        places,
+        inner,
+        n,
+        at + 5 + 2 * count,
+        long - (5 + 2 * count),
+    )?;
+    bodies::end(
+        slots,
+        &types[..],
+        diagnostics,
+        messages,
+        texts,
+        image,
+        places,
+        at,
+        inside,
+        st,
+        n,
+        ret,
+        computed,
+    )
 }
 
 // A case of a Match, which stands at a word of the image: its condition, then its body.
@@ -669,14 +639,14 @@ fn case(
     st: State,
     n: u32,
     at: usize,
-) -> Visit
+) -> Visit<Answer>
     requires { let b : Lent = lent slots.old functions.old types.old diagnostics.old messages.old scratch.old no_more in
         CaseVisit texts.now image.now places.now words.now n at st b }
     ensures { let b : Lent = lent slots.old functions.old types.old diagnostics.old messages.old scratch.old no_more in
         let b' : Lent = lent slots.new functions.new types.new diagnostics.new messages.new scratch.new no_more in
         CaseVisited texts.now image.now words.now n at st b b' result }
 {
-    let v = part(
+    let (a, tested) = part(
         slots,
         functions,
         types,
@@ -689,11 +659,8 @@ fn case(
         places,
         st,
         word_at(image, at + 1),
-    );
-    let Onward::Goes(a, tested) = visiting::after(v) else {
-        return v;
-    };
-    let went = branches::condition(
+    )?;
+    let (_, begun) = branches::condition(
         &slots[..],
         &types[..],
         diagnostics,
@@ -704,16 +671,13 @@ fn case(
         tested,
         n,
         a,
-    );
-    let Walked::On(begun) = went else {
-        return walking::halted(went);
-    };
+    )?;
     let mut answer = Answer::Known(word_at(image, 3));
     let mut here = begun;
     let mut place = at + 3;
-    let left = wide(word_at(image, at + 2));
+    let left = word_at(image, at + 2) as usize;
     for _ in 0..left {
-        let v = part(
+        let (a, next) = part(
             slots,
             functions,
             types,
@@ -726,15 +690,12 @@ fn case(
             places,
             here,
             word_at(image, place),
-        );
-        let Onward::Goes(a, next) = visiting::after(v) else {
-            return v;
-        };
+        )?;
         answer = a;
         here = next;
         place += 1;
     }
-    visiting::came(answer, visiting::left(here, begun))
+    Ok((answer, visiting::left(here, begun)))
 }
 
 // Node::Match: each case, then the default's body; then the cases are compared with it.
@@ -752,7 +713,7 @@ fn cases(
     places: &[u16],
     st: State,
     n: u32,
-) -> Visit
+) -> Visit<Answer>
     requires { let b : Lent = lent slots.old functions.old types.old diagnostics.old messages.old scratch.old no_more in
         ClassVisit (Is 6) texts.now image.now places.now words.now n st b }
     ensures { let b : Lent = lent slots.old functions.old types.old diagnostics.old messages.old scratch.old no_more in
@@ -760,11 +721,11 @@ fn cases(
         NodeVisited texts.now image.now words.now n st b b' result }
 {
     let at = places::node_place(places, n);
-    let count = wide(word_at(image, at + 2));
+    let count = word_at(image, at + 2) as usize;
     let mut here = st;
     let mut place = at + 3;
     for _ in 0..count {
-        let v = case(
+        let (_, next) = case(
             slots,
             functions,
             types,
@@ -778,19 +739,16 @@ fn cases(
             here,
             n,
             place,
-        );
-        let Onward::Goes(_, next) = visiting::after(v) else {
-            return v;
-        };
+        )?;
         here = next;
         place = branches::case_end(image, place);
     }
+    let next = place + 1;
+    let left = at + payload(word_at(image, at)) - next;
     let mut default = Answer::Known(word_at(image, 3));
     let mut end = here;
-    let mut next = place + 1;
-    let mut left = at + payload(word_at(image, at)) - next;
-    while left > 0 {
-        let v = part(
+    for i in 0..left {
+        let (a, on) = part(
             slots,
             functions,
             types,
@@ -802,15 +760,10 @@ fn cases(
             words,
             places,
             end,
-            word_at(image, next),
-        );
-        let Onward::Goes(a, on) = visiting::after(v) else {
-            return v;
-        };
+            word_at(image, next + i),
+        )?;
         default = a;
         end = on;
-        next += 1;
-        left -= 1;
     }
     branches::end(
         slots,
@@ -842,7 +795,7 @@ fn sequence(
     places: &[u16],
     st: State,
     n: u32,
-) -> Visit
+) -> Visit<Answer>
     requires { let b : Lent = lent slots.old functions.old types.old diagnostics.old messages.old scratch.old no_more in
         ClassVisit Sequence texts.now image.now places.now words.now n st b }
     ensures { let b : Lent = lent slots.old functions.old types.old diagnostics.old messages.old scratch.old no_more in
@@ -913,7 +866,7 @@ fn call(
     places: &[u16],
     st: State,
     n: u32,
-) -> Visit
+) -> Visit<Answer>
     requires { let b : Lent = lent slots.old functions.old types.old diagnostics.old messages.old scratch.old no_more in
         ClassVisit (Is 7) texts.now image.now places.now words.now n st b }
     ensures { let b : Lent = lent slots.old functions.old types.old diagnostics.old messages.old scratch.old no_more in
@@ -928,7 +881,7 @@ fn call(
     let mut poisoned = false;
     let mut here = st;
     for i in 0..count {
-        let v = part(
+        let (a, next) = part(
             slots,
             functions,
             types,
@@ -941,10 +894,7 @@ fn call(
             places,
             here,
             word_at(image, at + 3 + i),
-        );
-        let Onward::Goes(a, next) = visiting::after(v) else {
-            return v;
-        };
+        )?;
         poisoned = calls::or_poison(poisoned, a);
         here = next;
     }
@@ -982,7 +932,7 @@ fn record_node(
     places: &[u16],
     st: State,
     n: u32,
-) -> Visit
+) -> Visit<Answer>
     requires { let b : Lent = lent slots.old functions.old types.old diagnostics.old messages.old scratch.old no_more in
         ClassVisit (Is 12) texts.now image.now places.now words.now n st b }
     ensures { let b : Lent = lent slots.old functions.old types.old diagnostics.old messages.old scratch.old no_more in
@@ -993,7 +943,7 @@ fn record_node(
     let count = (payload(word_at(image, at)) - 3) / 2;
     let mut here = st;
     for i in 0..count {
-        let v = part(
+        let (_, next) = part(
             slots,
             functions,
             types,
@@ -1006,10 +956,7 @@ fn record_node(
             places,
             here,
             word_at(image, at + 4 + 2 * i),
-        );
-        let Onward::Goes(_, next) = visiting::after(v) else {
-            return v;
-        };
+        )?;
         here = next;
     }
     fields::make(slots, types, image, places, at, count, here, n)
@@ -1030,7 +977,7 @@ fn array(
     places: &[u16],
     st: State,
     n: u32,
-) -> Visit
+) -> Visit<Answer>
     requires { let b : Lent = lent slots.old functions.old types.old diagnostics.old messages.old scratch.old no_more in
         ClassVisit (Is 13) texts.now image.now places.now words.now n st b }
     ensures { let b : Lent = lent slots.old functions.old types.old diagnostics.old messages.old scratch.old no_more in
@@ -1042,7 +989,7 @@ fn array(
     if count == 0 {
         return members::empty(diagnostics, messages, image, at, st, n);
     }
-    let v = part(
+    let (first, begun) = part(
         slots,
         functions,
         types,
@@ -1055,15 +1002,12 @@ fn array(
         places,
         st,
         word_at(image, at + 3),
-    );
-    let Onward::Goes(first, begun) = visiting::after(v) else {
-        return v;
-    };
+    )?;
     let mut poisoned = false;
     let mut here = begun;
     for i in 1..count {
         let member = word_at(image, at + 3 + i);
-        let v = part(
+        let (a, next) = part(
             slots,
             functions,
             types,
@@ -1076,11 +1020,8 @@ fn array(
             places,
             here,
             member,
-        );
-        let Onward::Goes(a, next) = visiting::after(v) else {
-            return v;
-        };
-        let turn = members::member(
+        )?;
+        let (turn, on) = members::member(
             &slots[..],
             &types[..],
             diagnostics,
@@ -1094,9 +1035,9 @@ fn array(
             first,
             a,
             poisoned,
-        );
-        let members::Turn::On(p, on) = turn else {
-            return members::ended(turn);
+        )?;
+        let Some(p) = turn else {
+            return Ok((Answer::Poison, on));
         };
         poisoned = p;
         here = on;

@@ -9,9 +9,9 @@
 
 ghost use Rattle.std.specs.Prelude.{◌≡◌};
 
-use add::Added;
-use display::Wrote;
-use slots::Bind;
+use add::{AddError, Added};
+use display::{Full, Writer};
+use slots::{Bind, BindError};
 use std::io;
 use tok::{Texts, least};
 
@@ -111,14 +111,11 @@ fn front(rt: &impl Print, text: &[u8], n: usize) -> io::Result<()> {
 }
 
 // How many bytes are told of: the first 50 of the buffer, or those written, or more than there are.
-fn length(at: Wrote, how: u32) -> usize {
+fn length(written: Option<usize>, how: u32) -> usize {
     if how == 3 {
         return 50;
     }
-    match at {
-        Wrote::All(n) => return n,
-        Wrote::Full => return ROOM + 1,
-    }
+    written.unwrap_or(ROOM + 1)
 }
 
 // Bytes of the buffer, as told: the text itself up to 640 bytes; else its length, a number that any single wrong byte changes, and its front; or only
@@ -138,22 +135,28 @@ fn told(rt: &impl Print, out: &[u8; ROOM], texts: &Texts, n: usize, how: u32) ->
 }
 
 // Writes what a word stands for: a type, or a number, or a list that stands behind the types.
-fn write(out: &mut [u8], types: &[u32], texts: &Texts, what: u32, w: u32) -> Wrote {
-    let at = Wrote::All(0);
+fn write(out: &mut Writer, types: &[u32], texts: &Texts, what: u32, w: u32) -> Result<(), Full> {
     if what == 0 {
-        return display::show_type(out, at, types, texts, w);
+        return display::show_type(out, types, texts, w);
     }
     if what == 1 {
-        return display::put_decimal(out, at, tok::wide(w));
+        return out.put_decimal(w as usize);
     }
     let list = part(types, w);
     if what == 2 {
-        return display::show_signature(out, at, types, texts, list);
+        return display::show_signature(out, types, texts, list);
     }
     if what == 3 {
-        return display::show_arg_types(out, at, types, texts, list);
+        return display::show_arg_types(out, types, texts, list);
     }
-    display::show_types(out, at, types, texts, list)
+    display::show_types(out, types, texts, list)
+}
+
+// How many bytes it wrote, where all had room.
+fn written(out: &mut [u8], types: &[u32], texts: &Texts, what: u32, w: u32) -> Option<usize> {
+    let mut writer = Writer::new(out);
+    write(&mut writer, types, texts, what, w).ok()?;
+    Some(writer.at)
 }
 
 // Writes into so many bytes of a buffer of dots, and tells of it.
@@ -167,8 +170,8 @@ fn show(
 ) -> io::Result<()> {
     let mut out = [b'.'; ROOM];
     let end = least(room, ROOM);
-    let at = write(&mut out[0..end], types, texts, form % 8, w);
-    told(rt, &out, texts, length(at, form / 8), form / 8)
+    let n = written(&mut out[0..end], types, texts, form % 8, w);
+    told(rt, &out, texts, length(n, form / 8), form / 8)
 }
 
 fn text(rt: &impl Print, types: &[u32], texts: &Texts, w: u32) -> io::Result<()> {
@@ -237,28 +240,30 @@ fn tell(
 // What binding answered; how many pairs there are.
 fn answered(rt: &impl Print, types: &[u32], texts: &Texts, r: Bind) -> io::Result<usize> {
     match r {
-        Bind::Done(count) => {
+        Ok(count) => {
             say(rt, texts, DONE)?;
             Ok(count)
         }
-        Bind::Conflict {
-            count,
-            slot,
-            existing,
-            new,
-        } => {
+        Err(
+            BindError::Conflict {
+                count,
+                slot,
+                existing,
+                new,
+            },
+        ) => {
             say(rt, texts, CONFLICT)?;
             text(rt, types, texts, slot)?;
             text(rt, types, texts, existing)?;
             text(rt, types, texts, new)?;
             Ok(count)
         }
-        Bind::Void { count, slot } => {
+        Err(BindError::Void { count, slot }) => {
             say(rt, texts, VOID)?;
             text(rt, types, texts, slot)?;
             Ok(count)
         }
-        Bind::NoRoom => {
+        Err(BindError::NoRoom) => {
             say(rt, texts, FULL)?;
             Ok(0)
         }
@@ -305,14 +310,14 @@ fn added(
     old: u32,
 ) -> io::Result<()> {
     match r {
-        Added::Put(w, u) => {
+        Ok((w, u)) => {
             say(rt, texts, PUT)?;
             number(rt, more(u, used))?;
             number(rt, bit(w == old))?;
             text(rt, types, texts, w)
         }
-        Added::Full => say(rt, texts, FULL),
-        Added::TooDeep => say(rt, texts, DEEP),
+        Err(AddError::Full) => say(rt, texts, FULL),
+        Err(AddError::TooDeep) => say(rt, texts, DEEP),
     }
 }
 
@@ -326,7 +331,7 @@ fn wrap(types: &mut [u32], kind: u32, w: u32, used: usize) -> Added {
     if kind == OPEN {
         return add::open_record(types, used, tok::wide(w));
     }
-    add::close_record(types, Added::Put(w, used))
+    add::close_record(types, w, used)
 }
 
 fn grow(

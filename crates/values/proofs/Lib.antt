@@ -1,4 +1,3 @@
 -- What the proofs of several functions use.
 mod FieldReturns
-mod ArrayReturns
-mod CheckReturns
+mod Told

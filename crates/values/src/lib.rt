@@ -14,32 +14,22 @@ ghost use Rattle.rules.specs.Steps.{poison};
 ghost use Rattle.rules.specs.Rules.{find_field, field_type, field, member_types, member, array_of, condition, let_binding, check_return};
 ghost use Rattle.state.specs.Context.{ctx};
 ghost use Rattle.state.specs.declared.Used.{Used};
-ghost use Rattle.state.specs.World.{Rest, world, Steps, Goes};
-ghost use Rattle.values.specs.Answers.{found_of, Compares, Binds, alias, compare_branch};
+ghost use Rattle.state.specs.World.{Steps, with_answer};
+ghost use Rattle.values.specs.Answers.{found_of, member_of, alias, compare_branch};
 
-use add::Added;
 use operators::{set_known, store};
 use ptype::{contains_unknown, same_type};
 use rules::Answer;
-use state::{Step, Used, Went};
-use tok::{Span, Texts, kind, wide, word_at};
+use state::{Step, Used};
+use tok::{Span, Texts, kind, word_at};
 
 // What an array's member after the first is: of the first's type; silent, where a value is poisoned or an Unknown stands in a type; or of
-// another type, which was reported. With what is used then; or a refusal's number and place.
+// another type, which was reported.
 #[derive(Clone, Copy)]
 pub enum Compared {
-    Alike(Used),
-    Silent(Used),
-    Differs(Used),
-    Refused(u32, u32),
-}
-
-// What a let binds its name to: a type's word, or nothing. With what is used then; or a refusal's number and place.
-#[derive(Clone, Copy)]
-pub enum Binding {
-    Bound(u32, Used),
-    Nothing(Used),
-    Refused(u32, u32),
+    Alike,
+    Silent,
+    Differs,
 }
 
 // The kinds and words that the code asks for.
@@ -68,12 +58,13 @@ pub fn find_field(types: &[u32], texts: &Texts, name: u32, word: u32) -> Option<
 }
 
 // A field's type, in the slot of the Field node: Unknown is recorded, and poisons.
-pub fn field_type(slots: &mut [u32], used: Used, slot: u32, word: u32) -> Step
+#[tactic(auto, unfolding(rules::specs::Rules::field_type, rules::specs::Steps::set_known, tok::specs::Step::when, state::specs::World::stepped))]
+pub fn field_type(slots: &mut [u32], used: Used, slot: u32, word: u32) -> Step<Answer>
     ensures { (t d m : List ℕ) → Steps (field_type slot word) slots.old t d m used slots.new t d m result }
 {
     if kind(word) == ptype::UNKNOWN {
-        store(slots, wide(slot), UNKNOWN_WORD);
-        return Step::Poison(used);
+        store(slots, slot as usize, UNKNOWN_WORD);
+        return Ok((Answer::Poison, used));
     }
     set_known(slots, used, slot, word)
 }
@@ -90,11 +81,11 @@ pub fn field(
     slot: u32,
     name: u32,
     target: u32,
-) -> Step
+) -> Step<Answer>
     ensures { ((ls : List Package) (v : ℕ) → Steps (field (ctx texts.now ls v) n slot name target) slots.old types.now diagnostics.old messages.old used
         slots.new types.now diagnostics.new messages.new result) }
 {
-    let w = word_at(slots, wide(target));
+    let w = word_at(slots, target as usize);
     let counts = used.told;
     if kind(w) != ptype::RECORD {
         let free = err_text::first_free(messages, counts);
@@ -107,7 +98,7 @@ pub fn field(
             name,
             w,
         );
-        return state::poisoned(n, used, other);
+        return state::told(n, used, other, Answer::Poison);
     }
     let found = find_field(types, texts, name, w);
     let Some(t) = found else {
@@ -121,7 +112,7 @@ pub fn field(
             name,
             w,
         );
-        return state::poisoned(n, used, none);
+        return state::told(n, used, none, Answer::Poison);
     };
     field_type(slots, used, slot, t)
 }
@@ -135,13 +126,13 @@ pub fn empty_array(
     used: Used,
     n: u32,
     token: u32,
-) -> Step
+) -> Step<Answer>
     ensures { (s t : List ℕ) → Steps (poison n (empty_array token)) s t diagnostics.old messages.old used s t diagnostics.new messages.new result }
 {
     let counts = used.told;
     let free = err_text::first_free(messages, counts);
     let reported = err_values::empty_array(diagnostics, &mut messages[free..], counts, token);
-    state::poisoned(n, used, reported)
+    state::told(n, used, reported, Answer::Poison)
 }
 
 // An array's member against the first, of their slots: 2 where their types differ.
@@ -156,20 +147,17 @@ fn member_types(
     span: Span,
     first: u32,
     member: u32,
-) -> Compared
-    ensures { ((ls : List Package) (v : ℕ) → Compares (member_types (ctx texts.now ls v) n span first member) slots.now types.now diagnostics.old
-        messages.old used diagnostics.new messages.new result) }
+) -> Step<Compared>
+    ensures { ((ls : List Package) (v : ℕ) → Steps (member_types (ctx texts.now ls v) n span first member) slots.now types.now diagnostics.old
+        messages.old used slots.now types.now diagnostics.new messages.new (with_answer member_of result)) }
 {
-    let f = word_at(slots, wide(first));
-    let t = word_at(slots, wide(member));
-    if contains_unknown(types, t) {
-        return Compared::Silent(used);
-    }
-    if contains_unknown(types, f) {
-        return Compared::Silent(used);
+    let f = word_at(slots, first as usize);
+    let t = word_at(slots, member as usize);
+    if contains_unknown(types, t) || contains_unknown(types, f) {
+        return Ok((Compared::Silent, used));
     }
     if same_type(types, texts, t, f) {
-        return Compared::Alike(used);
+        return Ok((Compared::Alike, used));
     }
     let counts = used.told;
     let free = err_text::first_free(messages, counts);
@@ -183,18 +171,11 @@ fn member_types(
         f,
         t,
     );
-    let Some(after) = reported else {
-        return Compared::Refused(9, n);
-    };
-    let kept = used.kept;
-    Compared::Differs(Used {
-        types: used.types,
-        told: after,
-        kept,
-    })
+    state::told(n, used, reported, Compared::Differs)
 }
 
 // The same, of their answers: a poisoned one is silent.
+#[tactic(auto, unfolding(rules::specs::Rules::member, state::specs::World::stepped, state::specs::World::with_answer, crate::specs::Answers::member_of))]
 pub fn member(
     slots: &[u32],
     types: &[u32],
@@ -206,15 +187,12 @@ pub fn member(
     span: Span,
     first: Answer,
     second: Answer,
-) -> Compared
-    ensures { ((ls : List Package) (v : ℕ) → Compares (member (ctx texts.now ls v) n span first second) slots.now types.now diagnostics.old messages.old
-        used diagnostics.new messages.new result) }
+) -> Step<Compared>
+    ensures { ((ls : List Package) (v : ℕ) → Steps (member (ctx texts.now ls v) n span first second) slots.now types.now diagnostics.old messages.old
+        used slots.now types.now diagnostics.new messages.new (with_answer member_of result)) }
 {
-    let Answer::Known(f) = first else {
-        return Compared::Silent(used);
-    };
-    let Answer::Known(m) = second else {
-        return Compared::Silent(used);
+    let (Answer::Known(f), Answer::Known(m)) = (first, second) else {
+        return Ok((Compared::Silent, used));
     };
     member_types(
         slots,
@@ -231,6 +209,7 @@ pub fn member(
 }
 
 // An array whose members were all visited: an Array of the first's type, unless a member is poisoned.
+#[tactic(auto, unfolding(rules::specs::Rules::array_of, rules::specs::Steps::known, tok::specs::Step::when, state::specs::World::stepped))]
 pub fn array_of(
     slots: &mut [u32],
     types: &mut [u32],
@@ -239,45 +218,26 @@ pub fn array_of(
     slot: u32,
     first: Answer,
     poisoned: bool,
-) -> Step
+) -> Step<Answer>
     ensures { (T : Texts) (ls : List Package) (v : ℕ) (d m : List ℕ) → Steps (array_of (ctx T ls v) n slot first poisoned) slots.old types.old d m used
         slots.new types.new d m result }
 {
     let Answer::Known(f) = first else {
-        return Step::Poison(used);
+        return Ok((Answer::Poison, used));
     };
     if poisoned {
-        return Step::Poison(used);
+        return Ok((Answer::Poison, used));
     }
-    let element = word_at(slots, wide(f));
+    let element = word_at(slots, f as usize);
     let added = add::add_array(types, used.types, element);
-    match added {
-        Added::Put(word, after) => {
-            let counts = used.told;
-            let kept = used.kept;
-            return set_known(
-                slots,
-                Used {
-                    types: after,
-                    told: counts,
-                    kept,
-                },
-                slot,
-                word,
-            );
-        }
-        Added::Full => {
-            return Step::Refused(7, n);
-        }
-        Added::TooDeep => {
-            return Step::Refused(8, n);
-        }
-    }
+    let (word, used) = state::added(n, used, added)?;
+    set_known(slots, used, slot, word)
 }
 
 // Matches.
 
 // A match case's condition: 23 where it is not Bool.
+#[tactic(auto, unfolding(rules::specs::Rules::condition, rules::specs::Steps::if_known, state::specs::World::stepped))]
 pub fn condition(
     slots: &[u32],
     types: &[u32],
@@ -288,16 +248,16 @@ pub fn condition(
     n: u32,
     token: u32,
     answer: Answer,
-) -> Went
-    ensures { ((ls : List Package) (v : ℕ) → Goes (condition (ctx texts.now ls v) n token answer) slots.now types.now diagnostics.old messages.old used
+) -> Step<()>
+    ensures { ((ls : List Package) (v : ℕ) → Steps (condition (ctx texts.now ls v) n token answer) slots.now types.now diagnostics.old messages.old used
         slots.now types.now diagnostics.new messages.new result) }
 {
     let Answer::Known(slot) = answer else {
-        return Went::On(used);
+        return Ok(((), used));
     };
-    let w = word_at(slots, wide(slot));
+    let w = word_at(slots, slot as usize);
     if same_type(types, texts, w, BOOL_WORD) {
-        return Went::On(used);
+        return Ok(((), used));
     }
     let counts = used.told;
     let free = err_text::first_free(messages, counts);
@@ -310,10 +270,11 @@ pub fn condition(
         token,
         w,
     );
-    state::told(n, used, reported)
+    state::told(n, used, reported, ())
 }
 
 // A match case against the default's slot: 24 where their types differ; a poisoned one is passed over.
+#[tactic(auto, unfolding(crate::specs::Answers::compare_branch, rules::specs::Steps::if_known, state::specs::World::stepped))]
 pub fn compare_branch(
     slots: &[u32],
     types: &[u32],
@@ -325,17 +286,17 @@ pub fn compare_branch(
     default: u32,
     token: u32,
     answer: Answer,
-) -> Went
-    ensures { ((ls : List Package) (v : ℕ) → Goes (compare_branch (ctx texts.now ls v) n default token answer) slots.now types.now diagnostics.old
+) -> Step<()>
+    ensures { ((ls : List Package) (v : ℕ) → Steps (compare_branch (ctx texts.now ls v) n default token answer) slots.now types.now diagnostics.old
         messages.old used slots.now types.now diagnostics.new messages.new result) }
 {
     let Answer::Known(slot) = answer else {
-        return Went::On(used);
+        return Ok(((), used));
     };
-    let w = word_at(slots, wide(slot));
-    let d = word_at(slots, wide(default));
+    let w = word_at(slots, slot as usize);
+    let d = word_at(slots, default as usize);
     if same_type(types, texts, w, d) {
-        return Went::On(used);
+        return Ok(((), used));
     }
     let counts = used.told;
     let free = err_text::first_free(messages, counts);
@@ -349,20 +310,21 @@ pub fn compare_branch(
         d,
         w,
     );
-    state::told(n, used, reported)
+    state::told(n, used, reported, ())
 }
 
 // Typechecker::alias: a slot takes another's type.
-pub fn alias(slots: &mut [u32], used: Used, slot: u32, from: u32) -> Step
+pub fn alias(slots: &mut [u32], used: Used, slot: u32, from: u32) -> Step<Answer>
     ensures { (t d m : List ℕ) → Steps (alias slot from) slots.old t d m used slots.new t d m result }
 {
-    let w = word_at(slots, wide(from));
+    let w = word_at(slots, from as usize);
     set_known(slots, used, slot, w)
 }
 
 // Bindings and returns.
 
 // What a let binds its name to: Poison and Void bind to nothing, Void with 7.
+#[tactic(auto, unfolding(rules::specs::Rules::let_binding, rules::specs::Steps::ty, tok::specs::Step::when, state::specs::World::stepped, state::specs::World::with_answer, crate::specs::Answers::found_of))]
 pub fn let_binding(
     slots: &[u32],
     diagnostics: &mut [u32],
@@ -371,32 +333,25 @@ pub fn let_binding(
     n: u32,
     name: u32,
     answer: Answer,
-) -> Binding
-    ensures { (t : List ℕ) → Binds (let_binding n name answer) slots.now t diagnostics.old messages.old used diagnostics.new
-        messages.new result }
+) -> Step<Option<u32>>
+    ensures { (t : List ℕ) → Steps (let_binding n name answer) slots.now t diagnostics.old messages.old used slots.now t diagnostics.new
+        messages.new (with_answer found_of result) }
 {
     let Answer::Known(right) = answer else {
-        return Binding::Nothing(used);
+        return Ok((None, used));
     };
-    let w = word_at(slots, wide(right));
+    let w = word_at(slots, right as usize);
     if kind(w) != VOID {
-        return Binding::Bound(w, used);
+        return Ok((Some(w), used));
     }
     let counts = used.told;
     let free = err_text::first_free(messages, counts);
     let reported = err_names::let_void(diagnostics, &mut messages[free..], counts, name);
-    let Some(after) = reported else {
-        return Binding::Refused(9, n);
-    };
-    let kept = used.kept;
-    Binding::Nothing(Used {
-        types: used.types,
-        told: after,
-        kept,
-    })
+    state::told(n, used, reported, None)
 }
 
 // A function's body against its return type, whose token is given: 9 where they differ.
+#[tactic(auto, unfolding(rules::specs::Rules::check_return, rules::specs::Steps::if_known, state::specs::World::stepped))]
 pub fn check_return(
     slots: &[u32],
     types: &[u32],
@@ -409,16 +364,16 @@ pub fn check_return(
     token: u32,
     ret: u32,
     computed: Answer,
-) -> Went
-    ensures { ((ls : List Package) (v : ℕ) (e : TypeExpr) → type_token e ≡ token → Goes (check_return (ctx texts.now ls v) n name e ret computed) slots.now types.now
+) -> Step<()>
+    ensures { ((ls : List Package) (v : ℕ) (e : TypeExpr) → type_token e ≡ token → Steps (check_return (ctx texts.now ls v) n name e ret computed) slots.now types.now
         diagnostics.old messages.old used slots.now types.now diagnostics.new messages.new result) }
 {
     let Answer::Known(slot) = computed else {
-        return Went::On(used);
+        return Ok(((), used));
     };
-    let w = word_at(slots, wide(slot));
+    let w = word_at(slots, slot as usize);
     if same_type(types, texts, w, ret) {
-        return Went::On(used);
+        return Ok(((), used));
     }
     let counts = used.told;
     let free = err_text::first_free(messages, counts);
@@ -433,5 +388,5 @@ pub fn check_return(
         ret,
         w,
     );
-    state::told(n, used, reported)
+    state::told(n, used, reported, ())
 }

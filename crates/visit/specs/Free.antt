@@ -1,9 +1,9 @@
 -- Room in scratch and in the functions buffer, as the functions of the walk ask for it. Laws of it. Assumes nothing.
-use Rattle.std.specs.Prelude.{ℕ, ◌+◌, ◌*◌, ◌≤◌, ◌≡◌, refl, List, length}
-use Rattle.std.proofs.Common.{sym, ap, ◌∙◌, arith}
+use Rattle.std.specs.Prelude.{ℕ, ◌+◌, ◌≤◌, List, length}
+use Rattle.std.proofs.Common.{arith}
 use Rattle.state.specs.Signatures.{entries_end}
 use Rattle.visit.specs.declared.State.{State}
-use Rattle.visit.specs.Whole.{Lent, function_words}
+use Rattle.visit.specs.Whole.{Lent}
 use Rattle.visit.specs.Reach.{held_reach}
 use Rattle.visit.specs.Within.{top, Within}
 use Rattle.visit.specs.StoreLaws.{reach-after}

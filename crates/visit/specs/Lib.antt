@@ -2,7 +2,6 @@
 pub mod Whole
 pub mod Reach
 pub mod Within
-pub mod Walks
 pub mod StoreLaws
 pub mod Free
 pub mod Plain

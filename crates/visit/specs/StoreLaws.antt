@@ -1,7 +1,7 @@
 -- What scratch and the functions buffer hold goes by their words: names in scope and entries by the words below their end, packages held by
 -- the words from the first on. And one more of each. Assumes nothing.
 use Prim.Native.Nat.{ℕ, zero, suc, ◌+◌, ◌*◌, ◌-◌, ◌≤◌, ◌<◌, ◌^◌, max}
-use Rattle.std.specs.Prelude.{◌≡◌, Bool, ◌&&◌, set, take, drop, eqb}
+use Rattle.std.specs.Prelude.{◌≡◌, Bool, set, take, drop}
 use Rattle.std.proofs.Math.Path.{refl, ap}
 use Rattle.std.proofs.Common.{sym, ◌∙◌, add-zero, length-append, get_or-take, get_or-drop, get_or-set_same, get_or-set_other}
 use Rattle.std.proofs.Math.Bool.{true, false, cond}
@@ -11,14 +11,13 @@ use native.Mathlib.Omega.{arith}
 use Rattle.std.proofs.Math.ListN.{length, get_or}
 use Rattle.std.proofs.Math.Seq.{get_or-append-add}
 use Rattle.std.proofs.Math.Dec.{ltb}
-use borrow.Author.Tests.{eq-eqb, ne_eqb, lt-ltb, le-ltb}
+use borrow.Author.Tests.{eq-eqb, ne_eqb, lt-ltb}
 use Rattle.tok.specs.Word.{kind_of}
 use Rattle.ptype.specs.Add.{write}
-use Rattle.library.specs.Package.{Param, param, Signature, signature, Function, function, Package, pkg, params_from}
+use Rattle.library.specs.Package.{Param, signature, Function, function, params_from}
 use Rattle.library.specs.PackagesRead.{package_at}
 use Rattle.laws.specs.Writes.{front-write, past-write}
 use Rattle.tworuns.specs.Written.{get_d_written}
-use Rattle.rules.specs.World.{Local}
 use Rattle.rules.specs.Steps.{pairs_of, entry_of}
 use Rattle.state.specs.Signatures.{signature_at, entry_at, entry_end, entries_from, entries_end, entries_back, own_in}
 use Rattle.state.specs.Store.{local_at, env_up, extern_at, held_at, held_size, held_from, held_end}

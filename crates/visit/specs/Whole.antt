@@ -1,16 +1,14 @@
 -- The world of the rules, from all lent buffers and the walk's state. Definitions.
-use Rattle.std.specs.Prelude.{ℕ, List}
-use Rattle.tok.specs.Step.{Result, ok, refused, Refusal, refusal}
+use Rattle.std.specs.Prelude.{ℕ, List, Result as Answered, Ok, Err}
+use Rattle.tok.specs.Step.{Result, ok, refused, Refusal}
 use Rattle.ptype.specs.Add.{buffer}
-use Rattle.rules.specs.declared.Answer.{Answer}
-use Rattle.rules.specs.declared.Answer.TheVariants.{Known, Poison}
 use Rattle.rules.specs.World.{World}
+use Rattle.state.specs.declared.Refusal.{Refusal as Refused}
+use Rattle.state.specs.Refused.{refusal_of}
 use Rattle.state.specs.Signatures.{entries_end, own_in}
 use Rattle.state.specs.Store.{env_up, held_from}
 use Rattle.state.specs.World.{More, Rest, world}
 use Rattle.visit.specs.declared.State.{State}
-use Rattle.visit.specs.declared.Visit.{Visit}
-use Rattle.visit.specs.declared.Visit.TheVariants as X
 
 -- the six lent buffers, and those that later requests lend
 pub record Lent : Type 0 where
@@ -41,8 +39,11 @@ rest_of library st b = record {
 abbrev pub whole : (library : List ℕ) → State → Lent → World
 whole library st b = world (rest_of library st b) b.slots b.types b.diagnostics b.messages st.used
 
--- The paper's number and values for each case of an answer.
-unfoldable pub visited : (library : List ℕ) → Lent → Visit → Result World Refusal Answer
-visited library b (X.Known slot st) = ok (Known slot) (whole library st b)
-visited library b (X.Poison st) = ok Poison (whole library st b)
-visited library b (X.Refused number place) = refused (refusal number place)
+-- What visiting gives with the state then, or a refusal
+abbrev pub Visit : Type 0 → Type 0
+Visit A = Answered (A × State) Refused
+
+-- and what that comes to
+unfoldable pub visited : {A : Type 0} → (library : List ℕ) → Lent → Visit A → Result World Refusal A
+visited library b (Ok (a, st)) = ok a (whole library st b)
+visited library b (Err e) = refused (refusal_of e)

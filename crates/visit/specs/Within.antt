@@ -1,13 +1,11 @@
 -- What visiting leaves alone in scratch, and how much it takes: names in scope are added after those there, packages held before those
 -- there. Laws of it. Assumes nothing.
-use Rattle.std.specs.Prelude.{ℕ, ◌+◌, ◌*◌, ◌≤◌, ◌≡◌, refl, List, take, length}
+use Rattle.std.specs.Prelude.{ℕ, ◌+◌, ◌*◌, ◌≤◌, ◌≡◌, List, take, length, Ok, Err}
 use Rattle.std.proofs.Common.{sym, ap, ◌∙◌, arith, take-take}
-use Rattle.rules.specs.declared.Answer.{Answer}
 use Rattle.rules.specs.World.{Walk}
+use Rattle.state.specs.declared.Refusal.{Refusal}
 use Rattle.visit.specs.declared.State.{State}
-use Rattle.visit.specs.declared.Visit.{Visit}
-use Rattle.visit.specs.declared.Visit.TheVariants as X
-use Rattle.visit.specs.Whole.{Lent, function_words, whole, visited}
+use Rattle.visit.specs.Whole.{Lent, Visit, function_words, whole, visited}
 use Rattle.visit.specs.Reach.{held_reach}
 
 -- the words of scratch below those of the next name in scope
@@ -60,12 +58,11 @@ within-most p h k = record {
 }
 
 -- Where it ended without a refusal, it kept within that.
-pub data Keeps (room rows : ℕ) (st : State) (b b' : Lent) : Visit → Type 0 where
-  knows : {slot : ℕ} {st' : State} → Within room rows st b st' b' → Keeps room rows st b b' (X.Known slot st')
-  poisons : {st' : State} → Within room rows st b st' b' → Keeps room rows st b b' (X.Poison st')
-  refuses : {number place : ℕ} → Keeps room rows st b b' (X.Refused number place)
+pub data Keeps {A : Type 0} (room rows : ℕ) (st : State) (b b' : Lent) : Visit A → Type 0 where
+  goes : {a : A} {st' : State} → Within room rows st b st' b' → Keeps room rows st b b' (Ok (a, st'))
+  stops : {e : Refusal} → Keeps room rows st b b' (Err e)
 
--- The contract of every function that visits: buffers b and state st came in, b' are the buffers now, r the answer.
-pub record Visits (rule : Walk Answer) (room rows : ℕ) (library : List ℕ) (st : State) (b b' : Lent) (r : Visit) : Type 0 where
+-- The contract of every function that visits, or takes a step of the walk: buffers b and state st came in, b' are the buffers now, r the answer.
+pub record Visits {A : Type 0} (rule : Walk A) (room rows : ℕ) (library : List ℕ) (st : State) (b b' : Lent) (r : Visit A) : Type 0 where
   pub step : rule (whole library st b) ≡ visited library b' r
   pub keeps : Keeps room rows st b b' r

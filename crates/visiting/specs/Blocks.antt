@@ -1,39 +1,25 @@
 -- "a block has its own frame", "a function body sees only its arguments": the names in scope are taken back at its end. Definitions and
 -- laws. Assumes nothing.
-use Rattle.std.specs.Prelude.{ℕ, ◌+◌, ◌*◌, ◌≤◌, ◌≡◌, List, [], take}
+use Rattle.std.specs.Prelude.{ℕ, ◌+◌, ◌*◌, ◌≤◌, ◌≡◌, List, take, Ok, Err}
 use Rattle.std.proofs.Math.Path.{refl, ap}
 use Rattle.std.proofs.Common.{sym, ◌∙◌, arith}
-use Rattle.tok.specs.Step.{Result, ok, next}
+use Rattle.tok.specs.Step.{ok, next}
 use Rattle.rules.specs.declared.Answer.{Answer}
-use Rattle.rules.specs.declared.Answer.TheVariants.{Known, Poison}
-use Rattle.rules.specs.World.{Local, World, Walk, with_env}
+use Rattle.rules.specs.World.{Walk, with_env}
 use Rattle.rules.specs.Steps.{framed, apart}
 use Rattle.state.specs.Store.{env_up}
 use Rattle.visit.specs.declared.State.{State}
-use Rattle.visit.specs.declared.Visit.{Visit}
-use Rattle.visit.specs.declared.Visit.TheVariants as X
-use Rattle.visit.specs.Whole.{Lent, whole, visited}
-use Rattle.visit.specs.Within.{top, Within, Keeps, knows, poisons, refuses, Visits}
+use Rattle.visit.specs.Whole.{Lent, Visit, whole, visited}
+use Rattle.visit.specs.Within.{top, Within, Keeps, goes, stops, Visits}
 use Rattle.visit.specs.StoreLaws.{env-front}
-use Rattle.visiting.specs.Then.{left_of}
 
-unfoldable pub leave_of : Visit → (before : State) → Visit
-leave_of (X.Known slot st) before = X.Known slot (left_of st before)
-leave_of (X.Poison st) before = X.Poison (left_of st before)
-leave_of (X.Refused number place) before = X.Refused number place
+-- the state with the names in scope of one before
+abbrev pub left_of : (st before : State) → State
+left_of st before = record { used = st.used; base = before.base; depth = before.depth; held = st.held; packages = st.packages; functions = st.functions }
 
--- what the code answers, by cases
-pub leave-known : {v : Visit} {slot : ℕ} {st st' : State} (before : State) → v ≡ X.Known slot st → st' ≡ left_of st before → X.Known slot st' ≡ leave_of v before
-unfolding leave_of
-leave-known before e f = rw (e, f) refl
-
-pub leave-poison : {v : Visit} {st st' : State} (before : State) → v ≡ X.Poison st → st' ≡ left_of st before → X.Poison st' ≡ leave_of v before
-unfolding leave_of
-leave-poison before e f = rw (e, f) refl
-
-pub leave-refused : {v : Visit} {number place : ℕ} (before : State) → v ≡ X.Refused number place → v ≡ leave_of v before
-unfolding leave_of
-leave-refused before e = rw e refl
+unfoldable pub leave_of : {A : Type 0} → Visit A → (before : State) → Visit A
+leave_of (Ok (a, st)) before = Ok (a, left_of st before)
+leave_of (Err e) before = Err e
 
 -- the names outside are hidden: a new first name, and none yet
 abbrev pub inner_of : State → State
@@ -60,20 +46,18 @@ module _ {r w : ℕ} {st st' : State} {b b' : Lent} where
   }
 
 module _ (library : List ℕ) {r w : ℕ} {st : State} {b b' : Lent} where
-  back_step : {v : Visit} → Keeps r w st b b' v → next (visited library b' v) (λ a t. ok a (with_env t (env_up b.scratch st.base st.depth))) ≡ visited library b' (leave_of v st)
+  back_step : {A : Type 0} {v : Visit A} → Keeps r w st b b' v → next (visited library b' v) (λ a t. ok a (with_env t (env_up b.scratch st.base st.depth))) ≡ visited library b' (leave_of v st)
   unfolding visited leave_of
-  back_step (knows {slot = slot} p) = ap (ok (Known slot)) (back-names library p)
-  back_step (poisons p) = ap (ok Poison) (back-names library p)
-  back_step refuses = refl
+  back_step (goes {a = a} p) = ap (ok a) (back-names library p)
+  back_step stops = refl
 
-back-keeps : {r w : ℕ} {st : State} {b b' : Lent} {v : Visit} → Keeps r w st b b' v → Keeps r w st b b' (leave_of v st)
+back-keeps : {A : Type 0} {r w : ℕ} {st : State} {b b' : Lent} {v : Visit A} → Keeps r w st b b' v → Keeps r w st b b' (leave_of v st)
 unfolding leave_of
-back-keeps (knows p) = knows (back-within p)
-back-keeps (poisons p) = poisons (back-within p)
-back-keeps refuses = refuses
+back-keeps (goes p) = goes (back-within p)
+back-keeps stops = stops
 
 -- A block's frame.
-pub framed-visits : {m : Walk Answer} {r w : ℕ} {library : List ℕ} {st : State} {b b' : Lent} {v : Visit} → Visits m r w library st b b' v → Visits (framed m) r w library st b b' (leave_of v st)
+pub framed-visits : {m : Walk Answer} {r w : ℕ} {library : List ℕ} {st : State} {b b' : Lent} {v : Visit Answer} → Visits m r w library st b b' v → Visits (framed m) r w library st b b' (leave_of v st)
 unfolding framed
 framed-visits {library = library} {st = st} {b = b} x = record {
   step = ap (λ z. next z (λ a t. ok a (with_env t (env_up b.scratch st.base st.depth)))) x.step ∙ back_step library x.keeps;
@@ -105,20 +89,18 @@ module _ (st : State) {r w : ℕ} {st' : State} {b b' : Lent} (p : Within r w (i
       let e : 2 * (st.base + st.depth) ≤ top st = omega arith in
       ap (λ l. with_env (whole library st' b') l) (sym (env-front (top st) b.scratch b'.scratch names-kept st.base st.depth e))
 
-outer_step : (library : List ℕ) (st : State) {r w : ℕ} {b b' : Lent} {v : Visit} → Keeps r w (inner_of st) b b' v
+outer_step : {A : Type 0} (library : List ℕ) (st : State) {r w : ℕ} {b b' : Lent} {v : Visit A} → Keeps r w (inner_of st) b b' v
     → next (visited library b' v) (λ a t. ok a (with_env t (env_up b.scratch st.base st.depth))) ≡ visited library b' (leave_of v st)
 unfolding visited leave_of
-outer_step library st (knows {slot = slot} p) = ap (ok (Known slot)) (outer_names st p library)
-outer_step library st (poisons p) = ap (ok Poison) (outer_names st p library)
-outer_step library st refuses = refl
+outer_step library st (goes {a = a} p) = ap (ok a) (outer_names st p library)
+outer_step library st stops = refl
 
-outer_keeps : (st : State) {r w : ℕ} {b b' : Lent} {v : Visit} → Keeps r w (inner_of st) b b' v → Keeps r w st b b' (leave_of v st)
+outer_keeps : {A : Type 0} (st : State) {r w : ℕ} {b b' : Lent} {v : Visit A} → Keeps r w (inner_of st) b b' v → Keeps r w st b b' (leave_of v st)
 unfolding leave_of
-outer_keeps st (knows p) = knows (outer_within st p)
-outer_keeps st (poisons p) = poisons (outer_within st p)
-outer_keeps st refuses = refuses
+outer_keeps st (goes p) = goes (outer_within st p)
+outer_keeps st stops = stops
 
-pub apart-visits : (st : State) {m : Walk Answer} {r w : ℕ} {library : List ℕ} {b b' : Lent} {v : Visit} → Visits m r w library (inner_of st) b b' v → Visits (apart m) r w library st b b' (leave_of v st)
+pub apart-visits : (st : State) {m : Walk Answer} {r w : ℕ} {library : List ℕ} {b b' : Lent} {v : Visit Answer} → Visits m r w library (inner_of st) b b' v → Visits (apart m) r w library st b b' (leave_of v st)
 unfolding apart framed env_up
 apart-visits st {library = library} {b = b} x = record {
   step = ap (λ z. next z (λ a t. ok a (with_env t (env_up b.scratch st.base st.depth)))) x.step ∙ outer_step library st x.keeps;

@@ -3,9 +3,8 @@
 use Rattle.std.specs.Prelude.{ℕ, ◌≡◌, refl, Bool, true, false, ◌||◌, List, [], ◌∷◌, ◌++◌}
 use Rattle.std.proofs.Common.{sym, ◌∙◌, append_assoc, append-nil}
 use Rattle.std.proofs.Math.Path.{ap}
-use Rattle.tok.specs.Step.{Result, ok, refused, Refusal, next, ◌>>=◌, ◌>>◌, return}
+use Rattle.tok.specs.Step.{Result, ok, refused, Refusal, next, ◌>>=◌, ◌>>◌}
 use Rattle.ast.specs.Node.{Node, Nodes, Cases, Values, done, then, no_case, case, no_value, value}
-use Rattle.rules.specs.declared.Answer.{Answer}
 use Rattle.rules.specs.World.{Ctx, World, Walk}
 use Rattle.rules.specs.Steps.{is_poison}
 use Rattle.rules.specs.Rules.{condition, value_type, Branch, node, block, visit_all, cases, values}

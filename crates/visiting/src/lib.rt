@@ -1,39 +1,10 @@
-// What comes after a visit.
+// The names in scope around a block and a function's body.
 #![tactic(auto)]
 
 ghost use Rattle.std.specs.Prelude.{◌≡◌, ◌+◌, ◌<◌, ◌^◌};
-ghost use Rattle.visiting.specs.Then.{after_of, came_of, left_of};
-ghost use Rattle.visiting.specs.Blocks.{inner_of};
+ghost use Rattle.visiting.specs.Blocks.{left_of, inner_of};
 
-use rules::Answer;
-use visit::{State, Visit};
-
-// An answer and the state after it, or that a refusal ends the walk.
-#[derive(Clone, Copy)]
-pub enum Onward {
-    Goes(Answer, State),
-    Stops,
-}
-
-pub fn after(v: Visit) -> Onward
-    ensures { result ≡ after_of v }
-{
-    match v {
-        Visit::Known(slot, st) => Onward::Goes(Answer::Known(slot), st),
-        Visit::Poison(st) => Onward::Goes(Answer::Poison, st),
-        Visit::Refused(_, _) => Onward::Stops,
-    }
-}
-
-// An answer as a visit's.
-pub fn came(answer: Answer, st: State) -> Visit
-    ensures { result ≡ came_of answer st }
-{
-    match answer {
-        Answer::Known(slot) => Visit::Known(slot, st),
-        Answer::Poison => Visit::Poison(st),
-    }
-}
+use visit::State;
 
 // The state with the names in scope of one before: a block ends, or a function's body.
 pub fn left(st: State, before: State) -> State

@@ -1,5 +1,6 @@
 -- Node::Fn as a visit: what its parts ask for, and one law for each way out of the code. Assumes nothing.
-use Rattle.std.specs.Prelude.{ℕ, ◌+◌, ◌-◌, ◌*◌, ◌≤◌, ◌<◌, ◌≡◌, refl, List, [], ◌∷◌, length, get_or}
+use Rattle.state.specs.declared.Refusal.{Refusal}
+use Rattle.std.specs.Prelude.{ℕ, ◌+◌, ◌-◌, ◌*◌, ◌≤◌, ◌<◌, ◌≡◌, refl, List, [], ◌∷◌, length, get_or, Ok, Err, Some, None, Option}
 use Rattle.std.proofs.Common.{sym, subst, ◌∙◌, arith}
 use Rattle.std.proofs.Math.Path.{ap}
 use Rattle.tok.specs.Text.{Texts}
@@ -10,7 +11,7 @@ use Rattle.ast.specs.Node.{Nodes, read_fn, tree_of}
 use Rattle.image_laws.specs.RecordWords.{FnWords}
 use Rattle.places.specs.NodesAt.{NodeReady, counts_of, record_room, node-fn, words-fn}
 use Rattle.rules.specs.declared.Answer.{Answer}
-use Rattle.rules.specs.declared.Answer.TheVariants.{Known}
+use Rattle.rules.specs.declared.Answer.TheVariants.{Known, Poison}
 use Rattle.rules.specs.World.{Walk}
 use Rattle.rules.specs.Rules.{block, node}
 use Rattle.rules.specs.Visited.{visited_below, visited_among}
@@ -18,23 +19,19 @@ use Rattle.accepts.proofs.Fresh.{Fresh, fresh-rest}
 use Rattle.room_laws.specs.Room.{room, rooms, rows, rows_all}
 use Rattle.parameters.specs.Arguments.{length-args}
 use Rattle.visit.specs.declared.State.{State}
-use Rattle.visit.specs.declared.Visit.{Visit}
-use Rattle.visit.specs.declared.Gave.TheVariants as G
-use Rattle.visit.specs.Whole.{Lent}
+use Rattle.visit.specs.Whole.{Lent, Visit}
 use Rattle.visit.specs.Within.{Keeps, Visits}
-use Rattle.visit.specs.Walks.{Gives}
 use Rattle.visit.specs.Free.{free-less}
-use Rattle.visiting.specs.Then.{Came, Stopped, left_of, visits-most}
+use Rattle.visiting.specs.Blocks.{left_of}
+use Rattle.visiting.specs.Then.{visits-most}
 use Rattle.visiting.specs.Blocks.{inner_of}
 use Rattle.ready.specs.Ready.{Ready, NodeVisit, node-ready}
 use Rattle.ready.specs.Passes.{ready-less, ready-then}
 use Rattle.ready.specs.Parts.{fn-room}
 use Rattle.ready.specs.Unvisited.{begin-apart}
 use Rattle.ready.specs.After.{fn-proper, after-begin, ready-inner}
-use Rattle.bodies.specs.declared.Begun.{Begun}
-use Rattle.bodies.specs.declared.Begun.TheVariants as B
-use Rattle.bodies.specs.Bodies.{slot_at, name_at, return_at, count_at, args_at, fn_at, end_at, BeginReady, EndReady, begun_in, KeepsBegun, goes, ends, Begins}
-use Rattle.bodies.specs.BodyLaws.{body-stops, fn-visited}
+use Rattle.bodies.specs.Bodies.{slot_at, name_at, return_at, count_at, args_at, fn_at, end_at, BeginReady, EndReady, KeepsBegun, due, Begins}
+use Rattle.bodies.specs.BodyLaws.{fn-met, fn-refused as begin-refused, body-stops, fn-visited}
 use Rattle.walking.specs.Kinds.{Is}
 use Rattle.walking.specs.Visited.{ctx_in, nodes_at, ClassVisit, ListVisit, ListVisited, NodeVisited}
 
@@ -87,7 +84,7 @@ module _ {T : Texts} {image places words : List ℕ} {n at : ℕ} {st : State} {
   end-ready = record { ret = record { readable = (node-ready h.visit).readable; below = facts.ret.under }; inside = fn-inside }
 
   -- the rule of the node is Fn's
-  fn-node : {b' : Lent} {v : Visit} → Visits (fn_at (ctx_in T image words) image at n (block (ctx_in T image words) (body_at image at))) (2 * count_at image at + rooms (body_at image at)) (3 + 2 * count_at image at + rows_all (body_at image at)) words st b b' v
+  fn-node : {b' : Lent} {v : Visit Answer} → Visits (fn_at (ctx_in T image words) image at n (block (ctx_in T image words) (body_at image at))) (2 * count_at image at + rooms (body_at image at)) (3 + 2 * count_at image at + rows_all (body_at image at)) words st b b' v
       → NodeVisited T image words n st b b' v
   unfolding node
   fn-node {b'} {v} x =
@@ -96,29 +93,28 @@ module _ {T : Texts} {image places words : List ℕ} {n at : ℕ} {st : State} {
 
   -- ── The ways out ──
 
-  pub fn-ends : {b₁ : Lent} {r : Begun} {v : Visit} → Begins (ctx_in T image words) image at n words st b b₁ r → r ≡ B.Ended v → NodeVisited T image words n st b b₁ v
-  unfolding begun_in
-  fn-ends x q = fn-node (by (rw q at x))
-    where
-      took-none : {b₁ : Lent} {v : Visit} → KeepsBegun (ctx_in T image words) image at n words st b b₁ (B.Ended v) → Keeps 0 0 st b b₁ v
-      took-none (ends k) = k
+  abbrev begins : (b₁ : Lent) → Visit (Option ℕ) → Type 0
+  begins b₁ r = Begins (ctx_in T image words) image at n words st b b₁ r
 
-      by : {b₁ : Lent} {v : Visit} → Begins (ctx_in T image words) image at n words st b b₁ (B.Ended v)
-          → Visits (fn_at (ctx_in T image words) image at n (block (ctx_in T image words) (body_at image at))) (2 * count_at image at + rooms (body_at image at)) (3 + 2 * count_at image at + rows_all (body_at image at)) words st b b₁ v
-      by f = visits-most (omega arith) (omega arith) (record { step = f.step _; keeps = took-none f.keeps })
+  -- the name was met, or it was refused
+  pub fn-ends : {b₁ : Lent} {st₁ : State} {r : Option ℕ} → begins b₁ (Ok (r, st₁)) → r ≡ None → NodeVisited T image words n st b b₁ (Ok (Poison, st₁))
+  fn-ends x e = fn-node (visits-most (omega arith) (omega arith) (fn-met (ctx_in T image words) image at n words (rw e at x) (block (ctx_in T image words) (body_at image at))))
 
-  module _ {b₁ : Lent} {r : Begun} {ret : ℕ} {st₁ : State} (x : Begins (ctx_in T image words) image at n words st b b₁ r) (q : r ≡ B.Body ret st₁) where
-    started : Begins (ctx_in T image words) image at n words st b b₁ (B.Body ret st₁)
-    started = rw q at x
+  pub fn-refused : {b₁ : Lent} {e : Refusal} → begins b₁ (Err e) → NodeVisited T image words n st b b₁ (Err e)
+  fn-refused x = fn-node (begin-refused (ctx_in T image words) image at n words x (block (ctx_in T image words) (body_at image at)) _ _)
 
-    body-room : KeepsBegun (ctx_in T image words) image at n words st b b₁ (B.Body ret st₁) → Ready T image places words (rooms (body_at image at)) (rows_all (body_at image at)) st₁ b₁
-    body-room (goes y) = ready-then (ready-inner all_room) (after-begin (ready-inner all_room) n _ (fn-proper h.visit.ready.given h.visit.below is-fn) y refl)
+  module _ {b₁ : Lent} {ret : ℕ} {st₁ : State} {r : Option ℕ} (x : begins b₁ (Ok (r, st₁))) (is : r ≡ Some ret) where
+    due_then : begins b₁ (Ok (Some ret, st₁))
+    due_then = rw is at x
 
-    body-fresh : KeepsBegun (ctx_in T image words) image at n words st b b₁ (B.Body ret st₁) → Fresh (visited_among (body_at image at)) b₁.slots
+    body-room : KeepsBegun (ctx_in T image words) image at n words st b b₁ (Ok (Some ret, st₁)) → Ready T image places words (rooms (body_at image at)) (rows_all (body_at image at)) st₁ b₁
+    body-room (due y) = ready-then (ready-inner all_room) (after-begin (ready-inner all_room) n _ (fn-proper h.visit.ready.given h.visit.below is-fn) y)
+
+    body-fresh : KeepsBegun (ctx_in T image words) image at n words st b b₁ (Ok (Some ret, st₁)) → Fresh (visited_among (body_at image at)) b₁.slots
     unfolding visited_below
-    body-fresh (goes y) =
+    body-fresh (due y) =
         fresh-rest (read_fn (tree_of image) image n at ∷ []) (visited_among (body_at image at)) (rw is-fn at h.visit.fresh)
-        (begin-apart (ctx_in T image words) n (slot_at image at) (name_at image at) (return_at image at) (args_at image at) (body_at image at) y refl)
+        (begin-apart (ctx_in T image words) n (slot_at image at) (name_at image at) (return_at image at) (args_at image at) (body_at image at) y)
 
     -- the body's nodes are parts of the Fn
     pub body-visit : {count long : ℕ} → count ≡ count_at image at → long ≡ record_length image at → ListVisit T image places words n (at + 5 + 2 * count) (long - (5 + 2 * count)) st₁ b₁
@@ -126,17 +122,18 @@ module _ {T : Texts} {image places words : List ℕ} {n at : ℕ} {st : State} {
       below = omega (arith, h.visit.below);
       nodes = facts.body;
       inside = omega (arith, record_room (node-ready h.visit) e, facts.long);
-      ready = body-room started.keeps;
-      fresh = body-fresh started.keeps;
+      ready = body-room due_then.keeps;
+      fresh = body-fresh due_then.keeps;
     })
 
-    module _ {count long : ℕ} {b₂ : Lent} {v : Visit} (ec : count ≡ count_at image at) (el : long ≡ record_length image at) (y : ListVisited T image words (at + 5 + 2 * count) (long - (5 + 2 * count)) st₁ b₁ b₂ v) where
-      in_body : ListVisited T image words (at + 5 + 2 * count_at image at) (record_length image at - (5 + 2 * count_at image at)) st₁ b₁ b₂ v
-      in_body = rw (ec, el) at y
+    module _ {count long : ℕ} {b₂ : Lent} (ec : count ≡ count_at image at) (el : long ≡ record_length image at) where
+      in_body : {v : Visit Answer} → ListVisited T image words (at + 5 + 2 * count) (long - (5 + 2 * count)) st₁ b₁ b₂ v
+          → ListVisited T image words (at + 5 + 2 * count_at image at) (record_length image at - (5 + 2 * count_at image at)) st₁ b₁ b₂ v
+      in_body y = rw (ec, el) at y
 
-      pub fn-stops : Stopped v → NodeVisited T image words n st b b₂ v
-      fn-stops s = fn-node (body-stops (ctx_in T image words) image at n words (body_at image at) started in_body _ _ s)
+      pub fn-stops : {e : Refusal} → ListVisited T image words (at + 5 + 2 * count) (long - (5 + 2 * count)) st₁ b₁ b₂ (Err e) → NodeVisited T image words n st b b₂ (Err e)
+      fn-stops y = fn-node (body-stops (ctx_in T image words) image at n words due_then (body_at image at) (in_body y) refl _ _)
 
-      pub fn-done : {computed : Answer} {st₂ : State} {b₃ : Lent} {v₃ : Visit} → Came v computed st₂ → Visits (end_at (ctx_in T image words) image at n ret computed) 0 0 words (left_of st₂ st) b₂ b₃ v₃
-          → NodeVisited T image words n st b b₃ v₃
-      fn-done c z = fn-node (fn-visited (ctx_in T image words) image at n words (body_at image at) started in_body c z)
+      pub fn-done : {computed : Answer} {st₂ : State} {b₃ : Lent} {v₃ : Visit Answer} → ListVisited T image words (at + 5 + 2 * count) (long - (5 + 2 * count)) st₁ b₁ b₂ (Ok (computed, st₂))
+          → Visits (end_at (ctx_in T image words) image at n ret computed) 0 0 words (left_of st₂ st) b₂ b₃ v₃ → NodeVisited T image words n st b b₃ v₃
+      fn-done y z = fn-node (fn-visited (ctx_in T image words) image at n words due_then (body_at image at) (in_body y) refl z)

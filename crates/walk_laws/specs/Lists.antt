@@ -1,5 +1,6 @@
 -- Nodes one after the other, as a loop visits them: its invariant, with a law for its beginning, each turn and its ends. Assumes nothing.
-use Rattle.std.specs.Prelude.{ℕ, ◌+◌, ◌-◌, ◌*◌, ◌≤◌, ◌<◌, ◌≡◌, refl, List, ◌++◌, get_or}
+use Rattle.state.specs.declared.Refusal.{Refusal}
+use Rattle.std.specs.Prelude.{ℕ, ◌+◌, ◌-◌, ◌*◌, ◌≤◌, ◌<◌, ◌≡◌, refl, List, ◌++◌, get_or, Ok, Err}
 use Rattle.std.proofs.Common.{sym, ap, ◌∙◌}
 use native.Mathlib.Omega.{arith}
 use Rattle.tok.specs.Text.{Texts}
@@ -14,9 +15,8 @@ use Rattle.rules.specs.Visited.{visited_among}
 use Rattle.accepts.proofs.Fresh.{visited_from, Fresh, fresh-first, fresh-rest}
 use Rattle.room_laws.specs.Room.{room, rooms, rows, rows_all}
 use Rattle.visit.specs.declared.State.{State}
-use Rattle.visit.specs.declared.Visit.{Visit}
 use Rattle.visit.specs.Whole.{Lent}
-use Rattle.visiting.specs.Then.{Came, as_known, as_poison, Stopped, at-refusal, came_of, left_of}
+use Rattle.visiting.specs.Blocks.{left_of}
 use Rattle.visiting.specs.Blocks.{leave_of}
 use Rattle.visiting.specs.Leads.{Beginning, Leads, leads-begin, leads-then, leads-stop, leads-return}
 use Rattle.ready.specs.Ready.{Ready, NodeVisit}
@@ -70,47 +70,28 @@ module _ {T : Texts} {image places words : List ℕ} {owner at k : ℕ} {st : St
     pub turn-visit : NodeVisit T image places words part here b'
     turn-visit = node-visit _ _ part-below first-room (rw e (fresh-first _ _ all-fresh))
 
-    module _ {b'' : Lent} {v : Visit} (x : NodeVisited T image words part here b' b'' v) where
-      onward : Leads (listing T image words at k st b) (last (ctx_in T image words) answer (then (tree_of image part) (nodes_at image (place + 1) (left - 1))))
-          (rooms (then (tree_of image part) (nodes_at image (place + 1) (left - 1)))) (rows_all (then (tree_of image part) (nodes_at image (place + 1) (left - 1)))) here b'
-      onward = rw (e, ← (nodes-turn image place l)) h.leads
+    onward : Leads (listing T image words at k st b) (last (ctx_in T image words) answer (then (tree_of image part) (nodes_at image (place + 1) (left - 1))))
+        (rooms (then (tree_of image part) (nodes_at image (place + 1) (left - 1)))) (rows_all (then (tree_of image part) (nodes_at image (place + 1) (left - 1)))) here b'
+    onward = rw (e, ← (nodes-turn image place l)) h.leads
 
-      pub turn-stops : Stopped v → ListVisited T image words at k st b b'' v
+    module _ {b'' : Lent} where
+      pub turn-stops : {e : Refusal} → NodeVisited T image words part here b' b'' (Err e) → ListVisited T image words at k st b b'' (Err e)
       unfolding last
-      turn-stops s = leads-stop (λ a. last (ctx_in T image words) a (nodes_at image (place + 1) (left - 1))) onward x s
+      turn-stops x = leads-stop (λ a. last (ctx_in T image words) a (nodes_at image (place + 1) (left - 1))) onward x
 
-      pub turn-next : {a : Answer} {next : State} → Came v a next → Turn T image places words owner at k st b (place + 1) (left - 1) a next b''
+      pub turn-next : {a : Answer} {next : State} → NodeVisited T image words part here b' b'' (Ok (a, next)) → Turn T image places words owner at k st b (place + 1) (left - 1) a next b''
       unfolding last rooms rows_all
-      turn-next c = record {
-        leads = leads-then (λ a. last (ctx_in T image words) a (nodes_at image (place + 1) (left - 1))) onward x c;
+      turn-next x = record {
+        leads = leads-then (λ a. last (ctx_in T image words) a (nodes_at image (place + 1) (left - 1))) onward x;
         visit = record {
           below = h.visit.below;
           nodes = others;
           inside = omega (arith, h.visit.inside);
-          ready = ready-then first-room (after-node first-room part-below x c);
-          fresh = fresh-rest _ _ all-fresh (visit-apart (ctx_in T image words) (tree_of image (get_or image place 0)) (rw e at x) c);
+          ready = ready-then first-room (after-node first-room part-below x);
+          fresh = fresh-rest _ _ all-fresh (visit-apart (ctx_in T image words) (tree_of image (get_or image place 0)) (rw e at x));
         };
       }
 
-  pub turn_end : left ≤ 0 → {v : Visit} → v ≡ came_of answer here → ListVisited T image words at k st b b' v
+  pub turn_end : left ≤ 0 → ListVisited T image words at k st b b' (Ok (answer, here))
   unfolding last nodes_from
-  turn_end l e =
-      let z : left ≡ 0 = omega arith in
-      leads-return answer (rw z at h.leads) e
-
--- ── A block's end, where its nodes are visited in a loop ──
-
--- "a block's end takes the old names again"
-pub leave_came : (a : Answer) (st before : State) → leave_of (came_of a st) before ≡ came_of a (left_of st before)
-unfolding leave_of came_of
-leave_came (Known slot) st before = refl
-leave_came Poison st before = refl
-
-pub leave-stopped : {v : Visit} (before : State) → Stopped v → v ≡ leave_of v before
-unfolding leave_of
-leave-stopped before at-refusal = refl
-
-pub came_so : (a : Answer) (st : State) → Came (came_of a st) a st
-unfolding came_of
-came_so (Known slot) st = as_known
-came_so Poison st = as_poison
+  turn_end l = let z : left ≡ 0 = omega arith in leads-return answer (rw z at h.leads)

@@ -2,13 +2,13 @@
 use Rattle.std.specs.Prelude.{ℕ, ◌≡◌, refl, List}
 use Rattle.std.proofs.Common.{◌∙◌}
 use Rattle.ast.specs.Node.{Nodes, done, then}
+use Rattle.rules.specs.declared.Answer.{Answer}
 use Rattle.rules.specs.declared.Answer.TheVariants.{Known}
 use Rattle.rules.specs.World.{Ctx, World}
 use Rattle.rules.specs.Steps.{framed}
 use Rattle.rules.specs.Rules.{block, last}
 use Rattle.visit.specs.declared.State.{State}
-use Rattle.visit.specs.declared.Visit.{Visit}
-use Rattle.visit.specs.Whole.{Lent, whole}
+use Rattle.visit.specs.Whole.{Lent, Visit, whole}
 use Rattle.visit.specs.Within.{Visits}
 use Rattle.visiting.specs.Blocks.{leave_of, framed-visits}
 
@@ -18,7 +18,7 @@ block_last c done s = refl
 block_last c (then x xs) s = refl
 
 -- the names in scope of before are there again at its end
-pub block-visits : (c : Ctx) (xs : Nodes) {r w : ℕ} {words : List ℕ} {st : State} {b b' : Lent} {v : Visit} → Visits (last c (Known c.void) xs) r w words st b b' v
+pub block-visits : (c : Ctx) (xs : Nodes) {r w : ℕ} {words : List ℕ} {st : State} {b b' : Lent} {v : Visit Answer} → Visits (last c (Known c.void) xs) r w words st b b' v
     → Visits (block c xs) r w words st b b' (leave_of v st)
 block-visits c xs {words = words} {st = st} {b = b} x =
     let y = framed-visits x in

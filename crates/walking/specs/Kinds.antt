@@ -62,13 +62,6 @@ all_kinds (suc (suc (suc (suc (suc (suc (suc (suc (suc (suc (suc (suc zero))))))
 all_kinds (suc (suc (suc (suc (suc (suc (suc (suc (suc (suc (suc (suc (suc zero))))))))))))) h = refl
 all_kinds (suc (suc (suc (suc (suc (suc (suc (suc (suc (suc (suc (suc (suc (suc k)))))))))))))) h = absurd (omega (arith, h))
 
--- a test, and the tests after it
-pub or_first : (k j : ℕ) (b : Bool) → k ≡ j → true ≡ (eqb k j || b)
-or_first k j b e = rw (eq-eqb k j e) refl
-
-pub or_next : (k j : ℕ) {r b : Bool} → (k ≡ j → ⊥) → r ≡ b → r ≡ (eqb k j || b)
-or_next k j n e = rw (ne_eqb k j n) e
-
 other : (k j : ℕ) → (k ≡ j → ⊥) → eqb k j ≡ false
 other k j n = ne_eqb k j n
 
@@ -96,45 +89,3 @@ is_field k h a b = eqb-true k 8 (or_rest (eqb k 4) (eqb k 8) (other k 4 b) (or_r
 pub is-extern : (k : ℕ) → Leaf k → (k ≡ 0 → ⊥) → (k ≡ 1 → ⊥) → (k ≡ 10 → ⊥) → k ≡ 11
 unfolding is_leaf
 is-extern k h a b c = eqb-true k 11 (or_rest (eqb k 10) (eqb k 11) (other k 10 c) (or_rest (eqb k 1) _ (other k 1 b) (or_rest (eqb k 0) _ (other k 0 a) h)))
-
--- ── What the code answers, by its tests ──
-
-pub leaf_0 : (k : ℕ) → k ≡ 0 → true ≡ is_leaf k
-unfolding is_leaf
-leaf_0 k e = or_first k 0 _ e
-
-pub leaf_1 : (k : ℕ) → (k ≡ 0 → ⊥) → k ≡ 1 → true ≡ is_leaf k
-unfolding is_leaf
-leaf_1 k a e = or_next k 0 a (or_first k 1 _ e)
-
-pub leaf_10 : (k : ℕ) → (k ≡ 0 → ⊥) → (k ≡ 1 → ⊥) → k ≡ 10 → true ≡ is_leaf k
-unfolding is_leaf
-leaf_10 k a b e = or_next k 0 a (or_next k 1 b (or_first k 10 _ e))
-
-pub leaf_11 : (k : ℕ) → (k ≡ 0 → ⊥) → (k ≡ 1 → ⊥) → (k ≡ 10 → ⊥) → eqb k 11 ≡ is_leaf k
-unfolding is_leaf
-leaf_11 k a b c = or_next k 0 a (or_next k 1 b (or_next k 10 c refl))
-
-pub one_3 : (k : ℕ) → k ≡ 3 → true ≡ has_one k
-unfolding has_one
-one_3 k e = or_first k 3 _ e
-
-pub one_4 : (k : ℕ) → (k ≡ 3 → ⊥) → k ≡ 4 → true ≡ has_one k
-unfolding has_one
-one_4 k a e = or_next k 3 a (or_first k 4 _ e)
-
-pub one_8 : (k : ℕ) → (k ≡ 3 → ⊥) → (k ≡ 4 → ⊥) → eqb k 8 ≡ has_one k
-unfolding has_one
-one_8 k a b = or_next k 3 a (or_next k 4 b refl)
-
-pub operand_2 : (k : ℕ) → k ≡ 2 → true ≡ has_operands k
-unfolding has_operands
-operand_2 k e = or_first k 2 _ e
-
-pub operand_9 : (k : ℕ) → (k ≡ 2 → ⊥) → k ≡ 9 → true ≡ has_operands k
-unfolding has_operands
-operand_9 k a e = or_next k 2 a (or_first k 9 _ e)
-
-pub operand-one : (k : ℕ) {r : Bool} → (k ≡ 2 → ⊥) → (k ≡ 9 → ⊥) → r ≡ has_one k → r ≡ has_operands k
-unfolding has_operands
-operand-one k a b e = or_next k 2 a (or_next k 9 b e)

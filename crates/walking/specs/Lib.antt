@@ -3,4 +3,3 @@ pub mod Kinds
 pub mod Visited
 pub mod Blocks
 pub mod Measures
-pub mod Stops

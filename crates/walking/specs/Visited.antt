@@ -17,8 +17,7 @@ use Rattle.accepts.proofs.Fresh.{visited_from, Fresh}
 use Rattle.state.specs.Context.{ctx}
 use Rattle.room_laws.specs.Room.{room, rooms, rows, rows_all}
 use Rattle.visit.specs.declared.State.{State}
-use Rattle.visit.specs.declared.Visit.{Visit}
-use Rattle.visit.specs.Whole.{Lent}
+use Rattle.visit.specs.Whole.{Lent, Visit}
 use Rattle.visit.specs.Within.{Visits}
 use Rattle.ready.specs.Ready.{Ready, NodeVisit}
 
@@ -28,7 +27,7 @@ ctx_in T image words = ctx T (packages_of words) (slot_count image)
 
 -- ── A node ──
 
-abbrev pub NodeVisited : Texts → (image words : List ℕ) → (n : ℕ) → State → (b b' : Lent) → Visit → Type 0
+abbrev pub NodeVisited : Texts → (image words : List ℕ) → (n : ℕ) → State → (b b' : Lent) → Visit Answer → Type 0
 NodeVisited T image words n st b b' v = Visits (node (ctx_in T image words) (tree_of image n)) (room (tree_of image n)) (rows (tree_of image n)) words st b b' v
 
 -- a node whose kind has a property
@@ -49,7 +48,7 @@ pub record ListVisit (T : Texts) (image places words : List ℕ) (owner at k : �
   pub ready : Ready T image places words (rooms (nodes_at image at k)) (rows_all (nodes_at image at k)) st b
   pub fresh : Fresh (visited_among (nodes_at image at k)) b.slots
 
-abbrev pub ListVisited : Texts → (image words : List ℕ) → (at k : ℕ) → State → (b b' : Lent) → Visit → Type 0
+abbrev pub ListVisited : Texts → (image words : List ℕ) → (at k : ℕ) → State → (b b' : Lent) → Visit Answer → Type 0
 ListVisited T image words at k st b b' v =
     Visits (last (ctx_in T image words) (Known (slot_count image)) (nodes_at image at k)) (rooms (nodes_at image at k)) (rows_all (nodes_at image at k)) words st b b' v
 
@@ -73,7 +72,7 @@ pub record CaseVisit (T : Texts) (image places words : List ℕ) (n at : ℕ) (s
   pub ready : Ready T image places words (room (tree_of image (word_at image (at + 1))) + rooms (case_body image at)) (rows (tree_of image (word_at image (at + 1))) + rows_all (case_body image at)) st b
   pub fresh : Fresh (visited_from (tree_of image (word_at image (at + 1))) ++ visited_among (case_body image at)) b.slots
 
-abbrev pub CaseVisited : Texts → (image words : List ℕ) → (n at : ℕ) → State → (b b' : Lent) → Visit → Type 0
+abbrev pub CaseVisited : Texts → (image words : List ℕ) → (n at : ℕ) → State → (b b' : Lent) → Visit Answer → Type 0
 CaseVisited T image words n at st b b' v =
     Visits (case_rule (ctx_in T image words) n (word_at image at) (tree_of image (word_at image (at + 1))) (case_body image at))
     (room (tree_of image (word_at image (at + 1))) + rooms (case_body image at)) (rows (tree_of image (word_at image (at + 1))) + rows_all (case_body image at)) words st b b' v

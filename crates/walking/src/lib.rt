@@ -1,31 +1,8 @@
-// A refusal passed on: the answer of one kind of step as that of another.
+// Which kinds of nodes each function of the walk takes.
 #![tactic(auto)]
 
 ghost use Rattle.std.specs.Prelude.{◌≡◌};
-ghost use Rattle.walking.specs.Stops.{refused_of, halted_of};
 ghost use Rattle.walking.specs.Kinds.{is_leaf, has_one, has_operands};
-
-use visit::{Gave, Visit, Walked};
-
-// Of a step that gives a type's word.
-pub fn refused(gave: Gave) -> Visit
-    ensures { result ≡ refused_of gave }
-{
-    match gave {
-        Gave::Word(_, _) => Visit::Refused(0, 0),
-        Gave::Refused(number, place) => Visit::Refused(number, place),
-    }
-}
-
-// Of a step that only writes.
-pub fn halted(went: Walked) -> Visit
-    ensures { result ≡ halted_of went }
-{
-    match went {
-        Walked::On(_) => Visit::Refused(0, 0),
-        Walked::Refused(number, node) => Visit::Refused(number, node),
-    }
-}
 
 // Whether nothing is visited below a node of this kind: Atom, Ident, Import, Extern.
 #[tactic(auto, unfolding(crate::specs::Kinds::is_leaf))]

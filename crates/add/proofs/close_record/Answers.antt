@@ -2,8 +2,8 @@
 use Rattle.add.proofs.Returns.{close_put, close_deep}
 use Rattle.add.proofs.close_record.Goals as goal
 
-pub returns-in-Put : goal.returns-in-Put
-returns-in-Put c = λ t n. close_deep _ c.in-Put.is c.is_shallow.ensures t n c.if-not-is_shallow.true
+pub returns : goal.returns
+returns c = λ t n. close_put _ _ _ c.is_shallow.ensures t n c.if-not-is_shallow.false
 
-pub returns-in_default : goal.returns-in_default
-returns-in_default c = λ t n. close_put _ c.in-Put.is c.is_shallow.ensures t n c.if-not-is_shallow.false
+pub returns-then-not-is_shallow : goal.returns-then-not-is_shallow
+returns-then-not-is_shallow c = λ t n. close_deep _ _ _ c.is_shallow.ensures t n c.if-not-is_shallow.true

@@ -1,12 +1,8 @@
 -- `add::set_pair` meets its contract: the name is stored and then the type, or both lie past the end. Assumes nothing.
-use mathlib.Core.Path.{sym, ap, ◌∙◌}
+use mathlib.Core.Path.{sym, ◌∙◌}
 use native.Mathlib.Numerals.{add-one}
-use lib.ListN.{length, length-set}
 use Rattle.add.specs.WriteLaws.{write_two, write-past}
 use Rattle.add.proofs.set_pair.Goals as goal
-
-pub shape_of-types : goal.shape_of-types
-shape_of-types c = ap length c.store.ensures ∙ simp length-set
 
 pub returns-then-at-types : goal.returns-then-at-types
 returns-then-at-types c = c.store.ensures ∙ rw add-one (sym (write_two _ _ _ _))

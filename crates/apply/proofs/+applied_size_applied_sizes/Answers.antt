@@ -1,7 +1,6 @@
 use mathlib.Core.Path.{sym, ◌∙◌}
 use native.Mathlib.Omega.{arith}
 use Prim.Native.Nat.{◌+◌, ◌-◌, ◌*◌}
-use Rattle.tok.specs.Text.{texts_of}
 use Rattle.slots.specs.Bindings.{bindings_in}
 use Rattle.apply.specs.Sizes.{size_within}
 use Rattle.apply.proofs.SizeReturns.{none-adds, rest-adds, free-adds, wrap_adds, record_adds}

@@ -1,7 +1,6 @@
 -- `apply::applied_size` and `apply::applied_sizes` meet their contracts: by the equations of `size_within` for each kind. The depth falls.
 -- The loop's invariant: what was summed, with what is left, is the whole. Assumes nothing.
 use mathlib.Core.Path.{◌≡◌}
-use Rattle.tok.specs.Text.{texts_of}
 use Rattle.slots.specs.Bindings.{bindings_in}
 use Rattle.apply.specs.Sizes.{sizes_of, size_within}
 use Prim.Native.Nat.{◌+◌, ◌-◌, ◌*◌}

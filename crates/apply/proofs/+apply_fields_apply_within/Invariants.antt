@@ -1,7 +1,6 @@
 -- `apply::apply_within` and `apply::apply_fields` meet their contracts: one law for each return. The depth falls. The loop's invariant: the
 -- steps of all fields go on with those of the fields that are left, and the words that the type is read from are as they were.
 -- Assumes nothing.
-use Rattle.tok.specs.Text.{texts_of}
 use Rattle.slots.specs.Bindings.{bindings_in}
 use Rattle.apply.proofs.FieldReturns.{Applying}
 use Prim.Native.Nat.{◌+◌, ◌-◌, ◌*◌}

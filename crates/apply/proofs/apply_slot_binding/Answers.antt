@@ -1,10 +1,6 @@
 -- `apply::apply_slot_binding` meets its contract. Assumes nothing.
-use native.Mathlib.Omega.{arith}
 use Rattle.apply.proofs.Returns.{apply-start}
 use Rattle.apply.proofs.apply_slot_binding.Goals as goal
-
-pub apply_within-requires : goal.apply_within-requires
-apply_within-requires c = (omega (arith, c.min-base.ensures), omega (arith, c.min-base.ensures))
 
 pub returns : goal.returns
 returns c = λ n. apply-start _ _ _ _ _ _ _ c.min-base.ensures (c.apply_within.ensures n)

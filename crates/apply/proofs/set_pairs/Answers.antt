@@ -5,32 +5,17 @@ use Rattle.apply.proofs.set_pairs.Goals as goal
 pub loop-i-init : goal.loop-i-init
 loop-i-init c = writing_all _ (omega arith) (omega arith) (omega arith) c.requires
 
-pub slice_bounds-word_at-end : goal.slice_bounds-word_at-end
-slice_bounds-word_at-end c = omega (arith, c.loop-i.invariant.long, c.loop-i.invariant.setting.lent)
-
-pub slice_bounds-field_type-end : goal.slice_bounds-field_type-end
-slice_bounds-field_type-end c = omega (arith, c.loop-i.invariant.long, c.loop-i.invariant.setting.lent)
-
-pub slice_bounds-applied_size-end : goal.slice_bounds-applied_size-end
-slice_bounds-applied_size-end c = omega (arith, c.loop-i.invariant.long, c.loop-i.invariant.setting.lent)
-
 pub applied_size-size-requires : goal.applied_size-size-requires
 applied_size-size-requires c = size_fits c.loop-i.invariant (λ z. omega arith) c.field_type-x.ensures
 
 pub overflow_add-end : goal.overflow_add-end
 overflow_add-end c = omega (arith, size-ends c.loop-i.invariant (λ z. omega arith) c.field_type-x.ensures c.applied_size-size.ensures)
 
-pub slice_bounds-applied_word-end : goal.slice_bounds-applied_word-end
-slice_bounds-applied_word-end c = omega (arith, c.loop-i.invariant.long, c.loop-i.invariant.setting.lent)
-
 pub applied_word-new-requires : goal.applied_word-new-requires
 applied_word-new-requires c = (c.applied_size-size.ensures, (omega arith, size-ends c.loop-i.invariant (λ z. omega arith) c.field_type-x.ensures c.applied_size-size.ensures))
 
 pub loop-i-preserved : goal.loop-i-preserved
 loop-i-preserved c = writing_next c.loop-i.invariant (λ z. omega arith) c.field_type-x.ensures c.applied_size-size.ensures (omega arith) (omega arith) (omega arith) c.word_at-name.ensures c.applied_word-new.ensures c.set_pair.ensures
-
-pub shape_of-types : goal.shape_of-types
-shape_of-types c = c.loop-i.invariant.long
 
 pub returns : goal.returns
 returns c = writing_end c.loop-i.invariant (omega arith)

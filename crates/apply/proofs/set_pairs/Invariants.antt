@@ -1,7 +1,6 @@
 -- `apply::set_pairs` meets its contract. The loop's invariant: all pairs written are those that are left, written over what was set.
 -- Assumes nothing.
 use Prim.Native.Nat.{◌+◌, ◌-◌, ◌*◌}
-use Rattle.tok.specs.Text.{texts_of}
 use Rattle.slots.specs.Bindings.{bindings_in}
 use Rattle.apply.proofs.FieldReturns.{Writing}
 use Rattle.apply.proofs.set_pairs.Given as goal

@@ -1,11 +1,9 @@
--- `branches::compare_branches` meets its contract. The loop's invariant: i branches are compared, the others follow; the measure is how many
--- do. Assumes nothing.
-use Prim.Native.Nat.{◌-◌}
-use mathlib.Core.Path.{◌≡◌}
-use lib.ListN.{length}
-use Rattle.tok.specs.Text.{texts_of}
+-- `branches::compare_branches` meets its contract. The loop's invariant: i branches are compared, the others follow. Assumes nothing.
+use Rattle.std.specs.Prelude.{◌≡◌, length}
 use Rattle.branches.proofs.Compare.{Compared}
 use Rattle.branches.proofs.compare_branches.Given as goal
 
 abbrev pub invariant-loop : goal.invariant-loop
-invariant-loop l = Compared l.texts l.n l.default l.image l.places l.at l.count l.slots l.types l.initial.diagnostics l.initial.messages l.initial.here l.counter l.place l.diagnostics l.messages l.here × (length l.diagnostics ≡ length l.initial.diagnostics) × (length l.messages ≡ length l.initial.messages)
+invariant-loop l =
+    Compared l.texts l.n l.default l.image l.places l.at l.count l.slots l.types l.initial.diagnostics l.initial.messages l.initial.here l.counter l.place l.diagnostics l.messages l.here
+    × (length l.diagnostics ≡ length l.initial.diagnostics) × (length l.messages ≡ length l.initial.messages)

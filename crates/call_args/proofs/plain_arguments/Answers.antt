@@ -1,4 +1,3 @@
-use Prim.Native.Nat.{◌-◌}
 use mathlib.Core.Path.{refl, ◌∙◌}
 use mathlib.Core.Bool.{false}
 use native.Mathlib.Omega.{arith}
@@ -18,11 +17,19 @@ slot_of-requires c = number-ready c.requires.nodes (omega arith) c.word_at-numbe
 pub span_of-requires : goal.span_of-requires
 span_of-requires c = number-ready c.requires.nodes (omega arith) c.word_at-number.ensures
 
-pub returns-in_default : goal.returns-in_default
-returns-in_default c = done-stops _ _ _ _ _ _ _ _ _ _ _ _ c.loop-i.invariant.0 (c.requires.counts false) (omega arith) c.word_at-number.ensures (c.argument_name.ensures false) (c.argument_type.ensures false) c.slot_of.ensures c.span_of.ensures c.plain_argument-went.ensures c.in_default.in_default-own.keys2
+pub returns-in_err-after : goal.returns-in_err-after
+returns-in_err-after c =
+    done-stops _ _ _ _ _ _ _ _ _ _ _ _ c.loop-i.invariant.0 (c.requires.counts false) (omega arith) c.word_at-number.ensures (c.argument_name.ensures false) (c.argument_type.ensures false)
+    c.slot_of.ensures c.span_of.ensures c.plain_argument.ensures c.in_err-after.was c.from_residual.ensures.1
 
 pub loop-i-preserved : goal.loop-i-preserved
-loop-i-preserved c = (more-done _ _ _ _ _ _ _ _ _ _ _ _ c.loop-i.invariant.0 (c.requires.counts false) (omega arith) c.word_at-number.ensures (c.argument_name.ensures false) (c.argument_type.ensures false) c.slot_of.ensures c.span_of.ensures c.plain_argument-went.ensures c.in-On.is, c.plain_argument-went.auto.diagnostics ∙ c.loop-i.invariant.1, c.plain_argument-went.auto.messages ∙ c.loop-i.invariant.2)
+loop-i-preserved c =
+    let one = c.plain_argument in (
+      more-done _ _ _ _ _ _ _ _ _ _ _ _ c.loop-i.invariant.0 (c.requires.counts false) (omega arith) c.word_at-number.ensures (c.argument_name.ensures false) (c.argument_type.ensures false)
+          c.slot_of.ensures c.span_of.ensures one.ensures c.in_ok-after.was,
+      one.auto.diagnostics ∙ c.loop-i.invariant.1,
+      one.auto.messages ∙ c.loop-i.invariant.2,
+    )
 
 pub returns : goal.returns
 returns c = all_done _ _ _ _ _ _ _ _ _ _ _ _ c.loop-i.invariant.0 (omega arith)

@@ -4,14 +4,11 @@ use Rattle.calls.proofs.Returns.{call-low, field-low, field_told}
 use Rattle.err_text.specs.RestLaws.{told_in_whole}
 use Rattle.calls.proofs.report_field.Goals as goal
 
--- src/lib.rt:58:52
 pub overflow_add-at : goal.overflow_add-at
 overflow_add-at c = omega (arith, call-low c.requires.call)
 
--- src/lib.rt:59:31
 pub overflow_add-target : goal.overflow_add-target
 overflow_add-target c = omega (arith, field-low c.requires c.word_at.ensures c.node_place-target.ensures)
 
--- src/lib.rt:44:1
 pub returns : goal.returns
-returns c = field_told c.args.n c.args.st c.requires c.word_at.ensures c.node_place-target.ensures c.word_at-name.ensures (told_in_whole c.args.messages.now c.first_free-free.ensures c.call_through_field-r.ensures) c.poisoned.ensures c.answered.ensures
+returns c = field_told c.args.n c.args.st c.requires c.word_at.ensures c.node_place-target.ensures c.word_at-name.ensures (told_in_whole c.args.messages.now c.first_free-free.ensures c.call_through_field-r.ensures) c.told.ensures c.answered.ensures

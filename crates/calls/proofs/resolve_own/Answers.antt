@@ -2,6 +2,5 @@
 use Rattle.calls.proofs.Returns.{own-visits}
 use Rattle.calls.proofs.resolve_own.Goals as goal
 
--- src/lib.rt:79:1
 pub returns : goal.returns
 returns c = own-visits _ c.args.n c.args.slot c.args.name _ c.args.st c.resolve_call-step.ensures c.answered.ensures

@@ -1,25 +1,25 @@
--- `checker::walk` meets its contract: one law for each return. Assumes nothing.
-use mathlib.Core.Path.{refl}
-use Rattle.checker.proofs.Walks.{walk_refused, roots-ready, walk-roots}
+-- `checker::walk` meets its contract: a refusal of its beginning, or the roots. Assumes nothing.
+use Rattle.std.specs.Prelude.{refl}
+use Rattle.std.proofs.lemmas.Result.{err_from_is_err_and}
+use Rattle.checker.proofs.Walks.{walk-refused, roots-ready, walk-roots}
 use Rattle.checker.proofs.walk.Goals as goal
 
--- src/lib.rt:185:13
-pub returns-in-Refused : goal.returns-in-Refused
-returns-in-Refused c =
-    walk_refused c.args.script.now c.args.image.now c.args.text.now c.args.library.now
+pub returns-in_err-st : goal.returns-in_err-st
+returns-in_err-st c =
+    let p = err_from_is_err_and c.from_residual.result c.from_residual.ensures.1 in
+    rw (p.1, p.2)
+    (walk-refused c.args.script.now c.args.image.now c.args.text.now c.args.library.now
     c.args.slots.now c.args.functions.now c.args.types.now c.args.diagnostics.now c.args.messages.now c.args.scratch.now
-    c.begin.ensures c.in-Refused.is
+    c.in_err-st.ensures)
 
--- src/lib.rt:188:13
 pub visit_roots-requires : goal.visit_roots-requires
 visit_roots-requires c =
     roots-ready c.args.script.now c.args.image.now c.args.text.now c.args.library.now
     c.args.slots.now c.args.functions.now c.args.types.now c.args.diagnostics.now c.args.messages.now c.args.scratch.now
-    c.begin.ensures c.in-On.is c.requires refl refl refl
+    c.in_ok-st.ensures c.requires refl refl refl
 
--- src/lib.rt:188:13
-pub returns-in-On : goal.returns-in-On
-returns-in-On c =
+pub returns : goal.returns
+returns c =
     walk-roots c.args.script.now c.args.image.now c.args.text.now c.args.library.now
     c.args.slots.now c.args.functions.now c.args.types.now c.args.diagnostics.now c.args.messages.now c.args.scratch.now
-    c.begin.ensures c.in-On.is c.requires refl c.visit_roots.ensures
+    c.in_ok-st.ensures c.requires refl c.visit_roots.ensures

@@ -1,62 +1,61 @@
-use Rattle.display.specs.WritingLaws.{◌and_then◌}
 use native.Mathlib.Omega.{arith}
 use mathlib.Core.Path.{refl, sym, ◌∙◌}
+use Rattle.ptype.specs.Words.{unfolded}
 use Rattle.tok.specs.Text.{text}
-use Rattle.display.specs.WritingLaws.{owes-all, owes-less, writes_as, writes-full}
+use Rattle.display.specs.WritingLaws.{writing}
 use Rattle.display.proofs.ShownLaws.{is_leaf, shown-none, shown-wrap, shown_record, shown-leaf, fields-end, fields-turn}
-use borrow.Author.Rules.{rules}
 use Rattle.display.proofs.+show_fields_show_within.Goals as goal
 
-pub show_fields-loop-left-init : goal.show_fields-loop-left-init
-show_fields-loop-left-init t c = (owes-all refl, search rules, search rules)
-
-pub show_fields-show_within-at-requires : goal.show_fields-show_within-at-requires
-show_fields-show_within-at-requires t c =
+pub show_fields-show_within-requires : goal.show_fields-show_within-requires
+show_fields-show_within-requires t c =
     (omega (arith, c.decreases), tt)
+
+pub show_fields-returns-in_err-put : goal.show_fields-returns-in_err-put
+show_fields-returns-in_err-put t c = let e = fields-turn (unfolded c.args.texts.now c.args.types.now c.args.depth) c.args.texts.now c.args.words.now c.loop-left.i {k = c.loop-left.left} (omega arith) c.field_name.ensures refl in grind writing
+
+pub show_fields-returns-in_err-put-2 : goal.show_fields-returns-in_err-put-2
+unfolding text
+show_fields-returns-in_err-put-2 t c = let e = fields-turn (unfolded c.args.texts.now c.args.types.now c.args.depth) c.args.texts.now c.args.words.now c.loop-left.i {k = c.loop-left.left} (omega arith) c.field_name.ensures refl in grind writing
+
+pub show_fields-returns-in_err-show_within : goal.show_fields-returns-in_err-show_within
+unfolding text
+show_fields-returns-in_err-show_within t c = let e = fields-turn (unfolded c.args.texts.now c.args.types.now c.args.depth) c.args.texts.now c.args.words.now c.loop-left.i {k = c.loop-left.left} (omega arith) c.field_name.ensures c.field_type.ensures in grind writing
+
+pub show_fields-returns-in_err-put_separator : goal.show_fields-returns-in_err-put_separator
+unfolding text
+show_fields-returns-in_err-put_separator t c = let e = fields-turn (unfolded c.args.texts.now c.args.types.now c.args.depth) c.args.texts.now c.args.words.now c.loop-left.i {k = c.loop-left.left} (omega arith) c.field_name.ensures c.field_type.ensures in grind writing
 
 pub show_fields-loop-left-preserved : goal.show_fields-loop-left-preserved
 unfolding text
-show_fields-loop-left-preserved t c = (
-  owes-less c.loop-left.invariant.0 (fields-turn _ _ _ _ _ (omega arith) c.field_name.ensures c.field_type.ensures) (c.put_at-at.ensures and_then
-      c.put_at-at-in-loop-left.ensures and_then c.show_within-at.ensures and_then c.put_separator-at.ensures),
-  omega arith,
-  search rules,
-)
+show_fields-loop-left-preserved t c = let e = fields-turn (unfolded c.args.texts.now c.args.types.now c.args.depth) c.args.texts.now c.args.words.now c.loop-left.i {k = c.loop-left.left} (omega arith) c.field_name.ensures c.field_type.ensures in grind writing
 
 pub show_fields-returns : goal.show_fields-returns
-show_fields-returns t c = c.loop-left.invariant.0.ends (writes_as (fields-end _ _ _ _ _ (omega arith)) c.put_at.ensures)
-
-pub show_within-returns-in_default : goal.show_within-returns-in_default
-show_within-returns-in_default t c = rw c.in_default.is (writes-full _ _)
+show_fields-returns t c = let e = fields-end (unfolded c.args.texts.now c.args.types.now c.args.depth) c.args.texts.now c.args.words.now c.loop-left.i {k = c.loop-left.left} (omega arith) in grind writing
 
 pub show_within-returns-then-depth-eq0 : goal.show_within-returns-then-depth-eq0
-show_within-returns-then-depth-eq0 t c = writes_as (shown-none _ _ _ c.if-depth-eq0.true) c.put_plain.ensures
+show_within-returns-then-depth-eq0 t c = let e = shown-none c.args.texts.now c.args.types.now c.args.w c.if-depth-eq0.true in grind writing
 
-pub show_within-show_within-b-requires : goal.show_within-show_within-b-requires
-show_within-show_within-b-requires t c =
-    (omega (arith, c.decreases, c.if-depth-eq0.false), tt)
+pub show_within-returns-in_err-put_opening : goal.show_within-returns-in_err-put_opening
+show_within-returns-in_err-put_opening t c = let e = shown-wrap c.args.texts.now c.args.types.now c.args.w c.if-depth-eq0.false c.kind-k.ensures (sym c.wraps.ensures ∙ c.if-wraps.true) refl in grind writing
 
-pub show_within-returns-then-wraps : goal.show_within-returns-then-wraps
+pub show_within-returns-in_err-show_within : goal.show_within-returns-in_err-show_within
+show_within-returns-in_err-show_within t c = let e = shown-wrap c.args.texts.now c.args.types.now c.args.w c.if-depth-eq0.false c.kind-k.ensures (sym c.wraps.ensures ∙ c.if-wraps.true) c.inner.ensures in grind writing
+
+pub show_within-returns-in_ok-show_within : goal.show_within-returns-in_ok-show_within
 unfolding text
-show_within-returns-then-wraps t c =
-    writes_as (shown-wrap _ _ _ c.if-depth-eq0.false c.kind-k.ensures (sym c.wraps.ensures ∙ c.if-wraps.true) c.inner.ensures)
-    (c.put_opening-a.ensures and_then c.show_within-b.ensures and_then c.put_at.ensures)
+show_within-returns-in_ok-show_within t c = let e = shown-wrap c.args.texts.now c.args.types.now c.args.w c.if-depth-eq0.false c.kind-k.ensures (sym c.wraps.ensures ∙ c.if-wraps.true) c.inner.ensures in grind writing
 
-pub show_within-show_fields-requires : goal.show_within-show_fields-requires
-show_within-show_fields-requires t c =
-    (omega (arith, c.decreases, c.if-depth-eq0.false), omega (arith, c.payload-i.ensures, c.field_count-n.ensures))
+pub show_within-returns-in_err-put_opening-2 : goal.show_within-returns-in_err-put_opening-2
+show_within-returns-in_err-put_opening-2 t c = let e = shown_record c.args.texts.now c.args.types.now c.args.w c.if-depth-eq0.false c.kind-k.ensures c.if-k-eq-RECORD.true refl refl in grind writing
 
-pub show_within-returns-then-k-eq-RECORD : goal.show_within-returns-then-k-eq-RECORD
+pub show_within-returns-in_err-show_fields : goal.show_within-returns-in_err-show_fields
+show_within-returns-in_err-show_fields t c = let e = shown_record c.args.texts.now c.args.types.now c.args.w c.if-depth-eq0.false c.kind-k.ensures c.if-k-eq-RECORD.true c.payload-i.ensures c.field_count-n.ensures in grind writing
+
+pub show_within-returns-in_ok-show_fields : goal.show_within-returns-in_ok-show_fields
 unfolding text
-show_within-returns-then-k-eq-RECORD t c =
-    writes_as (shown_record _ _ _ c.if-depth-eq0.false c.kind-k.ensures c.if-k-eq-RECORD.true c.payload-i.ensures c.field_count-n.ensures)
-    (c.put_opening-a-then-k-eq-RECORD.ensures and_then c.show_fields.ensures)
-
-pub show_within-show_leaf-requires : goal.show_within-show_leaf-requires
-show_within-show_leaf-requires t c =
-    is_leaf c.args.w c.kind-k.ensures (sym c.wraps.ensures ∙ c.if-wraps.false) c.if-k-eq-RECORD.false
+show_within-returns-in_ok-show_fields t c = let e = shown_record c.args.texts.now c.args.types.now c.args.w c.if-depth-eq0.false c.kind-k.ensures c.if-k-eq-RECORD.true c.payload-i.ensures c.field_count-n.ensures in grind writing
 
 pub show_within-returns-else-k-eq-RECORD : goal.show_within-returns-else-k-eq-RECORD
 show_within-returns-else-k-eq-RECORD t c =
-    writes_as (shown-leaf _ _ _ c.if-depth-eq0.false c.kind-k.ensures (is_leaf c.args.w c.kind-k.ensures (sym c.wraps.ensures ∙ c.if-wraps.false)
-    c.if-k-eq-RECORD.false)) c.show_leaf.ensures
+    let l = is_leaf c.args.w c.kind-k.ensures (sym c.wraps.ensures ∙ c.if-wraps.false) c.if-k-eq-RECORD.false in
+    let e = shown-leaf c.args.texts.now c.args.types.now c.args.w c.if-depth-eq0.false c.kind-k.ensures l in grind writing

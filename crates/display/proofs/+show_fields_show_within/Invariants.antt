@@ -1,14 +1,10 @@
 -- `display::show_within` and `display::show_fields` meet their contracts. The depth falls from a type to the types inside it; a turn of the fields'
 -- loop writes one field of those that are owed. Assumes nothing.
-use lib.ListN.{length}
-use mathlib.Core.Path.{◌≡◌}
-use mathlib.Core.List.{◌++◌}
-use Rattle.tok.specs.Text.{Texts, texts_of}
-use Rattle.ptype.specs.Ty.{Fields}
+use Rattle.tok.specs.Text.{Texts}
 use Rattle.ptype.specs.Words.{fields_from, unfolded}
 use Rattle.ptype.specs.Show.{show_fields}
 use Rattle.display.specs.WritingLaws.{Owes}
-use Prim.Native.Nat.{ℕ, ◌+◌, ◌*◌, ◌^◌, ◌<◌}
+use Prim.Native.Nat.{◌+◌, ◌*◌, ◌^◌, ◌<◌}
 use Rattle.display.proofs.+show_fields_show_within.Given as goal
 
 abbrev pub decreases-show_fields : goal.decreases-show_fields
@@ -19,5 +15,5 @@ decreases-show_within l = 2 * l.depth
 
 abbrev pub invariant-show_fields-loop-left : goal.invariant-show_fields-loop-left
 invariant-show_fields-loop-left l = let T : Texts = l.texts in
-    let F : ℕ → ℕ → Fields = fields_from (unfolded T l.types l.depth) T l.words in
-    Owes l.initial.out l.initial.at (show_fields (F l.i-2 l.n) ++ l.after) l.out l.at (show_fields (F l.i l.left) ++ l.after) × (l.i + 2 * l.left < 2 ^ 40) × (length l.out ≡ length l.initial.out)
+    let F = fields_from (unfolded T l.types l.depth) T l.words in
+    Owes l.initial.out (show_fields (F l.i-2 l.n)) l.out (show_fields (F l.i l.left)) × (l.i + 2 * l.left < 2 ^ 40)

@@ -1,20 +1,28 @@
-use Rattle.display.specs.WritingLaws.{◌and_then◌}
+use mathlib.Core.Path.{refl}
 use native.Mathlib.Omega.{arith}
 use Rattle.tok.specs.Text.{text}
-use Rattle.display.specs.WritingLaws.{owes-all, owes-less, writes_as}
+use Rattle.ptype.specs.Words.{ty_of}
+use Rattle.display.specs.WritingLaws.{writing}
 use Rattle.display.proofs.EveryLaws.{every-start, every-turn, every-end}
-use borrow.Author.Rules.{rules}
 use Rattle.display.proofs.show_every.Goals as goal
 
 pub loop-done-init : goal.loop-done-init
-loop-done-init c = (owes-all (every-start _ _ _ _ _), omega arith, search rules)
+loop-done-init c = let e = every-start (ty_of c.args.texts.now c.args.types.now) c.args.words.now c.args.first c.args.step c.args.count in grind writing
 
 pub overflow_add-i : goal.overflow_add-i
 overflow_add-i c = omega (arith, c.requires)
 
+pub returns-in_err-put_separator : goal.returns-in_err-put_separator
+unfolding text
+returns-in_err-put_separator c = let e = every-turn (ty_of c.args.texts.now c.args.types.now) c.args.words.now c.loop-done.i c.args.step {count = c.args.count} {done = c.loop-done.done} (omega arith) refl in grind writing
+
+pub returns-in_err-show_type : goal.returns-in_err-show_type
+unfolding text
+returns-in_err-show_type c = let e = every-turn (ty_of c.args.texts.now c.args.types.now) c.args.words.now c.loop-done.i c.args.step {count = c.args.count} {done = c.loop-done.done} (omega arith) c.word_at.ensures in grind writing
+
 pub loop-done-preserved : goal.loop-done-preserved
 unfolding text
-loop-done-preserved c = (owes-less c.loop-done.invariant.0 (every-turn _ _ _ _ (omega arith) c.word_at.ensures) (c.put_separator-at.ensures and_then c.show_type-at.ensures), omega (arith, c.requires), search rules)
+loop-done-preserved c = let e = every-turn (ty_of c.args.texts.now c.args.types.now) c.args.words.now c.loop-done.i c.args.step {count = c.args.count} {done = c.loop-done.done} (omega arith) c.word_at.ensures in grind writing
 
 pub returns : goal.returns
-returns c = c.loop-done.invariant.0.ends (writes_as (every-end _ _ _ _ (omega arith)) c.put_at.ensures)
+returns c = let e = every-end (ty_of c.args.texts.now c.args.types.now) c.args.words.now c.loop-done.i c.args.step {count = c.args.count} {done = c.loop-done.done} (omega arith) in grind writing

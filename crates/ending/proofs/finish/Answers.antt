@@ -1,18 +1,17 @@
--- `ending::finish` meets its contract: one law for each return. Assumes nothing.
-use Rattle.ending.proofs.Left.{room-known, room-poison, finish_known, finish_poison, finish_refused}
+-- `ending::finish` meets its contract: the walk answered, or it was refused. Assumes nothing.
+use Rattle.std.proofs.Common.{◌∙◌, arith}
+use Rattle.ending.proofs.Left.{entries-inside, finish-answered, finish-refused}
 use Rattle.ending.proofs.finish.Goals as goal
 
-pub answer-requires : goal.answer-requires
-answer-requires c = room-known c.args.functions.now c.requires c.in-Known.is
+pub counts-requires : goal.counts-requires
+counts-requires c = entries-inside c.args.functions.now c.requires c.in-Ok.is
 
-pub returns-in-Known : goal.returns-in-Known
-returns-in-Known c = λ words. finish_known words c.args.slots.now c.args.functions.now c.args.types.now c.args.diagnostics.now c.args.messages.now c.args.scratch.now c.args.visit c.answer.ensures c.in-Known.is
+pub returns-in-Ok : goal.returns-in-Ok
+returns-in-Ok c =
+    λ words. finish-answered words c.args.slots.now c.args.functions.now c.args.types.now c.args.diagnostics.now c.args.messages.now c.args.scratch.now
+    c.in-Ok.is c.counts.ensures (c.fill.ensures.after (λ y e. omega (arith, e)))
 
-pub answer-requires-in-Poison : goal.answer-requires-in-Poison
-answer-requires-in-Poison c = room-poison c.args.functions.now c.requires c.in-Poison.is
-
-pub returns-in-Poison : goal.returns-in-Poison
-returns-in-Poison c = λ words. finish_poison words c.args.slots.now c.args.functions.now c.args.types.now c.args.diagnostics.now c.args.messages.now c.args.scratch.now c.args.visit c.answer-in-Poison.ensures c.in-Poison.is
-
-pub returns-in-Refused : goal.returns-in-Refused
-returns-in-Refused c = λ words. finish_refused words c.args.slots.now c.args.functions.now c.args.types.now c.args.diagnostics.now c.args.messages.now c.args.scratch.now c.args.visit c.requires c.zero_all.ensures c.in-Refused.is c.wide.ensures
+pub returns-in-Err : goal.returns-in-Err
+returns-in-Err c =
+    λ words. finish-refused words c.args.slots.now c.args.functions.now c.args.types.now c.args.diagnostics.now c.args.messages.now c.args.scratch.now
+    c.in-Err.is c.zero_all.ensures c.number.ensures (c.wide.ensures ∙ c.place.ensures)

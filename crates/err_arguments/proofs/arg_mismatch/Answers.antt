@@ -1,15 +1,23 @@
 -- `err_arguments::arg_mismatch` meets its contract: both its texts, its span and its record, one after the other. Assumes nothing.
-use Rattle.display.specs.WritingLaws.{◌and_then◌}
 use mathlib.Core.Path.{refl}
+use borrow.Author.Rules.{rules}
 use Rattle.tok.specs.Text.{text}
-use Rattle.display.specs.WritingLaws.{writes-length}
+use Rattle.display.specs.WritingLaws.{both}
 use Rattle.err.specs.Message.{arg_mismatch}
 use Rattle.err_text.specs.RestLaws.{tells-rest}
 use Rattle.err_arguments.proofs.arg_mismatch.Goals as goal
 
-pub shape_of-rest : goal.shape_of-rest
-shape_of-rest c = writes-length (c.put_call_name-a.ensures and_then c.put_at-b.ensures and_then c.put_name-c.ensures and_then c.put_at-d.ensures and_then c.show_type-e.ensures and_then c.put_at-f.ensures and_then c.put_name-g.ensures and_then c.put_at-h.ensures and_then c.show_type-i.ensures and_then c.put_at-j.ensures and_then (c.put_at-k.ensures and_then c.show_type-l.ensures))
-
 pub returns : goal.returns
 unfolding arg_mismatch text
-returns c = tells-rest (c.put_call_name-a.ensures and_then c.put_at-b.ensures and_then c.put_name-c.ensures and_then c.put_at-d.ensures and_then c.show_type-e.ensures and_then c.put_at-f.ensures and_then c.put_name-g.ensures and_then c.put_at-h.ensures and_then c.show_type-i.ensures and_then c.put_at-j.ensures) (c.put_at-k.ensures and_then c.show_type-l.ensures) refl (c.report.ensures.six_words, c.report.ensures.answer)
+returns c =
+    let to_b = both _ _ _ _ c.put_call_name-a.ensures.1 c.put.ensures.1 c.and-b.ensures in
+    let to_c = both _ _ _ _ to_b c.put_name.ensures.1 c.and-c.ensures in
+    let to_d = both _ _ _ _ to_c c.put-2.ensures.1 c.and-d.ensures in
+    let to_e = both _ _ _ _ to_d c.show_type.ensures.1 c.and-e.ensures in
+    let to_f = both _ _ _ _ to_e c.put-3.ensures.1 c.and-f.ensures in
+    let to_g = both _ _ _ _ to_f c.put_name-2.ensures.1 c.and-g.ensures in
+    let to_h = both _ _ _ _ to_g c.put-4.ensures.1 c.and-h.ensures in
+    let to_i = both _ _ _ _ to_h c.show_type-2.ensures.1 c.and-i.ensures in
+    let to_j = both _ _ _ _ to_i c.put-5.ensures.1 c.and-j.ensures in
+    let to_l = both _ _ _ _ c.put-k.ensures.1 c.show_type-3.ensures.1 c.and-l.ensures in
+    tells-rest c.new-out.ensures.from_the_start to_j (both _ _ _ _ to_j to_l c.and.ensures) (search rules) refl (c.report.ensures.six_words, c.report.ensures.answer)

@@ -1,14 +1,17 @@
 -- `err_calls::no_specialisation` meets its contract: its text, its span and its record, one after the other. Assumes nothing.
-use Rattle.display.specs.WritingLaws.{◌and_then◌}
+use borrow.Author.Rules.{rules}
 use Rattle.tok.specs.Text.{text}
-use Rattle.display.specs.WritingLaws.{writes-length}
+use Rattle.display.specs.WritingLaws.{both}
 use Rattle.err.specs.Message.{no_specialisation}
 use Rattle.err_text.specs.RestLaws.{tells-rest-alone}
 use Rattle.err_calls.proofs.no_specialisation.Goals as goal
 
-pub shape_of-rest : goal.shape_of-rest
-shape_of-rest c = writes-length (c.put_at-a.ensures and_then c.put_call_name-b.ensures and_then c.put_at-c.ensures and_then c.show_types-d.ensures and_then c.put_at-e.ensures and_then c.put_candidates-f.ensures)
-
 pub returns : goal.returns
 unfolding no_specialisation text
-returns c = tells-rest-alone (c.put_at-a.ensures and_then c.put_call_name-b.ensures and_then c.put_at-c.ensures and_then c.show_types-d.ensures and_then c.put_at-e.ensures and_then c.put_candidates-f.ensures) c.token_span.ensures (c.report.ensures.six_words, c.report.ensures.answer)
+returns c =
+    let to_b = both _ _ _ _ c.put-a.ensures.1 c.put_call_name.ensures.1 c.and-b.ensures in
+    let to_c = both _ _ _ _ to_b c.put.ensures.1 c.and-c.ensures in
+    let to_d = both _ _ _ _ to_c c.show_types.ensures.1 c.and-d.ensures in
+    let to_e = both _ _ _ _ to_d c.put-2.ensures.1 c.and-e.ensures in
+    let to_f = both _ _ _ _ to_e c.put_candidates.ensures.1 c.and-f.ensures in
+    tells-rest-alone c.new-out.ensures.from_the_start to_f (search rules) c.token_span.ensures (c.report.ensures.six_words, c.report.ensures.answer)

@@ -1,18 +1,27 @@
-use Rattle.display.specs.WritingLaws.{◌and_then◌}
-use Prim.Native.Nat.{◌-◌}
+use mathlib.Core.Path.{refl}
 use native.Mathlib.Omega.{arith}
-use Rattle.tok.specs.Text.{texts_of, text}
-use Rattle.display.specs.WritingLaws.{owes-all, owes-less, writes_as}
+use Rattle.tok.specs.Text.{text}
+use Rattle.display.specs.WritingLaws.{writing}
 use Rattle.err_calls.proofs.CandidateLaws.{candidates-start, candidates-turn, candidates-end}
-use borrow.Author.Rules.{rules}
 use Rattle.err_calls.proofs.put_candidates.Goals as goal
 
 pub loop-i-init : goal.loop-i-init
-loop-i-init c = (owes-all (candidates-start c.args.texts.now c.args.types.now c.args.words.now c.args.starts.now), search rules)
+loop-i-init c = let e = candidates-start c.args.texts.now c.args.types.now c.args.words.now c.args.starts.now in grind writing
+
+pub returns-in_err-put_separator : goal.returns-in_err-put_separator
+unfolding text
+returns-in_err-put_separator c =
+    let e = candidates-turn c.args.texts.now c.args.types.now c.args.words.now c.args.starts.now {i = c.loop-i.i} (omega arith) refl in grind writing
+
+pub returns-in_err-put_candidate : goal.returns-in_err-put_candidate
+unfolding text
+returns-in_err-put_candidate c =
+    let e = candidates-turn c.args.texts.now c.args.types.now c.args.words.now c.args.starts.now {i = c.loop-i.i} (omega arith) c.word_at.ensures in grind writing
 
 pub loop-i-preserved : goal.loop-i-preserved
 unfolding text
-loop-i-preserved c = (owes-less c.loop-i.invariant.0 (candidates-turn c.args.texts.now c.args.types.now c.args.words.now c.args.starts.now (omega arith) c.word_at-start.ensures) (c.put_separator-at.ensures and_then c.put_candidate-at.ensures), search rules)
+loop-i-preserved c =
+    let e = candidates-turn c.args.texts.now c.args.types.now c.args.words.now c.args.starts.now {i = c.loop-i.i} (omega arith) c.word_at.ensures in grind writing
 
 pub returns : goal.returns
-returns c = c.loop-i.invariant.0.ends (writes_as (candidates-end c.args.texts.now c.args.types.now c.args.words.now c.args.starts.now (omega arith)) c.put_at.ensures)
+returns c = let e = candidates-end c.args.texts.now c.args.types.now c.args.words.now c.args.starts.now {i = c.loop-i.i} (omega arith) in grind writing

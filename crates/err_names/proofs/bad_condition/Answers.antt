@@ -1,10 +1,14 @@
 -- `err_names::bad_condition` meets its contract: its text, its span and its record, one after the other. Assumes nothing.
-use Rattle.display.specs.WritingLaws.{◌and_then◌}
+use borrow.Author.Rules.{rules}
 use Rattle.tok.specs.Text.{text}
+use Rattle.display.specs.WritingLaws.{both}
 use Rattle.err.specs.Message.{bad_condition}
 use Rattle.err_text.specs.RestLaws.{tells-rest-alone}
 use Rattle.err_names.proofs.bad_condition.Goals as goal
 
 pub returns : goal.returns
 unfolding bad_condition text
-returns c = tells-rest-alone (c.put_at-a.ensures and_then c.show_type-b.ensures and_then c.put_at-c.ensures) c.token_span.ensures (c.report.ensures.six_words, c.report.ensures.answer)
+returns c =
+    let to_b = both _ _ _ _ c.put-a.ensures.1 c.show_type.ensures.1 c.and-b.ensures in
+    let to_c = both _ _ _ _ to_b c.put.ensures.1 c.and-c.ensures in
+    tells-rest-alone c.new-out.ensures.from_the_start to_c (search rules) c.token_span.ensures (c.report.ensures.six_words, c.report.ensures.answer)

@@ -1,14 +1,16 @@
 -- `err_names::bad_return` meets its contract: its text, its span and its record, one after the other. Assumes nothing.
-use Rattle.display.specs.WritingLaws.{◌and_then◌}
+use borrow.Author.Rules.{rules}
 use Rattle.tok.specs.Text.{text}
-use Rattle.display.specs.WritingLaws.{writes-length}
+use Rattle.display.specs.WritingLaws.{both}
 use Rattle.err.specs.Message.{bad_return}
 use Rattle.err_text.specs.RestLaws.{tells-rest-alone}
 use Rattle.err_names.proofs.bad_return.Goals as goal
 
-pub shape_of-rest : goal.shape_of-rest
-shape_of-rest c = writes-length (c.put_ticked-a.ensures and_then c.put_at-b.ensures and_then c.show_type-c.ensures and_then c.put_at-d.ensures and_then c.show_type-e.ensures)
-
 pub returns : goal.returns
 unfolding bad_return text
-returns c = tells-rest-alone (c.put_ticked-a.ensures and_then c.put_at-b.ensures and_then c.show_type-c.ensures and_then c.put_at-d.ensures and_then c.show_type-e.ensures) c.token_span.ensures (c.report.ensures.six_words, c.report.ensures.answer)
+returns c =
+    let to_b = both _ _ _ _ c.put_ticked-a.ensures.1 c.put.ensures.1 c.and-b.ensures in
+    let to_c = both _ _ _ _ to_b c.show_type.ensures.1 c.and-c.ensures in
+    let to_d = both _ _ _ _ to_c c.put-2.ensures.1 c.and-d.ensures in
+    let to_e = both _ _ _ _ to_d c.show_type-2.ensures.1 c.and-e.ensures in
+    tells-rest-alone c.new-out.ensures.from_the_start to_e (search rules) c.token_span.ensures (c.report.ensures.six_words, c.report.ensures.answer)

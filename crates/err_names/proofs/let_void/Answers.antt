@@ -1,4 +1,5 @@
 -- `err_names::let_void` meets its contract: its text, its span and its record, one after the other. Assumes nothing.
+use borrow.Author.Rules.{rules}
 use Rattle.tok.specs.Text.{text}
 use Rattle.err.specs.Message.{let_void}
 use Rattle.err_text.specs.RestLaws.{tells-rest-alone}
@@ -6,4 +7,4 @@ use Rattle.err_names.proofs.let_void.Goals as goal
 
 pub returns : goal.returns
 unfolding let_void text
-returns c = tells-rest-alone (c.put_at-a.ensures) c.token_span.ensures (c.report.ensures.six_words, c.report.ensures.answer)
+returns c = tells-rest-alone c.new-out.ensures.from_the_start (c.put-a.ensures.1) (search rules) c.token_span.ensures (c.report.ensures.six_words, c.report.ensures.answer)

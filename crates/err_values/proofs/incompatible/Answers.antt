@@ -1,15 +1,18 @@
 -- `err_values::incompatible` meets its contract: its text, its span and its record, one after the other. Assumes nothing.
-use Rattle.display.specs.WritingLaws.{◌and_then◌}
-use mathlib.Core.Path.{sym, ap}
+use borrow.Author.Rules.{rules}
 use Rattle.tok.specs.Text.{text}
-use Rattle.display.specs.WritingLaws.{writes-length, writes_as}
-use Rattle.err.specs.Message.{incompatible, wanted_both}
+use Rattle.display.specs.WritingLaws.{both}
+use Rattle.err.specs.Message.{incompatible}
 use Rattle.err_text.specs.RestLaws.{tells-rest-alone}
 use Rattle.err_values.proofs.incompatible.Goals as goal
 
-pub shape_of-rest : goal.shape_of-rest
-shape_of-rest c = writes-length (c.put_at-a.ensures and_then c.show_type-b.ensures and_then c.put_at-c.ensures and_then c.show_type-d.ensures and_then c.put_at-e.ensures and_then c.put_operator-f.ensures and_then (writes_as (ap wanted_both (sym c.class_of.ensures)) c.put_wanted_both-g.ensures))
-
 pub returns : goal.returns
 unfolding incompatible text
-returns c = tells-rest-alone (c.put_at-a.ensures and_then c.show_type-b.ensures and_then c.put_at-c.ensures and_then c.show_type-d.ensures and_then c.put_at-e.ensures and_then c.put_operator-f.ensures and_then (writes_as (ap wanted_both (sym c.class_of.ensures)) c.put_wanted_both-g.ensures)) c.token_span.ensures (c.report.ensures.six_words, c.report.ensures.answer)
+returns c =
+    let to_b = both _ _ _ _ c.put-a.ensures.1 c.show_type.ensures.1 c.and-b.ensures in
+    let to_c = both _ _ _ _ to_b c.put.ensures.1 c.and-c.ensures in
+    let to_d = both _ _ _ _ to_c c.show_type-2.ensures.1 c.and-d.ensures in
+    let to_e = both _ _ _ _ to_d c.put-2.ensures.1 c.and-e.ensures in
+    let to_f = both _ _ _ _ to_e c.put_operator.ensures.1 c.and-f.ensures in
+    let to_g = both _ _ _ _ to_f (rw c.class_of.ensures at c.put_wanted_both.ensures.1) c.and-g.ensures in
+    tells-rest-alone c.new-out.ensures.from_the_start to_g (search rules) c.token_span.ensures (c.report.ensures.six_words, c.report.ensures.answer)

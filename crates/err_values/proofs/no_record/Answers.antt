@@ -1,9 +1,13 @@
 -- `err_values::no_record` meets its contract: its text, its span and its record, one after the other. Assumes nothing.
+use borrow.Author.Rules.{rules}
 use Rattle.tok.specs.Text.{text}
+use Rattle.display.specs.WritingLaws.{both}
 use Rattle.err.specs.Message.{no_record}
 use Rattle.err_text.specs.RestLaws.{tells-shown}
 use Rattle.err_values.proofs.no_record.Goals as goal
 
 pub returns : goal.returns
 unfolding no_record text
-returns c = tells-shown c.show_type-a.ensures c.put_at-b.ensures c.token_span.ensures (c.report.ensures.six_words, c.report.ensures.answer)
+returns c =
+    let to_b = both _ _ _ _ c.show_type-a.ensures.1 c.put.ensures.1 c.and-b.ensures in
+    tells-shown _ _ _ c.new-out.ensures.from_the_start to_b (search rules) c.token_span.ensures (c.report.ensures.six_words, c.report.ensures.answer)

@@ -1,14 +1,15 @@
 -- `err_values::redundant_cast` meets its contract: both its texts, its span and its record, one after the other. Assumes nothing.
-use Rattle.display.specs.WritingLaws.{◌and_then◌}
+use borrow.Author.Rules.{rules}
 use Rattle.tok.specs.Text.{text}
-use Rattle.display.specs.WritingLaws.{writes-length}
+use Rattle.display.specs.WritingLaws.{both}
 use Rattle.err.specs.Message.{redundant_cast}
 use Rattle.err_text.specs.RestLaws.{tells-rest}
 use Rattle.err_values.proofs.redundant_cast.Goals as goal
 
-pub shape_of-rest : goal.shape_of-rest
-shape_of-rest c = writes-length (c.put_at-a.ensures and_then c.show_type-b.ensures and_then c.put_at-c.ensures and_then c.show_type-d.ensures and_then (c.put_at-e.ensures))
-
 pub returns : goal.returns
 unfolding redundant_cast text
-returns c = tells-rest (c.put_at-a.ensures and_then c.show_type-b.ensures and_then c.put_at-c.ensures and_then c.show_type-d.ensures) (c.put_at-e.ensures) c.token_span.ensures (c.report.ensures.six_words, c.report.ensures.answer)
+returns c =
+    let to_b = both _ _ _ _ c.put-a.ensures.1 c.show_type.ensures.1 c.and-b.ensures in
+    let to_c = both _ _ _ _ to_b c.put.ensures.1 c.and-c.ensures in
+    let to_d = both _ _ _ _ to_c c.show_type-2.ensures.1 c.and-d.ensures in
+    tells-rest c.new-out.ensures.from_the_start to_d (both _ _ _ _ to_d c.put-e.ensures.1 c.and.ensures) (search rules) c.token_span.ensures (c.report.ensures.six_words, c.report.ensures.answer)

@@ -1,12 +1,16 @@
 -- `err_values::unsupported` meets its contract: its text, its span and its record, one after the other. Assumes nothing.
-use Rattle.display.specs.WritingLaws.{◌and_then◌}
-use mathlib.Core.Path.{sym, ap}
+use borrow.Author.Rules.{rules}
 use Rattle.tok.specs.Text.{text}
-use Rattle.display.specs.WritingLaws.{writes_as}
-use Rattle.err.specs.Message.{unsupported, wanted}
+use Rattle.display.specs.WritingLaws.{both}
+use Rattle.err.specs.Message.{unsupported}
 use Rattle.err_text.specs.RestLaws.{tells-rest-alone}
 use Rattle.err_values.proofs.unsupported.Goals as goal
 
 pub returns : goal.returns
 unfolding unsupported text
-returns c = tells-rest-alone (c.put_at-a.ensures and_then c.show_type-b.ensures and_then c.put_at-c.ensures and_then c.put_operator-d.ensures and_then (writes_as (ap wanted (sym c.class_of.ensures)) c.put_wanted-e.ensures)) c.token_span.ensures (c.report.ensures.six_words, c.report.ensures.answer)
+returns c =
+    let to_b = both _ _ _ _ c.put-a.ensures.1 c.show_type.ensures.1 c.and-b.ensures in
+    let to_c = both _ _ _ _ to_b c.put.ensures.1 c.and-c.ensures in
+    let to_d = both _ _ _ _ to_c c.put_operator.ensures.1 c.and-d.ensures in
+    let to_e = both _ _ _ _ to_d (rw c.class_of.ensures at c.put_wanted.ensures.1) c.and-e.ensures in
+    tells-rest-alone c.new-out.ensures.from_the_start to_e (search rules) c.token_span.ensures (c.report.ensures.six_words, c.report.ensures.answer)

@@ -1,13 +1,11 @@
 -- `fields::make` meets its contract: one law for each return. Assumes nothing.
+use Rattle.visiting.specs.Then.{passed_on}
 use Rattle.fields.proofs.Returns.{made_closed, made-refused}
 use Rattle.fields.proofs.make.Goals as goal
 
--- src/lib.rt:137:13
-pub returns-in-Word : goal.returns-in-Word
-returns-in-Word c =
-    made_closed c.args.n c.args.count c.args.st c.args.image.now _ c.args.at c.open-opened.ensures _ c.in-Word.is c.payload-to.ensures c.set_pairs.ensures c.close.ensures
+pub returns-in_err-word : goal.returns-in_err-word
+returns-in_err-word c = λ T words f d m e o. passed_on c.from_residual.ensures.1
+    (made-refused c.args.n c.args.count c.args.st c.args.image.now _ c.args.at _ c.in_err-word.ensures T words f d m e o)
 
--- src/lib.rt:140:13
-pub returns-in-Refused : goal.returns-in-Refused
-returns-in-Refused c =
-    made-refused c.args.n c.args.count c.args.st c.args.image.now _ c.args.at c.open-opened.ensures _ c.in-Refused.is
+pub returns : goal.returns
+returns c = made_closed c.args.n c.args.count c.args.st c.args.image.now _ c.args.at _ c.in_ok-word.ensures c.payload-to.ensures c.set_pairs.ensures c.close.ensures

@@ -1,5 +1,4 @@
-use Prim.Native.Nat.{◌-◌}
-use mathlib.Core.Path.{refl, ap, ◌∙◌}
+use mathlib.Core.Path.{refl, ◌∙◌}
 use native.Mathlib.Omega.{arith}
 use Rattle.fields.proofs.Returns.{none-set, one_set, value-ready, all_set}
 use Rattle.fields.proofs.set_pairs.Goals as goal

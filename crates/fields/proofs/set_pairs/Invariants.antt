@@ -1,5 +1,5 @@
 -- `fields::set_pairs` meets its contract. The loop's invariant, `Paired`: i pairs are set; the measure is how many are left. Assumes nothing.
-use Prim.Native.Nat.{◌-◌, ◌≤◌}
+use Prim.Native.Nat.{◌≤◌}
 use mathlib.Core.Path.{◌≡◌}
 use lib.ListN.{length}
 use Rattle.fields.proofs.Returns.{Paired}

@@ -1,5 +1,4 @@
 -- `functions::copy_pairs` meets its contract. The loop's invariant: k pairs are copied. Assumes nothing.
-use Prim.Native.Nat.{◌-◌, ◌≤◌}
 use mathlib.Core.Path.{◌≡◌}
 use Rattle.ptype.specs.Add.{write}
 use Rattle.library.specs.Package.{params_from}
@@ -8,4 +7,4 @@ use Rattle.functions.specs.Entering.{CopyRoom}
 use Rattle.functions.proofs.copy_pairs.Given as goal
 
 abbrev pub invariant-loop-k : goal.invariant-loop-k
-invariant-loop-k l = CopyRoom l.initial.functions l.at l.from l.count × ((l.k ≤ l.count) × (l.functions ≡ write l.initial.functions l.at (pairs_of (params_from l.scratch l.from l.k))))
+invariant-loop-k l = CopyRoom l.initial.functions l.at l.from l.count × (l.functions ≡ write l.initial.functions l.at (pairs_of (params_from l.scratch l.from l.k)))

@@ -1,10 +1,21 @@
 -- `group_select::none_fits` meets its contract: 18 is told, or there is no room for it (9). Assumes nothing.
+use Rattle.std.proofs.Common.{sym, ◌∙◌}
 use Rattle.err_text.specs.RestLaws.{told_in_whole}
-use Rattle.group_select.proofs.Returns.{fits_told, fits_refused}
+use Rattle.rules.specs.Calls.{common_return}
+use Rattle.state.specs.Context.{ctx}
+use Rattle.state.specs.Reporting.{reports_step, on-ok, on-err}
 use Rattle.group_select.proofs.none_fits.Goals as goal
 
-pub returns-in-On : goal.returns-in-On
-returns-in-On c = fits_told _ _ _ _ _ _ _ _ _ _ _ (told_in_whole _ c.first_free-free.ensures c.no_specialisation-r.ensures) c.told-went.ensures c.in-On.is c.common_return.ensures
+pub returns-in_err-used : goal.returns-in_err-used
+returns-in_err-used c = record {
+  of = λ f others q library void.
+      on-err (λ _. common_return (ctx c.args.texts.now library void) c.args.slot f others)
+      (reports_step c.args.n (told_in_whole _ c.first_free-free.ensures c.no_specialisation-r.ensures)) (sym c.told.ensures ∙ c.in_err-used.was) c.from_residual.ensures.1;
+}
 
-pub returns-in-Refused : goal.returns-in-Refused
-returns-in-Refused c = fits_refused _ _ _ _ _ _ _ _ _ _ _ (told_in_whole _ c.first_free-free.ensures c.no_specialisation-r.ensures) c.told-went.ensures c.in-Refused.is
+pub returns : goal.returns
+returns c = record {
+  of = λ f others q library void.
+      on-ok (λ _. common_return (ctx c.args.texts.now library void) c.args.slot f others)
+      (reports_step c.args.n (told_in_whole _ c.first_free-free.ensures c.no_specialisation-r.ensures)) (sym c.told.ensures ∙ c.in_ok-used.was) (c.common_return.ensures.of f others q library void _ _);
+}

@@ -3,7 +3,7 @@ use Rattle.group_select.proofs.Candidates.{candidate_in, candidate_past}
 use Rattle.group_select.proofs.put_candidate.Goals as goal
 
 pub returns-then-at-words : goal.returns-then-at-words
-returns-then-at-words c = candidate_in _ _ _ _ c.if-at-words.true c.show_arg_types.ensures
+returns-then-at-words c = λ f. rw (candidate_in c.args.texts.now c.args.types.now c.args.words.now c.args.at c.if-at-words.true f) c.show_arg_types.ensures
 
 pub returns : goal.returns
-returns c = candidate_past _ _ _ _ c.if-at-words.false c.put_at.ensures
+returns c = λ f. rw (candidate_past c.args.texts.now c.args.types.now c.args.words.now c.args.at c.if-at-words.false f) c.put.ensures

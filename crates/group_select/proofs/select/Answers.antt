@@ -5,8 +5,8 @@ use Rattle.group_select.proofs.select.Goals as goal
 pub returns-then-poisoned : goal.returns-then-poisoned
 returns-then-poisoned c = select-poisoned _ _ _ _ _ _ _ _ _ _ _ c.if-poisoned.true c.common_return.ensures
 
-pub returns-in-Some : goal.returns-in-Some
-returns-in-Some c = select-taken _ _ _ _ _ _ _ _ _ _ _ c.if-poisoned.false _ c.position-taken.ensures c.in-Some.is c.return_type-ret.ensures c.set_known.ensures
+pub returns : goal.returns
+returns c = select-taken _ _ _ _ _ _ _ _ _ _ _ c.if-poisoned.false _ c.position-taken.ensures c.in-Some.is c.return_type-ret.ensures c.set_known.ensures
 
-pub returns-in-None : goal.returns-in-None
-returns-in-None c = select-none _ _ _ _ _ _ _ _ _ _ _ c.if-poisoned.false _ c.position-taken.ensures c.in-None.is c.none_fits.ensures
+pub returns-in_default : goal.returns-in_default
+returns-in_default c = select-none _ _ _ _ _ _ _ _ _ _ _ c.if-poisoned.false _ c.position-taken.ensures c.in_default.is c.none_fits.ensures

@@ -1,27 +1,15 @@
--- `image::read` meets its contract: the parts of the image one after the other (`Whole`). Assumes nothing.
-use Prim.Native.Nat.{◌*◌}
-use mathlib.Core.Path.{refl}
-use lib.Dec.{leb}
-use borrow.Author.Tests.{leb-true}
-use Rattle.image_words.specs.Leads.{owed, tried}
-use Rattle.image.proofs.Whole.{within, whole, image-stops, image-leads}
+-- `image::read` meets its contract: the fault of the whole is where its reading comes to. Assumes nothing.
+use mathlib.Core.Path.{sym}
+use Rattle.std.specs.Prelude.{Ok, Err}
+use Rattle.std.proofs.lemmas.Result.{err_from_is_err_and}
+use Rattle.tok.specs.Text.{texts_of}
+use Rattle.image.proofs.Limits.{read_fault}
 use Rattle.image.proofs.read.Goals as goal
 
-pub returns-then-stopped : goal.returns-then-stopped
-returns-then-stopped c = λ library. whole _ library _ _ _ _ c.begin-at.ensures (image-stops _ library _ _ _ (owed _ _ _ (λ k. leb k 2048) (λ k. 3 * k) _ _ _ c.next_word-n.ensures refl refl c.owing-at.ensures) _ c.stopped.ensures c.if-stopped.true) c.conclude.ensures
-
-pub nodes-at-requires : goal.nodes-at-requires
-nodes-at-requires c = leb-true _ 2048 (within _ _ _ _ _ _ c.owing-at.ensures _ c.stopped.ensures c.if-stopped.false)
+pub returns-in_err-whole : goal.returns-in_err-whole
+returns-in_err-whole c = λ library.
+    let p = err_from_is_err_and c.from_residual-in_err-whole.result c.from_residual-in_err-whole.ensures.1 in
+    rw (p.1, p.2) (read_fault (texts_of c.args.script.now library) c.args.words.now c.in_ok-at.at (Err c.in_err-whole.field-0.0) (sym c.in_ok-at.ensures) (c.in_err-whole.ensures library))
 
 pub returns : goal.returns
-returns c = λ library.
-    whole _ library _ _ _ _ c.begin-at.ensures
-    (image-leads _ library _ _ _ (owed _ _ _ (λ k. leb k 2048) (λ k. 3 * k) _ _ _ c.next_word-n.ensures refl refl c.owing-at.ensures) _ _ _ _ _ _ _ _ _
-    (owed _ _ _ (λ k. leb k 512) (λ k. 2 * k) _ _ _ c.next_word-t.ensures refl refl c.owing-at-2.ensures)
-    (owed _ _ _ (λ k. leb k 512) (λ k. k) _ _ _ c.next_word-r.ensures refl refl c.owing-at-3.ensures)
-    (tried _ _ _ (λ k. leb k 4096) _ _ c.next_word-v.ensures refl c.word-at.ensures)
-    c.numbers-at.ensures
-    c.nodes-at.ensures
-    (c.type_expressions-at.ensures _ _ _)
-    c.ends.ensures)
-    c.conclude-2.ensures
+returns c = λ library. read_fault (texts_of c.args.script.now library) c.args.words.now c.in_ok-at.at (Ok _) (sym c.in_ok-at.ensures) (c.in_ok-whole.ensures library)

@@ -1,8 +1,22 @@
--- `image_nodes::function` meets its contract: its words one after the other (`Rows`). Assumes nothing.
-use Rattle.image_words.specs.Leads.{tried}
-use Rattle.image_nodes.proofs.Rows.{fn-leads}
-use Rattle.image_nodes.proofs.Tests.{twice-less}
+-- `image_nodes::function` meets its contract: its words one after the other. Assumes nothing.
+use Prim.Native.Nat.{◌-◌, ◌*◌}
+use mathlib.Core.Path.{refl, ap, ◌∙◌}
+use Rattle.std.specs.Prelude.{Ok}
+use Rattle.reader.specs.Reading.{gave}
+use Rattle.reader.specs.Laws.{owed}
+use Rattle.ast.specs.Outline.{typed_name}
+use Rattle.ast.specs.NodeRecords.{fn, good_arguments}
+use Rattle.image_words.specs.Leads.{unanswered}
+use Rattle.image_words.specs.LeadLaws.{leads_last, leads_then}
+use Rattle.image_nodes.specs.Site.{here_of}
 use Rattle.image_nodes.proofs.function.Goals as goal
 
 pub returns : goal.returns
-returns c = λ before. fn-leads _ _ _ _ _ _ _ _ _ c.token-at.ensures c.below-at.ensures (tried _ _ _ _ _ _ c.next_word-n.ensures (c.arguments_fit.ensures _ before) c.word-at.ensures) c.pairs-at.ensures (twice-less _ _ _ _ c.saturating_sub-body.ensures c.saturating_sub-2.ensures c.saturating_sub.ensures) c.numbers.ensures
+unfolding fn typed_name gave unanswered
+returns c = λ before.
+    let h = here_of c.args.script.now before c.args.site in
+    let counted = owed (good_arguments h) (λ _. 0) c.args.words.now c.in_ok-at-2.at (Ok c.in_ok-at-3.at) c.next_word-n.result 0 c.arguments_fit.result
+    c.next_word-n.ensures (c.arguments_fit.ensures c.args.script.now before) refl c.in_ok-at-3.ensures in
+    let body = c.saturating_sub-body.ensures ∙ ap (λ l. l - 2 * c.next_word-n.result) c.saturating_sub.ensures in
+    rw (c.in_ok-at.ensures, c.in_ok-at-2.ensures, counted)
+    (leads_then _ _ _ _ _ c.in_ok-at-4.ensures (λ _. leads_last _ _ ∙ rw body at c.numbers.ensures))

@@ -1,17 +1,24 @@
-use mathlib.Core.Path.{refl}
-use Rattle.image_words.specs.Leads.{leads-fault, tried}
-use Rattle.image_nodes.proofs.Loops.{functions-one, functions-none}
-use Rattle.image_nodes.proofs.Tests.{twice-less}
+use Prim.Native.Nat.{◌-◌, ◌*◌}
+use mathlib.Core.Path.{refl, sym, ap, ◌∙◌}
+use Rattle.std.specs.Prelude.{Ok}
+use Rattle.reader.specs.Reading.{onward, gave}
+use Rattle.reader.specs.Laws.{owed}
+use Rattle.ast.specs.Outline.{typed_name}
+use Rattle.ast.specs.NodeRecords.{extern_functions, good_extern_count}
+use Rattle.image_words.specs.Leads.{unanswered}
+use Rattle.image_words.specs.LeadLaws.{leads_on}
+use Rattle.image_nodes.specs.Site.{here_of}
+use Rattle.image_nodes.proofs.Loops.{functions_some}
 use Rattle.image_nodes.proofs.functions.Goals as goal
 
-pub loop-others-init : goal.loop-others-init
-loop-others-init c = λ before end l. l
-
-pub returns-then-stopped : goal.returns-then-stopped
-returns-then-stopped c = λ before. c.loop-others.invariant before _ (leads-fault tt _ _ c.stopped.ensures c.if-stopped.true)
-
 pub loop-others-preserved : goal.loop-others-preserved
-loop-others-preserved c = λ before end l. c.loop-others.invariant before end (functions-one _ _ _ _ _ _ _ _ _ _ _ _ c.loop-others-test.true c.token-to.ensures c.below-to.ensures c.saturating_sub-room.ensures (tried _ _ _ _ _ _ c.next_word-n.ensures c.function_fits.ensures c.word-to.ensures) c.pairs-to.ensures (twice-less _ _ _ _ c.saturating_sub-room-in-loop-others.ensures c.saturating_sub.ensures refl) l)
-
-pub returns : goal.returns
-returns c = λ before. c.loop-others.invariant before _ (functions-none _ _ _ c.loop-others-test.false)
+unfolding typed_name gave unanswered
+loop-others-preserved c = λ before.
+    let h = here_of c.args.script.now before c.args.site in
+    let k = c.loop-others.others - 1 in
+    let counted = owed (good_extern_count k (c.loop-others.room - 3)) (λ _. 0) c.args.words.now c.in_ok-to-2.to (Ok c.in_ok-to-3.to) c.next_word-n.result 0 c.function_fits.result
+    c.next_word-n.ensures (c.function_fits.ensures ∙ ap (λ room. good_extern_count k room c.next_word-n.result) c.saturating_sub-room.ensures) refl c.in_ok-to-3.ensures in
+    let room = c.saturating_sub-room-in-loop-others.ensures ∙ ap (λ l. l - 2 * c.next_word-n.result) c.saturating_sub-room.ensures in
+    sym (rw (functions_some h c.loop-others.others c.loop-others.room c.loop-others-test.true, c.in_ok-to.ensures, c.in_ok-to-2.ensures, counted)
+    (leads_on c.args.words.now _ _ c.in_ok-to-4.to _ c.in_ok-to-4.ensures (λ _. ap (λ left. unanswered (onward c.args.words.now c.in_ok-to-4.to (extern_functions h k left))) (sym room))))
+    ∙ c.loop-others.invariant before

@@ -1,11 +1,12 @@
 -- `image_nodes::functions` meets its contract: what the functions that are left lead to, all lead to (`Loops`). Assumes nothing.
+use mathlib.Core.Path.{◌≡◌}
 use mathlib.Core.List.{List}
-use Rattle.reader.specs.declared.Reading.{Reading}
+use Rattle.reader.specs.Reading.{onward}
 use Rattle.ast.specs.Outline.{Outline}
 use Rattle.ast.specs.NodeRecords.{extern_functions}
-use Rattle.image_words.specs.Leads.{Leads}
+use Rattle.image_words.specs.Leads.{unanswered}
 use Rattle.image_nodes.specs.Site.{here_of}
 use Rattle.image_nodes.proofs.functions.Given as goal
 
 abbrev pub invariant-loop-others : goal.invariant-loop-others
-invariant-loop-others l = (before : List Outline) (end : Reading) → Leads l.words l.to (extern_functions (here_of l.script before l.site) l.others l.room) end → Leads l.words l.initial.to (extern_functions (here_of l.script before l.site) l.count l.left) end
+invariant-loop-others l = (before : List Outline) → unanswered (onward l.words l.to (extern_functions (here_of l.script before l.site) l.others l.room)) ≡ unanswered (onward l.words l.initial.to (extern_functions (here_of l.script before l.site) l.count l.left))

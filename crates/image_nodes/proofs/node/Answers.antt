@@ -1,19 +1,22 @@
--- `image_nodes::node` meets its contract: head, slot and rest (`Heads`); the answer is the outline that stands there (image_laws: `any_node`). Assumes nothing.
+-- `image_nodes::node` meets its contract: head, slot and rest; the answer is the outline that stands there (image_laws: `any_node`). Assumes nothing.
 use Prim.Native.Nat.{◌-◌}
 use mathlib.Core.Path.{sym, ap, ◌∙◌}
+use Rattle.tok.specs.Word.{payload_of}
+use Rattle.std.specs.Prelude.{Ok}
 use Rattle.reader.specs.Reading.{gave}
-use Rattle.image_laws.specs.Gives.{gives-there}
+use Rattle.reader.specs.Laws.{owed}
+use Rattle.ast.specs.Nodes.{node, good_node_head}
 use Rattle.image_laws.proofs.NodeLaws.{any_node}
-use Rattle.image_words.specs.Leads.{owed}
-use Rattle.image_nodes.proofs.Heads.{node-leads}
+use Rattle.image_words.specs.Leads.{unanswered}
+use Rattle.image_words.specs.LeadLaws.{leads_there}
+use Rattle.image_nodes.specs.Site.{counts_of}
 use Rattle.image_nodes.proofs.node.Goals as goal
 
 pub returns : goal.returns
+unfolding node gave unanswered
 returns c = λ before kept.
-    gives-there _ _ _ _ _ _ _ _ (any_node _ before _ _ _)
-    (node-leads _ before _ _ _ _ _ _ _
-    (owed _ _ _ _ _ _ _ _ c.next_word-head.ensures c.good_head.ensures (c.saturating_sub.ensures ∙ ap (λ n. n - 3) c.payload-long.ensures) c.owing-at.ensures)
-    (c.below-at.ensures ∙ ap (λ a. gave c.args.words.now a c.below-at.result) (sym c.next_word-slot.ensures))
-    (c.kind.ensures)
-    (c.saturating_sub-2.ensures ∙ ap (λ n. n - 2) c.payload-long.ensures)
-    (c.rest.ensures _ before (sym (c.kind.ensures)) kept)).led
+    let head = owed good_node_head (λ w. payload_of w - 3) c.args.words.now c.args.from (Ok c.in_ok-at.at) c.next_word-head.result c.saturating_sub.result c.good_head.result
+    c.next_word-head.ensures c.good_head.ensures (c.saturating_sub.ensures ∙ ap (λ n. n - 3) c.payload-long.ensures) c.in_ok-at.ensures in
+    let left = c.saturating_sub-2.ensures ∙ ap (λ n. n - 2) c.payload-long.ensures in
+    leads_there _ _ _ _ _ _ (any_node (counts_of c.args.script.now c.args.sizes) before c.args.words.now c.args.number c.args.from.at c.args.from.least)
+    (rw (head, c.in_ok-at-2.ensures, ← c.next_word-slot.ensures) (rw (c.kind.ensures, left) at (c.rest.ensures c.next_word-head.result before (sym c.kind.ensures) kept)))

@@ -1,18 +1,17 @@
-use mathlib.Core.List.{[]}
+use mathlib.Core.Path.{sym, ◌∙◌}
 use native.Mathlib.Omega.{arith}
-use native.Mathlib.Numerals.{unary_clauses}
-use Rattle.image_words.specs.Leads.{leads-fault}
-use Rattle.image_words.proofs.Lists.{many-none, many-one}
+use Rattle.std.proofs.lemmas.Result.{err_from_is_err_and}
+use Rattle.image_words.specs.LeadLaws.{leads_word}
+use Rattle.image_words.proofs.Lists.{rest_none, rest_one, rest_stops}
 use Rattle.image_words.proofs.numbers.Goals as goal
 
-pub loop-init : goal.loop-init
-loop-init c = λ end l. simp unary_clauses at l
-
-pub returns-then-stopped : goal.returns-then-stopped
-returns-then-stopped c = c.loop.invariant _ (leads-fault [] _ _ c.stopped.ensures c.if-stopped.true)
+pub returns-in_err-to : goal.returns-in_err-to
+returns-in_err-to c =
+    let p = err_from_is_err_and c.from_residual.result c.from_residual.ensures.1 in
+    rw (p.1, p.2) (sym c.loop.invariant ∙ rest_stops _ _ _ _ _ (omega arith) (leads_word _ _ _ _ c.in_err-to.ensures))
 
 pub loop-preserved : goal.loop-preserved
-loop-preserved c = λ end l. c.loop.invariant end (many-one _ _ _ (omega arith) (record { answer = _; led = c.below-to.ensures }) l)
+loop-preserved c = rest_one _ _ _ _ _ _ (omega arith) (leads_word _ _ _ _ c.in_ok-to.ensures) ∙ c.loop.invariant
 
 pub returns : goal.returns
-returns c = c.loop.invariant _ (many-none _ _ (omega arith))
+returns c = sym c.loop.invariant ∙ rest_none _ _ _ _ (omega arith)

@@ -1,8 +1,9 @@
--- `library_pool::fields` meets its contract. The loop's invariant, `FieldsLeft`: all fields are read as those that are left are, from where the loop stands.
--- Assumes nothing.
-use Rattle.std.proofs.Common.{◌+◌, ◌-◌, ◌*◌}
-use Rattle.library_pool.proofs.PoolWays.{FieldsLeft}
+-- `library_pool::fields` meets its contract: all fields are read as those that are left are, from where the loop stands. Assumes nothing.
+use Rattle.std.proofs.Common.{◌≡◌, ℕ, List, ◌+◌, ◌-◌, ◌*◌}
+use Rattle.tok.specs.Text.{texts_of}
+use Rattle.reader.specs.Reading.{onward}
+use Rattle.library.specs.Pool.{pool_at, fields}
 use Rattle.library_pool.proofs.fields.Given as goal
 
 abbrev pub invariant-loop-k : goal.invariant-loop-k
-invariant-loop-k l = FieldsLeft l.library l.words l.pool l.n l.i l.initial.c l.c (l.n - l.k) (l.i + 2 * l.k)
+invariant-loop-k l = (script : List ℕ) (size : ℕ) → onward l.words l.to (fields (pool_at (texts_of script l.library) size l.pool) (l.n - l.k) (l.i + 2 * l.k)) ≡ onward l.words l.initial.to (fields (pool_at (texts_of script l.library) size l.pool) l.n l.i)

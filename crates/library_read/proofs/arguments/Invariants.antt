@@ -9,4 +9,4 @@ use Rattle.library_read.proofs.RecordWays.{ArgumentsRead}
 use Rattle.library_read.proofs.arguments.Given as goal
 
 abbrev pub invariant-loop : goal.invariant-loop
-invariant-loop l = (script : List ℕ) → Ready (texts_of script l.library) l.pool l.sums → ArgumentsRead (pool_in (texts_of script l.library) l.pool) l.words l.flag l.initial.c l.c l.counter
+invariant-loop l = (script : List ℕ) → Ready (texts_of script l.library) l.pool l.sums → ArgumentsRead (pool_in (texts_of script l.library) l.pool) l.words l.flag l.initial.to l.to l.counter

@@ -1,7 +1,6 @@
 -- `library_read::group_slotted` meets its contract. The loop's invariant, `SlotsLeft`: no candidate so far has slots. The measure is how many
 -- candidates are left. Assumes nothing.
 use lib.ListN.{length}
-use Rattle.tok.specs.Text.{texts_of}
 use Rattle.library.specs.Package.{functions_from, group_of}
 use Rattle.library_read.proofs.GroupWays.{SlotsLeft}
 use Rattle.library_read.proofs.group_slotted.Given as goal

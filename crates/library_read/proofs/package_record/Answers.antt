@@ -1,9 +1,22 @@
 -- `library_read::package_record` meets its contract: three rules, one after another. Assumes nothing.
 use Rattle.std.proofs.Common.{◌≡◌, refl, ap}
-use Rattle.library_read.proofs.RecordWays.{package_by}
+use Rattle.std.proofs.lemmas.Result.{err_from_is_err_and}
+use Rattle.library_read.proofs.RecordWays.{name_stops, function_count_stops, package_by}
 use Rattle.library_read.proofs.package_record.Goals as goal
+
+pub returns-in_err-at : goal.returns-in_err-at
+returns-in_err-at c =
+    let e : c.texts.inside.library.now ≡ c.args.texts.now.library = ap (λ t. t.library) c.texts.view_is in
+    let p = err_from_is_err_and c.from_residual.result c.from_residual.ensures.1 in
+    λ r o. rw (p.1, p.2) (name_stops _ _ _ _ (rw e at c.in_err-at.ensures))
+
+pub returns-in_err-at-2 : goal.returns-in_err-at-2
+returns-in_err-at-2 c =
+    let e : c.texts.inside.library.now ≡ c.args.texts.now.library = ap (λ t. t.library) c.texts.view_is in
+    let p = err_from_is_err_and c.from_residual-in_err-at-2.result c.from_residual-in_err-at-2.ensures.1 in
+    λ r o. rw (p.1, p.2) (function_count_stops _ _ _ _ (rw e at c.in_ok-at.ensures) _ _ c.next_word-count.ensures refl _ c.in_err-at-2.ensures)
 
 pub returns : goal.returns
 returns c =
     let e : c.texts.inside.library.now ≡ c.args.texts.now.library = ap (λ t. t.library) c.texts.view_is in
-    λ r o. package_by _ _ _ _ _ _ _ _ (rw e at c.name-c.ensures) c.next_word-count.ensures refl c.owing-d.ensures (c.function_records.ensures r o)
+    λ r o. package_by _ _ _ _ (rw e at c.in_ok-at.ensures) _ _ c.next_word-count.ensures refl _ _ c.in_ok-at-2.ensures (c.function_records.ensures r o)

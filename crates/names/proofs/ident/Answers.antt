@@ -1,16 +1,15 @@
 -- `names::ident` meets its contract: one law for each return. Assumes nothing.
-use Rattle.names.proofs.Returns.{ident-bound, ident-poisoned, ident-none}
 use Rattle.err_text.specs.RestLaws.{told_in_whole}
+use Rattle.names.proofs.Returns.{ident-bound, ident-poisoned, ident-none}
 use Rattle.names.proofs.ident.Goals as goal
 
--- src/lib.rt:81:13
 pub returns-in-Bound : goal.returns-in-Bound
-returns-in-Bound c = λ ls v words f t o. ident-bound _ c.args.n c.args.slot c.args.name _ c.args.st _ c.env_get-found.ensures c.in-Bound.is c.set_known.ensures c.answered.ensures ls v words f t _ _ o
+returns-in-Bound c = λ ls v words f t o. ident-bound _ c.args.n c.args.slot c.args.name _ c.env_get.ensures c.in-Bound.is c.set_known.ensures c.answered.ensures ls v words f t _ _ o
 
--- src/lib.rt:84:13
 pub returns-in-Poisoned : goal.returns-in-Poisoned
-returns-in-Poisoned c = λ ls v words f t o. ident-poisoned _ c.args.n c.args.slot c.args.name _ c.args.st _ c.env_get-found.ensures c.in-Poisoned.is ls v words _ f t _ _ o
+returns-in-Poisoned c = λ ls v words f t o. ident-poisoned _ c.args.n c.args.slot c.args.name _ c.env_get.ensures c.in-Poisoned.is ls v words _ f t _ _ o
 
--- src/lib.rt:89:13
 pub returns-in-Nothing : goal.returns-in-Nothing
-returns-in-Nothing c = λ ls v words f t o. ident-none _ c.args.n c.args.slot c.args.name _ c.args.st _ c.env_get-found.ensures c.in-Nothing.is (told_in_whole c.args.messages.now c.first_free-free.ensures c.no_binding-none.ensures) c.poisoned.ensures c.answered-in-Nothing.ensures ls v words _ f t o
+returns-in-Nothing c =
+    let told = told_in_whole c.args.messages.now c.first_free-free.ensures c.no_binding-none.ensures in
+    λ ls v words f t o. ident-none _ c.args.n c.args.slot c.args.name _ c.env_get.ensures c.in-Nothing.is told c.told.ensures c.answered-in-Nothing.ensures ls v words _ f t o

@@ -1,21 +1,17 @@
--- `operands::cast_begin` meets its contract: one law for each return. Assumes nothing.
-use borrow.Enum.Refused.{opened}
+-- `operands::cast_begin` meets its contract. Assumes nothing.
 use native.Mathlib.Omega.{arith}
-use Rattle.operands.proofs.Returns.{cast-refused, cast-word}
+use Rattle.std.proofs.Common.{ap, ◌∙◌}
+use Rattle.visit.specs.Plain.{visit_of}
+use Rattle.parameters.specs.Typing.{type-steps}
+use Rattle.operands.proofs.Returns.{cast-typed}
 use Rattle.operands.proofs.cast_begin.Goals as goal
 
--- src/lib.rt:203:31
 pub overflow_add-at : goal.overflow_add-at
 overflow_add-at c = omega (arith, c.requires.low)
 
--- src/lib.rt:204:9
 pub type_from_type_expr-added-requires : goal.type_from_type_expr-added-requires
 type_from_type_expr-added-requires c = rw c.word_at-expr.ensures c.requires.type
 
--- src/lib.rt:206:9
-pub returns-in_default : goal.returns-in_default
-returns-in_default c = cast-refused c.args.image.now c.args.n c.args.at c.args.st c.type_from_type_expr-added.result c.word_at-expr.ensures (record { result = c.type_from_type_expr-added.ensures }) (opened c.in_default.in_default-own.keys2) c.refusal_number.ensures
-
--- src/lib.rt:190:1
 pub returns : goal.returns
-returns c = cast-word c.args.image.now c.args.n c.args.at c.args.st c.type_from_type_expr-added.result c.word_at-expr.ensures (record { result = c.type_from_type_expr-added.ensures }) c.in-Put.is c.more_types.ensures
+returns c = cast-typed c.args.image.now c.args.n c.args.at c.args.st c.word_at-expr.ensures (λ T ls v. type-steps _ c.type_from_type_expr-added.result c.type_from_type_expr-added.ensures T ls v c.args.n)
+    (c.answered.ensures ∙ ap (visit_of c.args.st) c.added.ensures)

@@ -3,4 +3,4 @@ use Rattle.operators.proofs.Returns.{known-steps}
 use Rattle.operators.proofs.set_known.Goals as goal
 
 pub returns : goal.returns
-returns c = known-steps _ c.args.used c.args.slot c.args.word c.wide.ensures c.store.ensures
+returns c = known-steps _ c.args.used c.args.slot c.args.word c.store.ensures

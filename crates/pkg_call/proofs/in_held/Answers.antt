@@ -21,4 +21,4 @@ returns-in-Extern c =
 
 pub returns-in-Nothing : goal.returns-in-Nothing
 returns-in-Nothing c =
-    no_package _ _ _ _ _ _ _ _ _ _ _ _ _ _ _ _ _ c.find_held-found.ensures c.in-Nothing.is (told_in_whole _ c.first_free-free.ensures c.missing_package-r.ensures) c.poisoned.ensures
+    no_package _ _ _ _ _ _ _ _ _ _ _ _ _ _ _ _ _ c.find_held-found.ensures c.in-Nothing.is (told_in_whole _ c.first_free-free.ensures c.missing_package-r.ensures) c.told.ensures

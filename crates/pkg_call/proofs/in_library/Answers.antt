@@ -1,15 +1,14 @@
 -- `pkg_call::in_library` meets its contract: one function with slots, whose bindings stand in the lent tail of scratch, or a group.
 -- Assumes nothing.
-use borrow.Enum.Refused.{opened}
 use mathlib.Core.Path.{refl}
 use native.Mathlib.Omega.{arith}
-use Rattle.pkg_call.proofs.Ready.{not-slotted, group-ready, slotted-ready}
+use Rattle.pkg_call.proofs.Ready.{group-ready, slotted-ready}
 use Rattle.pkg_call.proofs.Returns.{front-stays, library-calls, slotted-calls}
 use Rattle.pkg_call.proofs.in_library.Goals as goal
 
 pub in_group-requires : goal.in_group-requires
 in_group-requires c =
-    group-ready c.requires.ready refl c.find_candidates-found.ensures (not-slotted (opened c.in_default.in_default-own.keys2))
+    group-ready c.requires.ready refl c.find_candidates-found.ensures c.in_default.not-Slotted
 
 pub returns-in_default : goal.returns-in_default
 returns-in_default c =

@@ -17,12 +17,6 @@ overflow_add-end c = omega (arith, free-top c.requires.free)
 pub offset_bounds-scratch-top : goal.offset_bounds-scratch-top
 offset_bounds-scratch-top c = omega (arith, free-top c.requires.free)
 
-pub slice_bounds-gather_types-count : goal.slice_bounds-gather_types-count
-slice_bounds-gather_types-count c = omega arith
-
-pub slice_bounds-gather_types-start : goal.slice_bounds-gather_types-start
-slice_bounds-gather_types-start c = omega arith
-
 pub slice_bounds-gather_types-end : goal.slice_bounds-gather_types-end
 slice_bounds-gather_types-end c = omega (arith, free-top c.requires.free, c.requires.free.long)
 

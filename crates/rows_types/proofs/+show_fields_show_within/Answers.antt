@@ -4,7 +4,8 @@ use Rattle.display.proofs.ShownLaws.{is_leaf, shown-none, shown-wrap, fields-end
 use Rattle.rows_window.specs.ShowingLaws.{owes-all, owes-less, shows_as, shows_full}
 use Rattle.ptype.specs.Show.{plain_names}
 use Rattle.tok.specs.Text.{text}
-use mathlib.Core.Path.{refl, sym, ◌∙◌}
+use mathlib.Core.Path.{refl, sym, ap, ◌∙◌}
+use mathlib.Core.List.{◌++◌}
 use native.Mathlib.Omega.{arith}
 use borrow.Author.Rules.{rules}
 use Rattle.rows_types.proofs.+show_fields_show_within.Goals as goal
@@ -22,7 +23,7 @@ show_fields-loop-left-preserved t c =
     (owes-less c.loop-left.invariant.0 (turn-behind _ _ _ _ _ (omega arith) c.field_name.ensures c.field_type.ensures c.behind-i.ensures) turn, shows_length turn ∙ c.loop-left.invariant.1)
 
 pub show_fields-returns : goal.show_fields-returns
-show_fields-returns t c = c.loop-left.invariant.0.ends (shows_as (fields-end _ _ _ _ _ (omega arith)) c.put.ensures)
+show_fields-returns t c = c.loop-left.invariant.0.ends (shows_as (ap (λ s. s ++ c.args.after.now) (fields-end _ _ _ _ (omega arith))) c.put.ensures)
 
 pub show_within-returns-then-is_full : goal.show_within-returns-then-is_full
 show_within-returns-then-is_full t c = shows_full _ _ _ (sym c.is_full.ensures ∙ c.if-is_full.true)

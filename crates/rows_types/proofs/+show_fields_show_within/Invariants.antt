@@ -4,7 +4,7 @@ use Rattle.rows_window.specs.ShowingLaws.{Owes}
 use Rattle.ptype.specs.Show.{show_fields}
 use Rattle.ptype.specs.Words.{fields_from, unfolded}
 use Rattle.ptype.specs.Ty.{Fields}
-use Rattle.tok.specs.Text.{Texts, texts_of}
+use Rattle.tok.specs.Text.{Texts}
 use mathlib.Core.List.{◌++◌}
 use mathlib.Core.Path.{◌≡◌}
 use lib.ListN.{length}

@@ -1,4 +1,3 @@
-use borrow.Author.Tests.{not-true, not-false}
 use Rattle.selection.proofs.Ways.{one_less, owed-begin, return-none, return-over, return-differs, owed-less}
 use Rattle.selection.proofs.all_return.Goals as goal
 

@@ -3,7 +3,6 @@
 use Rattle.selection.proofs.Ways.{Owed}
 use Rattle.signatures.specs.Entries.{flag_words}
 use Rattle.ptype.specs.Words.{ty_of}
-use Rattle.tok.specs.Text.{texts_of}
 use Rattle.selection.proofs.all_return.Given as goal
 
 abbrev pub invariant-loop-left : goal.invariant-loop-left

@@ -1,5 +1,3 @@
-use Prim.Native.Nat.{◌-◌}
-use borrow.Author.Tests.{not-true, not-false}
 use Rattle.selection.proofs.Ways.{one_less, ahead-begin, position-over, position-none, count-differs, alike-begin, type-differs, alike_next, position_at}
 use Rattle.selection.proofs.position.Goals as goal
 

@@ -4,7 +4,6 @@ use Rattle.selection.proofs.Ways.{Alike, Ahead}
 use Rattle.signatures.specs.Entries.{flag_words}
 use Rattle.state.specs.Signatures.{signature_at}
 use Rattle.ptype.specs.Words.{ty_of}
-use Rattle.tok.specs.Text.{texts_of}
 use Rattle.selection.proofs.position.Given as goal
 
 abbrev pub invariant-loop-i : goal.invariant-loop-i

@@ -14,10 +14,6 @@ pub any_bound_slot-loop-i-init : goal.any_bound_slot-loop-i-init
 any_bound_slot-loop-i-init t c =
     (any_all _ _ _ _ c.args.w (omega arith) (omega arith), c.requires, refl)
 
-pub any_bound_slot-bound_slot_in-requires : goal.any_bound_slot-bound_slot_in-requires
-any_bound_slot-bound_slot_in-requires t c =
-    (omega (arith, c.decreases), c.loop-i.invariant.1)
-
 pub any_bound_slot-returns-then-bound_slot_in : goal.any_bound_slot-returns-then-bound_slot_in
 any_bound_slot-returns-then-bound_slot_in t c =
     (sym (c.loop-i.invariant.0 ∙ any_first _ _ _ _ _ (λ z. omega arith) c.field_type.ensures c.bound_slot_in.ensures.0 c.if-bound_slot_in.true), c.bound_slot_in.ensures.1)
@@ -40,17 +36,9 @@ any_bound_slot-returns-else-at-free t c = (sym (c.loop-i.invariant.0 ∙ any_non
 pub bound_slot_in-returns-then-depth-eq0 : goal.bound_slot_in-returns-then-depth-eq0
 bound_slot_in-returns-then-depth-eq0 t c = (has-none _ _ _ _ c.if-depth-eq0.true, c.requires)
 
-pub bound_slot_in-bound_slot_in-requires : goal.bound_slot_in-bound_slot_in-requires
-bound_slot_in-bound_slot_in-requires t c =
-    (omega (arith, c.decreases, c.if-depth-eq0.false), c.requires)
-
 pub bound_slot_in-returns-then-wraps : goal.bound_slot_in-returns-then-wraps
 bound_slot_in-returns-then-wraps t c =
     (has-wrap _ _ _ _ c.if-depth-eq0.false c.kind-k.ensures (sym c.wraps.ensures ∙ c.if-wraps.true) c.inner.ensures c.bound_slot_in.ensures.0, c.bound_slot_in.ensures.1)
-
-pub bound_slot_in-any_bound_slot-requires : goal.bound_slot_in-any_bound_slot-requires
-bound_slot_in-any_bound_slot-requires t c =
-    (omega (arith, c.decreases, c.if-depth-eq0.false), c.requires)
 
 pub bound_slot_in-returns-then-k-eq-RECORD : goal.bound_slot_in-returns-then-k-eq-RECORD
 bound_slot_in-returns-then-k-eq-RECORD t c =

@@ -2,7 +2,6 @@
 -- bound slot stands in the fields is whether it stands in those that are left. Assumes nothing.
 use mathlib.Core.Path.{◌≡◌}
 use lib.ListN.{length}
-use Rattle.tok.specs.Text.{texts_of}
 use Rattle.ptype.specs.Slots.{any_bound_slot}
 use Rattle.ptype.specs.Words.{unfolded, fields_from, fields_of}
 use Rattle.ptype.specs.Marks.{Free}

@@ -1,4 +1,4 @@
-use borrow.Enum.Refused.{opened}
+use Rattle.std.proofs.lemmas.Result.{err_from_is_err_and}
 use mathlib.Core.Path.{sym, ◌∙◌}
 use native.Mathlib.Omega.{arith}
 use borrow.Author.Rules.{rules}
@@ -8,15 +8,14 @@ use Rattle.slots.proofs.+bind_fields_bind_within.Goals as goal
 pub bind_fields-loop-k-init : goal.bind_fields-loop-k-init
 bind_fields-loop-k-init t c = left-all _ _ _ _ _ _ _ _ _ (omega arith) (omega arith) (omega arith) (omega arith)
 
-pub bind_fields-bind_within-r-requires : goal.bind_fields-bind_within-r-requires
-bind_fields-bind_within-r-requires t c = omega (arith, c.requires)
-
-pub bind_fields-returns-in_default : goal.bind_fields-returns-in_default
-bind_fields-returns-in_default t c = c.loop-k.invariant.leads _ _ (fields-stop _ _ _ _ _ _ _ _ _ (λ z. omega (arith, c.min-k-end.ensures)) (λ z. omega (arith, c.min-k-end.ensures)) c.field_type.ensures c.field_type-in-loop-k.ensures c.bind_within-r.ensures (opened c.in_default.in_default-own.keys2))
+pub bind_fields-returns-in_err-bound : goal.bind_fields-returns-in_err-bound
+bind_fields-returns-in_err-bound t c =
+    let p = err_from_is_err_and c.from_residual.result c.from_residual.ensures.1 in
+    rw (p.1, p.2) (c.loop-k.invariant.leads _ _ (fields-stop _ _ _ _ _ _ _ _ _ (λ z. omega (arith, c.min-k-end.ensures)) (λ z. omega (arith, c.min-k-end.ensures)) c.field_type.ensures c.field_type-in-loop-k.ensures c.bind_within.ensures c.in_err-bound.was))
 
 pub bind_fields-loop-k-preserved : goal.bind_fields-loop-k-preserved
 bind_fields-loop-k-preserved t c =
-    left-next c.loop-k.invariant (omega arith) (omega arith) (omega arith) (omega arith) (λ z. omega (arith, c.min-k-end.ensures)) (λ z. omega (arith, c.min-k-end.ensures)) c.field_type.ensures c.field_type-in-loop-k.ensures c.bind_within-r.ensures c.in-Done.is (search rules)
+    left-next c.loop-k.invariant (omega arith) (omega arith) (omega arith) (omega arith) (λ z. omega (arith, c.min-k-end.ensures)) (λ z. omega (arith, c.min-k-end.ensures)) c.field_type.ensures c.field_type-in-loop-k.ensures c.bind_within.ensures c.in_ok-bound.was (search rules)
 
 pub bind_fields-returns : goal.bind_fields-returns
 bind_fields-returns t c = c.loop-k.invariant.leads _ _ (fields-over _ _ _ _ _ _ _ _ _ (omega (arith, c.min-k-end.ensures)))
@@ -30,14 +29,8 @@ bind_within-returns-then-k-eq-SLOT t c = within-slot _ _ _ _ _ _ c.if-depth-eq0.
 pub bind_within-returns-then-k-kind : goal.bind_within-returns-then-k-kind
 bind_within-returns-then-k-kind t c = within-differ _ _ _ _ _ _ c.if-depth-eq0.false c.kind-k.ensures c.if-k-eq-SLOT.false c.kind.ensures c.if-k-kind.true
 
-pub bind_within-bind_within-requires : goal.bind_within-bind_within-requires
-bind_within-bind_within-requires t c = omega (arith, c.requires, c.if-depth-eq0.false)
-
 pub bind_within-returns-then-wraps : goal.bind_within-returns-then-wraps
 bind_within-returns-then-wraps t c = within-wrap _ _ _ _ _ _ c.if-depth-eq0.false c.kind-k.ensures c.if-k-eq-SLOT.false c.kind.ensures c.if-k-kind.false (sym c.wraps.ensures ∙ c.if-wraps.true) c.inner.ensures c.inner-then-wraps.ensures c.bind_within.ensures
-
-pub bind_within-bind_fields-requires : goal.bind_within-bind_fields-requires
-bind_within-bind_fields-requires t c = omega (arith, c.requires, c.if-depth-eq0.false, c.payload.ensures, c.payload-then-k-eq-RECORD.ensures, c.field_count.ensures, c.field_count-then-k-eq-RECORD.ensures)
 
 pub bind_within-returns-then-k-eq-RECORD : goal.bind_within-returns-then-k-eq-RECORD
 bind_within-returns-then-k-eq-RECORD t c = within_record _ _ _ _ _ _ c.if-depth-eq0.false c.kind-k.ensures c.if-k-eq-SLOT.false c.kind.ensures c.if-k-kind.false c.if-k-eq-RECORD.true c.payload.ensures c.field_count.ensures c.payload-then-k-eq-RECORD.ensures c.field_count-then-k-eq-RECORD.ensures c.bind_fields.ensures

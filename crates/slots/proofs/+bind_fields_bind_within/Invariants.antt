@@ -1,7 +1,6 @@
 -- `slots::bind_within` and `slots::bind_fields` meet their contracts: one law for each return. The depth falls. The loop's
 -- invariant: what binds the fields that are left binds them all. Assumes nothing.
 use Prim.Native.Nat.{◌+◌, ◌-◌, ◌*◌}
-use Rattle.tok.specs.Text.{texts_of}
 use Rattle.ptype.specs.Words.{unfolded}
 use Rattle.slots.proofs.BindReturns.{Left}
 use Rattle.slots.proofs.+bind_fields_bind_within.Given as goal

@@ -1,5 +1,4 @@
 -- `slots::bind_one` meets its contract: one law for each return. Assumes nothing.
-use Rattle.tok.specs.Text.{texts_of}
 use Rattle.slots.proofs.PairReturns.{one-void, one-new, one_same, one-conflict}
 use Rattle.slots.proofs.bind_one.Goals as goal
 

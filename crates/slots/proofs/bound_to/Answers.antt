@@ -1,6 +1,5 @@
 use mathlib.Core.Path.{refl, sym, ◌∙◌}
 use native.Mathlib.Omega.{arith}
-use Rattle.tok.specs.Text.{texts_of}
 use Rattle.slots.proofs.PairReturns.{look-end, look_hit, look-next}
 use Rattle.slots.proofs.bound_to.Goals as goal
 

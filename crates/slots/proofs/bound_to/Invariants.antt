@@ -1,7 +1,7 @@
 -- `slots::bound_to` meets its contract. The loop's invariant: what the slot is bound to is what it is bound to among the first k pairs.
 -- Assumes nothing.
 use mathlib.Core.Path.{◌≡◌}
-use Rattle.tok.specs.Text.{texts_of, name_bytes}
+use Rattle.tok.specs.Text.{name_bytes}
 use Rattle.ptype.specs.Slots.{bound_to}
 use Rattle.slots.specs.Bindings.{first_pairs, bindings_in}
 use Rattle.slots.proofs.bound_to.Given as goal

@@ -5,11 +5,6 @@ use Rattle.ptype.proofs.MarkLaws.{none_free}
 use Rattle.slots.specs.Bindings.{bindings_in}
 use Rattle.slots.proofs.has_bound_slot_within.Goals as goal
 
-pub bound_slot_in-requires : goal.bound_slot_in-requires
-bound_slot_in-requires c =
-    none_free (any_bound_slot (bindings_in c.args.texts.now c.args.pairs.now c.args.count)) (texts_of
-    c.args.texts.now.script c.args.texts.now.library) c.args.types.now 0
-
 pub bound_slot_in-requires-else-is_small : goal.bound_slot_in-requires-else-is_small
 bound_slot_in-requires-else-is_small c =
     none_free (any_bound_slot (bindings_in c.args.texts.now c.args.pairs.now c.args.count)) (texts_of

@@ -1,12 +1,14 @@
--- `slotted::applied` meets its contract: the applied type is compared, or there is no room for it (7), or it is too deep (8). Assumes nothing.
-use Rattle.slotted.proofs.Returns.{applied_compared, applied_full, applied_deep}
+-- `slotted::applied` meets its contract: the applied type is compared, or it is not added, for want of room (7) or for its depth (8). Assumes
+-- nothing.
+use Rattle.slotted.proofs.Returns.{applied_refused, applied_compared, compared_refused}
 use Rattle.slotted.proofs.applied.Goals as goal
 
-pub returns-in-Put : goal.returns-in-Put
-returns-in-Put c = applied_compared _ _ _ _ _ _ _ _ _ _ _ _ _ c.requires.0 c.requires.1 c.apply_slot_binding-r.result _ c.apply_slot_binding-r.ensures c.in-Put.is c.compared.ensures
+pub returns-in_err-word : goal.returns-in_err-word
+returns-in_err-word c = applied_refused _ _ _ _ _ _ _ _ _ _ _ _ _ c.requires.0 c.requires.1 _ _ c.apply_slot_binding-added.ensures c.added.ensures c.in_err-word.was c.from_residual.ensures.1
 
-pub returns-in-Full : goal.returns-in-Full
-returns-in-Full c = applied_full _ _ _ _ _ _ _ _ _ _ _ _ _ c.requires.0 c.requires.1 c.apply_slot_binding-r.result _ c.apply_slot_binding-r.ensures c.in-Full.is
+pub returns-in_err-after : goal.returns-in_err-after
+returns-in_err-after c =
+    compared_refused _ _ _ _ _ _ _ _ _ _ _ _ _ c.requires.0 c.requires.1 _ _ c.apply_slot_binding-added.ensures c.added.ensures c.in_ok-word.was c.compared.ensures c.in_err-after.was c.from_residual-in_err-after.ensures.1
 
-pub returns-in-TooDeep : goal.returns-in-TooDeep
-returns-in-TooDeep c = applied_deep _ _ _ _ _ _ _ _ _ _ _ _ _ c.requires.0 c.requires.1 c.apply_slot_binding-r.result _ c.apply_slot_binding-r.ensures c.in-TooDeep.is
+pub returns : goal.returns
+returns c = applied_compared _ _ _ _ _ _ _ _ _ _ _ _ _ c.requires.0 c.requires.1 _ _ c.apply_slot_binding-added.ensures c.added.ensures c.in_ok-word.was c.compared.ensures c.in_ok-after.was

@@ -6,16 +6,19 @@ use Rattle.slotted_call.proofs.Returns.{miscounted, call-refused, return-meant, 
 use Rattle.slotted_call.proofs.check_slotted.Goals as goal
 
 pub returns-then-count-required : goal.returns-then-count-required
-returns-then-count-required c = miscounted _ _ _ _ _ _ _ _ _ _ _ _ _ _ _ c.argument_count-required.ensures c.if-count-required.true (told_in_whole _ c.first_free-free.ensures c.argument_count-r.ensures) c.poisoned.ensures
+returns-then-count-required c =
+    miscounted _ _ _ _ _ _ _ _ _ _ _ _ _ _ _ c.argument_count-required.ensures c.if-count-required.true (told_in_whole _ c.first_free-free.ensures c.argument_count-reported.ensures) c.told.ensures
 
-pub slotted_arguments-argued-requires : goal.slotted_arguments-argued-requires
-slotted_arguments-argued-requires c = record { ready = c.requires; counts = λ f. c.if-count-required.false ∙ c.argument_count-required.ensures f }
+pub slotted_arguments-requires : goal.slotted_arguments-requires
+slotted_arguments-requires c = record { ready = c.requires; counts = λ f. c.if-count-required.false ∙ c.argument_count-required.ensures f }
+
+pub returns-in_err-bound : goal.returns-in_err-bound
+returns-in_err-bound c = call-refused _ _ _ _ _ _ _ _ _ _ _ _ _ _ _ c.argument_count-required.ensures c.if-count-required.false c.slotted_arguments.ensures c.in_err-bound.was c.from_residual.ensures.1
 
 pub returned-requires : goal.returned-requires
-returned-requires c = return-meant _ _ c.args.slot c.args.token _ _ _ _ _ _ _ _ _ _ _ c.argument_count-required.ensures c.if-count-required.false c.slotted_arguments-argued.ensures c.in-On.is c.return_type-ret.ensures c.requires.ret
+returned-requires c =
+    return-meant _ _ c.args.slot c.args.token _ _ _ _ _ _ _ _ _ _ _ c.argument_count-required.ensures c.if-count-required.false c.slotted_arguments.ensures c.in_ok-bound.was
+    c.return_type-ret.ensures c.requires.ret
 
-pub returns-in-On : goal.returns-in-On
-returns-in-On c = call-returned _ _ _ _ _ _ _ _ _ _ _ _ _ _ _ c.argument_count-required.ensures c.if-count-required.false c.slotted_arguments-argued.ensures c.in-On.is c.return_type-ret.ensures c.returned.ensures
-
-pub returns-in-Refused : goal.returns-in-Refused
-returns-in-Refused c = call-refused _ _ _ _ _ _ _ _ _ _ _ _ _ _ _ c.argument_count-required.ensures c.if-count-required.false c.slotted_arguments-argued.ensures c.in-Refused.is
+pub returns : goal.returns
+returns c = call-returned _ _ _ _ _ _ _ _ _ _ _ _ _ _ _ c.argument_count-required.ensures c.if-count-required.false c.slotted_arguments.ensures c.in_ok-bound.was c.return_type-ret.ensures c.returned.ensures

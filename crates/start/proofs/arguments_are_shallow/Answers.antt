@@ -1,7 +1,5 @@
 use mathlib.Core.Path.{refl, sym, ◌∙◌}
-use Prim.Native.Nat.{◌-◌}
 use native.Mathlib.Omega.{arith}
-use borrow.Author.Tests.{not-true, not-false}
 use Rattle.library.specs.Package.{function_at}
 use Rattle.start.specs.Measured.{arguments-over, argument-next, argument-deep}
 use Rattle.start.proofs.arguments_are_shallow.Goals as goal

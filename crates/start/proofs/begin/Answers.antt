@@ -1,6 +1,5 @@
 -- `start::begin` meets its contract: one law for each return. Assumes nothing.
 use mathlib.Core.Path.{◌∙◌}
-use borrow.Author.Tests.{not-true, not-false}
 use Rattle.start.proofs.Begins.{begin-full, begin-deep, begin-on}
 use Rattle.start.proofs.begin.Goals as goal
 

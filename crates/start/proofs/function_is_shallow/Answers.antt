@@ -1,5 +1,4 @@
 -- `start::function_is_shallow` meets its contract: the arguments, and then the return type. Assumes nothing.
-use borrow.Author.Tests.{not-true, not-false}
 use Rattle.library.specs.Package.{function_at}
 use Rattle.start.specs.Measured.{function-deep, function-by}
 use Rattle.start.proofs.function_is_shallow.Goals as goal

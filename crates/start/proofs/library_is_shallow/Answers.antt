@@ -1,5 +1,4 @@
 -- `start::library_is_shallow` meets its contract: the pool, and then the packages. Assumes nothing.
-use borrow.Author.Tests.{not-true, not-false}
 use Rattle.start.specs.Measured.{library-deep, library-by}
 use Rattle.start.proofs.library_is_shallow.Goals as goal
 

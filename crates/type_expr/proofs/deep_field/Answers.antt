@@ -1,6 +1,6 @@
 use native.Mathlib.Nat.{sub-zero}
 use Rattle.type_expr.proofs.Left.{one-less}
-use borrow.Enum.Refused.{opened}
+use Rattle.std.proofs.lemmas.Result.{err_from_is_err_and}
 use native.Mathlib.Omega.{arith}
 use Rattle.type_expr.specs.TypesAt.{first-ready}
 use Rattle.type_expr.specs.LevelLaws.{levels-there}
@@ -11,35 +11,25 @@ use Rattle.type_expr.proofs.deep_field.Goals as goal
 pub loop-init : goal.loop-init
 loop-init c = rw sub-zero (before-all _ _ c.requires.0 c.requires.1)
 
-pub overflow_add-here : goal.overflow_add-here
-overflow_add-here c = omega (arith, c.loop.invariant.ready.room)
-
-pub shape_of-types-then-type_levels-gt32 : goal.shape_of-types-then-type_levels-gt32
-shape_of-types-then-type_levels-gt32 c = c.loop.invariant.long
-
 pub returns-then-type_levels-gt32 : goal.returns-then-type_levels-gt32
 returns-then-type_levels-gt32 c =
     before-deep c.loop.invariant (λ z. omega arith) c.word_at-t.ensures c.type_levels.ensures c.if-type_levels-gt32.true
 
-pub build-a-requires : goal.build-a-requires
-build-a-requires c =
+pub build-requires : goal.build-requires
+build-requires c =
     let p = (first-ready c.loop.invariant.ready (λ z. omega arith) c.word_at-t.ensures).ready in
     (p, omega (arith, levels-there p c.type_levels.ensures))
 
-pub returns-in_default : goal.returns-in_default
-returns-in_default c =
-    before-stop c.loop.invariant (λ z. omega arith) c.word_at-t.ensures c.type_levels.ensures c.if-type_levels-gt32.false
-    c.build-a.result c.build-a.new.types (λ T n. c.build-a.ensures T n) (opened c.in_default.in_default-own.keys2)
-
-pub overflow_add-here-in-loop : goal.overflow_add-here-in-loop
-overflow_add-here-in-loop c = omega (arith, c.loop.invariant.ready.room)
+pub returns-in_err-u : goal.returns-in_err-u
+returns-in_err-u c =
+    let p = err_from_is_err_and c.from_residual.result c.from_residual.ensures.1 in
+    rw (p.1, p.2)
+    (before-stop c.loop.invariant (λ z. omega arith) c.word_at-t.ensures c.type_levels.ensures c.if-type_levels-gt32.false
+    c.build.result c.build.new.types (λ T n. c.build.ensures T n) c.in_err-u.was)
 
 pub loop-preserved : goal.loop-preserved
 loop-preserved c = rw one-less (before-next c.loop.invariant (λ z. omega arith) c.word_at-t.ensures c.type_levels.ensures c.if-type_levels-gt32.false
-    c.build-a.result c.build-a.new.types (λ T n. c.build-a.ensures T n) c.in-Put.is (search rules))
-
-pub shape_of-types : goal.shape_of-types
-shape_of-types c = c.loop.invariant.long
+    c.build.result c.build.new.types (λ T n. c.build.ensures T n) c.in_ok-u.was (search rules))
 
 pub returns : goal.returns
 returns c = absurd (before-end c.loop.invariant (omega arith))

@@ -1,16 +1,13 @@
 -- `type_expr::deep_part` meets its contract: by the kind of the record. Assumes nothing.
 use mathlib.Core.Path.{refl}
 use native.Mathlib.Omega.{arith}
-use Rattle.type_expr.specs.TypesAt.{words-there, two-words, fields-ready}
+use Rattle.type_expr.specs.TypesAt.{two-words, fields-ready}
 use Rattle.type_expr.proofs.DeepReturns.{levels_record, part_record, part-inner}
 use Rattle.type_expr.proofs.deep_part.Goals as goal
 
 pub overflow_sub-fields : goal.overflow_sub-fields
 overflow_sub-fields c =
     two-words c.requires.0 c.type_place-at.ensures c.word_at-head.ensures c.kind.ensures c.payload.ensures
-
-pub overflow_add-at : goal.overflow_add-at
-overflow_add-at c = omega (arith, words-there c.requires.0 c.type_place-at.ensures)
 
 pub deep_field-requires : goal.deep_field-requires
 deep_field-requires c = (
@@ -21,9 +18,6 @@ deep_field-requires c = (
 pub returns-then-kind-eq-RECORD : goal.returns-then-kind-eq-RECORD
 returns-then-kind-eq-RECORD c =
     part_record c.requires.0 c.type_place-at.ensures c.word_at-head.ensures c.kind.ensures _ _ c.requires.1 c.if-kind-eq-RECORD.true c.payload.ensures refl c.deep_field.ensures
-
-pub overflow_add-at-2 : goal.overflow_add-at-2
-overflow_add-at-2 c = omega (arith, words-there c.requires.0 c.type_place-at.ensures)
 
 pub returns : goal.returns
 returns c =

@@ -1,14 +1,10 @@
 use mathlib.Core.Path.{refl, sym, ◌∙◌}
-use native.Mathlib.Omega.{arith}
-use Rattle.type_expr.specs.TypesAt.{words-there, option-ready, array-ready}
+use Rattle.type_expr.specs.TypesAt.{option-ready, array-ready}
 use Rattle.type_expr.proofs.Returns.{token-option, token-array, token-own}
 use Rattle.type_expr.proofs.type_token.Goals as goal
 
 pub loop-here-init : goal.loop-here-init
 loop-here-init c = (c.requires, refl)
-
-pub overflow_add-at : goal.overflow_add-at
-overflow_add-at c = omega (arith, words-there c.loop-here.invariant.0 c.type_place-at.ensures)
 
 pub loop-here-smaller-then-k-eq-OPTION : goal.loop-here-smaller-then-k-eq-OPTION
 loop-here-smaller-then-k-eq-OPTION c = (option-ready c.loop-here.invariant.0 c.type_place-at.ensures c.word_at.ensures c.kind-k.ensures c.if-k-eq-OPTION.true c.word_at-w.ensures).under

@@ -1,9 +1,8 @@
 use Rattle.walking.specs.Measures as M
-use Rattle.walk_laws.specs.Lists as L
 use Rattle.typecheck.proofs.+array_bin_block_call_case_cases_cast_func_listed_node_one_operand_part_record_node_sequence.Given as goal
 use mathlib.Core.Path.{◌≡◌}
 use Prim.Native.Nat.{◌+◌, ◌-◌}
-use lib.ListN.{get_or, length}
+use lib.ListN.{get_or}
 use Rattle.tok.specs.Text.{texts_of}
 use Rattle.state.specs.World.{no_more}
 use Rattle.visit.specs.Whole.{lent}
@@ -63,40 +62,30 @@ decreases-sequence l = M.μ-list l.n
 abbrev pub invariant-case-loop : goal.invariant-case-loop
 invariant-case-loop l = ListsTurn l.texts l.image l.places l.words l.n (l.at + 3) l.left l.begun (lent l.initial.slots l.initial.functions l.initial.types l.initial.diagnostics l.initial.messages l.initial.scratch no_more)
     l.place (l.left - l.counter) l.answer l.here (lent l.slots l.functions l.types l.diagnostics l.messages l.scratch no_more)
-    × (length l.slots ≡ length l.initial.slots) × (length l.functions ≡ length l.initial.functions) × (length l.types ≡ length l.initial.types) × (length l.diagnostics ≡ length l.initial.diagnostics)
-    × (length l.messages ≡ length l.initial.messages) × (length l.scratch ≡ length l.initial.scratch)
 
 -- Node::Record: `typecheck::record_node` meets its contract (fields, `RecordVisits`). The loop's invariant, `ListsTurn`: i values are done, as their
 -- slots tell, and the others lead on to the whole rule; the measure is how many are left. Assumes nothing.
 abbrev pub invariant-record_node-loop-i : goal.invariant-record_node-loop-i
 invariant-record_node-loop-i l = RecordVisitsTurn l.texts l.image l.places l.words l.n l.at l.count l.initial.here (lent l.initial.slots l.initial.functions l.initial.types l.initial.diagnostics l.initial.messages l.initial.scratch no_more)
     l.here l.i (lent l.slots l.functions l.types l.diagnostics l.messages l.scratch no_more)
-    × (length l.slots ≡ length l.initial.slots) × (length l.functions ≡ length l.initial.functions) × (length l.types ≡ length l.initial.types) × (length l.diagnostics ≡ length l.initial.diagnostics)
-    × (length l.messages ≡ length l.initial.messages) × (length l.scratch ≡ length l.initial.scratch)
 
 -- `typecheck::array` meets its contract: one law for each return. The loop's invariant: `Turned`, wherever the first member led to, the members so
--- far lead to here; and each buffer is as long as at its start. Assumes nothing.
+-- far lead to here. Assumes nothing.
 abbrev pub invariant-array-loop-i : goal.invariant-array-loop-i
 invariant-array-loop-i l = Turned l.texts l.image l.places l.words l.n (get_or l.image (l.at + 1) 0) (l.at + 3) l.count l.first 1 l.initial.poisoned l.initial.here (lent l.initial.slots l.initial.functions l.initial.types l.initial.diagnostics l.initial.messages l.initial.scratch no_more)
     l.i l.poisoned l.here (lent l.slots l.functions l.types l.diagnostics l.messages l.scratch no_more)
-    × (length l.slots ≡ length l.initial.slots) × (length l.functions ≡ length l.initial.functions) × (length l.types ≡ length l.initial.types) × (length l.diagnostics ≡ length l.initial.diagnostics)
-    × (length l.messages ≡ length l.initial.messages) × (length l.scratch ≡ length l.initial.scratch)
 
 -- `typecheck::call` meets its contract: one law for each return. The loop's invariant: `Argued`, wherever the arguments before led to at its start,
--- those so far lead to here; and each buffer is as long as at its start. Assumes nothing.
+-- those so far lead to here. Assumes nothing.
 abbrev pub invariant-call-loop-i : goal.invariant-call-loop-i
 invariant-call-loop-i l = Argued l.texts l.image l.places l.words l.n l.at l.count 0 l.initial.poisoned l.initial.here (lent l.initial.slots l.initial.functions l.initial.types l.initial.diagnostics l.initial.messages l.initial.scratch no_more) l.i l.poisoned l.here
     (lent l.slots l.functions l.types l.diagnostics l.messages l.scratch no_more)
-    × (length l.slots ≡ length l.initial.slots) × (length l.functions ≡ length l.initial.functions) × (length l.types ≡ length l.initial.types) × (length l.diagnostics ≡ length l.initial.diagnostics)
-    × (length l.messages ≡ length l.initial.messages) × (length l.scratch ≡ length l.initial.scratch)
 
 -- `typecheck::block` meets its contract. The loop's invariant, `Turn`: the nodes that are left lead on to the whole list; the measure is how
 -- many are left. Assumes nothing.
 abbrev pub invariant-block-loop : goal.invariant-block-loop
 invariant-block-loop l = ListsTurn l.texts l.image l.places l.words l.owner l.at l.k l.initial.here (lent l.initial.slots l.initial.functions l.initial.types l.initial.diagnostics l.initial.messages l.initial.scratch no_more)
     l.place (l.k - l.counter) l.answer l.here (lent l.slots l.functions l.types l.diagnostics l.messages l.scratch no_more)
-    × (length l.slots ≡ length l.initial.slots) × (length l.functions ≡ length l.initial.functions) × (length l.types ≡ length l.initial.types) × (length l.diagnostics ≡ length l.initial.diagnostics)
-    × (length l.messages ≡ length l.initial.messages) × (length l.scratch ≡ length l.initial.scratch)
 
 -- Node::Match: `typecheck::cases` meets its contract (branches, `Cases`). The first loop's invariant, `ListsTurn`: i cases are done, as their slots
 -- tell, and the others lead on to the whole rule. The second loop, over the default's body, has that of nodes one after the other
@@ -104,14 +93,7 @@ invariant-block-loop l = ListsTurn l.texts l.image l.places l.words l.owner l.at
 abbrev pub invariant-cases-loop : goal.invariant-cases-loop
 invariant-cases-loop l = CasesTurn l.texts l.image l.places l.words l.n l.at l.count l.initial.here (lent l.initial.slots l.initial.functions l.initial.types l.initial.diagnostics l.initial.messages l.initial.scratch no_more)
     l.here l.place l.counter (lent l.slots l.functions l.types l.diagnostics l.messages l.scratch no_more)
-    × (length l.slots ≡ length l.initial.slots) × (length l.functions ≡ length l.initial.functions) × (length l.types ≡ length l.initial.types) × (length l.diagnostics ≡ length l.initial.diagnostics)
-    × (length l.messages ≡ length l.initial.messages) × (length l.scratch ≡ length l.initial.scratch)
 
-abbrev pub invariant-cases-loop-left : goal.invariant-cases-loop-left
-invariant-cases-loop-left l = L.Turn l.texts l.image l.places l.words l.n l.initial.next l.initial.left l.initial.end (lent l.initial.slots l.initial.functions l.initial.types l.initial.diagnostics l.initial.messages l.initial.scratch no_more)
-    l.next l.left l.default l.end (lent l.slots l.functions l.types l.diagnostics l.messages l.scratch no_more)
-    × (length l.slots ≡ length l.initial.slots) × (length l.functions ≡ length l.initial.functions) × (length l.types ≡ length l.initial.types) × (length l.diagnostics ≡ length l.initial.diagnostics)
-    × (length l.messages ≡ length l.initial.messages) × (length l.scratch ≡ length l.initial.scratch)
-
-abbrev pub decreases-cases-loop-left : goal.decreases-cases-loop-left
-decreases-cases-loop-left l = l.left
+abbrev pub invariant-cases-loop-i : goal.invariant-cases-loop-i
+invariant-cases-loop-i l = ListsTurn l.texts l.image l.places l.words l.n l.next l.left l.initial.end (lent l.initial.slots l.initial.functions l.initial.types l.initial.diagnostics l.initial.messages l.initial.scratch no_more)
+    (l.next + l.i) (l.left - l.i) l.default l.end (lent l.slots l.functions l.types l.diagnostics l.messages l.scratch no_more)

@@ -1,5 +1,5 @@
 -- `typecheck::nodes` meets its contract. The loop's invariant, `Turn`: the nodes that are left lead on to the whole list. Assumes nothing.
-use Rattle.std.proofs.Common.{◌≡◌, ◌-◌, length}
+use Rattle.std.proofs.Common.{◌-◌}
 use Rattle.tok.specs.Text.{texts_of}
 use Rattle.state.specs.World.{no_more}
 use Rattle.visit.specs.Whole.{lent}
@@ -9,5 +9,3 @@ use Rattle.typecheck.proofs.nodes.Given as goal
 abbrev pub invariant-loop : goal.invariant-loop
 invariant-loop l = Turn l.texts l.image l.places l.words l.owner l.at l.k l.initial.here (lent l.initial.slots l.initial.functions l.initial.types l.initial.diagnostics l.initial.messages l.initial.scratch no_more)
     l.place (l.k - l.counter) l.answer l.here (lent l.slots l.functions l.types l.diagnostics l.messages l.scratch no_more)
-    × (length l.slots ≡ length l.initial.slots) × (length l.functions ≡ length l.initial.functions) × (length l.types ≡ length l.initial.types) × (length l.diagnostics ≡ length l.initial.diagnostics)
-    × (length l.messages ≡ length l.initial.messages) × (length l.scratch ≡ length l.initial.scratch)

@@ -1,18 +1,24 @@
--- `values::array_of` meets its contract: one law for each return. Assumes nothing.
-use Rattle.values.proofs.ArrayReturns.{array-first, array-poisoned, array-put, array-full, array-deep}
+-- `values::array_of` meets its contract where an Array is added, or is refused (7, 8). Assumes nothing.
+use Rattle.std.proofs.Common.{sym, ◌∙◌}
+use Rattle.ptype.specs.Add.{add_wrap}
+use Rattle.rules.specs.Rules.{array_of}
+use Rattle.rules.specs.Steps.{known, ty, set_known}
+use Rattle.tok.specs.Step.{when}
+use Rattle.state.specs.Adding.{added-step}
+use Rattle.state.specs.Reporting.{on-ok, on-err}
+use Rattle.values.proofs.Told.{same-steps}
 use Rattle.values.proofs.array_of.Goals as goal
 
-pub returns-in_default : goal.returns-in_default
-returns-in_default c = array-first c.args.slots.now c.args.types.now c.args.used c.args.n c.args.slot c.args.first c.args.poisoned c.in_default.is
+pub returns-in_err-word : goal.returns-in_err-word
+unfolding array_of known ty when
+returns-in_err-word c T ls v d m =
+    let step = added-step c.args.n (add_wrap T c.args.n 7 c.word_at-element.result) c.add_array-added.result (c.add_array-added.ensures.result T c.args.n) in
+    same-steps (on-err (set_known c.args.slot) step (sym c.added.ensures ∙ c.in_err-word.was) c.from_residual.ensures.1)
+    (λ rest. rw (c.in-Known.is, c.if-poisoned.false, ← c.word_at-element.ensures))
 
-pub returns-then-poisoned : goal.returns-then-poisoned
-returns-then-poisoned c = array-poisoned c.args.slots.now c.args.types.now c.args.used c.args.n c.args.slot c.args.first c.args.poisoned c.in-Known.is c.if-poisoned.true
-
-pub returns-in-Put : goal.returns-in-Put
-returns-in-Put c = array-put c.args.slots.now c.args.types.now c.args.used c.args.n c.args.slot c.args.first c.args.poisoned c.in-Known.is c.if-poisoned.false c.wide.ensures c.word_at-element.ensures c.add_array-added.ensures c.in-Put.is c.set_known.ensures
-
-pub returns-in-Full : goal.returns-in-Full
-returns-in-Full c = array-full c.args.slots.now c.args.types.now c.args.used c.args.n c.args.slot c.args.first c.args.poisoned c.in-Known.is c.if-poisoned.false c.wide.ensures c.word_at-element.ensures c.add_array-added.ensures c.in-Full.is
-
-pub returns-in-TooDeep : goal.returns-in-TooDeep
-returns-in-TooDeep c = array-deep c.args.slots.now c.args.types.now c.args.used c.args.n c.args.slot c.args.first c.args.poisoned c.in-Known.is c.if-poisoned.false c.wide.ensures c.word_at-element.ensures c.add_array-added.ensures c.in-TooDeep.is
+pub returns : goal.returns
+unfolding array_of known ty when
+returns c T ls v d m =
+    let step = added-step c.args.n (add_wrap T c.args.n 7 c.word_at-element.result) c.add_array-added.result (c.add_array-added.ensures.result T c.args.n) in
+    same-steps (on-ok (set_known c.args.slot) step (sym c.added.ensures ∙ c.in_ok-word.was) (c.set_known.ensures c.add_array-added.new.types d m))
+    (λ rest. rw (c.in-Known.is, c.if-poisoned.false, ← c.word_at-element.ensures))

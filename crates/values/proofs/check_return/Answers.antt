@@ -1,14 +1,19 @@
--- `values::check_return` meets its contract: one law for each return. Assumes nothing.
-use Rattle.values.proofs.CheckReturns.{return-poison, return-same, return-differs}
-use Rattle.tok.specs.Text.{texts_of}
+-- `values::check_return` meets its contract of a known answer: the types are equal, or 9 is told. Assumes nothing.
 use Rattle.err_text.specs.RestLaws.{told_in_whole}
+use Rattle.rules.specs.Rules.{check_return}
+use Rattle.rules.specs.Steps.{if_known, ty, tree, ty_tree}
+use Rattle.std.proofs.Common.{rules}
+use Rattle.state.specs.World.{stepped}
+use Rattle.tok.specs.Step.{when}
+use Rattle.values.proofs.Told.{told-steps}
 use Rattle.values.proofs.check_return.Goals as goal
 
-pub returns-in_default : goal.returns-in_default
-returns-in_default c = return-poison c.args.texts.now c.args.slots.now c.args.types.now c.args.diagnostics.now c.args.messages.now c.args.used c.args.n c.args.name c.args.token c.args.ret c.args.computed c.in_default.is
-
 pub returns-then-same_type : goal.returns-then-same_type
-returns-then-same_type c = return-same c.args.texts.now c.args.slots.now c.args.types.now c.args.diagnostics.now c.args.messages.now c.args.used c.args.n c.args.name c.args.token c.args.ret c.args.computed c.in-Known.is c.wide.ensures c.word_at-w.ensures c.same_type.ensures c.if-same_type.true
+unfolding check_return if_known ty tree ty_tree when stepped
+returns-then-same_type c = search rules
 
 pub returns : goal.returns
-returns c = return-differs c.args.texts.now c.args.slots.now c.args.types.now c.args.diagnostics.now c.args.messages.now c.args.used c.args.n c.args.name c.args.token c.args.ret c.args.computed c.in-Known.is c.wide.ensures c.word_at-w.ensures c.same_type.ensures c.if-same_type.false (told_in_whole c.args.messages.now c.first_free-free.ensures c.bad_return-reported.ensures) c.told.ensures
+unfolding check_return if_known ty tree ty_tree when
+returns c ls v e is =
+    told-steps c.args.n (told_in_whole _ c.first_free-free.ensures c.bad_return-reported.ensures) c.told.ensures
+    (λ rest. rw (c.in-Known.is, is, ← c.word_at-w.ensures, ← c.same_type.ensures, c.if-same_type.false))

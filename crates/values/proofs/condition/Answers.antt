@@ -1,14 +1,19 @@
--- `values::condition` meets its contract: one law for each return. Assumes nothing.
-use Rattle.values.proofs.CheckReturns.{condition-poison, condition-bool, condition_bad}
-use Rattle.tok.specs.Text.{texts_of}
+-- `values::condition` meets its contract of a known condition: it is Bool, or 23 is told. Assumes nothing.
 use Rattle.err_text.specs.RestLaws.{told_in_whole}
+use Rattle.rules.specs.Rules.{condition}
+use Rattle.rules.specs.Steps.{if_known, ty, tree, ty_tree}
+use Rattle.tok.specs.Step.{when}
+use Rattle.ptype.specs.Words.{ways, unfolded, ty_of}
+use Rattle.state.specs.World.{stepped}
+use Rattle.values.proofs.Told.{told-steps}
 use Rattle.values.proofs.condition.Goals as goal
 
-pub returns-in_default : goal.returns-in_default
-returns-in_default c = condition-poison c.args.texts.now c.args.slots.now c.args.types.now c.args.diagnostics.now c.args.messages.now c.args.used c.args.n c.args.token c.args.answer c.in_default.is
-
 pub returns-then-same_type : goal.returns-then-same_type
-returns-then-same_type c = condition-bool c.args.texts.now c.args.slots.now c.args.types.now c.args.diagnostics.now c.args.messages.now c.args.used c.args.n c.args.token c.args.answer c.in-Known.is c.wide.ensures c.word_at-w.ensures c.same_type.ensures c.if-same_type.true
+unfolding condition if_known ty tree ty_tree when ty_of unfolded ways stepped
+returns-then-same_type c ls v = record { step = λ rest. rw (c.in-Known.is, ← c.word_at-w.ensures, ← c.same_type.ensures, c.if-same_type.true) }
 
 pub returns : goal.returns
-returns c = condition_bad c.args.texts.now c.args.slots.now c.args.types.now c.args.diagnostics.now c.args.messages.now c.args.used c.args.n c.args.token c.args.answer c.in-Known.is c.wide.ensures c.word_at-w.ensures c.same_type.ensures c.if-same_type.false (told_in_whole c.args.messages.now c.first_free-free.ensures c.bad_condition-reported.ensures) c.told.ensures
+unfolding condition if_known ty tree ty_tree when ty_of unfolded ways
+returns c ls v =
+    told-steps c.args.n (told_in_whole _ c.first_free-free.ensures c.bad_condition-reported.ensures) c.told.ensures
+    (λ rest. rw (c.in-Known.is, ← c.word_at-w.ensures, ← c.same_type.ensures, c.if-same_type.false))

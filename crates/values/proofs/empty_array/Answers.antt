@@ -1,7 +1,7 @@
--- `values::empty_array` meets its contract: the diagnostic, and poison. Assumes nothing.
-use Rattle.values.proofs.ArrayReturns.{no_member}
+-- `values::empty_array` meets its contract: 1 is told. Assumes nothing.
 use Rattle.err_text.specs.RestLaws.{told_in_whole}
+use Rattle.state.specs.Reporting.{poisons-step}
 use Rattle.values.proofs.empty_array.Goals as goal
 
 pub returns : goal.returns
-returns c = no_member c.args.n c.args.token (told_in_whole c.args.messages.now c.first_free-free.ensures c.empty_array-reported.ensures) c.poisoned.ensures
+returns c s t = rw c.told.ensures (poisons-step c.args.n (told_in_whole _ c.first_free-free.ensures c.empty_array-reported.ensures))

@@ -1,14 +1,30 @@
--- `values::field` meets its contract: one law for each return. Assumes nothing.
-use Rattle.values.proofs.FieldReturns.{field-other, field-none, field_found}
-use Rattle.tok.specs.Text.{texts_of}
+-- `values::field` meets its contract: no record (12), no such field (13), or the field's type. Assumes nothing.
+use borrow.Author.Tests.{ne_eqb}
 use Rattle.err_text.specs.RestLaws.{told_in_whole}
+use Rattle.rules.specs.Rules.{field}
+use Rattle.rules.specs.Steps.{ty, tree, on_option}
+use Rattle.tok.specs.Step.{when}
+use Rattle.state.specs.Reporting.{poisons-step}
+use Rattle.values.specs.Answers.{found_of}
+use Rattle.values.proofs.Told.{same-steps}
 use Rattle.values.proofs.field.Goals as goal
 
 pub returns-then-kind-ne-RECORD : goal.returns-then-kind-ne-RECORD
-returns-then-kind-ne-RECORD c = field-other c.args.texts.now c.args.slots.now c.args.types.now c.args.diagnostics.now c.args.messages.now c.args.used c.args.n c.args.slot c.args.name c.args.target c.wide.ensures c.word_at-w.ensures c.kind.ensures c.if-kind-ne-RECORD.true (told_in_whole c.args.messages.now c.first_free-free.ensures c.no_record-other.ensures) c.poisoned.ensures
+unfolding field ty tree when
+returns-then-kind-ne-RECORD c ls v =
+    rw c.told.ensures
+    (same-steps (poisons-step c.args.n (told_in_whole _ c.first_free-free.ensures c.no_record-other.ensures))
+    (λ rest. rw (← c.word_at-w.ensures, ← c.kind.ensures, ne_eqb c.kind.result 8 c.if-kind-ne-RECORD.true)))
 
 pub returns-in_default : goal.returns-in_default
-returns-in_default c = field-none c.args.texts.now c.args.slots.now c.args.types.now c.args.diagnostics.now c.args.messages.now c.args.used c.args.n c.args.slot c.args.name c.args.target c.wide.ensures c.word_at-w.ensures c.kind.ensures c.if-kind-ne-RECORD.false c.find_field-found.ensures c.in_default.is (told_in_whole c.args.messages.now c.first_free-free-in_default.ensures c.no_field-none.ensures) c.poisoned-in_default.ensures
+unfolding field ty tree when on_option found_of
+returns-in_default c ls v =
+    rw c.told-in_default.ensures
+    (same-steps (poisons-step c.args.n (told_in_whole _ c.first_free-free-in_default.ensures c.no_field-none.ensures))
+    (λ rest. rw (← c.word_at-w.ensures, ← c.kind.ensures, c.if-kind-ne-RECORD.false, ← c.find_field-found.ensures, c.in_default.is)))
 
 pub returns : goal.returns
-returns c = field_found c.args.texts.now c.args.slots.now c.args.types.now c.args.diagnostics.now c.args.messages.now c.args.used c.args.n c.args.slot c.args.name c.args.target c.wide.ensures c.word_at-w.ensures c.kind.ensures c.if-kind-ne-RECORD.false c.find_field-found.ensures c.in-Some.is c.field_type.ensures
+unfolding field ty tree when on_option found_of
+returns c ls v =
+    same-steps (c.field_type.ensures c.args.types.now c.args.diagnostics.now c.args.messages.now)
+    (λ rest. rw (← c.word_at-w.ensures, ← c.kind.ensures, c.if-kind-ne-RECORD.false, ← c.find_field-found.ensures, c.in-Some.is))

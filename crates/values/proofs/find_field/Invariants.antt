@@ -1,12 +1,13 @@
 -- `values::find_field` meets its contract. The loop's invariant: the fields left decide. Assumes nothing.
 use Rattle.rules.specs.Rules.{find_field}
 use Rattle.ptype.specs.Words.{field_count}
-use Rattle.tok.specs.Text.{texts_of, name_bytes}
+use Rattle.tok.specs.Text.{name_bytes}
 use Rattle.tok.specs.Word.{payload_of}
 use Prim.Native.Nat.{◌+◌, ◌-◌, ◌*◌, ◌<◌, ◌^◌}
 use mathlib.Core.Path.{◌≡◌}
 use Rattle.values.proofs.find_field.Given as goal
 
 abbrev pub invariant-loop : goal.invariant-loop
-invariant-loop l = let T = l.texts in
-    (find_field T l.types (name_bytes T l.name) (payload_of l.word + 1) (field_count l.types l.word) ≡ find_field T l.types (name_bytes T l.name) l.at (l.count - l.counter)) × (l.at + 2 * (l.count - l.counter) < 2 ^ 40)
+invariant-loop l =
+    let find = find_field l.texts l.types (name_bytes l.texts l.name) in
+    (find (payload_of l.word + 1) (field_count l.types l.word) ≡ find l.at (l.count - l.counter)) × (l.at + 2 * (l.count - l.counter) < 2 ^ 40)

@@ -1,2 +1,0 @@
--- The ways out of the functions of this crate.
-mod Ways

@@ -1,2 +1,0 @@
--- The returns of the functions.
-mod Returns
