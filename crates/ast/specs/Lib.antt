@@ -11,3 +11,5 @@ pub mod ImageFault
 pub mod Claims
 pub mod Depth
 pub mod Room
+pub mod Kinds
+pub mod KindLaws

@@ -10,6 +10,7 @@ ghost use Rattle.visit.specs.Within.{Visits};
 ghost use Rattle.visiting.specs.Blocks.{left_of};
 ghost use Rattle.bodies.specs.Bodies.{BeginReady, EndReady, Begins, end_at};
 
+use places::Image;
 use rules::Answer;
 use tok::{Texts, word_at};
 use visit::{State, Visit};
@@ -24,19 +25,18 @@ pub fn begin(
     messages: &mut [u8],
     scratch: &mut [u32],
     texts: &Texts,
-    image: &[u32],
-    places: &[u16],
+    image: &Image,
     at: usize,
     st: State,
     n: u32,
 ) -> Visit<Option<u32>>
-    requires { BeginReady image.now places.now at st functions.old scratch.old }
+    requires { BeginReady image.now.words image.now.places at st functions.old scratch.old }
     ensures { ((ls : List Package) (v : ℕ) (words : List ℕ) (o : More) →
         let b : Lent = lent slots.old functions.old types.old diagnostics.old messages.old scratch.old o in
         let b' : Lent = lent slots.new functions.new types.new diagnostics.new messages.new scratch.new o in
-        Begins (ctx texts.now ls v) image.now at n words st b b' result) }
+        Begins (ctx texts.now ls v) image.now.words at n words st b b' result) }
 {
-    let name = word_at(image, at + 2);
+    let name = word_at(image.words, at + 2);
     let (is_new, used) = functions::unless_defined(
         &functions[..],
         diagnostics,
@@ -56,14 +56,13 @@ pub fn begin(
         types,
         scratch,
         image,
-        places,
         visiting::inner(st),
         n,
-        word_at(image, at + 1) as usize + 1,
+        word_at(image.words, at + 1) as usize + 1,
         name,
-        word_at(image, at + 3),
+        word_at(image.words, at + 3),
         at + 5,
-        word_at(image, at + 4) as usize,
+        word_at(image.words, at + 4) as usize,
     )?;
     Ok((Some(ret), inner))
 }
@@ -75,8 +74,7 @@ pub fn end(
     diagnostics: &mut [u32],
     messages: &mut [u8],
     texts: &Texts,
-    image: &[u32],
-    places: &[u16],
+    image: &Image,
     at: usize,
     inside: State,
     before: State,
@@ -84,11 +82,11 @@ pub fn end(
     ret: u32,
     computed: Answer,
 ) -> Visit<Answer>
-    requires { EndReady image.now places.now at }
+    requires { EndReady image.now.words image.now.places at }
     ensures { ((ls : List Package) (v : ℕ) (words f e : List ℕ) (o : More) →
         let b : Lent = lent slots.old f types.now diagnostics.old messages.old e o in
         let b' : Lent = lent slots.new f types.now diagnostics.new messages.new e o in
-        Visits (end_at (ctx texts.now ls v) image.now at n ret computed) 0 0 words (left_of inside before) b b' result) }
+        Visits (end_at (ctx texts.now ls v) image.now.words at n ret computed) 0 0 words (left_of inside before) b b' result) }
 {
     let step = functions::fn_end(
         slots,
@@ -97,12 +95,11 @@ pub fn end(
         messages,
         texts,
         image,
-        places,
         inside.used,
         n,
-        word_at(image, at + 1),
-        word_at(image, at + 2),
-        word_at(image, at + 3),
+        word_at(image.words, at + 1),
+        word_at(image.words, at + 2),
+        word_at(image.words, at + 3),
         ret,
         computed,
     );

@@ -15,6 +15,7 @@ ghost use Rattle.visit.specs.Within.{Visits};
 ghost use Rattle.branches.specs.Branches.{is_field, node_answer, body_answer, branches_from};
 
 use call_args::slot_of;
+use places::Image;
 use rules::Answer;
 use state::{Step, Used};
 use tok::{Texts, word_at};
@@ -68,25 +69,25 @@ pub fn case_end(image: &[u32], at: usize) -> usize
 // The branches, once all bodies are visited: their answers are read from slots, so that no Match keeps room for them while it visits.
 
 // Whether node n is a Field.
-fn is_field(image: &[u32], places: &[u16], n: u32) -> bool
-    requires { NodeReady image.now places.now n }
-    ensures { result ≡ is_field image.now n }
+fn is_field(image: &Image, n: u32) -> bool
+    requires { NodeReady image.now.words image.now.places n }
+    ensures { result ≡ is_field image.now.words n }
 {
-    tok::kind(word_at(image, places::node_place(places, n))) == FIELD
+    tok::kind(word_at(image.words, image.node_place(n))) == FIELD
 }
 
 // What node n has answered: poisoned it left no type in its slot, or Unknown where it read a field of that type.
 #[tactic(auto, unfolding(crate::specs::Branches::node_answer, crate::specs::Branches::answer_of))]
-fn node_answer(slots: &[u32], image: &[u32], places: &[u16], n: u32) -> Answer
-    requires { NodeReady image.now places.now n }
-    ensures { result ≡ node_answer image.now slots.now n }
+fn node_answer(slots: &[u32], image: &Image, n: u32) -> Answer
+    requires { NodeReady image.now.words image.now.places n }
+    ensures { result ≡ node_answer image.now.words slots.now n }
 {
-    let slot = slot_of(image, places, n);
+    let slot = slot_of(image, n);
     let w = word_at(slots, slot as usize);
     if w == 0 {
         return Answer::Poison;
     }
-    if tok::kind(w) == ptype::UNKNOWN && is_field(image, places, n) {
+    if tok::kind(w) == ptype::UNKNOWN && is_field(image, n) {
         return Answer::Poison;
     }
     Answer::Known(slot)
@@ -94,21 +95,14 @@ fn node_answer(slots: &[u32], image: &[u32], places: &[u16], n: u32) -> Answer
 
 // What a body of the node n has answered: its last node's answer, or slot V where it is empty.
 #[tactic(auto, unfolding(crate::specs::Branches::body_answer))]
-fn body_answer(
-    slots: &[u32],
-    image: &[u32],
-    places: &[u16],
-    n: u32,
-    at: usize,
-    count: usize,
-) -> Answer
-    requires { NodesReady image.now places.now n at count }
-    ensures { result ≡ body_answer image.now slots.now at count }
+fn body_answer(slots: &[u32], image: &Image, n: u32, at: usize, count: usize) -> Answer
+    requires { NodesReady image.now.words image.now.places n at count }
+    ensures { result ≡ body_answer image.now.words slots.now at count }
 {
     if count == 0 {
-        return Answer::Known(word_at(image, 3));
+        return Answer::Known(word_at(image.words, 3));
     }
-    node_answer(slots, image, places, word_at(image, at + (count - 1)))
+    node_answer(slots, image, word_at(image.words, at + (count - 1)))
 }
 
 // The branches of the Match n, whose cases stand from word `at` on, against the default's slot, in order: 24 for each that differs.
@@ -118,23 +112,22 @@ fn compare_branches(
     diagnostics: &mut [u32],
     messages: &mut [u8],
     texts: &Texts,
-    image: &[u32],
-    places: &[u16],
+    image: &Image,
     at: usize,
     count: usize,
     used: Used,
     n: u32,
     default: u32,
 ) -> Step<()>
-    requires { CasesReady image.now places.now n at count }
-    ensures { ((ls : List Package) (v : ℕ) → Steps (compare_branches (ctx texts.now ls v) n default (branches_from image.now slots.now at count)) slots.now
+    requires { CasesReady image.now.words image.now.places n at count }
+    ensures { ((ls : List Package) (v : ℕ) → Steps (compare_branches (ctx texts.now ls v) n default (branches_from image.now.words slots.now at count)) slots.now
         types.now diagnostics.old messages.old used slots.now types.now diagnostics.new messages.new result) }
 {
     let mut here = used;
     let mut place = at;
     for _ in 0..count {
-        let body = word_at(image, place + 2) as usize;
-        let answer = body_answer(slots, image, places, n, place + 3, body);
+        let body = word_at(image.words, place + 2) as usize;
+        let answer = body_answer(slots, image, n, place + 3, body);
         let (_, after) = values::compare_branch(
             slots,
             types,
@@ -144,7 +137,7 @@ fn compare_branches(
             here,
             n,
             default,
-            word_at(image, place),
+            word_at(image.words, place),
             answer,
         )?;
         here = after;
@@ -160,15 +153,14 @@ pub fn end(
     diagnostics: &mut [u32],
     messages: &mut [u8],
     texts: &Texts,
-    image: &[u32],
-    places: &[u16],
+    image: &Image,
     at: usize,
     st: State,
     n: u32,
     default: Answer,
 ) -> Visit<Answer>
-    requires { CasesReady image.now places.now n (at + 3) (word_at image.now (at + 2)) }
-    ensures { let I : List ℕ = image.now in
+    requires { CasesReady image.now.words image.now.places n (at + 3) (word_at image.now.words (at + 2)) }
+    ensures { let I : List ℕ = image.now.words in
         ((ls : List Package) (v : ℕ) (words f e : List ℕ) (o : More) →
         let b : Lent = lent slots.old f types.now diagnostics.old messages.old e o in
         let b' : Lent = lent slots.new f types.now diagnostics.new messages.new e o in
@@ -178,7 +170,7 @@ pub fn end(
         return Ok((Answer::Poison, st));
     };
     let used = st.used;
-    let count = word_at(image, at + 2) as usize;
+    let count = word_at(image.words, at + 2) as usize;
     let (_, after) = compare_branches(
         &slots[..],
         types,
@@ -186,13 +178,12 @@ pub fn end(
         messages,
         texts,
         image,
-        places,
         at + 3,
         count,
         used,
         n,
         slot,
     )?;
-    let own = word_at(image, at + 1);
+    let own = word_at(image.words, at + 1);
     visit::answered(st, values::alias(slots, after, own, slot))
 }

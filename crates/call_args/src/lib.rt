@@ -16,16 +16,17 @@ ghost use Rattle.spans.specs.Ready.{NodesReady};
 ghost use Rattle.call_args.specs.Given.{given_from, CallReady};
 
 use err::CallName;
+use places::Image;
 use rules::Answer;
 use state::{Step, Used};
 use tok::Texts;
 
 // The slot of a node.
-pub fn slot_of(image: &[u32], places: &[u16], n: u32) -> u32
-    requires { NodeReady image.now places.now n }
-    ensures { result ≡ slot_of (tree_of image.now n) }
+pub fn slot_of(image: &Image, n: u32) -> u32
+    requires { NodeReady image.now.words image.now.places n }
+    ensures { result ≡ slot_of (tree_of image.now.words n) }
 {
-    tok::word_at(image, places::node_place(places, n) + 1)
+    tok::word_at(image.words, image.node_place(n) + 1)
 }
 
 // Each argument, in order.
@@ -35,8 +36,7 @@ fn plain_arguments(
     diagnostics: &mut [u32],
     messages: &mut [u8],
     texts: &Texts,
-    image: &[u32],
-    places: &[u16],
+    image: &Image,
     used: Used,
     n: u32,
     callee: CallName,
@@ -45,13 +45,13 @@ fn plain_arguments(
     args: usize,
     count: usize,
 ) -> Step<()>
-    requires { CallReady image.now places.now n args count words.now at }
-    ensures { Leaves texts.now (λ c. arguments c n (call_name texts.now callee) false (signature_at words.now at false).params (given_from image.now args count)) slots.now
+    requires { CallReady image.now.words image.now.places n args count words.now at }
+    ensures { Leaves texts.now (λ c. arguments c n (call_name texts.now callee) false (signature_at words.now at false).params (given_from image.now.words args count)) slots.now
         types.now diagnostics.old messages.old used diagnostics.new messages.new result }
 {
     let mut used = used;
     for i in 0..count {
-        let number = tok::word_at(image, args + i);
+        let number = tok::word_at(image.words, args + i);
         let (_, after) = arguments::plain_argument(
             slots,
             types,
@@ -63,8 +63,8 @@ fn plain_arguments(
             callee,
             signatures::argument_name(words, at, i),
             signatures::argument_type(words, at, i),
-            slot_of(image, places, number),
-            spans::span_of(image, places, number),
+            slot_of(image, number),
+            spans::span_of(image, number),
         )?;
         used = after;
     }
@@ -79,8 +79,7 @@ pub fn check_plain(
     diagnostics: &mut [u32],
     messages: &mut [u8],
     texts: &Texts,
-    image: &[u32],
-    places: &[u16],
+    image: &Image,
     used: Used,
     n: u32,
     slot: u32,
@@ -91,9 +90,9 @@ pub fn check_plain(
     args: usize,
     count: usize,
 ) -> Step<Answer>
-    requires { NodesReady image.now places.now n args count }
+    requires { NodesReady image.now.words image.now.places n args count }
     ensures { ((ls : List Package) (v : ℕ) → Steps
-        (check_call_args (ctx texts.now ls v) n slot token (call_name texts.now callee) (signature_at words.now at false) (given_from image.now args count)) slots.old
+        (check_call_args (ctx texts.now ls v) n slot token (call_name texts.now callee) (signature_at words.now at false) (given_from image.now.words args count)) slots.old
         types.now diagnostics.old messages.old used slots.new types.now diagnostics.new messages.new result) }
 {
     let required = signatures::argument_count(words, at);
@@ -120,7 +119,6 @@ pub fn check_plain(
         messages,
         texts,
         image,
-        places,
         used,
         n,
         callee,

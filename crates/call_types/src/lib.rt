@@ -5,21 +5,16 @@ ghost use Rattle.std.specs.Prelude.{◌≡◌, take};
 ghost use Rattle.call_args.specs.Given.{given_from};
 ghost use Rattle.call_types.specs.Gather.{words_in, Gatherable};
 
+use places::Image;
+
 // The type words of `count` arguments, whose node numbers stand from word `args` of the image on.
-pub fn gather_types(
-    provided: &mut [u32],
-    slots: &[u32],
-    image: &[u32],
-    places: &[u16],
-    args: usize,
-    count: usize,
-)
-    requires { Gatherable image.now places.now args count provided.old }
-    ensures { take count provided.new ≡ words_in slots.now (given_from image.now args count) }
+pub fn gather_types(provided: &mut [u32], slots: &[u32], image: &Image, args: usize, count: usize)
+    requires { Gatherable image.now.words image.now.places args count provided.old }
+    ensures { take count provided.new ≡ words_in slots.now (given_from image.now.words args count) }
 {
     for i in 0..count {
-        let number = tok::word_at(image, args + i);
-        let slot = call_args::slot_of(image, places, number);
+        let number = tok::word_at(image.words, args + i);
+        let slot = call_args::slot_of(image, number);
         provided[i] = tok::word_at(slots, slot as usize);
     }
 }

@@ -17,7 +17,7 @@ ghost use Rattle.visit.specs.Within.{Visits};
 ghost use Rattle.calls.specs.Callees.{callee_at, is_through_field, call_end, CallAt, FieldCall};
 ghost use Rattle.calls.specs.CallVisits.{Resolvable};
 
-use places::node_place;
+use places::{Image, Sources};
 use rules::Answer;
 use tok::{Texts, kind, word_at};
 use visit::{State, Visit};
@@ -26,37 +26,36 @@ use visit::{State, Visit};
 const IDENT: u32 = 1;
 
 // Is the target a Field of what is no Ident? Such a call visits none of its arguments.
-pub fn through_field(image: &[u32], places: &[u16], at: usize) -> bool
-    requires { CallAt image.now places.now at }
-    ensures { result ≡ is_through_field (callee_at image.now at) }
+pub fn through_field(image: &Image, at: usize) -> bool
+    requires { CallAt image.now.words image.now.places at }
+    ensures { result ≡ is_through_field (callee_at image.now.words at) }
 {
-    let target = node_place(places, word_at(image, at + 2));
-    if kind(word_at(image, target)) == IDENT {
+    let target = image.node_place(word_at(image.words, at + 2));
+    if kind(word_at(image.words, target)) == IDENT {
         return false;
     }
-    let of = node_place(places, word_at(image, target + 2));
-    kind(word_at(image, of)) != IDENT
+    let of = image.node_place(word_at(image.words, target + 2));
+    kind(word_at(image.words, of)) != IDENT
 }
 
 // Such a call: 14.
 pub fn report_field(
     diagnostics: &mut [u32],
     messages: &mut [u8],
-    image: &[u32],
-    places: &[u16],
+    image: &Image,
     at: usize,
     st: State,
     n: u32,
 ) -> Visit<Answer>
-    requires { FieldCall image.now places.now at }
+    requires { FieldCall image.now.words image.now.places at }
     ensures { ((c : Ctx) (slot : ℕ) (given : List Provided) (visits : Walk Bool) (words s f t e : List ℕ) (o : More) →
         let b : Lent = lent s f t diagnostics.old messages.old e o in
         let b' : Lent = lent s f t diagnostics.new messages.new e o in
-        Visits (call c n slot (callee_at image.now at) given visits) 0 0 words st b b' result) }
+        Visits (call c n slot (callee_at image.now.words at) given visits) 0 0 words st b b' result) }
 {
     let used = st.used;
-    let target = node_place(places, word_at(image, at + 2));
-    let name = word_at(image, target + 3);
+    let target = image.node_place(word_at(image.words, at + 2));
+    let name = word_at(image.words, target + 3);
     let free = err_text::first_free(messages, used.told);
     let r = err_calls::call_through_field(diagnostics, &mut messages[free..], used.told, name);
     visit::answered(st, state::told(n, used, r, Answer::Poison))
@@ -78,8 +77,7 @@ fn resolve_own(
     diagnostics: &mut [u32],
     messages: &mut [u8],
     texts: &Texts,
-    image: &[u32],
-    places: &[u16],
+    image: &Image,
     st: State,
     n: u32,
     slot: u32,
@@ -87,11 +85,11 @@ fn resolve_own(
     args: usize,
     count: usize,
 ) -> Visit<Answer>
-    requires { OwnReady functions.now st.functions image.now places.now n args count }
+    requires { OwnReady functions.now st.functions image.now.words image.now.places n args count }
     ensures { ((ls : List Package) (v : ℕ) (words e : List ℕ) (o : More) →
         let b : Lent = lent slots.old functions.now types.now diagnostics.old messages.old e o in
         let b' : Lent = lent slots.new functions.now types.now diagnostics.new messages.new e o in
-        Visits (resolve_call (ctx texts.now ls v) n slot name (given_from image.now args count)) 0 0 words st b b' result) }
+        Visits (resolve_call (ctx texts.now ls v) n slot name (given_from image.now.words args count)) 0 0 words st b b' result) }
 {
     let used = st.used;
     let step = own_call::resolve_call(
@@ -103,7 +101,6 @@ fn resolve_own(
         st.functions,
         texts,
         image,
-        places,
         used,
         n,
         slot,
@@ -122,36 +119,34 @@ pub fn resolve(
     diagnostics: &mut [u32],
     messages: &mut [u8],
     scratch: &mut [u32],
-    texts: &Texts,
-    image: &[u32],
-    words: &[u32],
-    places: &[u16],
+    sources: &Sources,
     at: usize,
     count: usize,
     st: State,
     n: u32,
     poisoned: bool,
 ) -> Visit<Answer>
-    requires { Resolvable texts.now image.now places.now words.now n at count st (lent slots.old functions.now types.old diagnostics.old messages.old scratch.old no_more) }
+    requires { Resolvable sources.now.texts sources.now.image.words sources.now.image.places sources.now.library n at count st (lent slots.old functions.now types.old diagnostics.old messages.old scratch.old no_more) }
     ensures { let b : Lent = lent slots.old functions.now types.old diagnostics.old messages.old scratch.old no_more in
         ((ls : List Package) (v : ℕ) →
         let b' : Lent = lent slots.new functions.now types.new diagnostics.new messages.new scratch.new no_more in
-        Visits (call_end (ctx texts.now ls v) n (get_or image.now (at + 1) 0) (callee_at image.now at) (given_from image.now (at + 3) count) poisoned) count 0
-        words.now st b b' result) }
+        Visits (call_end (ctx sources.now.texts ls v) n (get_or sources.now.image.words (at + 1) 0) (callee_at sources.now.image.words at) (given_from sources.now.image.words (at + 3) count) poisoned) count 0
+        sources.now.library st b b' result) }
 {
-    let slot = word_at(image, at + 1);
-    let target = node_place(places, word_at(image, at + 2));
-    if kind(word_at(image, target)) == IDENT {
-        let name = word_at(image, target + 2);
+    let slot = word_at(sources.image.words, at + 1);
+    let target = sources
+        .image
+        .node_place(word_at(sources.image.words, at + 2));
+    if kind(word_at(sources.image.words, target)) == IDENT {
+        let name = word_at(sources.image.words, target + 2);
         return resolve_own(
             slots,
             functions,
             &types[..],
             diagnostics,
             messages,
-            texts,
-            image,
-            places,
+            &sources.texts,
+            &sources.image,
             st,
             n,
             slot,
@@ -160,19 +155,18 @@ pub fn resolve(
             count,
         );
     }
-    let of = node_place(places, word_at(image, target + 2));
-    let pkg = word_at(image, of + 2);
-    let name = word_at(image, target + 3);
+    let of = sources
+        .image
+        .node_place(word_at(sources.image.words, target + 2));
+    let pkg = word_at(sources.image.words, of + 2);
+    let name = word_at(sources.image.words, target + 3);
     pkg_call::resolve_pkg_call(
         slots,
         types,
         diagnostics,
         messages,
         scratch,
-        texts,
-        image,
-        places,
-        words,
+        sources,
         st,
         n,
         slot,

@@ -17,40 +17,46 @@ ghost use Rattle.walking.specs.Visited.{ListVisit, ListVisited};
 ghost use Rattle.ending.specs.Ended.{ended_of, checked_of, EndsAs, WalkEnds};
 
 use ending::Checked;
+use places::{Image, Sources};
+use refuse::Inputs;
 use rules::Answer;
 use tok::Texts;
 use visit::{State, Visit};
 
 // The roots, in order. The places of the image's records are found here, once, and lent to all visits; the library is measured before, so
 // that the two arrays do not stand on the stack at the same time.
-fn visit_roots<'a>(
+fn visit_roots(
     slots: &mut [u32],
     functions: &mut [u32],
     types: &mut [u32],
     diagnostics: &mut [u32],
     messages: &mut [u8],
     scratch: &mut [u32],
-    script: &'a [u8],
-    text: &'a [u8],
-    image: &[u32],
-    library: &[u32],
+    inputs: &Inputs,
     st: State,
 ) -> Visit<Answer>
-    requires { let T : Texts = texts_of script.now text.now in let I : List ℕ = image.now in
+    requires { let i : Inputs = inputs.now in let T : Texts = texts_of i.script i.library_text in let I : List ℕ = i.image in
         let b : Lent = lent slots.old functions.old types.old diagnostics.old messages.old scratch.old no_more in
-        ListVisit T I (places_of I) library.now (node_count I) 4 (root_count I) st b }
-    ensures { let T : Texts = texts_of script.now text.now in let I : List ℕ = image.now in
+        ListVisit T I (places_of I) i.library (node_count I) 4 (root_count I) st b }
+    ensures { let i : Inputs = inputs.now in let T : Texts = texts_of i.script i.library_text in let I : List ℕ = i.image in
         let b : Lent = lent slots.old functions.old types.old diagnostics.old messages.old scratch.old no_more in
         let b' : Lent = lent slots.new functions.new types.new diagnostics.new messages.new scratch.new no_more in
-        ListVisited T I library.now 4 (root_count I) st b b' result }
+        ListVisited T I i.library 4 (root_count I) st b b' result }
 {
     let mut places = [0u16; 3072];
-    places::record_places(&mut places, image);
-    let nodes = tok::word_at(image, 0);
-    let roots = tok::wide(tok::word_at(image, 2));
-    let texts = Texts {
-        script,
-        library: text,
+    places::record_places(&mut places, inputs.image);
+    let nodes = tok::word_at(inputs.image, 0);
+    let roots = tok::wide(tok::word_at(inputs.image, 2));
+    let sources = Sources {
+        texts: Texts {
+            script: inputs.script,
+            library: inputs.library_text,
+        },
+        library: inputs.library,
+        image: Image {
+            words: inputs.image,
+            places: &places[..],
+        },
     };
     typecheck::nodes(
         slots,
@@ -59,10 +65,7 @@ fn visit_roots<'a>(
         diagnostics,
         messages,
         scratch,
-        &texts,
-        image,
-        library,
-        &places[..],
+        &sources,
         st,
         nodes,
         4,
@@ -71,27 +74,24 @@ fn visit_roots<'a>(
 }
 
 // The walk of accepted inputs: its beginning, and then the roots.
-fn walk<'a>(
+fn walk(
     slots: &mut [u32],
     functions: &mut [u32],
     types: &mut [u32],
     diagnostics: &mut [u32],
     messages: &mut [u8],
     scratch: &mut [u32],
-    script: &'a [u8],
-    text: &'a [u8],
-    image: &[u32],
-    library: &[u32],
+    inputs: &Inputs,
 ) -> Visit<Answer>
-    requires { let i : Inputs = inputs_of script.now image.now text.now library.now in
+    requires { let i : Inputs = inputs.now in
         let b : Buffers = buffers_of slots.old functions.old types.old diagnostics.old messages.old scratch.old in
         refusal_of i b ≡ none }
-    ensures { let i : Inputs = inputs_of script.now image.now text.now library.now in
+    ensures { let i : Inputs = inputs.now in
         let b : Buffers = buffers_of slots.old functions.old types.old diagnostics.old messages.old scratch.old in
         let b' : Lent = lent slots.new functions.new types.new diagnostics.new messages.new scratch.new no_more in
         WalkEnds i b b' result }
 {
-    let (_, st) = start::begin(slots, types, image, library)?;
+    let (_, st) = start::begin(slots, types, inputs.image, inputs.library)?;
     visit_roots(
         slots,
         functions,
@@ -99,31 +99,25 @@ fn walk<'a>(
         diagnostics,
         messages,
         scratch,
-        script,
-        text,
-        image,
-        library,
+        inputs,
         st,
     )
 }
 
 // The check of accepted inputs.
-fn check_accepted<'a>(
+fn check_accepted(
     slots: &mut [u32],
     functions: &mut [u32],
     types: &mut [u32],
     diagnostics: &mut [u32],
     messages: &mut [u8],
     scratch: &mut [u32],
-    script: &'a [u8],
-    text: &'a [u8],
-    image: &[u32],
-    library: &[u32],
+    inputs: &Inputs,
 ) -> Checked
-    requires { let i : Inputs = inputs_of script.now image.now text.now library.now in
+    requires { let i : Inputs = inputs.now in
         let b : Buffers = buffers_of slots.old functions.old types.old diagnostics.old messages.old scratch.old in
         refusal_of i b ≡ none }
-    ensures { let i : Inputs = inputs_of script.now image.now text.now library.now in
+    ensures { let i : Inputs = inputs.now in
         let before : Buffers = buffers_of slots.old functions.old types.old diagnostics.old messages.old scratch.old in
         let after : Buffers = buffers_of slots.new functions.new types.new diagnostics.new messages.new scratch.new in
         EndsAs (check_of i before) after result }
@@ -135,10 +129,7 @@ fn check_accepted<'a>(
         diagnostics,
         messages,
         scratch,
-        script,
-        text,
-        image,
-        library,
+        inputs,
     );
     ending::finish(
         slots,
@@ -182,6 +173,12 @@ pub fn check<'a>(
         &messages[..],
         &scratch[..],
     )?;
+    let inputs = Inputs {
+        script,
+        image,
+        library_text: text,
+        library,
+    };
     check_accepted(
         slots,
         functions,
@@ -189,9 +186,6 @@ pub fn check<'a>(
         diagnostics,
         messages,
         scratch,
-        script,
-        text,
-        image,
-        library,
+        &inputs,
     )
 }

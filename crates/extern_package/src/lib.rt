@@ -13,6 +13,7 @@ ghost use Rattle.visit.specs.Within.{Visits};
 ghost use Rattle.room_laws.specs.Room.{extern_words};
 ghost use Rattle.extern_package.specs.Packing.{FunctionsRoom, WritesFunctions, ExternReady, extern_rule};
 
+use places::Image;
 use rules::Answer;
 use state::{Step, Used};
 use tok::word_at;
@@ -26,23 +27,22 @@ const VOID_WORD: u32 = 0x1000_0000;
 pub fn extern_functions(
     types: &mut [u32],
     scratch: &mut [u32],
-    image: &[u32],
-    places: &[u16],
+    image: &Image,
     used: Used,
     n: u32,
     from: usize,
     at: usize,
     count: usize,
 ) -> Step<()>
-    requires { FunctionsRoom image.now places.now scratch.old from at count }
-    ensures { WritesFunctions image.now n from at count types.old used scratch.old types.new scratch.new result }
+    requires { FunctionsRoom image.now.words image.now.places scratch.old from at count }
+    ensures { WritesFunctions image.now.words n from at count types.old used scratch.old types.new scratch.new result }
 {
     let mut after = used;
     let mut place = from;
     let mut to = at;
     for _ in 0..count {
-        (_, after) = externs::extern_function(types, scratch, image, places, after, n, place, to)?;
-        let size = 3 + 2 * (word_at(image, place + 2) as usize);
+        (_, after) = externs::extern_function(types, scratch, image, after, n, place, to)?;
+        let size = 3 + 2 * (word_at(image.words, place + 2) as usize);
         place += size;
         to += size;
     }
@@ -55,8 +55,7 @@ pub fn extern_package(
     slots: &mut [u32],
     types: &mut [u32],
     scratch: &mut [u32],
-    image: &[u32],
-    places: &[u16],
+    image: &Image,
     st: State,
     n: u32,
     slot: u32,
@@ -65,11 +64,11 @@ pub fn extern_package(
     end: usize,
     count: u32,
 ) -> Visit<Answer>
-    requires { ExternReady image.now places.now st scratch.old from end count }
+    requires { ExternReady image.now.words image.now.places st scratch.old from end count }
     ensures { ((T : Texts) (ls : List Package) (v : ℕ) (words f d m : List ℕ) (o : More) →
         let b : Lent = lent slots.old f types.old d m scratch.old o in
         let b' : Lent = lent slots.new f types.new d m scratch.new o in
-        Visits (extern_rule (ctx T ls v) n slot name (externs_from image.now from count)) (extern_words (externs_from image.now from count)) 0 words st b b' result) }
+        Visits (extern_rule (ctx T ls v) n slot name (externs_from image.now.words from count)) (extern_words (externs_from image.now.words from count)) 0 words st b b' result) }
 {
     let size = 3 + (end - from);
     let start = st.held - size;
@@ -79,7 +78,6 @@ pub fn extern_package(
         types,
         scratch,
         image,
-        places,
         st.used,
         n,
         from,

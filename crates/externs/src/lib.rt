@@ -6,6 +6,7 @@
 ghost use Rattle.std.specs.Prelude.{◌≡◌, List, ℕ, ◌+◌, ◌*◌, ◌≤◌, ◌<◌};
 ghost use Rattle.externs.specs.Entries.{ArgumentsRoom, ArguesExtern, FunctionRoom, EntersExtern};
 
+use places::Image;
 use state::{Step, Used};
 use tok::word_at;
 use type_expr::type_from_type_expr;
@@ -14,23 +15,22 @@ use type_expr::type_from_type_expr;
 pub fn extern_arguments(
     types: &mut [u32],
     scratch: &mut [u32],
-    image: &[u32],
-    places: &[u16],
+    image: &Image,
     used: Used,
     n: u32,
     from: usize,
     at: usize,
     count: usize,
 ) -> Step<()>
-    requires { ArgumentsRoom image.now places.now scratch.old from at count }
-    ensures { ArguesExtern image.now n from at count types.old used scratch.old types.new scratch.new result }
+    requires { ArgumentsRoom image.now.words image.now.places scratch.old from at count }
+    ensures { ArguesExtern image.now.words n from at count types.old used scratch.old types.new scratch.new result }
 {
     let mut after = used;
     for k in 0..count {
-        let t = word_at(image, from + 2 * k + 1);
-        let added = type_from_type_expr(types, after.types, image, places, t);
+        let t = word_at(image.words, from + 2 * k + 1);
+        let added = type_from_type_expr(types, after.types, image, t);
         let (w, next) = state::added(n, after, added)?;
-        let name = word_at(image, from + 2 * k);
+        let name = word_at(image.words, from + 2 * k);
         add::set_pair(scratch, at + 2 * k, name, w);
         after = next;
     }
@@ -41,33 +41,22 @@ pub fn extern_arguments(
 pub fn extern_function(
     types: &mut [u32],
     scratch: &mut [u32],
-    image: &[u32],
-    places: &[u16],
+    image: &Image,
     used: Used,
     n: u32,
     from: usize,
     at: usize,
 ) -> Step<()>
-    requires { FunctionRoom image.now places.now scratch.old from at }
-    ensures { EntersExtern image.now n from at types.old used scratch.old types.new scratch.new result }
+    requires { FunctionRoom image.now.words image.now.places scratch.old from at }
+    ensures { EntersExtern image.now.words n from at types.old used scratch.old types.new scratch.new result }
 {
-    let name = word_at(image, from);
-    let count = word_at(image, from + 2);
+    let name = word_at(image.words, from);
+    let count = word_at(image.words, from + 2);
     add::set_pair(scratch, at, name, count);
     let arguments = count as usize;
-    let (_, used) = extern_arguments(
-        types,
-        scratch,
-        image,
-        places,
-        used,
-        n,
-        from + 3,
-        at + 2,
-        arguments,
-    )?;
-    let t = word_at(image, from + 1);
-    let added = type_from_type_expr(types, used.types, image, places, t);
+    let (_, used) = extern_arguments(types, scratch, image, used, n, from + 3, at + 2, arguments)?;
+    let t = word_at(image.words, from + 1);
+    let added = type_from_type_expr(types, used.types, image, t);
     let (w, used) = state::added(n, used, added)?;
     operators::store(scratch, at + 2 + 2 * arguments, w);
     Ok(((), used))

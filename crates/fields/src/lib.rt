@@ -15,6 +15,7 @@ ghost use Rattle.visit.specs.Within.{Visits};
 ghost use Rattle.fields.specs.Read.{node_value, pairs_read};
 ghost use Rattle.fields.specs.Parts.{record_of, record_end};
 
+use places::Image;
 use rules::Answer;
 use state::Refusal;
 use visit::{State, Visit};
@@ -57,11 +58,11 @@ fn close(
 
 // The type word of the value of node n: Unknown where it was poisoned.
 #[tactic(auto, unfolding(crate::specs::Read::node_value, crate::specs::Read::value_of))]
-fn node_value(slots: &[u32], image: &[u32], places: &[u16], n: u32) -> u32
-    requires { NodeReady image.now places.now n }
-    ensures { result ≡ node_value image.now slots.now n }
+fn node_value(slots: &[u32], image: &Image, n: u32) -> u32
+    requires { NodeReady image.now.words image.now.places n }
+    ensures { result ≡ node_value image.now.words slots.now n }
 {
-    let w = tok::word_at(slots, call_args::slot_of(image, places, n) as usize);
+    let w = tok::word_at(slots, call_args::slot_of(image, n) as usize);
     if w == 0 {
         return UNKNOWN_WORD;
     }
@@ -72,20 +73,19 @@ fn node_value(slots: &[u32], image: &[u32], places: &[u16], n: u32) -> u32
 fn set_pairs(
     slots: &[u32],
     types: &mut [u32],
-    image: &[u32],
-    places: &[u16],
+    image: &Image,
     n: u32,
     at: usize,
     count: usize,
     to: usize,
 )
-    requires { (to ≤ 268435456) × ValuesReady image.now places.now n at count }
-    ensures { types.new ≡ write types.old to (pairs_read image.now slots.now at count) }
+    requires { (to ≤ 268435456) × ValuesReady image.now.words image.now.places n at count }
+    ensures { types.new ≡ write types.old to (pairs_read image.now.words slots.now at count) }
 {
     for i in 0..count {
-        let name = tok::word_at(image, at + 2 * i);
-        let value = tok::word_at(image, at + 2 * i + 1);
-        let ty = node_value(slots, image, places, value);
+        let name = tok::word_at(image.words, at + 2 * i);
+        let value = tok::word_at(image.words, at + 2 * i + 1);
+        let ty = node_value(slots, image, value);
         add::set_pair(types, to + 2 * i, name, ty);
     }
 }
@@ -94,15 +94,14 @@ fn set_pairs(
 pub fn make(
     slots: &mut [u32],
     types: &mut [u32],
-    image: &[u32],
-    places: &[u16],
+    image: &Image,
     at: usize,
     count: usize,
     st: State,
     n: u32,
 ) -> Visit<Answer>
-    requires { ValuesReady image.now places.now n (at + 3) count }
-    ensures { let I : List ℕ = image.now in
+    requires { ValuesReady image.now.words image.now.places n (at + 3) count }
+    ensures { let I : List ℕ = image.now.words in
         ((T : Texts) (words f d m e : List ℕ) (o : More) →
         let b : Lent = lent slots.old f types.old d m e o in
         let b' : Lent = lent slots.new f types.new d m e o in
@@ -110,6 +109,6 @@ pub fn make(
 {
     let (word, end) = open(types, st, n, count)?;
     let to = tok::payload(word) + 1;
-    set_pairs(&slots[..], types, image, places, n, at + 3, count, to);
-    close(slots, &types[..], image, at, end, n, word)
+    set_pairs(&slots[..], types, image, n, at + 3, count, to);
+    close(slots, &types[..], image.words, at, end, n, word)
 }

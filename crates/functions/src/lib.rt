@@ -19,6 +19,7 @@ ghost use Rattle.functions.specs.Defined.{is_new, fn_begin, fn_end};
 ghost use Rattle.functions.specs.Entering.{CopyRoom, EntryRoom, FnReady};
 
 use parameters::fn_arguments;
+use places::Image;
 use rules::Answer;
 use state::{Step, Used};
 use tok::{Texts, word_at};
@@ -89,8 +90,7 @@ pub fn fn_begin(
     functions: &mut [u32],
     types: &mut [u32],
     scratch: &mut [u32],
-    image: &[u32],
-    places: &[u16],
+    image: &Image,
     st: State,
     n: u32,
     slot: usize,
@@ -99,14 +99,14 @@ pub fn fn_begin(
     at: usize,
     count: usize,
 ) -> Visit<u32>
-    requires { FnReady image.now places.now st functions.old scratch.old slot ret at count }
+    requires { FnReady image.now.words image.now.places st functions.old scratch.old slot ret at count }
     ensures { ((T : Texts) (ls : List Package) (v : ℕ) (words d m : List ℕ) (o : More) →
         let b : Lent = lent slots.old functions.old types.old d m scratch.old o in
         let b' : Lent = lent slots.new functions.new types.new d m scratch.new o in
-        Visits (fn_begin (ctx T ls v) n slot name (type_of image.now ret) (args_from image.now at count)) (2 * count) (3 + 2 * count) words st b b' result) }
+        Visits (fn_begin (ctx T ls v) n slot name (type_of image.now.words ret) (args_from image.now.words at count)) (2 * count) (3 + 2 * count) words st b b' result) }
 {
-    let (_, inner) = fn_arguments(slots, types, scratch, image, places, st, n, slot, at, count)?;
-    let added = type_from_type_expr(types, inner.used.types, image, places, ret);
+    let (_, inner) = fn_arguments(slots, types, scratch, image, st, n, slot, at, count)?;
+    let added = type_from_type_expr(types, inner.used.types, image, ret);
     let (w, used) = state::added(n, inner.used, added)?;
     let from = 2 * (st.base + st.depth);
     enter(
@@ -133,8 +133,7 @@ pub fn fn_end(
     diagnostics: &mut [u32],
     messages: &mut [u8],
     texts: &Texts,
-    image: &[u32],
-    places: &[u16],
+    image: &Image,
     used: Used,
     n: u32,
     slot: u32,
@@ -143,11 +142,11 @@ pub fn fn_end(
     ret: u32,
     computed: Answer,
 ) -> Step<Answer>
-    requires { TypeReady image.now places.now expr }
-    ensures { ((ls : List Package) (v : ℕ) → Steps (fn_end (ctx texts.now ls v) n slot name (type_of image.now expr) ret computed) slots.old types.now
+    requires { TypeReady image.now.words image.now.places expr }
+    ensures { ((ls : List Package) (v : ℕ) → Steps (fn_end (ctx texts.now ls v) n slot name (type_of image.now.words expr) ret computed) slots.old types.now
         diagnostics.old messages.old used slots.new types.now diagnostics.new messages.new result) }
 {
-    let token = type_expr::type_token(image, places, expr);
+    let token = type_expr::type_token(image, expr);
     let (_, after) = values::check_return(
         &slots[..],
         types,

@@ -8,6 +8,7 @@ ghost use Rattle.visit.specs.Whole.{Lent, lent};
 ghost use Rattle.walking.specs.Visited.{NodeVisited};
 ghost use Rattle.leaves.specs.Leaves.{LeafReady};
 
+use places::Sources;
 use rules::Answer;
 use tok::{Texts, kind, payload, word_at};
 use visit::{State, Visit};
@@ -33,27 +34,24 @@ pub fn leaf(
     diagnostics: &mut [u32],
     messages: &mut [u8],
     scratch: &mut [u32],
-    texts: &Texts,
-    image: &[u32],
-    words: &[u32],
-    places: &[u16],
+    sources: &Sources,
     st: State,
     n: u32,
 ) -> Visit<Answer>
-    requires { LeafReady texts.now image.now places.now words.now n st scratch.old }
+    requires { LeafReady sources.now.texts sources.now.image.words sources.now.image.places sources.now.library n st scratch.old }
     ensures { ((f : List ℕ) (o : More) →
         let b : Lent = lent slots.old f types.old diagnostics.old messages.old scratch.old o in
         let b' : Lent = lent slots.new f types.new diagnostics.new messages.new scratch.new o in
-        NodeVisited texts.now image.now words.now n st b b' result) }
+        NodeVisited sources.now.texts sources.now.image.words sources.now.library n st b b' result) }
 {
-    let at = places::node_place(places, n);
-    let head = word_at(image, at);
+    let at = sources.image.node_place(n);
+    let head = word_at(sources.image.words, at);
     let k = kind(head);
-    let slot = word_at(image, at + 1);
-    let first = word_at(image, at + 2);
+    let slot = word_at(sources.image.words, at + 1);
+    let first = word_at(sources.image.words, at + 2);
     if k == ATOM {
         let used = st.used;
-        let w = plain_word(word_at(image, at + 3));
+        let w = plain_word(word_at(sources.image.words, at + 3));
         return visit::answered(st, operators::set_known(slots, used, slot, w));
     }
     if k == IDENT {
@@ -62,7 +60,7 @@ pub fn leaf(
             diagnostics,
             messages,
             &scratch[..],
-            texts,
+            &sources.texts,
             st,
             n,
             slot,
@@ -75,9 +73,9 @@ pub fn leaf(
             diagnostics,
             messages,
             scratch,
-            texts,
-            words,
-            image,
+            &sources.texts,
+            sources.library,
+            sources.image.words,
             st,
             n,
             slot,
@@ -90,14 +88,13 @@ pub fn leaf(
         slots,
         types,
         scratch,
-        image,
-        places,
+        &sources.image,
         st,
         n,
         slot,
-        word_at(image, at + 3),
+        word_at(sources.image.words, at + 3),
         at + 5,
         at + payload(head),
-        word_at(image, at + 4),
+        word_at(sources.image.words, at + 4),
     )
 }

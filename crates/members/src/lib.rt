@@ -17,6 +17,7 @@ ghost use Rattle.visit.specs.Whole.{Lent, lent};
 ghost use Rattle.visit.specs.Within.{Visits};
 ghost use Rattle.members.specs.Turns.{member_turn};
 
+use places::Image;
 use rules::Answer;
 use tok::{Texts, word_at};
 use values::Compared;
@@ -50,8 +51,7 @@ pub fn member(
     diagnostics: &mut [u32],
     messages: &mut [u8],
     texts: &Texts,
-    image: &[u32],
-    places: &[u16],
+    image: &Image,
     st: State,
     n: u32,
     part: u32,
@@ -59,14 +59,14 @@ pub fn member(
     second: Answer,
     poisoned: bool,
 ) -> Visit<Option<bool>>
-    requires { NodeReady image.now places.now part }
+    requires { NodeReady image.now.words image.now.places part }
     ensures { ((ls : List Package) (v : ℕ) (words f e : List ℕ) (o : More) →
         let b : Lent = lent slots.now f types.now diagnostics.old messages.old e o in
         let b' : Lent = lent slots.now f types.now diagnostics.new messages.new e o in
-        Visits (member_turn (ctx texts.now ls v) n (span_of (tree_of image.now part)) first second poisoned) 0 0 words st b b' result) }
+        Visits (member_turn (ctx texts.now ls v) n (span_of (tree_of image.now.words part)) first second poisoned) 0 0 words st b b' result) }
 {
     let used = st.used;
-    let span = spans::span_of(image, places, part);
+    let span = spans::span_of(image, part);
     let (compared, after) = values::member(
         slots,
         types,

@@ -13,6 +13,7 @@ ghost use Rattle.visit.specs.Within.{Visits};
 ghost use Rattle.operands.specs.Ends.{operand_at, bin_end, one_end, one_room, cast_type, cast_end};
 ghost use Rattle.operands.specs.Ready.{OneReady, CastReady};
 
+use places::Image;
 use rules::Answer;
 use tok::{Texts, kind, word_at};
 use visit::{State, Visit};
@@ -164,23 +165,16 @@ pub fn one_end(
 }
 
 // Node::Cast before its operand: the type that it casts to. Gives its word.
-pub fn cast_begin(
-    types: &mut [u32],
-    image: &[u32],
-    places: &[u16],
-    at: usize,
-    st: State,
-    n: u32,
-) -> Visit<u32>
-    requires { CastReady image.now places.now at }
+pub fn cast_begin(types: &mut [u32], image: &Image, at: usize, st: State, n: u32) -> Visit<u32>
+    requires { CastReady image.now.words image.now.places at }
     ensures { ((T : Texts) (ls : List Package) (v : ℕ) (words s f d m e : List ℕ) (o : More) →
         let b : Lent = lent s f types.old d m e o in
         let b' : Lent = lent s f types.new d m e o in
-        Visits (cast_type (ctx T ls v) image.now n at) 0 0 words st b b' result) }
+        Visits (cast_type (ctx T ls v) image.now.words n at) 0 0 words st b b' result) }
 {
     let used = st.used;
-    let expr = word_at(image, at + 4);
-    let added = type_expr::type_from_type_expr(types, used.types, image, places, expr);
+    let expr = word_at(image.words, at + 4);
+    let added = type_expr::type_from_type_expr(types, used.types, image, expr);
     visit::answered(st, state::added(n, used, added))
 }
 

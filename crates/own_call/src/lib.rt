@@ -6,6 +6,7 @@ ghost use Rattle.call_args.specs.Given.{given_from};
 ghost use Rattle.own_call.specs.OwnCalls.{OwnReady, OwnCalls};
 
 use err::CallName;
+use places::Image;
 use rules::Answer;
 use state::{Step, Used};
 use tok::Texts;
@@ -19,8 +20,7 @@ pub fn resolve_call(
     functions: &[u32],
     k: usize,
     texts: &Texts,
-    image: &[u32],
-    places: &[u16],
+    image: &Image,
     used: Used,
     n: u32,
     slot: u32,
@@ -28,8 +28,8 @@ pub fn resolve_call(
     args: usize,
     count: usize,
 ) -> Step<Answer>
-    requires { OwnReady functions.now k image.now places.now n args count }
-    ensures { OwnCalls texts.now n slot name (given_from image.now args count) functions.now k slots.old types.now diagnostics.old
+    requires { OwnReady functions.now k image.now.words image.now.places n args count }
+    ensures { OwnCalls texts.now n slot name (given_from image.now.words args count) functions.now k slots.old types.now diagnostics.old
         messages.old used slots.new diagnostics.new messages.new result }
 {
     match scope::find_own(texts, functions, k, name) {
@@ -40,7 +40,6 @@ pub fn resolve_call(
             messages,
             texts,
             image,
-            places,
             used,
             n,
             slot,

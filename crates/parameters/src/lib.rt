@@ -12,6 +12,7 @@ ghost use Rattle.state.specs.World.{More};
 ghost use Rattle.visit.specs.Whole.{Lent, lent};
 ghost use Rattle.parameters.specs.Arguments.{ArgumentReady, ArgumentsReady, Argues};
 
+use places::Image;
 use tok::word_at;
 use type_expr::type_from_type_expr;
 use visit::{State, Visit};
@@ -21,22 +22,21 @@ pub fn one_argument(
     slots: &mut [u32],
     types: &mut [u32],
     scratch: &mut [u32],
-    image: &[u32],
-    places: &[u16],
+    image: &Image,
     st: State,
     n: u32,
     slot: usize,
     at: usize,
 ) -> Visit<()>
-    requires { ArgumentReady image.now places.now st scratch.old at }
+    requires { ArgumentReady image.now.words image.now.places st scratch.old at }
     ensures { ((T : Texts) (ls : List Package) (v : ℕ) (words f d m : List ℕ) (o : More) →
         let b : Lent = lent slots.old f types.old d m scratch.old o in
         let b' : Lent = lent slots.new f types.new d m scratch.new o in
-        Argues (fn_arguments (ctx T ls v) n slot (args_from image.now at 1)) 1 words st b b' result) }
+        Argues (fn_arguments (ctx T ls v) n slot (args_from image.now.words at 1)) 1 words st b b' result) }
 {
-    let name = word_at(image, at);
-    let t = word_at(image, at + 1);
-    let added = type_from_type_expr(types, st.used.types, image, places, t);
+    let name = word_at(image.words, at);
+    let t = word_at(image.words, at + 1);
+    let added = type_from_type_expr(types, st.used.types, image, t);
     let (w, used) = state::added(n, st.used, added)?;
     operators::store(slots, slot, w);
     names::bind_name(scratch, st.base, st.depth, name, w);
@@ -48,33 +48,22 @@ pub fn fn_arguments(
     slots: &mut [u32],
     types: &mut [u32],
     scratch: &mut [u32],
-    image: &[u32],
-    places: &[u16],
+    image: &Image,
     st: State,
     n: u32,
     slot: usize,
     at: usize,
     count: usize,
 ) -> Visit<()>
-    requires { ArgumentsReady image.now places.now st scratch.old slot at count }
+    requires { ArgumentsReady image.now.words image.now.places st scratch.old slot at count }
     ensures { ((T : Texts) (ls : List Package) (v : ℕ) (words f d m : List ℕ) (o : More) →
         let b : Lent = lent slots.old f types.old d m scratch.old o in
         let b' : Lent = lent slots.new f types.new d m scratch.new o in
-        Argues (fn_arguments (ctx T ls v) n slot (args_from image.now at count)) count words st b b' result) }
+        Argues (fn_arguments (ctx T ls v) n slot (args_from image.now.words at count)) count words st b b' result) }
 {
     let mut after = st;
     for k in 0..count {
-        (_, after) = one_argument(
-            slots,
-            types,
-            scratch,
-            image,
-            places,
-            after,
-            n,
-            slot + k,
-            at + 2 * k,
-        )?;
+        (_, after) = one_argument(slots, types, scratch, image, after, n, slot + k, at + 2 * k)?;
     }
     Ok(((), after))
 }

@@ -20,6 +20,7 @@ ghost use Rattle.pkg_call.specs.Calls.{LibraryCalls, HeldCalls};
 
 use err::CallName;
 use pkg_group::{Candidates, in_group};
+use places::{Image, Sources};
 use rules::Answer;
 use scope::Held;
 use state::{Step, Used};
@@ -54,10 +55,7 @@ fn in_library(
     diagnostics: &mut [u32],
     messages: &mut [u8],
     scratch: &mut [u32],
-    texts: &Texts,
-    image: &[u32],
-    places: &[u16],
-    words: &[u32],
+    sources: &Sources,
     used: Used,
     top: usize,
     n: u32,
@@ -69,14 +67,14 @@ fn in_library(
     count: usize,
     poisoned: bool,
 ) -> Step<Answer>
-    requires { LibraryReady texts.now image.now places.now words.now scratch.old top n at args count slots.old types.old used.types }
-    ensures { LibraryCalls texts.now n slot pkg name (given_from image.now args count) poisoned (package_at words.now at)
+    requires { LibraryReady sources.now.texts sources.now.image.words sources.now.image.places sources.now.library scratch.old top n at args count slots.old types.old used.types }
+    ensures { LibraryCalls sources.now.texts n slot pkg name (given_from sources.now.image.words args count) poisoned (package_at sources.now.library at)
         scratch.old slots.old types.old diagnostics.old messages.old used
         scratch.new slots.new types.new diagnostics.new messages.new result }
 {
-    let k = function_count(words, at);
-    let from = first_entry(words, at);
-    let found = pkg_group::find_candidates(texts, words, true, from, k, name);
+    let k = function_count(sources.library, at);
+    let from = first_entry(sources.library, at);
+    let found = pkg_group::find_candidates(&sources.texts, sources.library, true, from, k, name);
     let Candidates::Slotted(place) = found else {
         let end = top + count;
         return in_group(
@@ -85,15 +83,14 @@ fn in_library(
             diagnostics,
             messages,
             &scratch[top..end],
-            texts,
-            image,
-            places,
+            &sources.texts,
+            &sources.image,
             used,
             n,
             slot,
             pkg,
             name,
-            words,
+            sources.library,
             found,
             true,
             from,
@@ -109,15 +106,14 @@ fn in_library(
         diagnostics,
         messages,
         &mut scratch[8192..],
-        texts,
-        image,
-        places,
+        &sources.texts,
+        &sources.image,
         used,
         n,
         slot,
         name,
         CallName::OfPackage(pkg, name),
-        words,
+        sources.library,
         place,
         args,
         count,
@@ -132,8 +128,7 @@ fn in_extern(
     messages: &mut [u8],
     scratch: &[u32],
     texts: &Texts,
-    image: &[u32],
-    places: &[u16],
+    image: &Image,
     used: Used,
     top: usize,
     n: u32,
@@ -145,8 +140,8 @@ fn in_extern(
     count: usize,
     poisoned: bool,
 ) -> Step<Answer>
-    requires { GatheredReady texts.now image.now places.now scratch.now top n args count slots.old types.now used.types }
-    ensures { InGroup texts.now n slot pkg name (given_from image.now args count) poisoned (group_of texts.now (name_bytes texts.now name) (extern_at scratch.now at).functions)
+    requires { GatheredReady texts.now image.now.words image.now.places scratch.now top n args count slots.old types.now used.types }
+    ensures { InGroup texts.now n slot pkg name (given_from image.now.words args count) poisoned (group_of texts.now (name_bytes texts.now name) (extern_at scratch.now at).functions)
         slots.old types.now diagnostics.old messages.old used
         slots.new types.now diagnostics.new messages.new result }
 {
@@ -162,7 +157,6 @@ fn in_extern(
         &scratch[top..end],
         texts,
         image,
-        places,
         used,
         n,
         slot,
@@ -186,10 +180,7 @@ fn in_held(
     diagnostics: &mut [u32],
     messages: &mut [u8],
     scratch: &mut [u32],
-    texts: &Texts,
-    image: &[u32],
-    places: &[u16],
-    words: &[u32],
+    sources: &Sources,
     used: Used,
     held: usize,
     packages: usize,
@@ -202,12 +193,19 @@ fn in_held(
     count: usize,
     poisoned: bool,
 ) -> Step<Answer>
-    requires { HeldReady texts.now image.now places.now words.now scratch.old held packages top n args count slots.old types.old used.types }
-    ensures { HeldCalls texts.now n slot pkg name (given_from image.now args count) poisoned words.now held packages
+    requires { HeldReady sources.now.texts sources.now.image.words sources.now.image.places sources.now.library scratch.old held packages top n args count slots.old types.old used.types }
+    ensures { HeldCalls sources.now.texts n slot pkg name (given_from sources.now.image.words args count) poisoned sources.now.library held packages
         scratch.old slots.old types.old diagnostics.old messages.old used
         scratch.new slots.new types.new diagnostics.new messages.new result }
 {
-    let found = scope::find_held(texts, words, &scratch[..], held, packages, pkg);
+    let found = scope::find_held(
+        &sources.texts,
+        sources.library,
+        &scratch[..],
+        held,
+        packages,
+        pkg,
+    );
     match found {
         Held::Library(at) => in_library(
             slots,
@@ -215,10 +213,7 @@ fn in_held(
             diagnostics,
             messages,
             scratch,
-            texts,
-            image,
-            places,
-            words,
+            sources,
             used,
             top,
             n,
@@ -236,9 +231,8 @@ fn in_held(
             diagnostics,
             messages,
             &scratch[..],
-            texts,
-            image,
-            places,
+            &sources.texts,
+            &sources.image,
             used,
             top,
             n,
@@ -256,7 +250,7 @@ fn in_held(
                 diagnostics,
                 &mut messages[free..],
                 used.told,
-                texts,
+                &sources.texts,
                 pkg,
             );
             state::told(n, used, r, Answer::Poison)
@@ -272,10 +266,7 @@ pub fn resolve_pkg_call(
     diagnostics: &mut [u32],
     messages: &mut [u8],
     scratch: &mut [u32],
-    texts: &Texts,
-    image: &[u32],
-    places: &[u16],
-    words: &[u32],
+    sources: &Sources,
     st: State,
     n: u32,
     slot: u32,
@@ -285,19 +276,18 @@ pub fn resolve_pkg_call(
     count: usize,
     poisoned: bool,
 ) -> Visit<Answer>
-    requires { PkgReady texts.now image.now places.now words.now st scratch.old n args count slots.old types.old }
+    requires { PkgReady sources.now.texts sources.now.image.words sources.now.image.places sources.now.library st scratch.old n args count slots.old types.old }
     ensures { ((ls : List Package) (v : ℕ) (f : List ℕ) (o : More) →
         let b : Lent = lent slots.old f types.old diagnostics.old messages.old scratch.old o in
         let b' : Lent = lent slots.new f types.new diagnostics.new messages.new scratch.new o in
-        Visits (resolve_pkg_call (ctx texts.now ls v) n slot pkg name (given_from image.now args count) poisoned) count 0 words.now st b b' result) }
+        Visits (resolve_pkg_call (ctx sources.now.texts ls v) n slot pkg name (given_from sources.now.image.words args count) poisoned) count 0 sources.now.library st b b' result) }
 {
     let top = 2 * (st.base + st.depth);
     let end = top + count;
     call_types::gather_types(
         &mut scratch[top..end],
         &slots[..],
-        image,
-        places,
+        &sources.image,
         args,
         count,
     );
@@ -307,10 +297,7 @@ pub fn resolve_pkg_call(
         diagnostics,
         messages,
         scratch,
-        texts,
-        image,
-        places,
-        words,
+        sources,
         st.used,
         st.held,
         st.packages,

@@ -11,6 +11,7 @@ ghost use Rattle.pkg_group.specs.GroupSize.{group_size, size_found};
 ghost use Rattle.pkg_group.specs.Groups.{GroupReady, InGroup};
 
 use err::CallName;
+use places::Image;
 use rules::Answer;
 use state::{Step, Used};
 use tok::Texts;
@@ -59,8 +60,7 @@ pub fn in_group(
     messages: &mut [u8],
     provided: &[u32],
     texts: &Texts,
-    image: &[u32],
-    places: &[u16],
+    image: &Image,
     used: Used,
     n: u32,
     slot: u32,
@@ -75,9 +75,9 @@ pub fn in_group(
     count: usize,
     poisoned: bool,
 ) -> Step<Answer>
-    requires { GroupReady image.now places.now n args count slots.old provided.now words.now
+    requires { GroupReady image.now.words image.now.places n args count slots.old provided.now words.now
         (group texts.now (name_bytes texts.now name) words.now (flag_words flagged) from k) found }
-    ensures { InGroup texts.now n slot pkg name (given_from image.now args count) poisoned
+    ensures { InGroup texts.now n slot pkg name (given_from image.now.words args count) poisoned
         (group texts.now (name_bytes texts.now name) words.now (flag_words flagged) from k)
         slots.old types.now diagnostics.old messages.old used
         slots.new types.now diagnostics.new messages.new result }
@@ -102,7 +102,6 @@ pub fn in_group(
             messages,
             texts,
             image,
-            places,
             used,
             n,
             slot,

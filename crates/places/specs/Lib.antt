@@ -5,3 +5,4 @@ pub mod LevelsPlaced
 pub mod Placed
 pub mod Readable
 pub mod NodesAt
+pub mod Image

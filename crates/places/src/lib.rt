@@ -4,7 +4,40 @@
 
 ghost use Rattle.std.specs.Prelude.{◌≡◌, ◌+◌, ◌-◌, ◌*◌, ◌/◌, ◌<◌, ◌^◌, get_or, set};
 ghost use Rattle.tok.specs.Word.{payload_of};
+ghost use Rattle.tok.specs.Text.{texts_of};
+ghost use Rattle.places.specs.Image.{Image, image_of, Sources, sources_of};
 ghost use Rattle.places.specs.Places.{clipped, place_after, Filled, most_in, levels_inside, levels_at, fill_levels, places_in};
+
+use ast::ExprKind;
+use std::marker::Model;
+use tok::Texts;
+
+// An image, with the places of its records.
+#[derive(Drop)]
+pub struct Image<'a> {
+    pub words: &'a [u32],
+    pub places: &'a [u16],
+}
+
+impl<'a> Model for Image<'a> {
+    ghost Value = { Image };
+
+    ghost view = { λ i. image_of i.words.now i.places.now };
+}
+
+// What the walk reads, and never writes: the two texts, the library's words, the image.
+#[derive(Drop)]
+pub struct Sources<'a> {
+    pub texts: Texts<'a>,
+    pub library: &'a [u32],
+    pub image: Image<'a>,
+}
+
+impl<'a> Model for Sources<'a> {
+    ghost Value = { Sources };
+
+    ghost view = { λ i. sources_of (texts_of i.texts.script.now i.texts.library.now) i.library.now (image_of i.image.words.now i.image.places.now) };
+}
 
 // The index of type 0's place.
 const TYPES: usize = 2048;
@@ -12,31 +45,10 @@ const TYPES: usize = 2048;
 // The index of type 0's levels.
 const LEVELS: usize = 2560;
 
-// The kinds of type records that have something inside.
-const OPTION: u32 = 2;
-
-const ARRAY: u32 = 3;
-
-const RECORD: u32 = 4;
-
 fn place(places: &[u16], i: usize) -> u16
     ensures { result ≡ get_or places.now i 0 }
 {
     places.get(i).copied().unwrap_or(0)
-}
-
-// Where node n's record stands; 0 where the array has no place for it.
-pub fn node_place(places: &[u16], n: u32) -> usize
-    ensures { result ≡ get_or places.now n 0 }
-{
-    place(places, n as usize) as usize
-}
-
-// Where type t's record stands; 0 where the array has no place for it.
-pub fn type_place(places: &[u16], t: u32) -> usize
-    ensures { result ≡ get_or places.now (2048 + t) 0 }
-{
-    place(places, TYPES + t as usize) as usize
 }
 
 fn levels(places: &[u16], t: u32) -> u16
@@ -45,11 +57,27 @@ fn levels(places: &[u16], t: u32) -> u16
     place(places, LEVELS + t as usize)
 }
 
-// How many levels type t has; 0 where the array has no place for it.
-pub fn type_levels(places: &[u16], t: u32) -> usize
-    ensures { result ≡ get_or places.now (2560 + t) 0 }
-{
-    levels(places, t) as usize
+impl<'a> Image<'a> {
+    // Where node n's record stands; 0 where the array has no place for it.
+    pub fn node_place(&self, n: u32) -> usize
+        ensures { result ≡ get_or self.now.places n 0 }
+    {
+        place(self.places, n as usize) as usize
+    }
+
+    // Where type t's record stands; 0 where the array has no place for it.
+    pub fn type_place(&self, t: u32) -> usize
+        ensures { result ≡ get_or self.now.places (2048 + t) 0 }
+    {
+        place(self.places, TYPES + t as usize) as usize
+    }
+
+    // How many levels type t has; 0 where the array has no place for it.
+    pub fn type_levels(&self, t: u32) -> usize
+        ensures { result ≡ get_or self.now.places (2560 + t) 0 }
+    {
+        levels(self.places, t) as usize
+    }
 }
 
 // A place as 16 bits hold it. An image of at most 8,192 words has no greater one.
@@ -113,10 +141,9 @@ fn levels_inside(places: &[u16], image: &[u32], at: u16) -> u16
 {
     let i = at as usize;
     let head = tok::word_at(image, i);
-    match tok::kind(head) {
-        OPTION => levels(places, tok::word_at(image, i + 1)),
-        ARRAY => levels(places, tok::word_at(image, i + 1)),
-        RECORD => most_levels(places, image, i + 2, fields_in(head)),
+    match ExprKind::of(head) {
+        ExprKind::Option | ExprKind::Array => levels(places, tok::word_at(image, i + 1)),
+        ExprKind::Record => most_levels(places, image, i + 2, fields_in(head)),
         _ => 0,
     }
 }

@@ -10,3 +10,5 @@ pub mod Size
 pub mod Marks
 pub mod Gauge
 pub mod Inside
+pub mod TypeKind
+pub mod TypeKindLaws

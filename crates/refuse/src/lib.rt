@@ -12,7 +12,23 @@ ghost use Rattle.depth.specs.Depths.{depth_in};
 ghost use Rattle.refuse.specs.Answer.{refusal_in, room_in, inputs_of, buffers_of};
 
 use reader::Fault;
+use std::marker::Model;
 use tok::Texts;
+
+// What is checked: the script text and its image, the library text and the library's words.
+#[derive(Drop)]
+pub struct Inputs<'a> {
+    pub script: &'a [u8],
+    pub image: &'a [u32],
+    pub library_text: &'a [u8],
+    pub library: &'a [u32],
+}
+
+impl<'a> Model for Inputs<'a> {
+    ghost Value = { Inputs };
+
+    ghost view = { λ i. inputs_of i.script.now i.image.now i.library_text.now i.library.now };
+}
 
 // The first cause of document 01's table that is found before the walk, with its place.
 #[derive(Clone, Copy, Debug, PartialEq, Eq)]

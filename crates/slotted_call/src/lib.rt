@@ -16,6 +16,7 @@ ghost use Rattle.call_args.specs.Given.{given_from};
 ghost use Rattle.slotted_call.specs.Bindable.{SlottedReady, Counted, Arguments, known_return};
 
 use err::CallName;
+use places::Image;
 use rules::Answer;
 use state::{Step, Used};
 use tok::Texts;
@@ -28,8 +29,7 @@ fn slotted_arguments(
     messages: &mut [u8],
     pairs: &mut [u32],
     texts: &Texts,
-    image: &[u32],
-    places: &[u16],
+    image: &Image,
     used: Used,
     n: u32,
     callee: CallName,
@@ -38,14 +38,14 @@ fn slotted_arguments(
     args: usize,
     count: usize,
 ) -> Step<usize>
-    requires { Counted texts.now image.now places.now n args count slots.now types.old used.types words.now at pairs.old }
-    ensures { Arguments texts.now n (call_name texts.now callee) (signature_at words.now at true).params image.now args count slots.now types.old
+    requires { Counted texts.now image.now.words image.now.places n args count slots.now types.old used.types words.now at pairs.old }
+    ensures { Arguments texts.now n (call_name texts.now callee) (signature_at words.now at true).params image.now.words args count slots.now types.old
         diagnostics.old messages.old used types.new diagnostics.new messages.new pairs.new result }
 {
     let mut used = used;
     let mut bound = 0;
     for i in 0..count {
-        let number = tok::word_at(image, args + i);
+        let number = tok::word_at(image.words, args + i);
         let (more, after) = slotted::slotted_argument(
             slots,
             types,
@@ -59,8 +59,8 @@ fn slotted_arguments(
             callee,
             signatures::argument_name(words, at, i),
             signatures::argument_type(words, at, i),
-            call_args::slot_of(image, places, number),
-            spans::span_of(image, places, number),
+            call_args::slot_of(image, number),
+            spans::span_of(image, number),
         )?;
         bound = more;
         used = after;
@@ -98,8 +98,7 @@ pub fn check_slotted(
     messages: &mut [u8],
     pairs: &mut [u32],
     texts: &Texts,
-    image: &[u32],
-    places: &[u16],
+    image: &Image,
     used: Used,
     n: u32,
     slot: u32,
@@ -110,9 +109,9 @@ pub fn check_slotted(
     args: usize,
     count: usize,
 ) -> Step<Answer>
-    requires { SlottedReady texts.now image.now places.now n args count slots.old types.old used.types words.now at pairs.old }
+    requires { SlottedReady texts.now image.now.words image.now.places n args count slots.old types.old used.types words.now at pairs.old }
     ensures { ((ls : List Package) (v : ℕ) → Steps
-        (check_call_args (ctx texts.now ls v) n slot token (call_name texts.now callee) (signature_at words.now at true) (given_from image.now args count)) slots.old
+        (check_call_args (ctx texts.now ls v) n slot token (call_name texts.now callee) (signature_at words.now at true) (given_from image.now.words args count)) slots.old
         types.old diagnostics.old messages.old used slots.new types.new diagnostics.new messages.new result) }
 {
     let required = signatures::argument_count(words, at);
@@ -138,7 +137,6 @@ pub fn check_slotted(
         pairs,
         texts,
         image,
-        places,
         used,
         n,
         callee,

@@ -12,7 +12,7 @@ ghost use Rattle.spans.specs.Covers.{cover_from};
 ghost use Rattle.spans.specs.Lists.{spans_at, value_spans_at, case_spans_at, token_spans_at, arg_spans_at, extern_spans_at};
 ghost use Rattle.spans.specs.Ready.{NodesReady, ValuesReady, CasesReady, ArgsReady, ExternsReady, ListReady, MatchReady};
 
-use places::node_place;
+use places::Image;
 use tok::{Span, cover_spans, kind, payload, token_span, wide, word_at};
 
 // The kinds of node records.
@@ -39,11 +39,11 @@ const EXTERN: u32 = 11;
 const RECORD: u32 = 12;
 
 // The span of a type expression: that of its token.
-pub fn type_span(image: &[u32], places: &[u16], t: u32) -> Span
-    requires { TypeReady image.now places.now t }
-    ensures { result ≡ type_span (type_of image.now t) }
+pub fn type_span(image: &Image, t: u32) -> Span
+    requires { TypeReady image.now.words image.now.places t }
+    ensures { result ≡ type_span (type_of image.now.words t) }
 {
-    token_span(type_expr::type_token(image, places, t))
+    token_span(type_expr::type_token(image, t))
 }
 
 // Lists. Each of these covers, besides the span that is given, the k items from word `at` on.
@@ -63,59 +63,59 @@ fn cover_tokens(image: &[u32], span: Span, at: usize, k: usize) -> Span
 }
 
 // Arguments: name and type of each.
-fn cover_args(image: &[u32], places: &[u16], span: Span, at: usize, k: usize) -> Span
-    requires { ArgsReady image.now places.now at k }
-    ensures { result ≡ cover_from span (arg_spans_at image.now at k) }
+fn cover_args(image: &Image, span: Span, at: usize, k: usize) -> Span
+    requires { ArgsReady image.now.words image.now.places at k }
+    ensures { result ≡ cover_from span (arg_spans_at image.now.words at k) }
 {
     let mut covered = span;
     let mut i = at;
     for _ in 0..k {
-        let named = cover_spans(covered, token_span(word_at(image, i)));
-        covered = cover_spans(named, type_span(image, places, word_at(image, i + 1)));
+        let named = cover_spans(covered, token_span(word_at(image.words, i)));
+        covered = cover_spans(named, type_span(image, word_at(image.words, i + 1)));
         i += 2;
     }
     covered
 }
 
 // Functions of an Extern: name, arguments and return type of each.
-fn cover_externs(image: &[u32], places: &[u16], span: Span, at: usize, k: usize) -> Span
-    requires { ExternsReady image.now places.now at k }
-    ensures { result ≡ cover_from span (extern_spans_at image.now at k) }
+fn cover_externs(image: &Image, span: Span, at: usize, k: usize) -> Span
+    requires { ExternsReady image.now.words image.now.places at k }
+    ensures { result ≡ cover_from span (extern_spans_at image.now.words at k) }
 {
     let mut covered = span;
     let mut i = at;
     for _ in 0..k {
-        let count = wide(word_at(image, i + 2));
-        let named = cover_spans(covered, token_span(word_at(image, i)));
-        let args = cover_args(image, places, named, i + 3, count);
-        covered = cover_spans(args, type_span(image, places, word_at(image, i + 1)));
+        let count = wide(word_at(image.words, i + 2));
+        let named = cover_spans(covered, token_span(word_at(image.words, i)));
+        let args = cover_args(image, named, i + 3, count);
+        covered = cover_spans(args, type_span(image, word_at(image.words, i + 1)));
         i = i + 3 + 2 * count;
     }
     covered
 }
 
 // The word after the cases of a Match.
-fn cases_end(image: &[u32], places: &[u16], owner: u32, at: usize, k: usize) -> usize
-    requires { CasesReady image.now places.now owner at k }
-    ensures { result ≡ cases_end image.now at k }
+fn cases_end(image: &Image, owner: u32, at: usize, k: usize) -> usize
+    requires { CasesReady image.now.words image.now.places owner at k }
+    ensures { result ≡ cases_end image.now.words at k }
 {
     let mut i = at;
     for _ in 0..k {
-        i = i + 3 + wide(word_at(image, i + 2));
+        i = i + 3 + wide(word_at(image.words, i + 2));
     }
     i
 }
 
 // Nodes, parts of the node `owner`.
 #[cycle(cover_cases_cover_nodes_cover_values_list_span_match_span_span_of)]
-fn cover_nodes(image: &[u32], places: &[u16], owner: u32, span: Span, at: usize, k: usize) -> Span
-    requires { NodesReady image.now places.now owner at k }
-    ensures { result ≡ cover_from span (spans_at image.now at k) }
+fn cover_nodes(image: &Image, owner: u32, span: Span, at: usize, k: usize) -> Span
+    requires { NodesReady image.now.words image.now.places owner at k }
+    ensures { result ≡ cover_from span (spans_at image.now.words at k) }
 {
     let mut covered = span;
     let mut i = at;
     for _ in 0..k {
-        covered = cover_spans(covered, span_of(image, places, word_at(image, i)));
+        covered = cover_spans(covered, span_of(image, word_at(image.words, i)));
         i += 1;
     }
     covered
@@ -123,15 +123,15 @@ fn cover_nodes(image: &[u32], places: &[u16], owner: u32, span: Span, at: usize,
 
 // Fields of a Record: name and value of each.
 #[cycle(cover_cases_cover_nodes_cover_values_list_span_match_span_span_of)]
-fn cover_values(image: &[u32], places: &[u16], owner: u32, span: Span, at: usize, k: usize) -> Span
-    requires { ValuesReady image.now places.now owner at k }
-    ensures { result ≡ cover_from span (value_spans_at image.now at k) }
+fn cover_values(image: &Image, owner: u32, span: Span, at: usize, k: usize) -> Span
+    requires { ValuesReady image.now.words image.now.places owner at k }
+    ensures { result ≡ cover_from span (value_spans_at image.now.words at k) }
 {
     let mut covered = span;
     let mut i = at;
     for _ in 0..k {
-        let named = cover_spans(covered, token_span(word_at(image, i)));
-        covered = cover_spans(named, span_of(image, places, word_at(image, i + 1)));
+        let named = cover_spans(covered, token_span(word_at(image.words, i)));
+        covered = cover_spans(named, span_of(image, word_at(image.words, i + 1)));
         i += 2;
     }
     covered
@@ -139,17 +139,17 @@ fn cover_values(image: &[u32], places: &[u16], owner: u32, span: Span, at: usize
 
 // Cases of a Match: token, condition and body of each.
 #[cycle(cover_cases_cover_nodes_cover_values_list_span_match_span_span_of)]
-fn cover_cases(image: &[u32], places: &[u16], owner: u32, span: Span, at: usize, k: usize) -> Span
-    requires { CasesReady image.now places.now owner at k }
-    ensures { result ≡ cover_from span (case_spans_at image.now at k) }
+fn cover_cases(image: &Image, owner: u32, span: Span, at: usize, k: usize) -> Span
+    requires { CasesReady image.now.words image.now.places owner at k }
+    ensures { result ≡ cover_from span (case_spans_at image.now.words at k) }
 {
     let mut covered = span;
     let mut i = at;
     for _ in 0..k {
-        let count = wide(word_at(image, i + 2));
-        let begun = cover_spans(covered, token_span(word_at(image, i)));
-        let tested = cover_spans(begun, span_of(image, places, word_at(image, i + 1)));
-        covered = cover_nodes(image, places, owner, tested, i + 3, count);
+        let count = wide(word_at(image.words, i + 2));
+        let begun = cover_spans(covered, token_span(word_at(image.words, i)));
+        let tested = cover_spans(begun, span_of(image, word_at(image.words, i + 1)));
+        covered = cover_nodes(image, owner, tested, i + 3, count);
         i = i + 3 + count;
     }
     covered
@@ -159,82 +159,82 @@ fn cover_cases(image: &[u32], places: &[u16], owner: u32, span: Span, at: usize,
 
 // The span of a Match, whose record stands at `at` and ends at `end`: from the default's token on, its cases and the default's body.
 #[cycle(cover_cases_cover_nodes_cover_values_list_span_match_span_span_of)]
-fn match_span(image: &[u32], places: &[u16], n: u32, at: usize, end: usize) -> Span
-    requires { MatchReady image.now places.now n at end }
-    ensures { result ≡ span_of (tree_of image.now n) }
+fn match_span(image: &Image, n: u32, at: usize, end: usize) -> Span
+    requires { MatchReady image.now.words image.now.places n at end }
+    ensures { result ≡ span_of (tree_of image.now.words n) }
 {
-    let count = wide(word_at(image, at + 2));
-    let default = cases_end(image, places, n, at + 3, count);
-    let first = token_span(word_at(image, default));
-    let cases = cover_cases(image, places, n, first, at + 3, count);
-    cover_nodes(image, places, n, cases, default + 1, end - (default + 1))
+    let count = wide(word_at(image.words, at + 2));
+    let default = cases_end(image, n, at + 3, count);
+    let first = token_span(word_at(image.words, default));
+    let cases = cover_cases(image, n, first, at + 3, count);
+    cover_nodes(image, n, cases, default + 1, end - (default + 1))
 }
 
 // The span of a node of a kind that has a list, whose record stands at `at` and begins with the word `head`.
 #[cycle(cover_cases_cover_nodes_cover_values_list_span_match_span_span_of)]
-fn list_span(image: &[u32], places: &[u16], n: u32, at: usize, head: u32) -> Span
-    requires { ListReady image.now places.now n at head }
-    ensures { result ≡ span_of (tree_of image.now n) }
+fn list_span(image: &Image, n: u32, at: usize, head: u32) -> Span
+    requires { ListReady image.now.words image.now.places n at head }
+    ensures { result ≡ span_of (tree_of image.now.words n) }
 {
     let k = kind(head);
     let long = payload(head);
-    let first = token_span(word_at(image, at + 2));
+    let first = token_span(word_at(image.words, at + 2));
     if k == FN {
-        let words = 5 + 2 * wide(word_at(image, at + 4));
-        return cover_nodes(image, places, n, first, at + words, long - words);
+        let words = 5 + 2 * wide(word_at(image.words, at + 4));
+        return cover_nodes(image, n, first, at + words, long - words);
     }
     if k == MATCH {
-        return match_span(image, places, n, at, at + long);
+        return match_span(image, n, at, at + long);
     }
     if k == CALL {
-        let target = span_of(image, places, word_at(image, at + 2));
-        return cover_nodes(image, places, n, target, at + 3, long - 3);
+        let target = span_of(image, word_at(image.words, at + 2));
+        return cover_nodes(image, n, target, at + 3, long - 3);
     }
     if k == IMPORT {
-        return cover_tokens(image, first, at + 3, long - 3);
+        return cover_tokens(image.words, first, at + 3, long - 3);
     }
     if k == EXTERN {
-        let named = cover_spans(first, token_span(word_at(image, at + 3)));
-        return cover_externs(image, places, named, at + 5, wide(word_at(image, at + 4)));
+        let named = cover_spans(first, token_span(word_at(image.words, at + 3)));
+        return cover_externs(image, named, at + 5, wide(word_at(image.words, at + 4)));
     }
     if k == RECORD {
-        return cover_values(image, places, n, first, at + 3, (long - 3) / 2);
+        return cover_values(image, n, first, at + 3, (long - 3) / 2);
     }
-    cover_nodes(image, places, n, first, at + 3, long - 3)
+    cover_nodes(image, n, first, at + 3, long - 3)
 }
 
 // The span of a node.
 #[cycle(cover_cases_cover_nodes_cover_values_list_span_match_span_span_of)]
-pub fn span_of(image: &[u32], places: &[u16], n: u32) -> Span
-    requires { NodeReady image.now places.now n }
-    ensures { result ≡ span_of (tree_of image.now n) }
+pub fn span_of(image: &Image, n: u32) -> Span
+    requires { NodeReady image.now.words image.now.places n }
+    ensures { result ≡ span_of (tree_of image.now.words n) }
 {
-    let at = node_place(places, n);
-    let head = word_at(image, at);
+    let at = image.node_place(n);
+    let head = word_at(image.words, at);
     let k = kind(head);
-    let first = token_span(word_at(image, at + 2));
+    let first = token_span(word_at(image.words, at + 2));
     if k < BIN {
         return first;
     }
     if k == BIN {
-        let left = span_of(image, places, word_at(image, at + 4));
-        let right = span_of(image, places, word_at(image, at + 5));
+        let left = span_of(image, word_at(image.words, at + 4));
+        let right = span_of(image, word_at(image.words, at + 5));
         return cover_spans(cover_spans(left, first), right);
     }
     if k == UNARY {
-        return cover_spans(first, span_of(image, places, word_at(image, at + 4)));
+        return cover_spans(first, span_of(image, word_at(image.words, at + 4)));
     }
     if k == LET {
-        return cover_spans(first, span_of(image, places, word_at(image, at + 3)));
+        return cover_spans(first, span_of(image, word_at(image.words, at + 3)));
     }
     if k == FIELD {
-        let target = span_of(image, places, word_at(image, at + 2));
-        return cover_spans(target, token_span(word_at(image, at + 3)));
+        let target = span_of(image, word_at(image.words, at + 2));
+        return cover_spans(target, token_span(word_at(image.words, at + 3)));
     }
     if k == CAST {
-        let left = span_of(image, places, word_at(image, at + 3));
-        let ty = type_span(image, places, word_at(image, at + 4));
+        let left = span_of(image, word_at(image.words, at + 3));
+        let ty = type_span(image, word_at(image.words, at + 4));
         return cover_spans(cover_spans(left, first), ty);
     }
-    list_span(image, places, n, at, head)
+    list_span(image, n, at, head)
 }

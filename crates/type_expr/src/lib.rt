@@ -17,7 +17,7 @@ ghost use Rattle.type_expr.specs.Onward.{Onward};
 ghost use Rattle.type_expr.specs.Sizes.{size_of, sizes_of, word_before, pairs_after};
 
 use add::{AddError, Added};
-use places::{type_levels, type_place};
+use places::Image;
 use tok::{kind, payload, word_at};
 
 // The kinds of type records.
@@ -32,15 +32,15 @@ const ARRAY: u32 = 3;
 const RECORD: u32 = 4;
 
 // The token of a type expression: through Option and Array that of the innermost.
-pub fn type_token(image: &[u32], places: &[u16], t: u32) -> u32
-    requires { TypeReady image.now places.now t }
-    ensures { result ≡ type_token (type_of image.now t) }
+pub fn type_token(image: &Image, t: u32) -> u32
+    requires { TypeReady image.now.words image.now.places t }
+    ensures { result ≡ type_token (type_of image.now.words t) }
 {
     let mut here = t;
     loop {
-        let at = type_place(places, here);
-        let k = kind(word_at(image, at));
-        let w = word_at(image, at + 1);
+        let at = image.type_place(here);
+        let k = kind(word_at(image.words, at));
+        let w = word_at(image.words, at + 1);
         if k == OPTION {
             here = w;
             continue;
@@ -71,22 +71,16 @@ fn foreign_word(token: u32) -> u32
 // Adds the type of a type expression, what is inside it first. Where it is refused, the rules leave open what the buffer holds.
 // More than 32 levels are refused in the end (8, or 7 where the buffer is full before), so of more than 33 only the first part of more
 // than 32 levels is gone on with: no frame for each level past them.
-pub fn type_from_type_expr(
-    types: &mut [u32],
-    used: usize,
-    image: &[u32],
-    places: &[u16],
-    t: u32,
-) -> Added
-    requires { TypeReady image.now places.now t }
-    ensures { (T : Texts) (n : ℕ) → type_from T n (type_of image.now t) (buffer types.old used) ≡ result_of n result types.new }
+pub fn type_from_type_expr(types: &mut [u32], used: usize, image: &Image, t: u32) -> Added
+    requires { TypeReady image.now.words image.now.places t }
+    ensures { (T : Texts) (n : ℕ) → type_from T n (type_of image.now.words t) (buffer types.old used) ≡ result_of n result types.new }
 {
     let mut u = used;
     let mut here = t;
-    while type_levels(places, here) > 33 {
-        (here, u) = deep_part(types, u, image, places, here)?;
+    while image.type_levels(here) > 33 {
+        (here, u) = deep_part(types, u, image, here)?;
     }
-    build(types, u, image, places, here)
+    build(types, u, image, here)
 }
 
 // Of a type of more than 33 levels, the number of the first part of more than 32, and how many words are used before it; or why a type before
@@ -94,46 +88,44 @@ pub fn type_from_type_expr(
 fn deep_part(
     types: &mut [u32],
     used: usize,
-    image: &[u32],
-    places: &[u16],
+    image: &Image,
     t: u32,
 ) -> Result<(u32, usize), AddError>
-    requires { TypeReady image.now places.now t × (33 < levels_of (type_of image.now t)) }
-    ensures { let whole : Texts → ℕ → Result Buffer Refusal ℕ = λ T n. type_from T n (type_of image.now t) (buffer types.old used) in
-        Onward image.now places.now t whole result types.new }
+    requires { TypeReady image.now.words image.now.places t × (33 < levels_of (type_of image.now.words t)) }
+    ensures { let whole : Texts → ℕ → Result Buffer Refusal ℕ = λ T n. type_from T n (type_of image.now.words t) (buffer types.old used) in
+        Onward image.now.words image.now.places t whole result types.new }
 {
-    let at = type_place(places, t);
-    let head = word_at(image, at);
+    let at = image.type_place(t);
+    let head = word_at(image.words, at);
     if kind(head) == RECORD {
         let fields = (payload(head) - 2) / 2;
-        return deep_field(types, used, image, places, t, at + 2, fields);
+        return deep_field(types, used, image, t, at + 2, fields);
     }
-    Ok((word_at(image, at + 1), used))
+    Ok((word_at(image.words, at + 1), used))
 }
 
 // The same of the fields of the type `owner`: the types of those before the part are added.
 fn deep_field(
     types: &mut [u32],
     used: usize,
-    image: &[u32],
-    places: &[u16],
+    image: &Image,
     owner: u32,
     at: usize,
     fields: usize,
 ) -> Result<(u32, usize), AddError>
-    requires { FieldsReady image.now places.now owner at fields × (32 < most_levels (type_fields_from (type_of image.now) image.now at fields)) }
-    ensures { let fs : TypeFields = type_fields_from (type_of image.now) image.now at fields in
+    requires { FieldsReady image.now.words image.now.places owner at fields × (32 < most_levels (type_fields_from (type_of image.now.words) image.now.words at fields)) }
+    ensures { let fs : TypeFields = type_fields_from (type_of image.now.words) image.now.words at fields in
         let whole : Texts → ℕ → Result Buffer Refusal ℕ = λ T n. next (fields_from_exprs T n fs (buffer types.old used)) (add_record T n) in
-        Onward image.now places.now owner whole result types.new }
+        Onward image.now.words image.now.places owner whole result types.new }
 {
     let mut u = used;
     let mut here = at;
     for _ in 0..fields {
-        let t = word_at(image, here + 1);
-        if type_levels(places, t) > 32 {
+        let t = word_at(image.words, here + 1);
+        if image.type_levels(t) > 32 {
             return Ok((t, u));
         }
-        (_, u) = build(types, u, image, places, t)?;
+        (_, u) = build(types, u, image, t)?;
         here += 2;
     }
     // not reached: one of the fields has more than 32 levels
@@ -142,25 +134,25 @@ fn deep_field(
 
 // Adds the type of a type expression of at most 33 levels. It calls itself once for each level.
 #[cycle(build_fields_from_exprs)]
-fn build(types: &mut [u32], used: usize, image: &[u32], places: &[u16], t: u32) -> Added
-    requires { TypeReady image.now places.now t × (levels_of (type_of image.now t) ≤ 33) }
-    ensures { (T : Texts) (n : ℕ) → type_from T n (type_of image.now t) (buffer types.old used) ≡ result_of n result types.new }
+fn build(types: &mut [u32], used: usize, image: &Image, t: u32) -> Added
+    requires { TypeReady image.now.words image.now.places t × (levels_of (type_of image.now.words t) ≤ 33) }
+    ensures { (T : Texts) (n : ℕ) → type_from T n (type_of image.now.words t) (buffer types.old used) ≡ result_of n result types.new }
 {
-    let at = type_place(places, t);
-    let head = word_at(image, at);
+    let at = image.type_place(t);
+    let head = word_at(image.words, at);
     let k = kind(head);
     if k == ATOM {
-        return Ok((plain_word(word_at(image, at + 2)), used));
+        return Ok((plain_word(word_at(image.words, at + 2)), used));
     }
     if k == FOREIGN {
-        return Ok((foreign_word(word_at(image, at + 1)), used));
+        return Ok((foreign_word(word_at(image.words, at + 1)), used));
     }
     if k == RECORD {
         let fields = (payload(head) - 2) / 2;
-        let (new, u) = fields_from_exprs(types, used, image, places, t, at + 2, fields)?;
+        let (new, u) = fields_from_exprs(types, used, image, t, at + 2, fields)?;
         return add::close_record(&types[..], new, u);
     }
-    let (inner, u) = build(types, used, image, places, word_at(image, at + 1))?;
+    let (inner, u) = build(types, used, image, word_at(image.words, at + 1))?;
     if k == OPTION {
         return add::add_option(types, u, inner);
     }
@@ -173,33 +165,23 @@ fn build(types: &mut [u32], used: usize, image: &[u32], places: &[u16], t: u32) 
 fn fields_from_exprs(
     types: &mut [u32],
     used: usize,
-    image: &[u32],
-    places: &[u16],
+    image: &Image,
     owner: u32,
     at: usize,
     fields: usize,
 ) -> Added
-    requires { FieldsReady image.now places.now owner at fields × (most_levels (type_fields_from (type_of image.now) image.now at fields) ≤ 32) }
-    ensures { let fs : TypeFields = type_fields_from (type_of image.now) image.now at fields in
+    requires { FieldsReady image.now.words image.now.places owner at fields × (most_levels (type_fields_from (type_of image.now.words) image.now.words at fields) ≤ 32) }
+    ensures { let fs : TypeFields = type_fields_from (type_of image.now.words) image.now.words at fields in
         ((T : Texts) (n : ℕ) → record_from n fields 0 (fields_from_exprs T n fs) (buffer types.old used) ≡ result_of n result types.new) }
 {
     let mut u = used;
     let mut here = at;
     for _ in 0..fields {
-        (_, u) = build(types, u, image, places, word_at(image, here + 1))?;
+        (_, u) = build(types, u, image, word_at(image.words, here + 1))?;
         here += 2;
     }
     let (new, end) = add::open_record(types, u, fields)?;
-    set_pairs(
-        types,
-        used,
-        image,
-        places,
-        owner,
-        at,
-        fields,
-        payload(new) + 1,
-    );
+    set_pairs(types, used, image, owner, at, fields, payload(new) + 1);
     Ok((new, end))
 }
 
@@ -207,29 +189,28 @@ fn fields_from_exprs(
 fn set_pairs(
     types: &mut [u32],
     used: usize,
-    image: &[u32],
-    places: &[u16],
+    image: &Image,
     owner: u32,
     at: usize,
     fields: usize,
     place: usize,
 )
-    requires { let fs : TypeFields = type_fields_from (type_of image.now) image.now at fields in
-        FieldsReady image.now places.now owner at fields × ((used + sizes_of fs ≤ 8192) × (place < 2 ^ 40)) }
-    ensures { let fs : TypeFields = type_fields_from (type_of image.now) image.now at fields in
+    requires { let fs : TypeFields = type_fields_from (type_of image.now.words) image.now.words at fields in
+        FieldsReady image.now.words image.now.places owner at fields × ((used + sizes_of fs ≤ 8192) × (place < 2 ^ 40)) }
+    ensures { let fs : TypeFields = type_fields_from (type_of image.now.words) image.now.words at fields in
         types.new ≡ write types.old place (pairs_after used fs) }
 {
     let mut end = used;
     let mut here = at;
     let mut to = place;
     for _ in 0..fields {
-        let t = word_at(image, here + 1);
-        end += type_size(image, places, t);
+        let t = word_at(image.words, here + 1);
+        end += type_size(image, t);
         add::set_pair(
             types,
             to,
-            word_at(image, here),
-            type_word(image, places, end, t),
+            word_at(image.words, here),
+            type_word(image, end, t),
         );
         here += 2;
         to += 2;
@@ -237,18 +218,18 @@ fn set_pairs(
 }
 
 // The word of a type expression whose type was added last, when `end` words are used.
-fn type_word(image: &[u32], places: &[u16], end: usize, t: u32) -> u32
-    requires { TypeReady image.now places.now t × ((size_of (type_of image.now t) ≤ end) × (end ≤ 8192)) }
-    ensures { result ≡ word_before end (type_of image.now t) }
+fn type_word(image: &Image, end: usize, t: u32) -> u32
+    requires { TypeReady image.now.words image.now.places t × ((size_of (type_of image.now.words t) ≤ end) × (end ≤ 8192)) }
+    ensures { result ≡ word_before end (type_of image.now.words t) }
 {
-    let at = type_place(places, t);
-    let head = word_at(image, at);
+    let at = image.type_place(t);
+    let head = word_at(image.words, at);
     let k = kind(head);
     if k == ATOM {
-        return plain_word(word_at(image, at + 2));
+        return plain_word(word_at(image.words, at + 2));
     }
     if k == FOREIGN {
-        return foreign_word(word_at(image, at + 1));
+        return foreign_word(word_at(image.words, at + 1));
     }
     if k == RECORD {
         let fields = (payload(head) - 2) / 2;
@@ -271,12 +252,12 @@ fn compound_word(kind: u32, at: usize) -> u32
 // How many words a type expression adds. It is asked only of types that were just added: these have at most 32 levels and fit the
 // buffer, and each field met is two words of it, so it takes no more steps than there are words, for each level at most once.
 #[cycle(sizes_type_size)]
-fn type_size(image: &[u32], places: &[u16], t: u32) -> usize
-    requires { TypeReady image.now places.now t × (size_of (type_of image.now t) ≤ 8192) }
-    ensures { result ≡ size_of (type_of image.now t) }
+fn type_size(image: &Image, t: u32) -> usize
+    requires { TypeReady image.now.words image.now.places t × (size_of (type_of image.now.words t) ≤ 8192) }
+    ensures { result ≡ size_of (type_of image.now.words t) }
 {
-    let at = type_place(places, t);
-    let head = word_at(image, at);
+    let at = image.type_place(t);
+    let head = word_at(image.words, at);
     let k = kind(head);
     if k == ATOM {
         return 0;
@@ -286,21 +267,21 @@ fn type_size(image: &[u32], places: &[u16], t: u32) -> usize
     }
     if k == RECORD {
         let fields = (payload(head) - 2) / 2;
-        return sizes(image, places, t, at + 2, fields) + (1 + 2 * fields);
+        return sizes(image, t, at + 2, fields) + (1 + 2 * fields);
     }
-    type_size(image, places, word_at(image, at + 1)) + 1
+    type_size(image, word_at(image.words, at + 1)) + 1
 }
 
 // How many words the types of the fields of the type `owner` add, which stand from word `at` on.
 #[cycle(sizes_type_size)]
-fn sizes(image: &[u32], places: &[u16], owner: u32, at: usize, fields: usize) -> usize
-    requires { FieldsReady image.now places.now owner at fields × (sizes_of (type_fields_from (type_of image.now) image.now at fields) ≤ 8192) }
-    ensures { result ≡ sizes_of (type_fields_from (type_of image.now) image.now at fields) }
+fn sizes(image: &Image, owner: u32, at: usize, fields: usize) -> usize
+    requires { FieldsReady image.now.words image.now.places owner at fields × (sizes_of (type_fields_from (type_of image.now.words) image.now.words at fields) ≤ 8192) }
+    ensures { result ≡ sizes_of (type_fields_from (type_of image.now.words) image.now.words at fields) }
 {
     let mut sum: usize = 0;
     let mut here = at;
     for _ in 0..fields {
-        sum += type_size(image, places, word_at(image, here + 1));
+        sum += type_size(image, word_at(image.words, here + 1));
         here += 2;
     }
     sum

@@ -10,6 +10,7 @@ ghost use Rattle.ready.specs.Ready.{NodeVisit};
 ghost use Rattle.walking.specs.Kinds.{Operand, OneOperand, Listed, Sequence, Is};
 ghost use Rattle.walking.specs.Visited.{ClassVisit, ListVisit, CaseVisit, NodeVisited, ListVisited, CaseVisited};
 
+use places::Sources;
 use rules::Answer;
 use tok::{Texts, kind, payload, word_at};
 use visit::{State, Visit};
@@ -36,34 +37,19 @@ pub fn node(
     diagnostics: &mut [u32],
     messages: &mut [u8],
     scratch: &mut [u32],
-    texts: &Texts,
-    image: &[u32],
-    words: &[u32],
-    places: &[u16],
+    sources: &Sources,
     st: State,
     n: u32,
 ) -> Visit<Answer>
     requires { let b : Lent = lent slots.old functions.old types.old diagnostics.old messages.old scratch.old no_more in
-        NodeVisit texts.now image.now places.now words.now n st b }
+        NodeVisit sources.now.texts sources.now.image.words sources.now.image.places sources.now.library n st b }
     ensures { let b : Lent = lent slots.old functions.old types.old diagnostics.old messages.old scratch.old no_more in
         let b' : Lent = lent slots.new functions.new types.new diagnostics.new messages.new scratch.new no_more in
-        NodeVisited texts.now image.now words.now n st b b' result }
+        NodeVisited sources.now.texts sources.now.image.words sources.now.library n st b b' result }
 {
-    let k = kind(word_at(image, places::node_place(places, n)));
+    let k = kind(word_at(sources.image.words, sources.image.node_place(n)));
     if walking::is_leaf(k) {
-        return leaves::leaf(
-            slots,
-            types,
-            diagnostics,
-            messages,
-            scratch,
-            texts,
-            image,
-            words,
-            places,
-            st,
-            n,
-        );
+        return leaves::leaf(slots, types, diagnostics, messages, scratch, sources, st, n);
     }
     if walking::has_operands(k) {
         return operand(
@@ -73,10 +59,7 @@ pub fn node(
             diagnostics,
             messages,
             scratch,
-            texts,
-            image,
-            words,
-            places,
+            sources,
             st,
             n,
         );
@@ -88,10 +71,7 @@ pub fn node(
         diagnostics,
         messages,
         scratch,
-        texts,
-        image,
-        words,
-        places,
+        sources,
         st,
         n,
     )
@@ -107,18 +87,15 @@ fn part(
     diagnostics: &mut [u32],
     messages: &mut [u8],
     scratch: &mut [u32],
-    texts: &Texts,
-    image: &[u32],
-    words: &[u32],
-    places: &[u16],
+    sources: &Sources,
     st: State,
     n: u32,
 ) -> Visit<Answer>
     requires { let b : Lent = lent slots.old functions.old types.old diagnostics.old messages.old scratch.old no_more in
-        NodeVisit texts.now image.now places.now words.now n st b }
+        NodeVisit sources.now.texts sources.now.image.words sources.now.image.places sources.now.library n st b }
     ensures { let b : Lent = lent slots.old functions.old types.old diagnostics.old messages.old scratch.old no_more in
         let b' : Lent = lent slots.new functions.new types.new diagnostics.new messages.new scratch.new no_more in
-        NodeVisited texts.now image.now words.now n st b b' result }
+        NodeVisited sources.now.texts sources.now.image.words sources.now.library n st b b' result }
 {
     node(
         slots,
@@ -127,10 +104,7 @@ fn part(
         diagnostics,
         messages,
         scratch,
-        texts,
-        image,
-        words,
-        places,
+        sources,
         st,
         n,
     )
@@ -145,20 +119,17 @@ fn operand(
     diagnostics: &mut [u32],
     messages: &mut [u8],
     scratch: &mut [u32],
-    texts: &Texts,
-    image: &[u32],
-    words: &[u32],
-    places: &[u16],
+    sources: &Sources,
     st: State,
     n: u32,
 ) -> Visit<Answer>
     requires { let b : Lent = lent slots.old functions.old types.old diagnostics.old messages.old scratch.old no_more in
-        ClassVisit Operand texts.now image.now places.now words.now n st b }
+        ClassVisit Operand sources.now.texts sources.now.image.words sources.now.image.places sources.now.library n st b }
     ensures { let b : Lent = lent slots.old functions.old types.old diagnostics.old messages.old scratch.old no_more in
         let b' : Lent = lent slots.new functions.new types.new diagnostics.new messages.new scratch.new no_more in
-        NodeVisited texts.now image.now words.now n st b b' result }
+        NodeVisited sources.now.texts sources.now.image.words sources.now.library n st b b' result }
 {
-    let k = kind(word_at(image, places::node_place(places, n)));
+    let k = kind(word_at(sources.image.words, sources.image.node_place(n)));
     if k == BIN {
         return bin(
             slots,
@@ -167,10 +138,7 @@ fn operand(
             diagnostics,
             messages,
             scratch,
-            texts,
-            image,
-            words,
-            places,
+            sources,
             st,
             n,
         );
@@ -183,10 +151,7 @@ fn operand(
             diagnostics,
             messages,
             scratch,
-            texts,
-            image,
-            words,
-            places,
+            sources,
             st,
             n,
         );
@@ -198,10 +163,7 @@ fn operand(
         diagnostics,
         messages,
         scratch,
-        texts,
-        image,
-        words,
-        places,
+        sources,
         st,
         n,
     )
@@ -216,20 +178,17 @@ fn bin(
     diagnostics: &mut [u32],
     messages: &mut [u8],
     scratch: &mut [u32],
-    texts: &Texts,
-    image: &[u32],
-    words: &[u32],
-    places: &[u16],
+    sources: &Sources,
     st: State,
     n: u32,
 ) -> Visit<Answer>
     requires { let b : Lent = lent slots.old functions.old types.old diagnostics.old messages.old scratch.old no_more in
-        ClassVisit (Is 2) texts.now image.now places.now words.now n st b }
+        ClassVisit (Is 2) sources.now.texts sources.now.image.words sources.now.image.places sources.now.library n st b }
     ensures { let b : Lent = lent slots.old functions.old types.old diagnostics.old messages.old scratch.old no_more in
         let b' : Lent = lent slots.new functions.new types.new diagnostics.new messages.new scratch.new no_more in
-        NodeVisited texts.now image.now words.now n st b b' result }
+        NodeVisited sources.now.texts sources.now.image.words sources.now.library n st b b' result }
 {
-    let at = places::node_place(places, n);
+    let at = sources.image.node_place(n);
     let (l, between) = part(
         slots,
         functions,
@@ -237,12 +196,9 @@ fn bin(
         diagnostics,
         messages,
         scratch,
-        texts,
-        image,
-        words,
-        places,
+        sources,
         st,
-        word_at(image, at + 4),
+        word_at(sources.image.words, at + 4),
     )?;
     let (r, end) = part(
         slots,
@@ -251,20 +207,17 @@ fn bin(
         diagnostics,
         messages,
         scratch,
-        texts,
-        image,
-        words,
-        places,
+        sources,
         between,
-        word_at(image, at + 5),
+        word_at(sources.image.words, at + 5),
     )?;
     operands::bin_end(
         slots,
         &types[..],
         diagnostics,
         messages,
-        texts,
-        image,
+        &sources.texts,
+        sources.image.words,
         at,
         end,
         n,
@@ -282,21 +235,18 @@ fn one(
     diagnostics: &mut [u32],
     messages: &mut [u8],
     scratch: &mut [u32],
-    texts: &Texts,
-    image: &[u32],
-    words: &[u32],
-    places: &[u16],
+    sources: &Sources,
     st: State,
     n: u32,
 ) -> Visit<Answer>
     requires { let b : Lent = lent slots.old functions.old types.old diagnostics.old messages.old scratch.old no_more in
-        ClassVisit OneOperand texts.now image.now places.now words.now n st b }
+        ClassVisit OneOperand sources.now.texts sources.now.image.words sources.now.image.places sources.now.library n st b }
     ensures { let b : Lent = lent slots.old functions.old types.old diagnostics.old messages.old scratch.old no_more in
         let b' : Lent = lent slots.new functions.new types.new diagnostics.new messages.new scratch.new no_more in
-        NodeVisited texts.now image.now words.now n st b b' result }
+        NodeVisited sources.now.texts sources.now.image.words sources.now.library n st b b' result }
 {
-    let at = places::node_place(places, n);
-    let value = operands::operand_of(image, at);
+    let at = sources.image.node_place(n);
+    let value = operands::operand_of(sources.image.words, at);
     let (a, end) = part(
         slots,
         functions,
@@ -304,10 +254,7 @@ fn one(
         diagnostics,
         messages,
         scratch,
-        texts,
-        image,
-        words,
-        places,
+        sources,
         st,
         value,
     )?;
@@ -317,8 +264,8 @@ fn one(
         diagnostics,
         messages,
         scratch,
-        texts,
-        image,
+        &sources.texts,
+        sources.image.words,
         at,
         end,
         n,
@@ -335,21 +282,18 @@ fn cast(
     diagnostics: &mut [u32],
     messages: &mut [u8],
     scratch: &mut [u32],
-    texts: &Texts,
-    image: &[u32],
-    words: &[u32],
-    places: &[u16],
+    sources: &Sources,
     st: State,
     n: u32,
 ) -> Visit<Answer>
     requires { let b : Lent = lent slots.old functions.old types.old diagnostics.old messages.old scratch.old no_more in
-        ClassVisit (Is 9) texts.now image.now places.now words.now n st b }
+        ClassVisit (Is 9) sources.now.texts sources.now.image.words sources.now.image.places sources.now.library n st b }
     ensures { let b : Lent = lent slots.old functions.old types.old diagnostics.old messages.old scratch.old no_more in
         let b' : Lent = lent slots.new functions.new types.new diagnostics.new messages.new scratch.new no_more in
-        NodeVisited texts.now image.now words.now n st b b' result }
+        NodeVisited sources.now.texts sources.now.image.words sources.now.library n st b b' result }
 {
-    let at = places::node_place(places, n);
-    let (to, begun) = operands::cast_begin(types, image, places, at, st, n)?;
+    let at = sources.image.node_place(n);
+    let (to, begun) = operands::cast_begin(types, &sources.image, at, st, n)?;
     let (a, end) = part(
         slots,
         functions,
@@ -357,20 +301,17 @@ fn cast(
         diagnostics,
         messages,
         scratch,
-        texts,
-        image,
-        words,
-        places,
+        sources,
         begun,
-        word_at(image, at + 3),
+        word_at(sources.image.words, at + 3),
     )?;
     operands::cast_end(
         slots,
         &types[..],
         diagnostics,
         messages,
-        texts,
-        image,
+        &sources.texts,
+        sources.image.words,
         at,
         end,
         n,
@@ -388,22 +329,19 @@ pub fn nodes(
     diagnostics: &mut [u32],
     messages: &mut [u8],
     scratch: &mut [u32],
-    texts: &Texts,
-    image: &[u32],
-    words: &[u32],
-    places: &[u16],
+    sources: &Sources,
     st: State,
     owner: u32,
     at: usize,
     k: usize,
 ) -> Visit<Answer>
     requires { let b : Lent = lent slots.old functions.old types.old diagnostics.old messages.old scratch.old no_more in
-        ListVisit texts.now image.now places.now words.now owner at k st b }
+        ListVisit sources.now.texts sources.now.image.words sources.now.image.places sources.now.library owner at k st b }
     ensures { let b : Lent = lent slots.old functions.old types.old diagnostics.old messages.old scratch.old no_more in
         let b' : Lent = lent slots.new functions.new types.new diagnostics.new messages.new scratch.new no_more in
-        ListVisited texts.now image.now words.now at k st b b' result }
+        ListVisited sources.now.texts sources.now.image.words sources.now.library at k st b b' result }
 {
-    let mut answer = Answer::Known(word_at(image, 3));
+    let mut answer = Answer::Known(word_at(sources.image.words, 3));
     let mut here = st;
     let mut place = at;
     for _ in 0..k {
@@ -414,12 +352,9 @@ pub fn nodes(
             diagnostics,
             messages,
             scratch,
-            texts,
-            image,
-            words,
-            places,
+            sources,
             here,
-            word_at(image, place),
+            word_at(sources.image.words, place),
         )?;
         answer = a;
         here = next;
@@ -437,22 +372,19 @@ fn block(
     diagnostics: &mut [u32],
     messages: &mut [u8],
     scratch: &mut [u32],
-    texts: &Texts,
-    image: &[u32],
-    words: &[u32],
-    places: &[u16],
+    sources: &Sources,
     st: State,
     owner: u32,
     at: usize,
     k: usize,
 ) -> Visit<Answer>
     requires { let b : Lent = lent slots.old functions.old types.old diagnostics.old messages.old scratch.old no_more in
-        ListVisit texts.now image.now places.now words.now owner at k st b }
+        ListVisit sources.now.texts sources.now.image.words sources.now.image.places sources.now.library owner at k st b }
     ensures { let b : Lent = lent slots.old functions.old types.old diagnostics.old messages.old scratch.old no_more in
         let b' : Lent = lent slots.new functions.new types.new diagnostics.new messages.new scratch.new no_more in
-        ListVisited texts.now image.now words.now at k st b b' result }
+        ListVisited sources.now.texts sources.now.image.words sources.now.library at k st b b' result }
 {
-    let mut answer = Answer::Known(word_at(image, 3));
+    let mut answer = Answer::Known(word_at(sources.image.words, 3));
     let mut here = st;
     let mut place = at;
     for _ in 0..k {
@@ -463,12 +395,9 @@ fn block(
             diagnostics,
             messages,
             scratch,
-            texts,
-            image,
-            words,
-            places,
+            sources,
             here,
-            word_at(image, place),
+            word_at(sources.image.words, place),
         )?;
         answer = a;
         here = next;
@@ -486,20 +415,17 @@ fn listed(
     diagnostics: &mut [u32],
     messages: &mut [u8],
     scratch: &mut [u32],
-    texts: &Texts,
-    image: &[u32],
-    words: &[u32],
-    places: &[u16],
+    sources: &Sources,
     st: State,
     n: u32,
 ) -> Visit<Answer>
     requires { let b : Lent = lent slots.old functions.old types.old diagnostics.old messages.old scratch.old no_more in
-        ClassVisit Listed texts.now image.now places.now words.now n st b }
+        ClassVisit Listed sources.now.texts sources.now.image.words sources.now.image.places sources.now.library n st b }
     ensures { let b : Lent = lent slots.old functions.old types.old diagnostics.old messages.old scratch.old no_more in
         let b' : Lent = lent slots.new functions.new types.new diagnostics.new messages.new scratch.new no_more in
-        NodeVisited texts.now image.now words.now n st b b' result }
+        NodeVisited sources.now.texts sources.now.image.words sources.now.library n st b b' result }
 {
-    let k = kind(word_at(image, places::node_place(places, n)));
+    let k = kind(word_at(sources.image.words, sources.image.node_place(n)));
     if k == FN {
         return func(
             slots,
@@ -508,10 +434,7 @@ fn listed(
             diagnostics,
             messages,
             scratch,
-            texts,
-            image,
-            words,
-            places,
+            sources,
             st,
             n,
         );
@@ -524,10 +447,7 @@ fn listed(
             diagnostics,
             messages,
             scratch,
-            texts,
-            image,
-            words,
-            places,
+            sources,
             st,
             n,
         );
@@ -539,10 +459,7 @@ fn listed(
         diagnostics,
         messages,
         scratch,
-        texts,
-        image,
-        words,
-        places,
+        sources,
         st,
         n,
     )
@@ -557,21 +474,18 @@ fn func(
     diagnostics: &mut [u32],
     messages: &mut [u8],
     scratch: &mut [u32],
-    texts: &Texts,
-    image: &[u32],
-    words: &[u32],
-    places: &[u16],
+    sources: &Sources,
     st: State,
     n: u32,
 ) -> Visit<Answer>
     requires { let b : Lent = lent slots.old functions.old types.old diagnostics.old messages.old scratch.old no_more in
-        ClassVisit (Is 5) texts.now image.now places.now words.now n st b }
+        ClassVisit (Is 5) sources.now.texts sources.now.image.words sources.now.image.places sources.now.library n st b }
     ensures { let b : Lent = lent slots.old functions.old types.old diagnostics.old messages.old scratch.old no_more in
         let b' : Lent = lent slots.new functions.new types.new diagnostics.new messages.new scratch.new no_more in
-        NodeVisited texts.now image.now words.now n st b b' result }
+        NodeVisited sources.now.texts sources.now.image.words sources.now.library n st b b' result }
 {
-    let at = places::node_place(places, n);
-    let count = word_at(image, at + 4) as usize;
+    let at = sources.image.node_place(n);
+    let count = word_at(sources.image.words, at + 4) as usize;
     let (begun, inner) = bodies::begin(
         slots,
         functions,
@@ -579,9 +493,8 @@ fn func(
         diagnostics,
         messages,
         scratch,
-        texts,
-        image,
-        places,
+        &sources.texts,
+        &sources.image,
         at,
         st,
         n,
@@ -589,7 +502,7 @@ fn func(
     let Some(ret) = begun else {
         return Ok((Answer::Poison, inner));
     };
-    let long = payload(word_at(image, at));
+    let long = payload(word_at(sources.image.words, at));
     let (computed, inside) = block(
         slots,
         functions,
@@ -597,10 +510,7 @@ fn func(
         diagnostics,
         messages,
         scratch,
-        texts,
-        image,
-        words,
-        places,
+        sources,
         inner,
         n,
         at + 5 + 2 * count,
@@ -611,9 +521,8 @@ fn func(
         &types[..],
         diagnostics,
         messages,
-        texts,
-        image,
-        places,
+        &sources.texts,
+        &sources.image,
         at,
         inside,
         st,
@@ -632,19 +541,16 @@ fn case(
     diagnostics: &mut [u32],
     messages: &mut [u8],
     scratch: &mut [u32],
-    texts: &Texts,
-    image: &[u32],
-    words: &[u32],
-    places: &[u16],
+    sources: &Sources,
     st: State,
     n: u32,
     at: usize,
 ) -> Visit<Answer>
     requires { let b : Lent = lent slots.old functions.old types.old diagnostics.old messages.old scratch.old no_more in
-        CaseVisit texts.now image.now places.now words.now n at st b }
+        CaseVisit sources.now.texts sources.now.image.words sources.now.image.places sources.now.library n at st b }
     ensures { let b : Lent = lent slots.old functions.old types.old diagnostics.old messages.old scratch.old no_more in
         let b' : Lent = lent slots.new functions.new types.new diagnostics.new messages.new scratch.new no_more in
-        CaseVisited texts.now image.now words.now n at st b b' result }
+        CaseVisited sources.now.texts sources.now.image.words sources.now.library n at st b b' result }
 {
     let (a, tested) = part(
         slots,
@@ -653,29 +559,26 @@ fn case(
         diagnostics,
         messages,
         scratch,
-        texts,
-        image,
-        words,
-        places,
+        sources,
         st,
-        word_at(image, at + 1),
+        word_at(sources.image.words, at + 1),
     )?;
     let (_, begun) = branches::condition(
         &slots[..],
         &types[..],
         diagnostics,
         messages,
-        texts,
-        image,
+        &sources.texts,
+        sources.image.words,
         at,
         tested,
         n,
         a,
     )?;
-    let mut answer = Answer::Known(word_at(image, 3));
+    let mut answer = Answer::Known(word_at(sources.image.words, 3));
     let mut here = begun;
     let mut place = at + 3;
-    let left = word_at(image, at + 2) as usize;
+    let left = word_at(sources.image.words, at + 2) as usize;
     for _ in 0..left {
         let (a, next) = part(
             slots,
@@ -684,12 +587,9 @@ fn case(
             diagnostics,
             messages,
             scratch,
-            texts,
-            image,
-            words,
-            places,
+            sources,
             here,
-            word_at(image, place),
+            word_at(sources.image.words, place),
         )?;
         answer = a;
         here = next;
@@ -707,21 +607,18 @@ fn cases(
     diagnostics: &mut [u32],
     messages: &mut [u8],
     scratch: &mut [u32],
-    texts: &Texts,
-    image: &[u32],
-    words: &[u32],
-    places: &[u16],
+    sources: &Sources,
     st: State,
     n: u32,
 ) -> Visit<Answer>
     requires { let b : Lent = lent slots.old functions.old types.old diagnostics.old messages.old scratch.old no_more in
-        ClassVisit (Is 6) texts.now image.now places.now words.now n st b }
+        ClassVisit (Is 6) sources.now.texts sources.now.image.words sources.now.image.places sources.now.library n st b }
     ensures { let b : Lent = lent slots.old functions.old types.old diagnostics.old messages.old scratch.old no_more in
         let b' : Lent = lent slots.new functions.new types.new diagnostics.new messages.new scratch.new no_more in
-        NodeVisited texts.now image.now words.now n st b b' result }
+        NodeVisited sources.now.texts sources.now.image.words sources.now.library n st b b' result }
 {
-    let at = places::node_place(places, n);
-    let count = word_at(image, at + 2) as usize;
+    let at = sources.image.node_place(n);
+    let count = word_at(sources.image.words, at + 2) as usize;
     let mut here = st;
     let mut place = at + 3;
     for _ in 0..count {
@@ -732,20 +629,17 @@ fn cases(
             diagnostics,
             messages,
             scratch,
-            texts,
-            image,
-            words,
-            places,
+            sources,
             here,
             n,
             place,
         )?;
         here = next;
-        place = branches::case_end(image, place);
+        place = branches::case_end(sources.image.words, place);
     }
     let next = place + 1;
-    let left = at + payload(word_at(image, at)) - next;
-    let mut default = Answer::Known(word_at(image, 3));
+    let left = at + payload(word_at(sources.image.words, at)) - next;
+    let mut default = Answer::Known(word_at(sources.image.words, 3));
     let mut end = here;
     for i in 0..left {
         let (a, on) = part(
@@ -755,12 +649,9 @@ fn cases(
             diagnostics,
             messages,
             scratch,
-            texts,
-            image,
-            words,
-            places,
+            sources,
             end,
-            word_at(image, next + i),
+            word_at(sources.image.words, next + i),
         )?;
         default = a;
         end = on;
@@ -770,9 +661,8 @@ fn cases(
         &types[..],
         diagnostics,
         messages,
-        texts,
-        image,
-        places,
+        &sources.texts,
+        &sources.image,
         at,
         visiting::left(end, here),
         n,
@@ -789,20 +679,17 @@ fn sequence(
     diagnostics: &mut [u32],
     messages: &mut [u8],
     scratch: &mut [u32],
-    texts: &Texts,
-    image: &[u32],
-    words: &[u32],
-    places: &[u16],
+    sources: &Sources,
     st: State,
     n: u32,
 ) -> Visit<Answer>
     requires { let b : Lent = lent slots.old functions.old types.old diagnostics.old messages.old scratch.old no_more in
-        ClassVisit Sequence texts.now image.now places.now words.now n st b }
+        ClassVisit Sequence sources.now.texts sources.now.image.words sources.now.image.places sources.now.library n st b }
     ensures { let b : Lent = lent slots.old functions.old types.old diagnostics.old messages.old scratch.old no_more in
         let b' : Lent = lent slots.new functions.new types.new diagnostics.new messages.new scratch.new no_more in
-        NodeVisited texts.now image.now words.now n st b b' result }
+        NodeVisited sources.now.texts sources.now.image.words sources.now.library n st b b' result }
 {
-    let k = kind(word_at(image, places::node_place(places, n)));
+    let k = kind(word_at(sources.image.words, sources.image.node_place(n)));
     if k == CALL {
         return call(
             slots,
@@ -811,10 +698,7 @@ fn sequence(
             diagnostics,
             messages,
             scratch,
-            texts,
-            image,
-            words,
-            places,
+            sources,
             st,
             n,
         );
@@ -827,10 +711,7 @@ fn sequence(
             diagnostics,
             messages,
             scratch,
-            texts,
-            image,
-            words,
-            places,
+            sources,
             st,
             n,
         );
@@ -842,10 +723,7 @@ fn sequence(
         diagnostics,
         messages,
         scratch,
-        texts,
-        image,
-        words,
-        places,
+        sources,
         st,
         n,
     )
@@ -860,24 +738,21 @@ fn call(
     diagnostics: &mut [u32],
     messages: &mut [u8],
     scratch: &mut [u32],
-    texts: &Texts,
-    image: &[u32],
-    words: &[u32],
-    places: &[u16],
+    sources: &Sources,
     st: State,
     n: u32,
 ) -> Visit<Answer>
     requires { let b : Lent = lent slots.old functions.old types.old diagnostics.old messages.old scratch.old no_more in
-        ClassVisit (Is 7) texts.now image.now places.now words.now n st b }
+        ClassVisit (Is 7) sources.now.texts sources.now.image.words sources.now.image.places sources.now.library n st b }
     ensures { let b : Lent = lent slots.old functions.old types.old diagnostics.old messages.old scratch.old no_more in
         let b' : Lent = lent slots.new functions.new types.new diagnostics.new messages.new scratch.new no_more in
-        NodeVisited texts.now image.now words.now n st b b' result }
+        NodeVisited sources.now.texts sources.now.image.words sources.now.library n st b b' result }
 {
-    let at = places::node_place(places, n);
-    if calls::through_field(image, places, at) {
-        return calls::report_field(diagnostics, messages, image, places, at, st, n);
+    let at = sources.image.node_place(n);
+    if calls::through_field(&sources.image, at) {
+        return calls::report_field(diagnostics, messages, &sources.image, at, st, n);
     }
-    let count = payload(word_at(image, at)) - 3;
+    let count = payload(word_at(sources.image.words, at)) - 3;
     let mut poisoned = false;
     let mut here = st;
     for i in 0..count {
@@ -888,12 +763,9 @@ fn call(
             diagnostics,
             messages,
             scratch,
-            texts,
-            image,
-            words,
-            places,
+            sources,
             here,
-            word_at(image, at + 3 + i),
+            word_at(sources.image.words, at + 3 + i),
         )?;
         poisoned = calls::or_poison(poisoned, a);
         here = next;
@@ -905,10 +777,7 @@ fn call(
         diagnostics,
         messages,
         scratch,
-        texts,
-        image,
-        words,
-        places,
+        sources,
         at,
         count,
         here,
@@ -926,21 +795,18 @@ fn record_node(
     diagnostics: &mut [u32],
     messages: &mut [u8],
     scratch: &mut [u32],
-    texts: &Texts,
-    image: &[u32],
-    words: &[u32],
-    places: &[u16],
+    sources: &Sources,
     st: State,
     n: u32,
 ) -> Visit<Answer>
     requires { let b : Lent = lent slots.old functions.old types.old diagnostics.old messages.old scratch.old no_more in
-        ClassVisit (Is 12) texts.now image.now places.now words.now n st b }
+        ClassVisit (Is 12) sources.now.texts sources.now.image.words sources.now.image.places sources.now.library n st b }
     ensures { let b : Lent = lent slots.old functions.old types.old diagnostics.old messages.old scratch.old no_more in
         let b' : Lent = lent slots.new functions.new types.new diagnostics.new messages.new scratch.new no_more in
-        NodeVisited texts.now image.now words.now n st b b' result }
+        NodeVisited sources.now.texts sources.now.image.words sources.now.library n st b b' result }
 {
-    let at = places::node_place(places, n);
-    let count = (payload(word_at(image, at)) - 3) / 2;
+    let at = sources.image.node_place(n);
+    let count = (payload(word_at(sources.image.words, at)) - 3) / 2;
     let mut here = st;
     for i in 0..count {
         let (_, next) = part(
@@ -950,16 +816,13 @@ fn record_node(
             diagnostics,
             messages,
             scratch,
-            texts,
-            image,
-            words,
-            places,
+            sources,
             here,
-            word_at(image, at + 4 + 2 * i),
+            word_at(sources.image.words, at + 4 + 2 * i),
         )?;
         here = next;
     }
-    fields::make(slots, types, image, places, at, count, here, n)
+    fields::make(slots, types, &sources.image, at, count, here, n)
 }
 
 // Node::Array: the members are compared with the first, each when it is visited; one that differs ends the visits.
@@ -971,23 +834,20 @@ fn array(
     diagnostics: &mut [u32],
     messages: &mut [u8],
     scratch: &mut [u32],
-    texts: &Texts,
-    image: &[u32],
-    words: &[u32],
-    places: &[u16],
+    sources: &Sources,
     st: State,
     n: u32,
 ) -> Visit<Answer>
     requires { let b : Lent = lent slots.old functions.old types.old diagnostics.old messages.old scratch.old no_more in
-        ClassVisit (Is 13) texts.now image.now places.now words.now n st b }
+        ClassVisit (Is 13) sources.now.texts sources.now.image.words sources.now.image.places sources.now.library n st b }
     ensures { let b : Lent = lent slots.old functions.old types.old diagnostics.old messages.old scratch.old no_more in
         let b' : Lent = lent slots.new functions.new types.new diagnostics.new messages.new scratch.new no_more in
-        NodeVisited texts.now image.now words.now n st b b' result }
+        NodeVisited sources.now.texts sources.now.image.words sources.now.library n st b b' result }
 {
-    let at = places::node_place(places, n);
-    let count = payload(word_at(image, at)) - 3;
+    let at = sources.image.node_place(n);
+    let count = payload(word_at(sources.image.words, at)) - 3;
     if count == 0 {
-        return members::empty(diagnostics, messages, image, at, st, n);
+        return members::empty(diagnostics, messages, sources.image.words, at, st, n);
     }
     let (first, begun) = part(
         slots,
@@ -996,17 +856,14 @@ fn array(
         diagnostics,
         messages,
         scratch,
-        texts,
-        image,
-        words,
-        places,
+        sources,
         st,
-        word_at(image, at + 3),
+        word_at(sources.image.words, at + 3),
     )?;
     let mut poisoned = false;
     let mut here = begun;
     for i in 1..count {
-        let member = word_at(image, at + 3 + i);
+        let member = word_at(sources.image.words, at + 3 + i);
         let (a, next) = part(
             slots,
             functions,
@@ -1014,10 +871,7 @@ fn array(
             diagnostics,
             messages,
             scratch,
-            texts,
-            image,
-            words,
-            places,
+            sources,
             here,
             member,
         )?;
@@ -1026,9 +880,8 @@ fn array(
             &types[..],
             diagnostics,
             messages,
-            texts,
-            image,
-            places,
+            &sources.texts,
+            &sources.image,
             next,
             n,
             member,
@@ -1042,5 +895,14 @@ fn array(
         poisoned = p;
         here = on;
     }
-    members::end(slots, types, image, at, here, n, first, poisoned)
+    members::end(
+        slots,
+        types,
+        sources.image.words,
+        at,
+        here,
+        n,
+        first,
+        poisoned,
+    )
 }

@@ -8,18 +8,18 @@ pub returns-in_err-st : goal.returns-in_err-st
 returns-in_err-st c =
     let p = err_from_is_err_and c.from_residual.result c.from_residual.ensures.1 in
     rw (p.1, p.2)
-    (walk-refused c.args.script.now c.args.image.now c.args.text.now c.args.library.now
+    (walk-refused c.args.inputs.now.script c.args.inputs.now.image c.args.inputs.now.library_text c.args.inputs.now.library
     c.args.slots.now c.args.functions.now c.args.types.now c.args.diagnostics.now c.args.messages.now c.args.scratch.now
     c.in_err-st.ensures)
 
 pub visit_roots-requires : goal.visit_roots-requires
 visit_roots-requires c =
-    roots-ready c.args.script.now c.args.image.now c.args.text.now c.args.library.now
+    roots-ready c.args.inputs.now.script c.args.inputs.now.image c.args.inputs.now.library_text c.args.inputs.now.library
     c.args.slots.now c.args.functions.now c.args.types.now c.args.diagnostics.now c.args.messages.now c.args.scratch.now
     c.in_ok-st.ensures c.requires refl refl refl
 
 pub returns : goal.returns
 returns c =
-    walk-roots c.args.script.now c.args.image.now c.args.text.now c.args.library.now
+    walk-roots c.args.inputs.now.script c.args.inputs.now.image c.args.inputs.now.library_text c.args.inputs.now.library
     c.args.slots.now c.args.functions.now c.args.types.now c.args.diagnostics.now c.args.messages.now c.args.scratch.now
     c.in_ok-st.ensures c.requires refl c.visit_roots.ensures

@@ -6,4 +6,4 @@ use Rattle.fields.proofs.Returns.{Paired}
 use Rattle.fields.proofs.set_pairs.Given as goal
 
 abbrev pub invariant-loop-i : goal.invariant-loop-i
-invariant-loop-i l = Paired l.image l.slots l.at l.to l.initial.types l.i l.types × (l.i ≤ l.count) × (length l.types ≡ length l.initial.types)
+invariant-loop-i l = Paired l.image.words l.slots l.at l.to l.initial.types l.i l.types × (l.i ≤ l.count) × (length l.types ≡ length l.initial.types)

@@ -1,4 +1,5 @@
-use mathlib.Core.Path.{sym, ◌∙◌}
+use mathlib.Core.Path.{refl}
+use Rattle.ptype.specs.TypeKindLaws.{type-number, type-not, type-wraps, type-flat}
 use native.Mathlib.Omega.{arith}
 use Rattle.ptype.proofs.SizeReturns.{room_bottom, room-wrap, room_record, room-here, room-all, room-none, room-more}
 use Rattle.ptype.proofs.+room_after_room_after_fields.Goals as goal
@@ -9,17 +10,17 @@ room_after-returns-then-room-eq0 t c = λ x. omega arith
 pub room_after-returns-then-levels-eq0 : goal.room_after-returns-then-levels-eq0
 room_after-returns-then-levels-eq0 t c = λ x. room_bottom x _ _ _ c.if-levels-eq0.true
 
-pub room_after-returns-then-wraps : goal.room_after-returns-then-wraps
-room_after-returns-then-wraps t c =
-    λ x. room-wrap x _ _ _ c.if-levels-eq0.false c.kind-k.ensures (sym c.wraps.ensures ∙ c.if-wraps.true) c.inner.ensures (c.room_after.ensures x)
+pub room_after-returns-in-Option : goal.room_after-returns-in-Option
+room_after-returns-in-Option t c =
+    λ x. room-wrap x _ _ _ c.if-levels-eq0.false refl (type-wraps _ c.of.ensures c.in-Option.is) c.inner.ensures (c.room_after.ensures x)
 
-pub room_after-returns-then-k-eq-RECORD : goal.room_after-returns-then-k-eq-RECORD
-room_after-returns-then-k-eq-RECORD t c =
-    λ x. room_record x _ _ _ c.if-levels-eq0.false c.kind-k.ensures c.if-k-eq-RECORD.true (c.room_after_fields.ensures x)
+pub room_after-returns-in-Record : goal.room_after-returns-in-Record
+room_after-returns-in-Record t c =
+    λ x. room_record x _ _ _ c.if-levels-eq0.false refl (type-number _ c.in-Record.ensures) (c.room_after_fields.ensures x)
 
-pub room_after-returns-else-k-eq-RECORD : goal.room_after-returns-else-k-eq-RECORD
-room_after-returns-else-k-eq-RECORD t c =
-    λ x. room-here x _ _ _ c.if-levels-eq0.false c.kind-k.ensures (sym c.wraps.ensures ∙ c.if-wraps.false) c.if-k-eq-RECORD.false
+pub room_after-returns-in_default : goal.room_after-returns-in_default
+room_after-returns-in_default t c =
+    λ x. room-here x _ _ _ c.if-levels-eq0.false refl (type-flat _ c.of.ensures c.in_default.not-Option c.in_default.not-Array) (type-not _ c.of.ensures c.in_default.not-Record)
 
 pub room_after_fields-loop-k-init : goal.room_after_fields-loop-k-init
 room_after_fields-loop-k-init t c = λ x. room-all x _ _ _ _ (omega arith) (omega arith)

@@ -4,4 +4,4 @@ use Rattle.spans.proofs.Loops.{ExternsLeft}
 use Rattle.spans.proofs.cover_externs.Given as goal
 
 abbrev pub invariant-loop : goal.invariant-loop
-invariant-loop l = ExternsLeft l.image l.places l.initial.covered l.at l.k l.covered l.i (l.k - l.counter)
+invariant-loop l = ExternsLeft l.image.words l.image.places l.initial.covered l.at l.k l.covered l.i (l.k - l.counter)

@@ -78,7 +78,7 @@ fields_from_exprs-loop-init t c = rw sub-zero (((λ T n. goes-all _), (c.require
 pub fields_from_exprs-build-requires : goal.fields_from_exprs-build-requires
 fields_from_exprs-build-requires t c =
     let v = c.loop in
-    let I = c.args.image.now in
+    let I = c.args.image.now.words in
     let p = first-ready v.invariant.1.0 (λ z. omega arith) c.word_at.ensures in
     let l = most-first (type_of I) I v.here (c.args.fields - v.counter) (λ z. omega arith) c.word_at.ensures in
     (omega (arith, c.decreases, v.invariant.1.1.1, l), (p.ready, omega (arith, c.requires.1, v.invariant.1.1.1, l)))
@@ -92,7 +92,7 @@ fields_from_exprs-returns-in_err-u t c =
 
 pub fields_from_exprs-loop-preserved : goal.fields_from_exprs-loop-preserved
 fields_from_exprs-loop-preserved t c = rw one-less (let v = c.loop in
-    let I = c.args.image.now in
+    let I = c.args.image.now.words in
     let l = most-first (type_of I) I v.here (c.args.fields - v.counter) (λ z. omega arith) c.word_at.ensures in (
       (λ T n. goes-next _ _ T n _ _ _ (v.invariant.0 T n) (λ z. omega arith) c.word_at.ensures c.build.result c.build.new.types (c.build.ensures T n) c.in_ok-u.was),
       (rest-ready v.invariant.1.0 (λ z. omega arith), (search rules, omega (arith, v.invariant.1.1.1, l))),

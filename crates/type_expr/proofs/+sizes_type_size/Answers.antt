@@ -14,16 +14,16 @@ pub sizes-loop-init : goal.sizes-loop-init
 sizes-loop-init t c = rw sub-zero ((c.requires.0, sym (zero-add _)))
 
 pub sizes-type_size-sum-requires : goal.sizes-type_size-sum-requires
-sizes-type_size-sum-requires t c = let p = first-ready c.loop.invariant.0 (λ z. omega arith) c.word_at.ensures in (omega (arith, c.decreases, p.under), (p.ready, omega (arith, c.requires.1, c.loop.invariant.1, sizes_first (type_of c.args.image.now) c.args.image.now c.loop.here (c.args.fields - c.loop.counter) (λ z. omega arith) c.word_at.ensures)))
+sizes-type_size-sum-requires t c = let p = first-ready c.loop.invariant.0 (λ z. omega arith) c.word_at.ensures in (omega (arith, c.decreases, p.under), (p.ready, omega (arith, c.requires.1, c.loop.invariant.1, sizes_first (type_of c.args.image.now.words) c.args.image.now.words c.loop.here (c.args.fields - c.loop.counter) (λ z. omega arith) c.word_at.ensures)))
 
 pub sizes-overflow_add-sum : goal.sizes-overflow_add-sum
-sizes-overflow_add-sum t c = omega (arith, c.requires.1, c.loop.invariant.1, c.type_size-sum.ensures, sizes_first (type_of c.args.image.now) c.args.image.now c.loop.here (c.args.fields - c.loop.counter) (λ z. omega arith) c.word_at.ensures)
+sizes-overflow_add-sum t c = omega (arith, c.requires.1, c.loop.invariant.1, c.type_size-sum.ensures, sizes_first (type_of c.args.image.now.words) c.args.image.now.words c.loop.here (c.args.fields - c.loop.counter) (λ z. omega arith) c.word_at.ensures)
 
 pub sizes-loop-preserved : goal.sizes-loop-preserved
-sizes-loop-preserved t c = rw one-less ((rest-ready c.loop.invariant.0 (λ z. omega arith), omega (arith, c.loop.invariant.1, c.type_size-sum.ensures, sizes_first (type_of c.args.image.now) c.args.image.now c.loop.here (c.args.fields - c.loop.counter) (λ z. omega arith) c.word_at.ensures)))
+sizes-loop-preserved t c = rw one-less ((rest-ready c.loop.invariant.0 (λ z. omega arith), omega (arith, c.loop.invariant.1, c.type_size-sum.ensures, sizes_first (type_of c.args.image.now.words) c.args.image.now.words c.loop.here (c.args.fields - c.loop.counter) (λ z. omega arith) c.word_at.ensures)))
 
 pub sizes-returns : goal.sizes-returns
-sizes-returns t c = omega (arith, c.loop.invariant.1, sizes_none (type_of c.args.image.now) c.args.image.now c.loop.here (c.args.fields - c.loop.counter) (omega arith))
+sizes-returns t c = omega (arith, c.loop.invariant.1, sizes_none (type_of c.args.image.now.words) c.args.image.now.words c.loop.here (c.args.fields - c.loop.counter) (omega arith))
 
 pub type_size-returns-then-k-eq-ATOM : goal.type_size-returns-then-k-eq-ATOM
 type_size-returns-then-k-eq-ATOM t c = sym (size-atom c.requires.0 c.type_place-at.ensures c.word_at-head.ensures c.kind-k.ensures c.if-k-eq-ATOM.true)

@@ -15,5 +15,5 @@ abbrev pub decreases-type_size : goal.decreases-type_size
 decreases-type_size l = l.t * 2 + 1
 
 abbrev pub invariant-sizes-loop : goal.invariant-sizes-loop
-invariant-sizes-loop l = FieldsReady l.image l.places l.owner l.here (l.fields - l.counter)
-    × (sizes_of (type_fields_from (type_of l.image) l.image l.at l.fields) ≡ l.sum + sizes_of (type_fields_from (type_of l.image) l.image l.here (l.fields - l.counter)))
+invariant-sizes-loop l = FieldsReady l.image.words l.image.places l.owner l.here (l.fields - l.counter)
+    × (sizes_of (type_fields_from (type_of l.image.words) l.image.words l.at l.fields) ≡ l.sum + sizes_of (type_fields_from (type_of l.image.words) l.image.words l.here (l.fields - l.counter)))

@@ -5,4 +5,4 @@ use Rattle.type_expr.proofs.DeepReturns.{Before}
 use Rattle.type_expr.proofs.deep_field.Given as goal
 
 abbrev pub invariant-loop : goal.invariant-loop
-invariant-loop l = Before l.image l.places l.owner l.initial.types l.used l.at l.fields l.types l.u l.here (l.fields - l.counter)
+invariant-loop l = Before l.image.words l.image.places l.owner l.initial.types l.used l.at l.fields l.types l.u l.here (l.fields - l.counter)

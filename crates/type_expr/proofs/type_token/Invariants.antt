@@ -6,7 +6,7 @@ use Rattle.type_expr.specs.Ready.{TypeReady}
 use Rattle.type_expr.proofs.type_token.Given as goal
 
 abbrev pub invariant-loop-here : goal.invariant-loop-here
-invariant-loop-here l = TypeReady l.image l.places l.here × (type_token (type_of l.image l.t) ≡ type_token (type_of l.image l.here))
+invariant-loop-here l = TypeReady l.image.words l.image.places l.here × (type_token (type_of l.image.words l.t) ≡ type_token (type_of l.image.words l.here))
 
 abbrev pub decreases-loop-here : goal.decreases-loop-here
 decreases-loop-here l = l.here

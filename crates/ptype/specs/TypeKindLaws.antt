@@ -1,0 +1,75 @@
+-- What a kind says of its number. Laws, which callers of `TypeKind::of` cite. Assumes nothing.
+use Rattle.std.specs.Prelude.{ℕ, zero, suc, ◌≡◌, refl, ◌⊎◌, true, false}
+use Rattle.std.proofs.Common.{sym, ◌∙◌, ne_eqb, inl, inr}
+use Rattle.ptype.specs.Kinds.{wraps, names}
+use Rattle.ptype.specs.declared.TypeKind.{TypeKind}
+use Rattle.ptype.specs.declared.TypeKind.TheVariants as type
+use Rattle.ptype.specs.TypeKind.{kinds_of_types, kind_of_type}
+
+abbrev pub TypeNumber : TypeKind → (number : ℕ) → Type 0
+TypeNumber type.None k = kind_of_type k ≡ type.None
+TypeNumber type.Void k = k ≡ 1
+TypeNumber type.Bool k = k ≡ 2
+TypeNumber type.Int k = k ≡ 3
+TypeNumber type.Double k = k ≡ 4
+TypeNumber type.Str k = k ≡ 5
+TypeNumber type.Option k = k ≡ 6
+TypeNumber type.Array k = k ≡ 7
+TypeNumber type.Record k = k ≡ 8
+TypeNumber type.Foreign k = k ≡ 9
+TypeNumber type.Slot k = k ≡ 10
+TypeNumber type.Unknown k = k ≡ 11
+
+at_type : (k : ℕ) → TypeNumber (kind_of_type k) k
+unfolding kind_of_type kinds_of_types
+at_type zero = refl
+at_type (suc zero) = refl
+at_type (suc (suc zero)) = refl
+at_type (suc (suc (suc zero))) = refl
+at_type (suc (suc (suc (suc zero)))) = refl
+at_type (suc (suc (suc (suc (suc zero))))) = refl
+at_type (suc (suc (suc (suc (suc (suc zero)))))) = refl
+at_type (suc (suc (suc (suc (suc (suc (suc zero))))))) = refl
+at_type (suc (suc (suc (suc (suc (suc (suc (suc zero)))))))) = refl
+at_type (suc (suc (suc (suc (suc (suc (suc (suc (suc zero))))))))) = refl
+at_type (suc (suc (suc (suc (suc (suc (suc (suc (suc (suc zero)))))))))) = refl
+at_type (suc (suc (suc (suc (suc (suc (suc (suc (suc (suc (suc zero))))))))))) = refl
+at_type (suc (suc (suc (suc (suc (suc (suc (suc (suc (suc (suc (suc k)))))))))))) = refl
+
+-- the kind x was found of the number k
+pub type-number : {x : TypeKind} (k : ℕ) → x ≡ kind_of_type k → TypeNumber x k
+type-number k e = rw e (at_type k)
+
+named_type : (x : TypeKind) (k : ℕ) → TypeNumber x k → x ≡ kind_of_type k
+unfolding kind_of_type kinds_of_types
+named_type type.None k e = sym e
+named_type type.Void k e = rw e refl
+named_type type.Bool k e = rw e refl
+named_type type.Int k e = rw e refl
+named_type type.Double k e = rw e refl
+named_type type.Str k e = rw e refl
+named_type type.Option k e = rw e refl
+named_type type.Array k e = rw e refl
+named_type type.Record k e = rw e refl
+named_type type.Foreign k e = rw e refl
+named_type type.Slot k e = rw e refl
+named_type type.Unknown k e = rw e refl
+
+-- it is no other
+pub type-not : {x y : TypeKind} (k : ℕ) → x ≡ kind_of_type k → (x ≡ y → ⊥) → TypeNumber y k → ⊥
+type-not {y = y} k e n h = n (e ∙ sym (named_type y k h))
+
+-- and the two groups of kinds
+pub type-wraps : {x : TypeKind} (k : ℕ) → x ≡ kind_of_type k → (x ≡ type.Option) ⊎ (x ≡ type.Array) → wraps k ≡ true
+type-wraps k e (inl p) = rw (type-number k (sym p ∙ e)) refl
+type-wraps k e (inr p) = rw (type-number k (sym p ∙ e)) refl
+
+pub type-named : {x : TypeKind} (k : ℕ) → x ≡ kind_of_type k → (x ≡ type.Foreign) ⊎ (x ≡ type.Slot) → names k ≡ true
+type-named k e (inl p) = rw (type-number k (sym p ∙ e)) refl
+type-named k e (inr p) = rw (type-number k (sym p ∙ e)) refl
+
+pub type-flat : {x : TypeKind} (k : ℕ) → x ≡ kind_of_type k → (x ≡ type.Option → ⊥) → (x ≡ type.Array → ⊥) → wraps k ≡ false
+type-flat k e n m = rw (ne_eqb k 6 (type-not k e n), ne_eqb k 7 (type-not k e m)) refl
+
+pub type-nameless : {x : TypeKind} (k : ℕ) → x ≡ kind_of_type k → (x ≡ type.Foreign → ⊥) → (x ≡ type.Slot → ⊥) → names k ≡ false
+type-nameless k e n m = rw (ne_eqb k 9 (type-not k e n), ne_eqb k 10 (type-not k e m)) refl
