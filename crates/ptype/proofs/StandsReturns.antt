@@ -1,7 +1,7 @@
 -- What `stands_in` and `stands_among` return, by the kind of the word and by the fields that are left; and that Unknown and
 -- a slot stand in a word's tree just where it contains them. By the laws of unfolding. Assumes nothing.
 use Prim.Native.Nat.{ℕ, zero, suc, ◌+◌, ◌-◌}
-use mathlib.Core.Path.{◌≡◌, refl, sym, ◌∙◌}
+use mathlib.Core.Path.{◌≡◌, refl, sym, ap, ◌∙◌}
 use mathlib.Core.Logic.{inl, inr}
 use mathlib.Core.Bool.{Bool, true, false, true≢false}
 use mathlib.Core.List.{List}
@@ -12,16 +12,30 @@ use Rattle.tok.specs.Word.{kind_of, payload_of}
 use Rattle.tok.specs.Text.{Texts}
 use Rattle.ptype.specs.Ty.{Ty, contains_unknown, any_unknown, contains_slot, any_slot}
 use Rattle.ptype.specs.Words.{inner_word, field_count, fields_from, fields_of, unfolded}
+use Rattle.ptype.specs.declared.TypeKind.{TypeKind}
+use Rattle.ptype.specs.declared.TypeKind.TheVariants as type
+use Rattle.ptype.specs.TypeKind.{kinds_of_types, kind_of_type, number_of_type}
+use Rattle.ptype.specs.TypeKindLaws.{type-numbered}
 use Rattle.ptype.specs.Stands.{stands_in, stands_among}
 use Rattle.ptype.specs.Kinds.{wraps, names, one_of, shape, is_plain, is_wrap, is_record, is_named}
 use Rattle.ptype.proofs.UnfoldLaws.{one_less, unfolded-none, unfolded-plain, unfolded-wrap, unfolded_record, unfolded-named, fields-none, fields-more}
 
+-- Unknown alone has the kind that stands below the last level
+only-unknown : (x : TypeKind) → (x ≡ type.Unknown → ⊥) → number_of_type x ≡ 11 → ⊥
+unfolding kind_of_type kinds_of_types
+only-unknown x n e = n (sym (type-numbered x) ∙ ap kind_of_type e)
+
+module _ (t : Texts) (types : List ℕ) (w : ℕ) {deep : ℕ} {sought : TypeKind} (e : deep ≡ 0) where
+  pub below-is : sought ≡ type.Unknown → true ≡ stands_in (number_of_type sought) (unfolded t types deep w)
+  unfolding stands_in
+  below-is h = rw (unfolded-none t types w e, h)
+
+  pub below-not : (sought ≡ type.Unknown → ⊥) → false ≡ stands_in (number_of_type sought) (unfolded t types deep w)
+  unfolding stands_in
+  below-not h = rw (unfolded-none t types w e) (sym (ne_eqb 11 (number_of_type sought) (λ q. only-unknown sought h (sym q))))
+
 -- j, i, q, n are what the calls gave, each with what its contract says of it; r is the result
 module _ (t : Texts) (types : List ℕ) (k w : ℕ) {deep : ℕ} where
-  pub stands-none : deep ≡ 0 → eqb 11 k ≡ stands_in k (unfolded t types deep w)
-  unfolding stands_in
-  stands-none e = rw (unfolded-none t types w e)
-
   module _ {j : ℕ} (p : deep ≡ 0 → ⊥) (ej : j ≡ kind_of w) where
     pub stands-wrap : {i : ℕ} {r : Bool} → wraps j ≡ true → i ≡ inner_word types w → r ≡ stands_in k (unfolded t types (deep - 1) i) → r ≡ stands_in k (unfolded t types deep w)
     unfolding stands_in

@@ -4,7 +4,7 @@ use Rattle.std.proofs.Common.{sym, ◌∙◌, ne_eqb, inl, inr}
 use Rattle.ptype.specs.Kinds.{wraps, names}
 use Rattle.ptype.specs.declared.TypeKind.{TypeKind}
 use Rattle.ptype.specs.declared.TypeKind.TheVariants as type
-use Rattle.ptype.specs.TypeKind.{kinds_of_types, kind_of_type}
+use Rattle.ptype.specs.TypeKind.{kinds_of_types, kind_of_type, number_of_type}
 
 abbrev pub TypeNumber : TypeKind → (number : ℕ) → Type 0
 TypeNumber type.None k = kind_of_type k ≡ type.None
@@ -54,6 +54,22 @@ named_type type.Record k e = rw e refl
 named_type type.Foreign k e = rw e refl
 named_type type.Slot k e = rw e refl
 named_type type.Unknown k e = rw e refl
+
+-- a kind is that of its own number
+pub type-numbered : (x : TypeKind) → kind_of_type (number_of_type x) ≡ x
+unfolding kind_of_type kinds_of_types
+type-numbered type.None = refl
+type-numbered type.Void = refl
+type-numbered type.Bool = refl
+type-numbered type.Int = refl
+type-numbered type.Double = refl
+type-numbered type.Str = refl
+type-numbered type.Option = refl
+type-numbered type.Array = refl
+type-numbered type.Record = refl
+type-numbered type.Foreign = refl
+type-numbered type.Slot = refl
+type-numbered type.Unknown = refl
 
 -- it is no other
 pub type-not : {x y : TypeKind} (k : ℕ) → x ≡ kind_of_type k → (x ≡ y → ⊥) → TypeNumber y k → ⊥

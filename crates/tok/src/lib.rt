@@ -271,6 +271,9 @@ pub fn next_part(part: usize) -> usize
     if part < 1024 { part + 4 } else { 0 }
 }
 
+// The kind of a name's word, and of a token's.
+pub const NAME: u32 = 12;
+
 // Whether a word carries the payload of a name that lies in a text and is well formed, with bit 24 as told.
 #[tactic(auto, unfolding(crate::specs::Name::good_payload, crate::specs::Name::lies_in, crate::specs::Name::reads_well))]
 pub fn good_payload(bit: u32, text: &[u8], w: u32) -> bool
@@ -287,7 +290,7 @@ pub fn good_payload(bit: u32, text: &[u8], w: u32) -> bool
 pub fn good_name(bit: u32, text: &[u8], w: u32) -> bool
     ensures { result ≡ good_name bit text.now w }
 {
-    kind(w) == 12 && good_payload(bit, text, w)
+    kind(w) == NAME && good_payload(bit, text, w)
 }
 
 // Spans.

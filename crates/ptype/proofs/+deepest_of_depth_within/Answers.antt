@@ -1,8 +1,9 @@
-use mathlib.Core.Path.{refl, sym, ◌∙◌}
+use mathlib.Core.Path.{refl, ◌∙◌}
 use native.Mathlib.Omega.{arith}
 use Rattle.ptype.proofs.GaugeReturns.{gauge-none, gauge-wrap, gauge_record, gauge-flat, list_hit, list-noted, list-cut, list-past, fields-first, fields-next}
 use Rattle.ptype.proofs.GaugeLaws.{gauge-counts, list_counts}
 use borrow.Author.Rules.{rules}
+use Rattle.ptype.specs.TypeKindLaws.{type-number, type-not, type-wraps, type-flat}
 use Prim.Native.Nat.{◌-◌}
 use Rattle.ptype.proofs.+deepest_of_depth_within.Goals.{deepest_of-else-at-known-via-else-at-known, deepest_of-else-at-known-via-then-at-known+else-most-levels}
 use Rattle.ptype.proofs.+deepest_of_depth_within.Goals as goal
@@ -40,21 +41,22 @@ pub depth_within-overflow_add-result : goal.depth_within-overflow_add-result
 depth_within-overflow_add-result t c =
     record { fits = omega (arith, gauge-counts c.args.types.now (c.args.levels - 1) c.inner.result c.args.known.now c.depth_within.ensures) }
 
-pub depth_within-returns-then-wraps : goal.depth_within-returns-then-wraps
-depth_within-returns-then-wraps t c =
-    gauge-wrap _ _ _ c.if-levels-eq0.false c.kind-k.ensures (sym c.wraps.ensures ∙ c.if-wraps.true) c.inner.ensures c.depth_within.ensures
+pub depth_within-returns-in-Option : goal.depth_within-returns-in-Option
+depth_within-returns-in-Option t c =
+    gauge-wrap _ _ _ c.if-levels-eq0.false refl (type-wraps _ c.of.ensures c.in-Option.is) c.inner.ensures c.depth_within.ensures
 
 pub depth_within-deepest_of-requires : goal.depth_within-deepest_of-requires
 depth_within-deepest_of-requires t c = (search rules, omega arith)
 
-pub depth_within-overflow_add-result-then-k-eq-RECORD : goal.depth_within-overflow_add-result-then-k-eq-RECORD
-depth_within-overflow_add-result-then-k-eq-RECORD t c =
+pub depth_within-overflow_add-result-in-Record : goal.depth_within-overflow_add-result-in-Record
+depth_within-overflow_add-result-in-Record t c =
     record { fits = omega (arith, list_counts c.args.types.now (c.args.levels - 1) c.args.w c.args.known.now c.deepest_of.ensures) }
 
-pub depth_within-returns-then-k-eq-RECORD : goal.depth_within-returns-then-k-eq-RECORD
-depth_within-returns-then-k-eq-RECORD t c =
-    gauge_record _ _ _ c.if-levels-eq0.false c.kind-k.ensures (sym c.wraps.ensures ∙ c.if-wraps.false) c.if-k-eq-RECORD.true c.deepest_of.ensures
+pub depth_within-returns-in-Record : goal.depth_within-returns-in-Record
+depth_within-returns-in-Record t c =
+    let e = type-number _ c.in-Record.ensures in
+    gauge_record _ _ _ c.if-levels-eq0.false refl (rw e refl) e c.deepest_of.ensures
 
-pub depth_within-returns-else-k-eq-RECORD : goal.depth_within-returns-else-k-eq-RECORD
-depth_within-returns-else-k-eq-RECORD t c =
-    gauge-flat _ _ _ c.if-levels-eq0.false c.kind-k.ensures (sym c.wraps.ensures ∙ c.if-wraps.false) c.if-k-eq-RECORD.false
+pub depth_within-returns-in_default : goal.depth_within-returns-in_default
+depth_within-returns-in_default t c =
+    gauge-flat _ _ _ c.if-levels-eq0.false refl (type-flat _ c.of.ensures c.in_default.not-Option c.in_default.not-Array) (type-not _ c.of.ensures c.in_default.not-Record)

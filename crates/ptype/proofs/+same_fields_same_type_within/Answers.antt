@@ -1,4 +1,5 @@
-use mathlib.Core.Path.{sym, ◌∙◌}
+use mathlib.Core.Path.{refl, sym, ◌∙◌}
+use Rattle.ptype.specs.TypeKindLaws.{type-number, type-not, type-wraps, type-flat, type-named, type-nameless}
 use native.Mathlib.Omega.{arith}
 use Rattle.ptype.proofs.SameReturns.{same_none, same_word, differ-kind, same-wrap, same-named, same-plain, same_record, differ-count, same-all, same_end, differ-name, differ-type, same_rest}
 use Rattle.ptype.proofs.+same_fields_same_type_within.Goals.{same_type_within-then-depth-eq0-via-then-depth-eq0, same_type_within-then-depth-eq0-via-else-depth-eq0+then-a-b}
@@ -33,27 +34,26 @@ same_type_within-returns-then-depth-eq0 t c = elim c.then-depth-eq0.branch [
   | same_type_within-then-depth-eq0-via-else-depth-eq0+then-a-b w ↦ same_word _ _ _ _ _ w.if-a-b.true
 ]
 
-pub same_type_within-returns-then-k-kind : goal.same_type_within-returns-then-k-kind
-same_type_within-returns-then-k-kind t c = differ-kind _ _ _ _ c.if-depth-eq0.false c.kind-k.ensures c.kind.ensures c.if-k-kind.true
+pub same_type_within-returns-then-kind : goal.same_type_within-returns-then-kind
+same_type_within-returns-then-kind t c = differ-kind _ _ _ _ c.if-depth-eq0.false c.kind.ensures c.kind-2.ensures c.if-kind.true
 
-pub same_type_within-returns-then-wraps : goal.same_type_within-returns-then-wraps
-same_type_within-returns-then-wraps t c =
-    same-wrap _ _ _ _ c.if-depth-eq0.false c.kind-k.ensures c.kind.ensures c.if-k-kind.false (sym c.wraps.ensures ∙ c.if-wraps.true)
-    c.inner.ensures c.inner-then-wraps.ensures c.same_type_within.ensures
+pub same_type_within-returns-in-Option : goal.same_type_within-returns-in-Option
+same_type_within-returns-in-Option t c =
+    same-wrap _ _ _ _ c.if-depth-eq0.false refl c.kind-2.ensures (sym c.kind.ensures ∙ c.if-kind.false) (type-wraps _ c.of.ensures c.in-Option.is)
+    c.inner.ensures c.inner-in-Option.ensures c.same_type_within.ensures
 
-pub same_type_within-returns-then-k-eq-RECORD : goal.same_type_within-returns-then-k-eq-RECORD
-same_type_within-returns-then-k-eq-RECORD t c =
-    same_record _ _ _ _ c.if-depth-eq0.false c.kind-k.ensures c.kind.ensures c.if-k-kind.false c.if-k-eq-RECORD.true c.same_fields.ensures
+pub same_type_within-returns-in-Record : goal.same_type_within-returns-in-Record
+same_type_within-returns-in-Record t c =
+    same_record _ _ _ _ c.if-depth-eq0.false refl c.kind-2.ensures (sym c.kind.ensures ∙ c.if-kind.false) (type-number _ c.in-Record.ensures) c.same_fields.ensures
 
-pub same_type_within-returns-then-names : goal.same_type_within-returns-then-names
-same_type_within-returns-then-names t c =
-    same-named _ _ _ _ c.if-depth-eq0.false c.kind-k.ensures c.kind.ensures c.if-k-kind.false (sym c.names.ensures ∙ c.if-names.true) c.same_name.ensures
+pub same_type_within-returns-in-Foreign : goal.same_type_within-returns-in-Foreign
+same_type_within-returns-in-Foreign t c =
+    same-named _ _ _ _ c.if-depth-eq0.false refl c.kind-2.ensures (sym c.kind.ensures ∙ c.if-kind.false) (type-named _ c.of.ensures c.in-Foreign.is) c.same_name.ensures
 
-pub same_type_within-returns-else-names : goal.same_type_within-returns-else-names
-same_type_within-returns-else-names t c =
-    same-plain _ _ _ _ c.if-depth-eq0.false c.kind-k.ensures c.kind.ensures c.if-k-kind.false (record {
-      no_wrap = sym
-          c.wraps.ensures ∙ c.if-wraps.false;
-      no_record = c.if-k-eq-RECORD.false;
-      no_name = sym c.names.ensures ∙ c.if-names.false;
+pub same_type_within-returns-in_default : goal.same_type_within-returns-in_default
+same_type_within-returns-in_default t c =
+    same-plain _ _ _ _ c.if-depth-eq0.false refl c.kind-2.ensures (sym c.kind.ensures ∙ c.if-kind.false) (record {
+      no_wrap = type-flat _ c.of.ensures c.in_default.not-Option c.in_default.not-Array;
+      no_record = type-not _ c.of.ensures c.in_default.not-Record;
+      no_name = type-nameless _ c.of.ensures c.in_default.not-Foreign c.in_default.not-Slot;
     })

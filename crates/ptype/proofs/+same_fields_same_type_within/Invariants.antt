@@ -1,7 +1,6 @@
 -- `same_type_within` and `same_fields` meet their contracts: each return is a law of `SameReturns`, over what the calls gave.
 -- The depth falls; the loop's invariant is that the fields left decide. Assumes nothing.
 use mathlib.Core.Path.{◌≡◌}
-use Rattle.tok.specs.Text.{texts_of}
 use Rattle.ptype.specs.Ty.{same_fields}
 use Rattle.ptype.specs.Words.{fields_from, fields_of, unfolded}
 use Prim.Native.Nat.{◌+◌, ◌-◌, ◌*◌}

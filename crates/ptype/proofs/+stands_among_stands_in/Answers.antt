@@ -1,7 +1,8 @@
-use mathlib.Core.Path.{refl, sym, ◌∙◌}
+use mathlib.Core.Path.{refl, ◌∙◌}
 use native.Mathlib.Omega.{arith}
+use Rattle.ptype.specs.TypeKindLaws.{type-number, type-not, type-wraps, type-flat}
 use Rattle.ptype.proofs.MarkLaws.{free-hit, free_more}
-use Rattle.ptype.proofs.StandsReturns.{stands-none, stands-wrap, stands_record, stands_here, among-all, among_none, among_first, among-rest}
+use Rattle.ptype.proofs.StandsReturns.{below-is, below-not, stands-wrap, stands_record, stands_here, among-all, among_none, among_first, among-rest}
 use borrow.Author.Rules.{rules}
 use Rattle.ptype.proofs.+stands_among_stands_in.Goals as goal
 
@@ -39,23 +40,28 @@ stands_among-returns-then-at-free t c = (
 pub stands_among-returns-else-at-free : goal.stands_among-returns-else-at-free
 stands_among-returns-else-at-free t c = ((λ x. among_none x _ _ _ _ (c.loop-i.invariant.0 x) (omega arith)), c.loop-i.invariant.1)
 
-pub stands_in-returns-then-depth-eq0 : goal.stands_in-returns-then-depth-eq0
-stands_in-returns-then-depth-eq0 t c = ((λ x. stands-none x _ _ _ c.if-depth-eq0.true), c.requires.1)
-
 pub stands_in-stands_in-requires : goal.stands_in-stands_in-requires
 stands_in-stands_in-requires t c = (search rules, (omega arith, c.requires.1))
 
-pub stands_in-returns-then-wraps : goal.stands_in-returns-then-wraps
-stands_in-returns-then-wraps t c =
-    ((λ x. stands-wrap x _ _ _ c.if-depth-eq0.false c.kind-j.ensures (sym c.wraps.ensures ∙ c.if-wraps.true) c.inner.ensures (c.stands_in.ensures.0 x)), c.stands_in.ensures.1)
+pub stands_in-returns-in-Option : goal.stands_in-returns-in-Option
+stands_in-returns-in-Option t c =
+    ((λ x. stands-wrap x _ _ _ c.if-depth-eq0.false refl (type-wraps _ c.of.ensures c.in-Option.is) c.inner.ensures (c.stands_in.ensures.0 x)), c.stands_in.ensures.1)
 
 pub stands_in-stands_among-requires : goal.stands_in-stands_among-requires
 stands_in-stands_among-requires t c = (search rules, (omega arith, c.requires.1))
 
-pub stands_in-returns-then-j-eq-RECORD : goal.stands_in-returns-then-j-eq-RECORD
-stands_in-returns-then-j-eq-RECORD t c =
-    ((λ x. stands_record x _ _ _ c.if-depth-eq0.false c.kind-j.ensures c.if-j-eq-RECORD.true (c.stands_among.ensures.0 x)), c.stands_among.ensures.1)
+pub stands_in-returns-in-Record : goal.stands_in-returns-in-Record
+stands_in-returns-in-Record t c =
+    ((λ x. stands_record x _ _ _ c.if-depth-eq0.false refl (type-number _ c.in-Record.ensures) (c.stands_among.ensures.0 x)), c.stands_among.ensures.1)
 
-pub stands_in-returns-else-j-eq-RECORD : goal.stands_in-returns-else-j-eq-RECORD
-stands_in-returns-else-j-eq-RECORD t c =
-    ((λ x. stands_here x _ _ _ c.if-depth-eq0.false c.kind-j.ensures (sym c.wraps.ensures ∙ c.if-wraps.false) c.if-j-eq-RECORD.false), c.requires.1)
+pub stands_in-returns-in-Unknown : goal.stands_in-returns-in-Unknown
+stands_in-returns-in-Unknown t c = ((λ x. below-is x _ _ c.if-depth-eq0.true c.in-Unknown.is), c.requires.1)
+
+pub stands_in-returns-in_default : goal.stands_in-returns-in_default
+stands_in-returns-in_default t c = ((λ x. below-not x _ _ c.if-depth-eq0.true c.in_default.not-Unknown), c.requires.1)
+
+pub stands_in-returns-in_default-of : goal.stands_in-returns-in_default-of
+stands_in-returns-in_default-of t c =
+    let flat = type-flat _ c.of.ensures c.in_default-of.not-Option c.in_default-of.not-Array in
+    let no_record = type-not _ c.of.ensures c.in_default-of.not-Record in
+    ((λ x. rw c.number.ensures (stands_here x _ _ _ c.if-depth-eq0.false c.kind.ensures (rw c.kind.ensures flat) (rw c.kind.ensures no_record))), c.requires.1)
