@@ -12,7 +12,7 @@ ghost use Rattle.add.specs.Parts.{opened, shallow, measured};
 ghost use Rattle.add.specs.Pool.{is_type, pool_types, all_shallow, Copies};
 ghost use Rattle.add.specs.ShallowBy.{ShallowFound, shallow_found, shallow_by, all_shallow_by, RightAnswer};
 
-use ptype::{ARRAY, OPTION, RECORD};
+use ptype::TypeKind;
 
 // Why a type is not added: "types buffer full" (7), "type depth 33" (8).
 #[derive(Clone, Copy, Debug, PartialEq, Eq)]
@@ -78,14 +78,14 @@ fn add_wrap(types: &mut [u32], used: usize, kind: u32, inner: u32) -> Added
 pub fn add_option(types: &mut [u32], used: usize, inner: u32) -> Added
     ensures { Adds (λ t n. add_wrap t n 6 inner) types.old used result types.new }
 {
-    add_wrap(types, used, OPTION, inner)
+    add_wrap(types, used, TypeKind::Option.number(), inner)
 }
 
 // Adds an Array of the type `inner`.
 pub fn add_array(types: &mut [u32], used: usize, inner: u32) -> Added
     ensures { Adds (λ t n. add_wrap t n 7 inner) types.old used result types.new }
 {
-    add_wrap(types, used, ARRAY, inner)
+    add_wrap(types, used, TypeKind::Array.number(), inner)
 }
 
 // Whether a Record of so many fields has room after the words used.
@@ -101,7 +101,8 @@ pub fn open_record(types: &mut [u32], used: usize, fields: usize) -> Added
 {
     if record_fits(type_room(types), used, fields) {
         types[used] = fields as u32;
-        Ok((word_of(RECORD, used), used + 1 + 2 * fields))
+        let word = word_of(TypeKind::Record.number(), used);
+        Ok((word, used + 1 + 2 * fields))
     } else {
         Err(AddError::Full)
     }
