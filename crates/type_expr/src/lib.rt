@@ -16,20 +16,11 @@ ghost use Rattle.type_expr.specs.Ready.{TypeReady, FieldsReady};
 ghost use Rattle.type_expr.specs.Onward.{Onward};
 ghost use Rattle.type_expr.specs.Sizes.{size_of, sizes_of, word_before, pairs_after};
 
-use add::{AddError, Added};
+use add::{AddError, Added, word_of};
+use ast::ExprKind;
 use places::Image;
-use tok::{kind, payload, word_at};
-
-// The kinds of type records.
-const ATOM: u32 = 0;
-
-const FOREIGN: u32 = 1;
-
-const OPTION: u32 = 2;
-
-const ARRAY: u32 = 3;
-
-const RECORD: u32 = 4;
+use ptype::TypeKind;
+use tok::{payload, word_at};
 
 // The token of a type expression: through Option and Array that of the innermost.
 pub fn type_token(image: &Image, t: u32) -> u32
@@ -39,33 +30,19 @@ pub fn type_token(image: &Image, t: u32) -> u32
     let mut here = t;
     loop {
         let at = image.type_place(here);
-        let k = kind(word_at(image.words, at));
         let w = word_at(image.words, at + 1);
-        if k == OPTION {
-            here = w;
-            continue;
+        match ExprKind::of(word_at(image.words, at)) {
+            ExprKind::Option | ExprKind::Array => here = w,
+            _ => return w,
         }
-        if k == ARRAY {
-            here = w;
-            continue;
-        }
-        return w;
     }
-}
-
-// The word of a type with nothing inside and no name.
-fn plain_word(kind: u32) -> u32
-    requires { kind < 16 }
-    ensures { result ≡ word_of kind 0 }
-{
-    kind * 0x1000_0000
 }
 
 // The word of a type of the script's: kind 9 with the token's payload.
 fn foreign_word(token: u32) -> u32
     ensures { result ≡ word_of 9 (payload_of token) }
 {
-    ptype::FOREIGN * 0x1000_0000 + token % 0x1000_0000
+    word_of(TypeKind::Foreign.number(), payload(token))
 }
 
 // Adds the type of a type expression, what is inside it first. Where it is refused, the rules leave open what the buffer holds.
@@ -97,11 +74,13 @@ fn deep_part(
 {
     let at = image.type_place(t);
     let head = word_at(image.words, at);
-    if kind(head) == RECORD {
-        let fields = (payload(head) - 2) / 2;
-        return deep_field(types, used, image, t, at + 2, fields);
+    match ExprKind::of(head) {
+        ExprKind::Record => {
+            let fields = (payload(head) - 2) / 2;
+            deep_field(types, used, image, t, at + 2, fields)
+        }
+        _ => Ok((word_at(image.words, at + 1), used)),
     }
-    Ok((word_at(image.words, at + 1), used))
 }
 
 // The same of the fields of the type `owner`: the types of those before the part are added.
@@ -140,23 +119,23 @@ fn build(types: &mut [u32], used: usize, image: &Image, t: u32) -> Added
 {
     let at = image.type_place(t);
     let head = word_at(image.words, at);
-    let k = kind(head);
-    if k == ATOM {
-        return Ok((plain_word(word_at(image.words, at + 2)), used));
+    match ExprKind::of(head) {
+        ExprKind::Atom => Ok((word_of(word_at(image.words, at + 2), 0), used)),
+        ExprKind::Foreign => Ok((foreign_word(word_at(image.words, at + 1)), used)),
+        ExprKind::Record => {
+            let fields = (payload(head) - 2) / 2;
+            let (new, u) = fields_from_exprs(types, used, image, t, at + 2, fields)?;
+            add::close_record(&types[..], new, u)
+        }
+        ExprKind::Option => {
+            let (inner, u) = build(types, used, image, word_at(image.words, at + 1))?;
+            add::add_option(types, u, inner)
+        }
+        _ => {
+            let (inner, u) = build(types, used, image, word_at(image.words, at + 1))?;
+            add::add_array(types, u, inner)
+        }
     }
-    if k == FOREIGN {
-        return Ok((foreign_word(word_at(image.words, at + 1)), used));
-    }
-    if k == RECORD {
-        let fields = (payload(head) - 2) / 2;
-        let (new, u) = fields_from_exprs(types, used, image, t, at + 2, fields)?;
-        return add::close_record(&types[..], new, u);
-    }
-    let (inner, u) = build(types, used, image, word_at(image.words, at + 1))?;
-    if k == OPTION {
-        return add::add_option(types, u, inner);
-    }
-    add::add_array(types, u, inner)
 }
 
 // Adds the Record of the fields of the type `owner`, which stand from word `at` on: first the types of all fields, then the Record is
@@ -224,29 +203,16 @@ fn type_word(image: &Image, end: usize, t: u32) -> u32
 {
     let at = image.type_place(t);
     let head = word_at(image.words, at);
-    let k = kind(head);
-    if k == ATOM {
-        return plain_word(word_at(image.words, at + 2));
+    match ExprKind::of(head) {
+        ExprKind::Atom => word_of(word_at(image.words, at + 2), 0),
+        ExprKind::Foreign => foreign_word(word_at(image.words, at + 1)),
+        ExprKind::Record => {
+            let fields = (payload(head) - 2) / 2;
+            word_of(TypeKind::Record.number(), end - (1 + 2 * fields))
+        }
+        ExprKind::Option => word_of(TypeKind::Option.number(), end - 1),
+        _ => word_of(TypeKind::Array.number(), end - 1),
     }
-    if k == FOREIGN {
-        return foreign_word(word_at(image.words, at + 1));
-    }
-    if k == RECORD {
-        let fields = (payload(head) - 2) / 2;
-        return compound_word(ptype::RECORD, end - (1 + 2 * fields));
-    }
-    if k == OPTION {
-        return compound_word(ptype::OPTION, end - 1);
-    }
-    compound_word(ptype::ARRAY, end - 1)
-}
-
-// The word of a type that stands at an index.
-fn compound_word(kind: u32, at: usize) -> u32
-    requires { (kind < 16) × (at ≤ 8192) }
-    ensures { result ≡ word_of kind at }
-{
-    kind * 0x1000_0000 + (at as u32)
 }
 
 // How many words a type expression adds. It is asked only of types that were just added: these have at most 32 levels and fit the
@@ -258,18 +224,14 @@ fn type_size(image: &Image, t: u32) -> usize
 {
     let at = image.type_place(t);
     let head = word_at(image.words, at);
-    let k = kind(head);
-    if k == ATOM {
-        return 0;
+    match ExprKind::of(head) {
+        ExprKind::Atom | ExprKind::Foreign => 0,
+        ExprKind::Record => {
+            let fields = (payload(head) - 2) / 2;
+            sizes(image, t, at + 2, fields) + (1 + 2 * fields)
+        }
+        _ => type_size(image, word_at(image.words, at + 1)) + 1,
     }
-    if k == FOREIGN {
-        return 0;
-    }
-    if k == RECORD {
-        let fields = (payload(head) - 2) / 2;
-        return sizes(image, t, at + 2, fields) + (1 + 2 * fields);
-    }
-    type_size(image, word_at(image.words, at + 1)) + 1
 }
 
 // How many words the types of the fields of the type `owner` add, which stand from word `at` on.
