@@ -1,7 +1,7 @@
 // Words, names and tokens in the script text and the library text, and spans (lex/tok.rs, diagnostic.rs, ast.rs).
 #![tactic(auto)]
 
-ghost use Rattle.std.specs.Prelude.{◌≡◌, not, ◌<◌, ◌≤◌, min, max, length, get_or};
+ghost use Rattle.std.specs.Prelude.{◌≡◌, not, ◌<◌, ◌≤◌, length, get_or};
 ghost use Rattle.tok.specs.LittleEndian.{little_endian, ByteAt};
 ghost use Rattle.tok.specs.Word.{kind_of, payload_of, name_length, name_start, name_bit};
 ghost use Rattle.tok.specs.Text.{Texts, texts_of, bytes_in, name_bytes, same_bytes, same_name};
@@ -13,13 +13,6 @@ ghost use Rattle.tok.specs.Span.{token_span, end_of, cover};
 use std::marker::Model;
 
 // Words.
-
-// A word as an index or a length.
-pub fn wide(w: u32) -> usize
-    ensures { result ≡ w }
-{
-    w as usize
-}
 
 // The kind of a word: its top 4 bits.
 pub fn kind(w: u32) -> u32
@@ -59,22 +52,6 @@ pub fn little_endian(bytes: &[u8], at: usize) -> u32
     let c = byte_at(rest, 2);
     let d = byte_at(rest, 3);
     a + 0x100 * (b + 0x100 * (c + 0x100 * d))
-}
-
-// Numbers.
-
-// The least of two.
-pub fn least(a: usize, b: usize) -> usize
-    ensures { result ≡ min a b }
-{
-    a.min(b)
-}
-
-// The greatest of two.
-pub fn greatest(a: usize, b: usize) -> usize
-    ensures { result ≡ max a b }
-{
-    a.max(b)
 }
 
 // Names and tokens.
