@@ -1,17 +1,20 @@
 -- The text of a type, by the kind of its word, and of fields one by one: the branches of `show_within` and the turns of `show_fields`. Assumes nothing.
 use Prim.Native.Nat.{ℕ, zero, suc, ◌+◌, ◌-◌, ◌<◌}
 use mathlib.Core.Path.{◌≡◌, refl, sym, ap, ◌∙◌}
-use mathlib.Core.Bool.{true, false, true≢false}
-use mathlib.Core.Logic.{⊎_elim}
+use mathlib.Core.Bool.{true, true≢false}
+use mathlib.Core.Logic.{◌⊎◌, ⊎_elim}
 use mathlib.Core.List.{List, [], ◌++◌, append-nil, append_assoc}
 use native.Mathlib.Omega.{arith}
 use lib.ListN.{get_or}
-use borrow.Author.Tests.{ne_eqb}
 use Rattle.tok.specs.Word.{kind_of, payload_of}
 use Rattle.tok.specs.Text.{Texts, text, name_bytes}
 use Rattle.ptype.specs.Ty.{Ty}
 use Rattle.ptype.specs.Words.{inner_word, field_count, fields_from, unfolded}
 use Rattle.ptype.specs.Show.{plain_names, openings, closings, gap, show, show_fields}
+use Rattle.ptype.specs.declared.TypeKind.{TypeKind}
+use Rattle.ptype.specs.declared.TypeKind.TheVariants as type
+use Rattle.ptype.specs.TypeKind.{kinds_of_types, kind_of_type, number_of_type}
+use Rattle.ptype.specs.TypeKindLaws.{type-number, type-not, type-wraps, type-flat, type-nameless}
 use Rattle.ptype.specs.Kinds.{wraps, one_of, Plain, shape, is_plain, is_wrap, is_record, is_named}
 use Rattle.ptype.proofs.UnfoldLaws.{one_less, unfolded-none, unfolded-plain, unfolded-wrap, unfolded_record, unfolded-named, fields-none, fields-more}
 use Rattle.display.specs.Leaf.{Leaf}
@@ -20,11 +23,25 @@ use Rattle.display.specs.Writing.{written}
 use Rattle.display.specs.WritingLaws.{written_next, written_append}
 
 -- ---- kinds
-pub is_leaf : (w : ℕ) {k : ℕ} → k ≡ kind_of w → wraps k ≡ false → (k ≡ 8 → ⊥) → Leaf (kind_of w)
-is_leaf w ek e n = rw (← ek) (record { no_type = e; no_field = n })
+pub is_leaf : (w : ℕ) {x : TypeKind} → x ≡ kind_of_type (kind_of w) → (x ≡ type.Option → ⊥) → (x ≡ type.Array → ⊥) → (x ≡ type.Record → ⊥) → Leaf (kind_of w)
+is_leaf w e a b c = record { no_type = type-flat _ e a b; no_field = type-not _ e c }
 
-plain-kind : {k : ℕ} → Leaf k → (k ≡ 9 → ⊥) → (k ≡ 10 → ⊥) → Plain k
-plain-kind {k} l p q = record { no_wrap = l.no_type; no_record = l.no_field; no_name = rw (ne_eqb k 9 p) (ne_eqb k 10 q) }
+-- A number that is no type's has no text, as the kind of no type has none.
+texts-at : (k : ℕ) → let n = number_of_type (kind_of_type k) in (get_or openings n [] ≡ get_or openings k []) × (get_or plain_names n [] ≡ get_or plain_names k [])
+unfolding kind_of_type kinds_of_types openings plain_names
+texts-at zero = (refl, refl)
+texts-at (suc zero) = (refl, refl)
+texts-at (suc (suc zero)) = (refl, refl)
+texts-at (suc (suc (suc zero))) = (refl, refl)
+texts-at (suc (suc (suc (suc zero)))) = (refl, refl)
+texts-at (suc (suc (suc (suc (suc zero))))) = (refl, refl)
+texts-at (suc (suc (suc (suc (suc (suc zero)))))) = (refl, refl)
+texts-at (suc (suc (suc (suc (suc (suc (suc zero))))))) = (refl, refl)
+texts-at (suc (suc (suc (suc (suc (suc (suc (suc zero)))))))) = (refl, refl)
+texts-at (suc (suc (suc (suc (suc (suc (suc (suc (suc zero))))))))) = (refl, refl)
+texts-at (suc (suc (suc (suc (suc (suc (suc (suc (suc (suc zero)))))))))) = (refl, refl)
+texts-at (suc (suc (suc (suc (suc (suc (suc (suc (suc (suc (suc zero))))))))))) = (refl, refl)
+texts-at (suc (suc (suc (suc (suc (suc (suc (suc (suc (suc (suc (suc k)))))))))))) = (refl, refl)
 
 wrap_closing : (k : ℕ) → wraps k ≡ true → get_or closings k [] ≡ text ">"
 unfolding closings
@@ -35,40 +52,50 @@ pub shown-none : (t : Texts) (types : List ℕ) (w : ℕ) {deep : ℕ} → deep 
 unfolding show
 shown-none t types w e = rw (unfolded-none t types w e)
 
-module _ (t : Texts) (types : List ℕ) (w : ℕ) {deep k : ℕ} (p : deep ≡ 0 → ⊥) (ek : k ≡ kind_of w) where
-  pub shown-wrap : {i : ℕ} → wraps k ≡ true → i ≡ inner_word types w → show (unfolded t types deep w) ≡ get_or openings k [] ++ show (unfolded t types (deep - 1) i) ++ text ">"
+-- x is the kind that was found of the word, and o the text before what is inside
+module _ (t : Texts) (types : List ℕ) (w : ℕ) {deep : ℕ} {x : TypeKind} (p : deep ≡ 0 → ⊥) (ex : x ≡ kind_of_type (kind_of w)) {o : List ℕ} (eo : o ≡ get_or openings (number_of_type x) []) where
+  opens : get_or openings (kind_of w) [] ≡ o
+  opens = sym (eo ∙ rw ex (texts-at (kind_of w)).0)
+
+  pub shown-wrap : {i : ℕ} → (x ≡ type.Option) ⊎ (x ≡ type.Array) → i ≡ inner_word types w → show (unfolded t types deep w) ≡ o ++ show (unfolded t types (deep - 1) i) ++ text ">"
   unfolding show
-  shown-wrap h e = rw (unfolded-wrap t types w (one_less p) ek h, wrap_closing k h, ← e)
+  shown-wrap h e = let wrapping = type-wraps _ ex h in rw (unfolded-wrap t types w (one_less p) refl wrapping, wrap_closing _ wrapping, ← e, opens)
 
   pub shown_record :
-      {i n : ℕ} → k ≡ 8 → i ≡ payload_of w → n ≡ field_count types w →
-      show (unfolded t types deep w) ≡ get_or openings k [] ++ show_fields (fields_from (unfolded t types (deep - 1)) t types (i + 1) n) ++ text ">"
+      {i n : ℕ} → x ≡ type.Record → i ≡ payload_of w → n ≡ field_count types w →
+      show (unfolded t types deep w) ≡ o ++ show_fields (fields_from (unfolded t types (deep - 1)) t types (i + 1) n) ++ text ">"
   unfolding show closings
-  shown_record h ei en = rw (unfolded_record t types w (one_less p) ek h, ← en, ← ei, h)
+  shown_record h ei en =
+      let k = type-number (kind_of w) (sym h ∙ ex) in
+      rw (unfolded_record t types w (one_less p) refl k, ← en, ← ei, ← opens, k)
 
-  pub shown-leaf : Leaf (kind_of w) → show (unfolded t types deep w) ≡ show (unfolded t [] 1 w)
-  shown-leaf l = ap show (go (rw ek l))
-    where
-      go : Leaf k → unfolded t types deep w ≡ unfolded t [] 1 w
-      go l = elim (shape k) [
-        | is_plain h ↦ unfolded-plain t types w (one_less p) ek h ∙ sym (unfolded-plain t [] w {deep = 1} {f = 0} refl ek h)
-        | is_wrap h ↦ absurd (true≢false (sym h ∙ l.no_type))
-        | is_record h ↦ absurd (l.no_field h)
-        | is_named h ↦ unfolded-named t types w (one_less p) ek h ∙ sym (unfolded-named t [] w {deep = 1} {f = 0} refl ek h)
-      ]
+pub shown-leaf : (t : Texts) (types : List ℕ) (w : ℕ) {deep : ℕ} → (deep ≡ 0 → ⊥) → Leaf (kind_of w) → show (unfolded t types deep w) ≡ show (unfolded t [] 1 w)
+shown-leaf t types w {deep} p l = ap show (elim (shape (kind_of w)) [
+  | is_plain h ↦ unfolded-plain t types w (one_less p) refl h ∙ sym (unfolded-plain t [] w {deep = 1} {f = 0} refl refl h)
+  | is_wrap h ↦ absurd (true≢false (sym h ∙ l.no_type))
+  | is_record h ↦ absurd (l.no_field h)
+  | is_named h ↦ unfolded-named t types w (one_less p) refl h ∙ sym (unfolded-named t [] w {deep = 1} {f = 0} refl refl h)
+])
 
-module _ (t : Texts) (w : ℕ) {k : ℕ} (ek : k ≡ kind_of w) where
-  pub shown-foreign : {name : List ℕ} → k ≡ 9 → name ≡ name_bytes t w → show (unfolded t [] 1 w) ≡ get_or openings k [] ++ name ++ text ">"
+-- with no type inside
+module _ (t : Texts) (w : ℕ) {x : TypeKind} (ex : x ≡ kind_of_type (kind_of w)) where
+  pub shown-foreign : {name o : List ℕ} → x ≡ type.Foreign → o ≡ get_or openings (number_of_type x) [] → name ≡ name_bytes t w → show (unfolded t [] 1 w) ≡ o ++ name ++ text ">"
   unfolding show closings
-  shown-foreign h e = rw (unfolded-named t [] w {deep = 1} {f = 0} refl ek (rw h), h, e)
+  shown-foreign h eo e =
+      let k = type-number (kind_of w) (sym h ∙ ex) in
+      rw (unfolded-named t [] w {deep = 1} {f = 0} refl refl (rw k refl), e, eo, h, k)
 
-  pub shown-slot : {name : List ℕ} → k ≡ 10 → name ≡ name_bytes t w → show (unfolded t [] 1 w) ≡ name
+  pub shown-slot : {name : List ℕ} → x ≡ type.Slot → name ≡ name_bytes t w → show (unfolded t [] 1 w) ≡ name
   unfolding show openings closings
-  shown-slot h e = rw (unfolded-named t [] w {deep = 1} {f = 0} refl ek (rw h), h, e, append-nil)
+  shown-slot h e =
+      let k = type-number (kind_of w) (sym h ∙ ex) in
+      rw (unfolded-named t [] w {deep = 1} {f = 0} refl refl (rw k refl), k, e, append-nil)
 
-  pub shown-plain : Leaf (kind_of w) → (k ≡ 9 → ⊥) → (k ≡ 10 → ⊥) → show (unfolded t [] 1 w) ≡ get_or plain_names k []
+  pub shown-plain : {name : List ℕ} → Leaf (kind_of w) → (x ≡ type.Foreign → ⊥) → (x ≡ type.Slot → ⊥) → name ≡ get_or plain_names (number_of_type x) [] → show (unfolded t [] 1 w) ≡ name
   unfolding show
-  shown-plain l a b = rw (unfolded-plain t [] w {deep = 1} {f = 0} refl ek (plain-kind (rw ek l) a b))
+  shown-plain l a b e =
+      let plain : Plain (kind_of w) = record { no_wrap = l.no_type; no_record = l.no_field; no_name = type-nameless _ ex a b } in
+      rw (unfolded-plain t [] w {deep = 1} {f = 0} refl refl plain, e, ex, (texts-at (kind_of w)).1)
 
 -- ---- fields
 module _ (go : ℕ → Ty) (t : Texts) (words : List ℕ) (i : ℕ) where

@@ -5,6 +5,7 @@ ghost use Rattle.std.specs.Prelude.{◌≡◌, [], ◌∷◌, ◌++◌, map, ◌
 ghost use Rattle.tok.specs.Word.{kind_of};
 ghost use Rattle.ptype.specs.Ty.{Fields};
 ghost use Rattle.ptype.specs.Words.{fields_from, unfolded, ty_of};
+ghost use Rattle.ptype.specs.TypeKind.{number_of_type};
 ghost use Rattle.ptype.specs.Show.{plain_names, openings, show, show_fields, digits, decimal};
 ghost use Rattle.display.specs.Writing.{Writes};
 ghost use Rattle.display.specs.Leaf.{Leaf};
@@ -13,6 +14,7 @@ ghost use Rattle.display.specs.Every.{every};
 ghost use Rattle.display.specs.Pieces.{one_of};
 ghost use Rattle.display.specs.Signature.{show_signature, arg_types, args_of, ret_of};
 
+use ptype::TypeKind;
 use tok::Texts;
 
 // That a piece had no room.
@@ -143,18 +145,34 @@ const MOST_DIGITS: usize = 10;
 // "type depth 32": one level more tells a type that is deeper.
 const LEVELS: usize = 33;
 
-// Writes what stands before the inside of an Option, an Array, a Record or a Foreign.
-fn put_opening(out: &mut Writer, kind: u32) -> Result<(), Full>
-    ensures { Writes out.old out.new result (get_or openings kind []) }
+// What stands before the inside of an Option, an Array, a Record or a Foreign.
+#[tactic(auto, unfolding(ptype::specs::Show::openings, tok::specs::Text::text))]
+pub fn opening(kind: TypeKind) -> &'static [u8]
+    ensures { result.now ≡ get_or openings (number_of_type kind) [] }
 {
-    out.put(one_of(b"||||||Option<|Array<|Record<|Foreign<||", kind as usize))
+    match kind {
+        TypeKind::Option => b"Option<",
+        TypeKind::Array => b"Array<",
+        TypeKind::Record => b"Record<",
+        TypeKind::Foreign => b"Foreign<",
+        _ => b"",
+    }
 }
 
-// Writes the name of a type with nothing inside.
-fn put_plain(out: &mut Writer, kind: u32) -> Result<(), Full>
-    ensures { Writes out.old out.new result (get_or plain_names kind []) }
+// The name of a type with nothing inside.
+#[tactic(auto, unfolding(ptype::specs::Show::plain_names, tok::specs::Text::text))]
+fn plain_name(kind: TypeKind) -> &'static [u8]
+    ensures { result.now ≡ get_or plain_names (number_of_type kind) [] }
 {
-    out.put(one_of(b"|Void|Bool|Int|Double|Str||||||unknown|", kind as usize))
+    match kind {
+        TypeKind::Void => b"Void",
+        TypeKind::Bool => b"Bool",
+        TypeKind::Int => b"Int",
+        TypeKind::Double => b"Double",
+        TypeKind::Str => b"Str",
+        TypeKind::Unknown => b"unknown",
+        _ => b"",
+    }
 }
 
 // Writes a type that has no type inside. No word of the types buffer is read.
@@ -162,15 +180,11 @@ fn show_leaf(out: &mut Writer, texts: &Texts, w: u32) -> Result<(), Full>
     requires { Leaf (kind_of w) }
     ensures { Writes out.old out.new result (show (unfolded texts.now [] 1 w)) }
 {
-    let k = tok::kind(w);
-    if k == ptype::FOREIGN {
-        put_opening(out, k)?;
-        out.put(tok::name_bytes(texts, w))?;
-        out.put(b">")
-    } else if k == ptype::SLOT {
-        out.put(tok::name_bytes(texts, w))
-    } else {
-        put_plain(out, k)
+    let kind = TypeKind::of(w);
+    match kind {
+        TypeKind::Foreign => out.put_around(opening(kind), tok::name_bytes(texts, w), b">"),
+        TypeKind::Slot => out.put(tok::name_bytes(texts, w)),
+        _ => out.put(plain_name(kind)),
     }
 }
 
@@ -186,21 +200,23 @@ fn show_within(
     ensures { Writes out.old out.new result (show (unfolded texts.now types.now depth w)) }
 {
     if depth == 0 {
-        return put_plain(out, ptype::UNKNOWN);
+        return out.put(plain_name(TypeKind::Unknown));
     }
-    let k = tok::kind(w);
-    if ptype::wraps(k) {
-        put_opening(out, k)?;
-        show_within(out, types, texts, ptype::inner(types, w), depth - 1)?;
-        out.put(b">")
-    } else if k == ptype::RECORD {
-        put_opening(out, k)?;
-        let i = tok::payload(w) + 1;
-        let n = ptype::field_count(types, w);
-        show_fields(out, types, texts, types, i, n, depth - 1)?;
-        out.put(b">")
-    } else {
-        show_leaf(out, texts, w)
+    let kind = TypeKind::of(w);
+    match kind {
+        TypeKind::Option | TypeKind::Array => {
+            out.put(opening(kind))?;
+            show_within(out, types, texts, ptype::inner(types, w), depth - 1)?;
+            out.put(b">")
+        }
+        TypeKind::Record => {
+            out.put(opening(kind))?;
+            let i = tok::payload(w) + 1;
+            let n = ptype::field_count(types, w);
+            show_fields(out, types, texts, types, i, n, depth - 1)?;
+            out.put(b">")
+        }
+        _ => show_leaf(out, texts, w),
     }
 }
 

@@ -13,7 +13,10 @@ use Rattle.tok.specs.Text.{Texts, text, text_by, name_bytes}
 use Rattle.ptype.specs.Ty.{Ty}
 use Rattle.ptype.specs.Words.{field_count, fields_from, unfolded, ty_of}
 use Rattle.ptype.specs.Show.{plain_names, openings, closings, show, show_fields}
-use Rattle.ptype.specs.Kinds.{wraps, one_of, shape, is_plain, is_wrap, is_record, is_named}
+use Rattle.ptype.specs.declared.TypeKind.{TypeKind}
+use Rattle.ptype.specs.declared.TypeKind.TheVariants as type
+use Rattle.ptype.specs.TypeKind.{kind_of_type, number_of_type}
+use Rattle.ptype.specs.Kinds.{one_of, shape, is_plain, is_wrap, is_record, is_named}
 use Rattle.ptype.proofs.UnfoldLaws.{unfolded-plain, unfolded-named}
 use Rattle.std.specs.Prelude.{Result, Err, ⊤}
 use Rattle.display.specs.declared.Full.{Full}
@@ -31,27 +34,18 @@ use Rattle.rows_types.specs.Behind.{behind_of}
 pub shows_length : {o o' : List ℕ} {w r : Window} {s : List ℕ} → Shows o w o' r s → length o' ≡ length o
 shows_length {o} {o'} {w} {r} {s} p = ap length p.bytes ∙ length-write o w.at (drop w.skip s)
 
--- ---- openings
-pub opening_option : {k : ℕ} → k ≡ 6 → get_or openings k [] ≡ text "Option<"
-unfolding openings
-opening_option e = rw e
-
-pub opening_array : {k : ℕ} → wraps k ≡ true → (k ≡ 6 → ⊥) → get_or openings k [] ≡ text "Array<"
-unfolding openings
-opening_array {k} h n = ⊎_elim (λ e. absurd (n e)) (λ e. rw e) (one_of 6 7 k h)
-
 -- ---- types
-module _ (t : Texts) (types : List ℕ) (w : ℕ) {deep k : ℕ} (p : deep ≡ 0 → ⊥) (ek : k ≡ kind_of w) where
-  pub record_shown :
-      {i n : ℕ} → k ≡ 8 → i ≡ payload_of w → n ≡ field_count types w →
-      show (unfolded t types deep w) ≡ text "Record<" ++ (show_fields (fields_from (unfolded t types (deep - 1)) t types (i + 1) n) ++ text ">")
-  unfolding openings
-  record_shown h ei en = shown_record t types w p ek h ei en ∙ rw h (simp append_assoc)
+-- x is the kind that was found of the word, and o the text before the fields
+pub record_shown :
+    (t : Texts) (types : List ℕ) (w : ℕ) {deep : ℕ} {x : TypeKind} → (deep ≡ 0 → ⊥) → x ≡ kind_of_type (kind_of w) → {o : List ℕ} → o ≡ get_or openings (number_of_type x) [] →
+    {i n : ℕ} → x ≡ type.Record → i ≡ payload_of w → n ≡ field_count types w →
+    show (unfolded t types deep w) ≡ o ++ (show_fields (fields_from (unfolded t types (deep - 1)) t types (i + 1) n) ++ text ">")
+record_shown t types w p ex eo h ei en = shown_record t types w p ex eo h ei en ∙ simp append_assoc
 
-  -- a type with nothing inside is the same at every depth
-  pub leaf-shown : Leaf (kind_of w) → show (unfolded t types deep w) ≡ show (ty_of t types w)
-  unfolding ty_of
-  leaf-shown l = shown-leaf t types w p ek l ∙ sym (shown-leaf t types w {deep = 33} (λ e. omega arith) ek l)
+-- a type with nothing inside is the same at every depth
+pub leaf-shown : (t : Texts) (types : List ℕ) (w : ℕ) {deep : ℕ} → (deep ≡ 0 → ⊥) → Leaf (kind_of w) → show (unfolded t types deep w) ≡ show (ty_of t types w)
+unfolding ty_of
+leaf-shown t types w p l = shown-leaf t types w p l ∙ sym (shown-leaf t types w {deep = 33} (λ e. omega arith) l)
 
 -- ---- fields
 module _ (go : ℕ → Ty) (t : Texts) (words : List ℕ) where

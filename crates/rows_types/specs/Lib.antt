@@ -1,2 +1,1 @@
-pub mod Wrapping
 pub mod Behind

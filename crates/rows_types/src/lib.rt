@@ -1,36 +1,24 @@
 // `Display` of types and of arguments through a window (ptype.rs, typecheck/display.rs). Once the window is full, no part of a type is gone through.
 #![tactic(auto)]
 
-ghost use Rattle.std.specs.Prelude.{◌≡◌, [], ◌++◌, get_or};
+ghost use Rattle.std.specs.Prelude.{◌≡◌, ◌++◌};
 ghost use Rattle.tok.specs.Word.{kind_of};
 ghost use Rattle.tok.specs.Text.{text};
 ghost use Rattle.ptype.specs.Ty.{Fields};
 ghost use Rattle.ptype.specs.Words.{fields_from, unfolded, ty_of};
-ghost use Rattle.ptype.specs.Show.{openings, show, show_fields};
+ghost use Rattle.ptype.specs.Show.{show, show_fields};
 ghost use Rattle.display.specs.Leaf.{Leaf};
 ghost use Rattle.display.specs.Joined.{separated};
 ghost use Rattle.rows_window.specs.Showing.{Shows};
-ghost use Rattle.rows_types.specs.Wrapping.{Wrapping};
 ghost use Rattle.rows_types.specs.Behind.{behind_of};
 
 use display::Writer;
+use ptype::TypeKind;
 use rows_window::{Window, is_full, put};
 use tok::Texts;
 
 // "type depth 32": one level more tells a type that is deeper.
 const LEVELS: usize = 33;
-
-// What stands before the inside of an Option or an Array.
-fn put_opening(out: &mut [u8], w: Window, kind: u32) -> Window
-    requires { Wrapping kind }
-    ensures { Shows out.old w out.new result (get_or openings kind []) }
-{
-    if kind == ptype::OPTION {
-        put(out, w, b"Option<")
-    } else {
-        put(out, w, b"Array<")
-    }
-}
 
 // A blank beside other fields: none where there are none.
 fn put_gap(out: &mut [u8], w: Window, count: usize) -> Window
@@ -78,18 +66,20 @@ fn show_within(
     if depth == 0 {
         return put(out, w, b"unknown");
     }
-    let k = tok::kind(word);
-    if ptype::wraps(k) {
-        let a = put_opening(out, w, k);
-        let b = show_within(out, a, types, texts, ptype::inner(types, word), depth - 1);
-        put(out, b, b">")
-    } else if k == ptype::RECORD {
-        let a = put(out, w, b"Record<");
-        let i = tok::payload(word) + 1;
-        let n = ptype::field_count(types, word);
-        show_fields(out, a, types, texts, types, i, n, depth - 1, b">")
-    } else {
-        put_leaf(out, w, types, texts, word)
+    let kind = TypeKind::of(word);
+    match kind {
+        TypeKind::Option | TypeKind::Array => {
+            let a = put(out, w, display::opening(kind));
+            let b = show_within(out, a, types, texts, ptype::inner(types, word), depth - 1);
+            put(out, b, b">")
+        }
+        TypeKind::Record => {
+            let a = put(out, w, display::opening(kind));
+            let i = tok::payload(word) + 1;
+            let n = ptype::field_count(types, word);
+            show_fields(out, a, types, texts, types, i, n, depth - 1, b">")
+        }
+        _ => put_leaf(out, w, types, texts, word),
     }
 }
 

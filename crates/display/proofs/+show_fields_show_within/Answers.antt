@@ -1,5 +1,5 @@
 use native.Mathlib.Omega.{arith}
-use mathlib.Core.Path.{refl, sym, ◌∙◌}
+use mathlib.Core.Path.{refl}
 use Rattle.ptype.specs.Words.{unfolded}
 use Rattle.tok.specs.Text.{text}
 use Rattle.display.specs.WritingLaws.{writing}
@@ -35,27 +35,43 @@ show_fields-returns t c = let e = fields-end (unfolded c.args.texts.now c.args.t
 pub show_within-returns-then-depth-eq0 : goal.show_within-returns-then-depth-eq0
 show_within-returns-then-depth-eq0 t c = let e = shown-none c.args.texts.now c.args.types.now c.args.w c.if-depth-eq0.true in grind writing
 
-pub show_within-returns-in_err-put_opening : goal.show_within-returns-in_err-put_opening
-show_within-returns-in_err-put_opening t c = let e = shown-wrap c.args.texts.now c.args.types.now c.args.w c.if-depth-eq0.false c.kind-k.ensures (sym c.wraps.ensures ∙ c.if-wraps.true) refl in grind writing
+pub show_within-returns-in_err-put-in-Option : goal.show_within-returns-in_err-put-in-Option
+show_within-returns-in_err-put-in-Option t c =
+    let e = shown-wrap c.args.texts.now c.args.types.now c.args.w c.if-depth-eq0.false c.of-kind.ensures c.opening.ensures c.in-Option.is refl in
+    grind writing
 
-pub show_within-returns-in_err-show_within : goal.show_within-returns-in_err-show_within
-show_within-returns-in_err-show_within t c = let e = shown-wrap c.args.texts.now c.args.types.now c.args.w c.if-depth-eq0.false c.kind-k.ensures (sym c.wraps.ensures ∙ c.if-wraps.true) c.inner.ensures in grind writing
+pub show_within-returns-in_err-show_within-in-Option : goal.show_within-returns-in_err-show_within-in-Option
+show_within-returns-in_err-show_within-in-Option t c =
+    let e = shown-wrap c.args.texts.now c.args.types.now c.args.w c.if-depth-eq0.false c.of-kind.ensures c.opening.ensures c.in-Option.is c.inner.ensures in
+    grind writing
 
-pub show_within-returns-in_ok-show_within : goal.show_within-returns-in_ok-show_within
+pub show_within-returns-in_ok-show_within-in-Option : goal.show_within-returns-in_ok-show_within-in-Option
 unfolding text
-show_within-returns-in_ok-show_within t c = let e = shown-wrap c.args.texts.now c.args.types.now c.args.w c.if-depth-eq0.false c.kind-k.ensures (sym c.wraps.ensures ∙ c.if-wraps.true) c.inner.ensures in grind writing
+show_within-returns-in_ok-show_within-in-Option t c =
+    let e = shown-wrap c.args.texts.now c.args.types.now c.args.w c.if-depth-eq0.false c.of-kind.ensures c.opening.ensures c.in-Option.is c.inner.ensures in
+    grind writing
 
-pub show_within-returns-in_err-put_opening-2 : goal.show_within-returns-in_err-put_opening-2
-show_within-returns-in_err-put_opening-2 t c = let e = shown_record c.args.texts.now c.args.types.now c.args.w c.if-depth-eq0.false c.kind-k.ensures c.if-k-eq-RECORD.true refl refl in grind writing
+pub show_within-returns-in_err-put-in-Record : goal.show_within-returns-in_err-put-in-Record
+show_within-returns-in_err-put-in-Record t c =
+    let e = shown_record c.args.texts.now c.args.types.now c.args.w c.if-depth-eq0.false c.of-kind.ensures c.opening-in-Record.ensures c.in-Record.is refl refl in
+    grind writing
 
-pub show_within-returns-in_err-show_fields : goal.show_within-returns-in_err-show_fields
-show_within-returns-in_err-show_fields t c = let e = shown_record c.args.texts.now c.args.types.now c.args.w c.if-depth-eq0.false c.kind-k.ensures c.if-k-eq-RECORD.true c.payload-i.ensures c.field_count-n.ensures in grind writing
+pub show_within-returns-in_err-show_fields-in-Record : goal.show_within-returns-in_err-show_fields-in-Record
+show_within-returns-in_err-show_fields-in-Record t c =
+    let e = shown_record c.args.texts.now c.args.types.now c.args.w c.if-depth-eq0.false c.of-kind.ensures c.opening-in-Record.ensures c.in-Record.is c.payload-i.ensures c.field_count-n.ensures in
+    grind writing
 
-pub show_within-returns-in_ok-show_fields : goal.show_within-returns-in_ok-show_fields
+pub show_within-returns-in_ok-show_fields-in-Record : goal.show_within-returns-in_ok-show_fields-in-Record
 unfolding text
-show_within-returns-in_ok-show_fields t c = let e = shown_record c.args.texts.now c.args.types.now c.args.w c.if-depth-eq0.false c.kind-k.ensures c.if-k-eq-RECORD.true c.payload-i.ensures c.field_count-n.ensures in grind writing
+show_within-returns-in_ok-show_fields-in-Record t c =
+    let e = shown_record c.args.texts.now c.args.types.now c.args.w c.if-depth-eq0.false c.of-kind.ensures c.opening-in-Record.ensures c.in-Record.is c.payload-i.ensures c.field_count-n.ensures in
+    grind writing
 
-pub show_within-returns-else-k-eq-RECORD : goal.show_within-returns-else-k-eq-RECORD
-show_within-returns-else-k-eq-RECORD t c =
-    let l = is_leaf c.args.w c.kind-k.ensures (sym c.wraps.ensures ∙ c.if-wraps.false) c.if-k-eq-RECORD.false in
-    let e = shown-leaf c.args.texts.now c.args.types.now c.args.w c.if-depth-eq0.false c.kind-k.ensures l in grind writing
+pub show_within-show_leaf-requires : goal.show_within-show_leaf-requires
+show_within-show_leaf-requires t c = is_leaf c.args.w c.of-kind.ensures c.in_default.not-Option c.in_default.not-Array c.in_default.not-Record
+
+pub show_within-returns-in_default : goal.show_within-returns-in_default
+show_within-returns-in_default t c =
+    let l = is_leaf c.args.w c.of-kind.ensures c.in_default.not-Option c.in_default.not-Array c.in_default.not-Record in
+    let e = shown-leaf c.args.texts.now c.args.types.now c.args.w c.if-depth-eq0.false l in
+    grind writing

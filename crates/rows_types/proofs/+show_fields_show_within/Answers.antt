@@ -32,29 +32,28 @@ pub show_within-returns-then-depth-eq0 : goal.show_within-returns-then-depth-eq0
 unfolding plain_names text
 show_within-returns-then-depth-eq0 t c = shows_as (shown-none _ _ _ c.if-depth-eq0.true) c.put.ensures
 
-pub show_within-put_opening-a-requires : goal.show_within-put_opening-a-requires
-show_within-put_opening-a-requires t c = record { wraps = sym c.wraps.ensures ∙ c.if-wraps.true }
-
 pub show_within-show_within-b-requires : goal.show_within-show_within-b-requires
 show_within-show_within-b-requires t c = (omega (arith, c.decreases, c.if-depth-eq0.false), tt)
 
-pub show_within-returns-then-wraps : goal.show_within-returns-then-wraps
+pub show_within-returns-in-Option : goal.show_within-returns-in-Option
 unfolding text
-show_within-returns-then-wraps t c =
-    shows_as (shown-wrap _ _ _ c.if-depth-eq0.false c.kind-k.ensures (sym c.wraps.ensures ∙ c.if-wraps.true) c.inner.ensures) (c.put_opening-a.ensures and_then c.show_within-b.ensures and_then c.put-then-wraps.ensures)
+show_within-returns-in-Option t c =
+    let shown = shown-wrap _ _ _ c.if-depth-eq0.false c.of-kind.ensures c.opening.ensures c.in-Option.is c.inner.ensures in
+    shows_as shown (c.put-a.ensures and_then c.show_within-b.ensures and_then c.put-in-Option.ensures)
 
 pub show_within-show_fields-requires : goal.show_within-show_fields-requires
 show_within-show_fields-requires t c = (omega (arith, c.decreases, c.if-depth-eq0.false), tt)
 
-pub show_within-returns-then-k-eq-RECORD : goal.show_within-returns-then-k-eq-RECORD
+pub show_within-returns-in-Record : goal.show_within-returns-in-Record
 unfolding text
-show_within-returns-then-k-eq-RECORD t c =
-    shows_as (record_shown _ _ _ c.if-depth-eq0.false c.kind-k.ensures c.if-k-eq-RECORD.true c.payload-i.ensures c.field_count-n.ensures) (c.put-a.ensures and_then c.show_fields.ensures)
+show_within-returns-in-Record t c =
+    let shown = record_shown _ _ _ c.if-depth-eq0.false c.of-kind.ensures c.opening-in-Record.ensures c.in-Record.is c.payload-i.ensures c.field_count-n.ensures in
+    shows_as shown (c.put-a-in-Record.ensures and_then c.show_fields.ensures)
 
 pub show_within-put_leaf-requires : goal.show_within-put_leaf-requires
-show_within-put_leaf-requires t c =
-    is_leaf c.args.word c.kind-k.ensures (sym c.wraps.ensures ∙ c.if-wraps.false) c.if-k-eq-RECORD.false
+show_within-put_leaf-requires t c = is_leaf c.args.word c.of-kind.ensures c.in_default.not-Option c.in_default.not-Array c.in_default.not-Record
 
-pub show_within-returns-else-k-eq-RECORD : goal.show_within-returns-else-k-eq-RECORD
-show_within-returns-else-k-eq-RECORD t c =
-    shows_as (leaf-shown _ _ _ c.if-depth-eq0.false c.kind-k.ensures (is_leaf c.args.word c.kind-k.ensures (sym c.wraps.ensures ∙ c.if-wraps.false) c.if-k-eq-RECORD.false)) c.put_leaf.ensures
+pub show_within-returns-in_default : goal.show_within-returns-in_default
+show_within-returns-in_default t c =
+    let leaf = is_leaf c.args.word c.of-kind.ensures c.in_default.not-Option c.in_default.not-Array c.in_default.not-Record in
+    shows_as (leaf-shown _ _ _ c.if-depth-eq0.false leaf) c.put_leaf.ensures
