@@ -34,6 +34,10 @@ use Rattle.apply.specs.SizeLaws.{slot-stays}
 pub array_kind : (k : ℕ) → (k ≡ 6 → ⊥) → wraps k ≡ true → k ≡ 7
 array_kind k d h = eqb-true k 7 (rw (ne_eqb k 6 d) at h)
 
+-- a Record's holds no type of that kind
+pub record_flat : (k : ℕ) → k ≡ 8 → wraps k ≡ false
+record_flat k e = rw e refl
+
 -- what a slot stands for
 pub slot_or : (slot : ℕ) (f : Found ℕ) {o : Option ℕ} {r : ℕ} → found_of f ≡ o → r ≡ unwrap_or f slot → r ≡ bound_or slot o
 unfolding bound_or

@@ -2,36 +2,36 @@
 #![tactic(auto)]
 
 ghost use Rattle.std.specs.Prelude.{◌≡◌, true, List, ℕ, ◌+◌, ◌*◌, ◌<◌, ◌≤◌, ◌^◌, length, take};
+ghost use Rattle.tok.specs.Word.{kind_of};
 ghost use Rattle.tok.specs.Text.{Texts, name_bytes};
 ghost use Rattle.ptype.specs.Kinds.{wraps};
 ghost use Rattle.ptype.specs.Add.{buffer, add_wrap, write};
 ghost use Rattle.ptype.specs.Slots.{Binding, bound_to, bound_or};
 ghost use Rattle.add.specs.Answer.{result_of, Adds};
 ghost use Rattle.add.specs.Parts.{record_from};
-ghost use Rattle.slots.specs.Bindings.{bindings_in};
+ghost use Rattle.slots.specs.Bindings.{bindings_of};
 ghost use Rattle.apply.specs.Apply.{apply_pairs, apply_within, apply_word, only};
 ghost use Rattle.apply.specs.Sizes.{sizes_of, size_within, word_before, pairs_after};
 ghost use Rattle.apply.specs.Setting.{Setting};
 
 use add::{Added, word_of};
-use ptype::{OPTION, RECORD, SLOT, field_count, field_type, inner};
-use slots::wraps;
-use tok::{Texts, kind, payload, word_at};
+use ptype::{TypeKind, field_count, field_type, inner};
+use slots::Bindings;
+use tok::{Texts, payload, word_at};
 
-// Puts types for the slots of the type w, as the pairs bind them. Only compound types that contain a bound slot are added anew.
+// Puts types for the slots of the type w, as they are bound. Only compound types that contain a bound slot are added anew.
 // Where it is refused, the rules leave open what the buffer holds ("Reading the promises", 1): the check sets all of it to zero.
 pub fn apply_slot_binding(
     types: &mut [u32],
     used: usize,
     texts: &Texts,
-    pairs: &[u32],
-    count: usize,
+    bindings: &Bindings,
     w: u32,
 ) -> Added
-    ensures { ((n : ℕ) → apply_word texts.now n (bindings_in texts.now pairs.now count) w (buffer types.old used) ≡ result_of n result types.new) }
+    ensures { ((n : ℕ) → apply_word texts.now n (bindings_of texts.now bindings.now) w (buffer types.old used) ≡ result_of n result types.new) }
 {
     let base = used.min(types.len());
-    apply_within(types, base, used, texts, pairs, count, w, 33)
+    apply_within(types, base, used, texts, bindings, w, 33)
 }
 
 // The same, as deep as `depth` says. The type is read from the first `base` words, which stay as they are.
@@ -41,13 +41,12 @@ fn apply_within(
     base: usize,
     used: usize,
     texts: &Texts,
-    pairs: &[u32],
-    count: usize,
+    bindings: &Bindings,
     w: u32,
     depth: usize,
 ) -> Added
     requires { (base ≤ used) × (base ≤ length types.old) }
-    ensures { let bs : List Binding = bindings_in texts.now pairs.now count in
+    ensures { let bs : List Binding = bindings_of texts.now bindings.now in
         let old : List ℕ = take base types.old in
         ((n : ℕ) → apply_within texts.now n bs (only old) depth w (buffer types.old used) ≡ result_of n result types.new) }
 {
@@ -55,24 +54,26 @@ fn apply_within(
         return Ok((w, used));
     }
     let below = depth - 1;
-    let k = kind(w);
-    if k == SLOT {
-        return Ok((slot_type(texts, pairs, count, w), used));
+    let kind = TypeKind::of(w);
+    if let TypeKind::Slot = kind {
+        return Ok((slot_type(texts, bindings, w), used));
     }
-    if !slots::has_bound_slot_within(&types[..base], texts, pairs, count, w, depth) {
+    if !slots::has_bound_slot_within(bindings, &types[..base], texts, w, depth) {
         return Ok((w, used));
     }
-    if wraps(k) {
-        let x = inner(&types[..base], w);
-        let (new, u) = apply_within(types, base, used, texts, pairs, count, x, below)?;
-        add_wrap(types, u, k, new)
-    } else if k == RECORD {
-        let n = field_count(&types[..base], w);
-        let at = payload(w) + 1;
-        let (new, u) = apply_fields(types, base, used, texts, pairs, count, at, n, below)?;
-        add::close_record(types, new, u)
-    } else {
-        Ok((w, used))
+    match kind {
+        TypeKind::Option | TypeKind::Array => {
+            let x = inner(&types[..base], w);
+            let (new, u) = apply_within(types, base, used, texts, bindings, x, below)?;
+            add_wrap(types, u, w, new)
+        }
+        TypeKind::Record => {
+            let n = field_count(&types[..base], w);
+            let at = payload(w) + 1;
+            let (new, u) = apply_fields(types, base, used, texts, bindings, at, n, below)?;
+            add::close_record(types, new, u)
+        }
+        _ => Ok((w, used)),
     }
 }
 
@@ -84,29 +85,26 @@ fn apply_fields(
     base: usize,
     used: usize,
     texts: &Texts,
-    pairs: &[u32],
-    count: usize,
+    bindings: &Bindings,
     at: usize,
     fields: usize,
     depth: usize,
 ) -> Added
     requires { ((base ≤ used) × (base ≤ length types.old)) × (at + 2 * fields < 2 ^ 40) }
     ensures { let T : Texts = texts.now in
-        let bs : List Binding = bindings_in T pairs.now count in
+        let bs : List Binding = bindings_of T bindings.now in
         let old : List ℕ = take base types.old in
         ((n : ℕ) → record_from n fields 0 (apply_pairs (apply_within T n bs (only old) depth) (only old) at fields) (buffer types.old used) ≡ result_of n result types.new) }
 {
     let mut u = used;
     for i in 0..fields {
         let x = field_type(&types[..base], at + 2 * i);
-        let (_, more) = apply_within(types, base, u, texts, pairs, count, x, depth)?;
+        let (_, more) = apply_within(types, base, u, texts, bindings, x, depth)?;
         u = more;
     }
     let (new, end) = add::open_record(types, u, fields)?;
     let place = payload(new) + 1;
-    set_pairs(
-        types, base, used, texts, pairs, count, at, fields, depth, place,
-    );
+    set_pairs(types, base, used, texts, bindings, at, fields, depth, place);
     Ok((new, end))
 }
 
@@ -116,17 +114,16 @@ fn set_pairs(
     base: usize,
     used: usize,
     texts: &Texts,
-    pairs: &[u32],
-    count: usize,
+    bindings: &Bindings,
     at: usize,
     fields: usize,
     depth: usize,
     place: usize,
 )
-    requires { let bs : List Binding = bindings_in texts.now pairs.now count in
+    requires { let bs : List Binding = bindings_of texts.now bindings.now in
         let old : List ℕ = take base types.old in
         Setting texts.now bs old depth used at fields place base (length types.old) }
-    ensures { let bs : List Binding = bindings_in texts.now pairs.now count in
+    ensures { let bs : List Binding = bindings_of texts.now bindings.now in
         let old : List ℕ = take base types.old in
         types.new ≡ write types.old place (pairs_after texts.now bs old depth used at fields) }
 {
@@ -135,9 +132,9 @@ fn set_pairs(
         let here = at + 2 * i;
         let name = word_at(&types[..base], here);
         let x = field_type(&types[..base], here);
-        let size = applied_size(&types[..base], texts, pairs, count, x, depth);
+        let size = applied_size(&types[..base], texts, bindings, x, depth);
         end += size;
-        let new = applied_word(&types[..base], texts, pairs, count, x, depth, end, size);
+        let new = applied_word(&types[..base], texts, bindings, x, depth, end, size);
         add::set_pair(types, place + 2 * i, name, new);
     }
 }
@@ -146,62 +143,59 @@ fn set_pairs(
 fn applied_word(
     old: &[u32],
     texts: &Texts,
-    pairs: &[u32],
-    count: usize,
+    bindings: &Bindings,
     w: u32,
     depth: usize,
     end: usize,
     size: usize,
 ) -> u32
-    requires { (size ≡ size_within texts.now (bindings_in texts.now pairs.now count) old.now depth w) × ((size ≤ end) × (end ≤ 8192)) }
-    ensures { result ≡ word_before texts.now (bindings_in texts.now pairs.now count) old.now depth end size w }
+    requires { (size ≡ size_within texts.now (bindings_of texts.now bindings.now) old.now depth w) × ((size ≤ end) × (end ≤ 8192)) }
+    ensures { result ≡ word_before texts.now (bindings_of texts.now bindings.now) old.now depth end size w }
 {
     if depth == 0 {
         return w;
     }
-    let k = kind(w);
-    if k == SLOT {
-        slot_type(texts, pairs, count, w)
-    } else if size == 0 {
-        w
-    } else if wraps(k) {
-        word_of(k, end - 1)
-    } else {
-        word_of(RECORD, end - (1 + 2 * field_count(old, w)))
+    let kind = TypeKind::of(w);
+    if let TypeKind::Slot = kind {
+        return slot_type(texts, bindings, w);
+    }
+    if size == 0 {
+        return w;
+    }
+    match kind {
+        TypeKind::Option | TypeKind::Array => word_of(tok::kind(w), end - 1),
+        _ => word_of(
+            TypeKind::Record.number(),
+            end - (1 + 2 * field_count(old, w)),
+        ),
     }
 }
 
 // How many words putting types for the slots of w added. It is asked only where that was just done: the new types have at most 32 levels
 // and fit the buffer, and each field met is two words of it, so it takes no more steps than there are words, for each level at most once.
 #[cycle(applied_size_applied_sizes)]
-fn applied_size(
-    old: &[u32],
-    texts: &Texts,
-    pairs: &[u32],
-    count: usize,
-    w: u32,
-    depth: usize,
-) -> usize
-    requires { size_within texts.now (bindings_in texts.now pairs.now count) old.now depth w ≤ 8192 }
-    ensures { result ≡ size_within texts.now (bindings_in texts.now pairs.now count) old.now depth w }
+fn applied_size(old: &[u32], texts: &Texts, bindings: &Bindings, w: u32, depth: usize) -> usize
+    requires { size_within texts.now (bindings_of texts.now bindings.now) old.now depth w ≤ 8192 }
+    ensures { result ≡ size_within texts.now (bindings_of texts.now bindings.now) old.now depth w }
 {
     if depth == 0 {
         return 0;
     }
-    let k = kind(w);
-    if wraps(k) {
-        if !slots::has_bound_slot_within(old, texts, pairs, count, w, depth) {
-            return 0;
+    match TypeKind::of(w) {
+        TypeKind::Option | TypeKind::Array => {
+            if !slots::has_bound_slot_within(bindings, old, texts, w, depth) {
+                return 0;
+            }
+            applied_size(old, texts, bindings, inner(old, w), depth - 1) + 1
         }
-        applied_size(old, texts, pairs, count, inner(old, w), depth - 1) + 1
-    } else if k == RECORD {
-        if !slots::has_bound_slot_within(old, texts, pairs, count, w, depth) {
-            return 0;
+        TypeKind::Record => {
+            if !slots::has_bound_slot_within(bindings, old, texts, w, depth) {
+                return 0;
+            }
+            let n = field_count(old, w);
+            applied_sizes(old, texts, bindings, payload(w) + 1, n, depth - 1) + (1 + 2 * n)
         }
-        let n = field_count(old, w);
-        applied_sizes(old, texts, pairs, count, payload(w) + 1, n, depth - 1) + (1 + 2 * n)
-    } else {
-        0
+        _ => 0,
     }
 }
 
@@ -210,37 +204,35 @@ fn applied_size(
 fn applied_sizes(
     old: &[u32],
     texts: &Texts,
-    pairs: &[u32],
-    count: usize,
+    bindings: &Bindings,
     at: usize,
     fields: usize,
     depth: usize,
 ) -> usize
-    requires { (at + 2 * fields < 2 ^ 40) × (sizes_of (size_within texts.now (bindings_in texts.now pairs.now count) old.now depth) old.now at fields ≤ 8192) }
-    ensures { result ≡ sizes_of (size_within texts.now (bindings_in texts.now pairs.now count) old.now depth) old.now at fields }
+    requires { (at + 2 * fields < 2 ^ 40) × (sizes_of (size_within texts.now (bindings_of texts.now bindings.now) old.now depth) old.now at fields ≤ 8192) }
+    ensures { result ≡ sizes_of (size_within texts.now (bindings_of texts.now bindings.now) old.now depth) old.now at fields }
 {
     let mut sum: usize = 0;
     for i in 0..fields {
-        sum += applied_size(old, texts, pairs, count, field_type(old, at + 2 * i), depth);
+        sum += applied_size(old, texts, bindings, field_type(old, at + 2 * i), depth);
     }
     sum
 }
 
 // The type that a slot is bound to, or the slot itself.
-fn slot_type(texts: &Texts, pairs: &[u32], count: usize, slot: u32) -> u32
-    ensures { result ≡ bound_or slot (bound_to (name_bytes texts.now slot) (bindings_in texts.now pairs.now count)) }
+fn slot_type(texts: &Texts, bindings: &Bindings, slot: u32) -> u32
+    ensures { result ≡ bound_or slot (bound_to (name_bytes texts.now slot) (bindings_of texts.now bindings.now)) }
 {
-    slots::bound_to(texts, pairs, count, slot).unwrap_or(slot)
+    bindings.bound_to(texts, slot).unwrap_or(slot)
 }
 
-// Adds an Option or an Array, by the kind.
-fn add_wrap(types: &mut [u32], used: usize, k: u32, inner: u32) -> Added
-    requires { wraps k ≡ true }
-    ensures { Adds (λ t n. add_wrap t n k inner) types.old used result types.new }
+// Adds an Option or an Array: that which the type w is.
+fn add_wrap(types: &mut [u32], used: usize, w: u32, inner: u32) -> Added
+    requires { wraps (kind_of w) ≡ true }
+    ensures { Adds (λ t n. add_wrap t n (kind_of w) inner) types.old used result types.new }
 {
-    if k == OPTION {
-        add::add_option(types, used, inner)
-    } else {
-        add::add_array(types, used, inner)
+    match TypeKind::of(w) {
+        TypeKind::Option => add::add_option(types, used, inner),
+        _ => add::add_array(types, used, inner),
     }
 }

@@ -1,7 +1,7 @@
 -- Each return of `bind_within` and `bind_fields`, by the kind of the expected word and by the fields that are left.
 -- By the laws of unfolding; where there was no room for a field's bindings there is none for all, since bindings only grow.
 -- Assumes nothing.
-use Rattle.std.specs.Prelude.{Ok, Err}
+use Rattle.std.specs.Prelude.{Ok, Err, ⊤}
 use mathlib.Core.Path.{◌≡◌, refl, sym, ◌∙◌}
 use mathlib.Core.Bool.{Bool, true, false, true≢false}
 use mathlib.Core.Option.{none, some}
@@ -21,58 +21,56 @@ use Rattle.ptype.proofs.UnfoldLaws.{one_less, unfolded-none, unfolded-plain, unf
 use Rattle.ptype.specs.Slots.{Binding, Bound, all_bound, conflict, void_slot, and_then, bind_one, bind_slots, bind_fields}
 use Rattle.slots.specs.declared.BindError.{BindError}
 use Rattle.slots.specs.declared.BindError.TheVariants.{Conflict, Void, NoRoom}
-use Rattle.slots.specs.Bindings.{Bind, pair_room, bindings_in, bindings_after, fitted, bound_of, Binds}
+use Rattle.slots.specs.declared.Bindings.{Bindings}
+use Rattle.slots.specs.Bindings.{Bind, pair_room, bindings_of, bindings_after, fitted, bound_of, Binds}
 use Rattle.slots.specs.BindLaws.{Extends, extends-length, bind_fields-extends}
 use Rattle.slots.specs.LevelLaws.{bind-plain, bind-inner, bind-no-inner, bind-listed, bind-not-listed, bind-slot, bind-foreign, bind-first, bind-short}
 use Rattle.slots.proofs.PairReturns.{fitted_none, same-binds, nothing-more}
 
--- p is the expected word and a the provided one, l the pairs before
-module _ (t : Texts) (types l : List ℕ) (p a count : ℕ) {deep : ℕ} where
-  pub within_none : deep ≡ 0 → Binds t (bind_slots t types (unfolded t types deep p) a) l count (Ok count) l
-  within_none e = nothing-more t _ l count (rw (unfolded-none t types p e) (bind-plain t types a (bindings_in t l count) 11))
+-- p is the expected word and a the provided one, b the bindings before; x and y their kinds
+module _ (t : Texts) (types : List ℕ) (p a : ℕ) (b : Bindings) (deep : ℕ) where
+  abbrev within : List Binding → Bound
+  within = bind_slots t types (unfolded t types deep p) a
 
-  module _ {k : ℕ} (q : deep ≡ 0 → ⊥) (hk : k ≡ kind_of p) where
-    pub within-slot : {r : Bind} {l' : List ℕ} → k ≡ 10 → Binds t (bind_one t types (name_bytes t p) a) l count r l' → Binds t (bind_slots t types (unfolded t types deep p) a) l count r l'
-    within-slot e h = same-binds (rw (unfolded-named t types p (one_less q) hk (rw e)) (bind-slot t types a (bindings_in t l count) k (name_bytes t p) e)) h
+  pub within_none : deep ≡ 0 → Binds t within b (Ok tt) b
+  within_none e = nothing-more t within b (rw (unfolded-none t types p e) (bind-plain t types a (bindings_of t b) 11))
 
-    module _ {j : ℕ} (np : k ≡ 10 → ⊥) (hj : j ≡ kind_of a) where
-      pub within-differ : (k ≡ j → ⊥) → Binds t (bind_slots t types (unfolded t types deep p) a) l count (Ok count) l
-      within-differ d =
-          let bs = bindings_in t l count in
-          elim (shape k) [
-            | is_plain h ↦ nothing-more t _ l count (rw (unfolded-plain t types p (one_less q) hk h) (bind-plain t types a bs k))
-            | is_wrap h ↦
-                nothing-more t _ l count (rw (unfolded-wrap t types p (one_less q) hk h) (bind-no-inner t types a bs k (unfolded t types (deep - 1) (inner_word types p)) (λ e. d (sym e ∙ sym hj))))
-            | is_record h ↦
-                nothing-more t _ l count (rw (unfolded_record t types p (one_less q) hk h) (bind-not-listed t types a bs (fields_of (unfolded t types (deep - 1)) t types p) (λ e. d (h ∙ sym e ∙ sym hj))))
-            | is_named h ↦ nothing-more t _ l count (rw (unfolded-named t types p (one_less q) hk h) (bind-foreign t types a bs k (name_bytes t p) np))
-          ]
+  module _ (q : deep ≡ 0 → ⊥) where
+    pub within-slot : {r : Bind} {b' : Bindings} → kind_of p ≡ 10 → Binds t (bind_one t types (name_bytes t p) a) b r b' → Binds t within b r b'
+    within-slot e h = same-binds (rw (unfolded-named t types p (one_less q) refl (rw e)) (bind-slot t types a (bindings_of t b) (kind_of p) (name_bytes t p) e)) h
 
-      pub within-rest : wraps k ≡ false → (k ≡ 8 → ⊥) → Binds t (bind_slots t types (unfolded t types deep p) a) l count (Ok count) l
-      within-rest nw n8 =
-          let bs = bindings_in t l count in
-          elim (shape k) [
-            | is_plain h ↦ nothing-more t _ l count (rw (unfolded-plain t types p (one_less q) hk h) (bind-plain t types a bs k))
-            | is_wrap h ↦ absurd (true≢false (sym h ∙ nw))
-            | is_record h ↦ absurd (n8 h)
-            | is_named h ↦ nothing-more t _ l count (rw (unfolded-named t types p (one_less q) hk h) (bind-foreign t types a bs k (name_bytes t p) np))
-          ]
+    -- neither a slot nor two words of one kind that holds types
+    pub within-rest : (kind_of p ≡ 10 → ⊥) → (wraps (kind_of p) ≡ true → kind_of a ≡ kind_of p → ⊥) → (kind_of p ≡ 8 → kind_of a ≡ 8 → ⊥) → Binds t within b (Ok tt) b
+    within-rest np nw nr =
+        let bs = bindings_of t b in
+        let k = kind_of p in
+        let less = one_less q in
+        elim (shape k) [
+          | is_plain h ↦ nothing-more t within b (rw (unfolded-plain t types p less refl h) (bind-plain t types a bs k))
+          | is_wrap h ↦ nothing-more t within b (rw (unfolded-wrap t types p less refl h) (bind-no-inner t types a bs k (unfolded t types (deep - 1) (inner_word types p)) (nw h)))
+          | is_record h ↦ nothing-more t within b (rw (unfolded_record t types p less refl h) (bind-not-listed t types a bs (fields_of (unfolded t types (deep - 1)) t types p) (nr h)))
+          | is_named h ↦ nothing-more t within b (rw (unfolded-named t types p less refl h) (bind-foreign t types a bs k (name_bytes t p) np))
+        ]
 
-      module _ {r : Bind} {l' : List ℕ} (e : k ≡ j) where
-        pub within-wrap : {x y : ℕ} → wraps k ≡ true → x ≡ inner_word types p → y ≡ inner_word types a → Binds t (bind_slots t types (unfolded t types (deep - 1) x) y) l count r l'
-            → Binds t (bind_slots t types (unfolded t types deep p) a) l count r l'
-        within-wrap h hx hy b =
-            same-binds
-            (rw (unfolded-wrap t types p (one_less q) hk h, hx, hy)
-            (bind-inner t types a (bindings_in t l count) k (unfolded t types (deep - 1) (inner_word types p)) (sym hj ∙ sym e))) b
+    -- so neither a kind that is another than the provided one, nor one that holds nothing
+    pub within-other : {j : ℕ} → kind_of p ≡ j → (j ≡ 10 → ⊥) → (kind_of a ≡ j → ⊥) → Binds t within b (Ok tt) b
+    within-other e ns n = within-rest (λ z. ns (sym e ∙ z)) (λ w z. n (z ∙ e)) (λ h z. n (z ∙ (sym h ∙ e)))
 
-        pub within_record : {x y m n : ℕ} → k ≡ 8 → x ≡ payload_of p → m ≡ field_count types p → y ≡ payload_of a → n ≡ field_count types a
-            → Binds t (bind_fields t types (fields_from (unfolded t types (deep - 1)) t types (x + 1) m) (y + 1) n) l count r l'
-            → Binds t (bind_slots t types (unfolded t types deep p) a) l count r l'
-        within_record h hx hm hy hn b =
-            same-binds
-            (rw (unfolded_record t types p (one_less q) hk h, hx, hm, hy, hn)
-            (bind-listed t types a (bindings_in t l count) (fields_of (unfolded t types (deep - 1)) t types p) (sym hj ∙ sym e ∙ h))) b
+    pub within-plain : (kind_of p ≡ 10 → ⊥) → wraps (kind_of p) ≡ false → (kind_of p ≡ 8 → ⊥) → Binds t within b (Ok tt) b
+    within-plain ns nw nr = within-rest ns (λ w z. true≢false (sym w ∙ nw)) (λ h z. nr h)
+
+    module _ {r : Bind} {b' : Bindings} where
+      pub within-wrap : {x y : ℕ} → wraps (kind_of p) ≡ true → kind_of a ≡ kind_of p → x ≡ inner_word types p → y ≡ inner_word types a
+          → Binds t (bind_slots t types (unfolded t types (deep - 1) x) y) b r b' → Binds t within b r b'
+      within-wrap h e hx hy i =
+          let inside = bind-inner t types a (bindings_of t b) (kind_of p) (unfolded t types (deep - 1) (inner_word types p)) e in
+          same-binds (rw (unfolded-wrap t types p (one_less q) refl h, hx, hy) inside) i
+
+      pub within_record : {x y m n : ℕ} → kind_of p ≡ 8 → kind_of a ≡ 8 → x ≡ payload_of p → m ≡ field_count types p → y ≡ payload_of a → n ≡ field_count types a
+          → Binds t (bind_fields t types (fields_from (unfolded t types (deep - 1)) t types (x + 1) m) (y + 1) n) b r b' → Binds t within b r b'
+      within_record h e hx hm hy hn i =
+          let listed = bind-listed t types a (bindings_of t b) (fields_of (unfolded t types (deep - 1)) t types p) e in
+          same-binds (rw (unfolded_record t types p (one_less q) refl h, hx, hm, hy, hn) listed) i
 
 -- What fits is what was bound, and what does not is longer than the room.
 fitted-is : (room : ℕ) (b c : Bound) → fitted room b ≡ some c → b ≡ c
@@ -106,83 +104,79 @@ then-longer (conflict bs s e a) f h = omega arith
 then-longer (void_slot bs s) f h = omega arith
 
 -- the first fails, or has no room: so do both
-module _ (t : Texts) (l : List ℕ) (room : ℕ) (b : Bound) (f : List Binding → Bound) (grows : (bs : List Binding) → Extends bs (bindings_after (f bs))) where
-  then-stops : (e : BindError) → fitted room b ≡ bound_of t (Err e) l → fitted room (and_then b f) ≡ bound_of t (Err e) l
+module _ (t : Texts) (bs : List Binding) (room : ℕ) (b : Bound) (f : List Binding → Bound) (grows : (bs : List Binding) → Extends bs (bindings_after (f bs))) where
+  then-stops : (e : BindError) → fitted room b ≡ bound_of t (Err e) bs → fitted room (and_then b f) ≡ bound_of t (Err e) bs
   unfolding and_then
-  then-stops (Conflict c s x a) e = rw (fitted-is room b _ e) (rw (fitted-is room b _ e) at e)
-  then-stops (Void c s) e = rw (fitted-is room b _ e) (rw (fitted-is room b _ e) at e)
+  then-stops (Conflict s x a) e = rw (fitted-is room b _ e) (rw (fitted-is room b _ e) at e)
+  then-stops (Void s) e = rw (fitted-is room b _ e) (rw (fitted-is room b _ e) at e)
   then-stops NoRoom e = fitted_none room (and_then b f) (omega (arith, fitted-over room b e, then-longer b f grows))
 
-  then-goes : (r : Bind) {c : ℕ} → r ≡ Ok c → fitted room b ≡ bound_of t r l → and_then b f ≡ f (bindings_in t l c)
+  then-goes : {done : ⊤} → fitted room b ≡ bound_of t (Ok done) bs → and_then b f ≡ f bs
   unfolding and_then
-  then-goes r {c} h e = rw (fitted-is room b (all_bound (bindings_in t l c)) (e ∙ rw h))
+  then-goes e = rw (fitted-is room b (all_bound bs) e)
 
 -- Fields in step: m fields from i on, n from j on; the others after the first.
-abbrev others : Texts → List ℕ → (ℕ → Ty) → (i j m n : ℕ) → List Binding → Bound
-others t types go i j m n = λ bs. bind_fields t types (fields_from go t types (i + 2) (m - 1)) (j + 2) (n - 1) bs
+module _ (t : Texts) (types : List ℕ) (go : ℕ → Ty) (i m j n : ℕ) where
+  abbrev both : List Binding → Bound
+  both = bind_fields t types (fields_from go t types i m) j n
 
-module _ (t : Texts) (types l : List ℕ) (go : ℕ → Ty) (i j count m n : ℕ) where
-  pub fields-end : m ≡ 0 → Binds t (bind_fields t types (fields_from go t types i m) j n) l count (Ok count) l
-  unfolding bind_slots
-  fields-end e = nothing-more t (bind_fields t types (fields_from go t types i m) j n) l count (rw (fields-none go t types i e))
-
-  module _ (p : m ≡ 0 → ⊥) where
-    pub fields-short : n ≡ 0 → Binds t (bind_fields t types (fields_from go t types i m) j n) l count (Ok count) l
-    fields-short e =
-        nothing-more t (bind_fields t types (fields_from go t types i m) j n) l count
-        (rw (fields-more go t types i (one_less p))
-        (bind-short t types (name_bytes t (get_or types i 0)) (go (get_or types (i + 1) 0)) (fields_from go t types (i + 2) (m - 1)) j n (bindings_in t l count) e))
+  abbrev others : List Binding → Bound
+  others = bind_fields t types (fields_from go t types (i + 2) (m - 1)) (j + 2) (n - 1)
 
   -- one of the lists is at its end
-  pub fields-over : min m n ≡ 0 → Binds t (bind_fields t types (fields_from go t types i m) j n) l count (Ok count) l
-  fields-over h = elim (ℕ_discrete m 0) [ yes e ↦ fields-end e | no p ↦ fields-short p (omega arith) ]
+  both-end : (bs : List Binding) → min m n ≡ 0 → both bs ≡ all_bound bs
+  unfolding bind_slots
+  both-end bs h = elim (ℕ_discrete m 0) [
+    | yes e ↦ rw (fields-none go t types i e)
+    | no p ↦
+        let short = bind-short t types (name_bytes t (get_or types i 0)) (go (get_or types (i + 1) 0)) (fields_from go t types (i + 2) (m - 1)) j n bs (omega arith) in
+        rw (fields-more go t types i (one_less p)) short
+  ]
 
-  module _ (p : m ≡ 0 → ⊥) where
-    module _ (q : n ≡ 0 → ⊥) {x y : ℕ} (hx : x ≡ get_or types (i + 1) 0) (hy : y ≡ get_or types (j + 1) 0) where
-      fields-are : bind_fields t types (fields_from go t types i m) j n (bindings_in t l count) ≡ and_then (bind_slots t types (go x) y (bindings_in t l count)) (others t types go i j m n)
+  module _ (b : Bindings) where
+    pub fields-over : min m n ≡ 0 → Binds t both b (Ok tt) b
+    fields-over h = nothing-more t both b (both-end (bindings_of t b) h)
+
+    module _ (p : m ≡ 0 → ⊥) (q : n ≡ 0 → ⊥) {x y : ℕ} (hx : x ≡ get_or types (i + 1) 0) (hy : y ≡ get_or types (j + 1) 0) where
+      abbrev first : Bound
+      first = bind_slots t types (go x) y (bindings_of t b)
+
+      fields-are : both (bindings_of t b) ≡ and_then first others
       fields-are =
-          rw (fields-more go t types i (one_less p), hx, hy)
-          (bind-first t types (name_bytes t (get_or types i 0)) (go (get_or types (i + 1) 0)) (fields_from go t types (i + 2) (m - 1)) j n (bindings_in t l count) q)
+          let one = bind-first t types (name_bytes t (get_or types i 0)) (go (get_or types (i + 1) 0)) (fields_from go t types (i + 2) (m - 1)) j n (bindings_of t b) q in
+          rw (fields-more go t types i (one_less p), hx, hy) one
 
-      module _ {r : Bind} {l₁ : List ℕ} (h : Binds t (bind_slots t types (go x) y) l count r l₁) where
-        pub fields-stop : {e : BindError} → r ≡ Err e → Binds t (bind_fields t types (fields_from go t types i m) j n) l count (Err e) l₁
-        fields-stop {e} o = record {
-          is =
-              rw fields-are
-              (then-stops t l₁ (pair_room l) (bind_slots t types (go x) y (bindings_in t l count)) (others t types go i j m n)
-              (λ bs. bind_fields-extends t types (fields_from go t types (i + 2) (m - 1)) (j + 2) (n - 1) bs) e (h.is ∙ rw o));
-        }
+      others-extend : (bs : List Binding) → Extends bs (bindings_after (others bs))
+      others-extend bs = bind_fields-extends t types (fields_from go t types (i + 2) (m - 1)) (j + 2) (n - 1) bs
 
-        pub fields-next : {c : ℕ} {s : Bind} {l₂ : List ℕ} → r ≡ Ok c → length l₁ ≡ length l
-            → Binds t (bind_fields t types (fields_from go t types (i + 2) (m - 1)) (j + 2) (n - 1)) l₁ c s l₂
-            → Binds t (bind_fields t types (fields_from go t types i m) j n) l count s l₂
-        fields-next e k b = record {
-          is =
-              rw (
-                fields-are,
-                then-goes t l₁ (pair_room l) (bind_slots t types (go x) y (bindings_in t l count)) (others t types go i j m n)
-                    (λ bs. bind_fields-extends t types (fields_from go t types (i + 2) (m - 1)) (j + 2) (n - 1) bs) r e h.is,
-                ← k,
-              ) b.is;
-        }
+      pub fields-stop : {e : BindError} {b' : Bindings} → Binds t (bind_slots t types (go x) y) b (Err e) b' → Binds t both b (Err e) b'
+      fields-stop {e} {b'} h = record {
+        lent = h.lent;
+        keeps = h.keeps;
+        is = rw fields-are (then-stops t (bindings_of t b') (pair_room b.pairs.now) first others others-extend e h.is);
+      }
 
--- In the loop: m' fields from i' on and n' from j' on are left of m from i on and n from j on, and what binds those that are left binds
--- them all; the lent part is as long as it was.
-pub record Left (t : Texts) (types : List ℕ) (go : ℕ → Ty) (i m j n : ℕ) (l : List ℕ) (count i' m' j' n' : ℕ) (l' : List ℕ) (count' : ℕ) : Type 0 where
-  pub keeps : length l' ≡ length l
-  pub leads : (r : Bind) (l'' : List ℕ) → Binds t (bind_fields t types (fields_from go t types i' m') j' n') l' count' r l''
-      → Binds t (bind_fields t types (fields_from go t types i m) j n) l count r l''
+      pub fields-next : {done : ⊤} {b₁ b₂ : Bindings} {s : Bind} → Binds t (bind_slots t types (go x) y) b (Ok done) b₁ → Binds t others b₁ s b₂ → Binds t both b s b₂
+      fields-next {b₁ = b₁} h g = record {
+        lent = g.lent ∙ h.lent;
+        keeps = g.keeps ∙ h.keeps;
+        is = rw (fields-are, then-goes t (bindings_of t b₁) (pair_room b.pairs.now) first others others-extend h.is, ← h.keeps) g.is;
+      }
 
-pub left-all : (t : Texts) (types : List ℕ) (go : ℕ → Ty) (i m j n : ℕ) (l : List ℕ) (count : ℕ) {i' m' j' n' : ℕ} → i' ≡ i → m' ≡ m → j' ≡ j → n' ≡ n
-    → Left t types go i m j n l count i' m' j' n' l count
-left-all t types go i m j n l count ei em ej en = rw (ei, em, ej, en) (record { keeps = refl; leads = λ r l'' b. b })
+-- In the loop: m' fields from i' on and n' from j' on are left of m from i on and n from j on, and what binds those that are left binds them all.
+pub record Left (t : Texts) (types : List ℕ) (go : ℕ → Ty) (i m j n : ℕ) (b : Bindings) (i' m' j' n' : ℕ) (b' : Bindings) : Type 0 where
+  pub leads : (r : Bind) (b'' : Bindings) → Binds t (both t types go i' m' j' n') b' r b'' → Binds t (both t types go i m j n) b r b''
 
-module _ {t : Texts} {types : List ℕ} {go : ℕ → Ty} {i m j n : ℕ} {l : List ℕ} {count i' m' j' n' : ℕ} {l' : List ℕ} {count' : ℕ}
-    (h : Left t types go i m j n l count i' m' j' n' l' count') where
-  pub left-next : {x y c i₁ m₁ j₁ n₁ : ℕ} {r : Bind} {l₁ : List ℕ} → i₁ ≡ i' + 2 → m₁ ≡ m' - 1 → j₁ ≡ j' + 2 → n₁ ≡ n' - 1 → (m' ≡ 0 → ⊥) → (n' ≡ 0 → ⊥) → x ≡ get_or types (i' + 1) 0 → y ≡ get_or types (j' + 1) 0
-      → Binds t (bind_slots t types (go x) y) l' count' r l₁ → r ≡ Ok c → length l₁ ≡ length l'
-      → Left t types go i m j n l count i₁ m₁ j₁ n₁ l₁ c
-  left-next ei em ej en p q hx hy b e k = rw (ei, em, ej, en) (record {
-    keeps = k ∙ h.keeps;
-    leads = λ s l₂ g. h.leads s l₂ (fields-next t types l' go i' j' count' m' n' p q hx hy b e k g);
+pub left-all : (t : Texts) (types : List ℕ) (go : ℕ → Ty) (i m j n : ℕ) (b : Bindings) {i' m' j' n' : ℕ} → i' ≡ i → m' ≡ m → j' ≡ j → n' ≡ n → Left t types go i m j n b i' m' j' n' b
+left-all t types go i m j n b ei em ej en = rw (ei, em, ej, en) (record { leads = λ r b'' h. h })
+
+module _ {t : Texts} {types : List ℕ} {go : ℕ → Ty} {i m j n : ℕ} {b : Bindings} {i' m' j' n' : ℕ} {b' : Bindings} (h : Left t types go i m j n b i' m' j' n' b')
+    (p : m' ≡ 0 → ⊥) (q : n' ≡ 0 → ⊥) {x y : ℕ} (hx : x ≡ get_or types (i' + 1) 0) (hy : y ≡ get_or types (j' + 1) 0) where
+  pub left-stop : {e : BindError} {b₁ : Bindings} → Binds t (bind_slots t types (go x) y) b' (Err e) b₁ → Binds t (both t types go i m j n) b (Err e) b₁
+  left-stop g = h.leads _ _ (fields-stop t types go i' m' j' n' b' p q hx hy g)
+
+  pub left-next : {i₁ m₁ j₁ n₁ : ℕ} {done : ⊤} {b₁ : Bindings} → i₁ ≡ i' + 2 → m₁ ≡ m' - 1 → j₁ ≡ j' + 2 → n₁ ≡ n' - 1
+      → Binds t (bind_slots t types (go x) y) b' (Ok done) b₁ → Left t types go i m j n b i₁ m₁ j₁ n₁ b₁
+  left-next ei em ej en g = rw (ei, em, ej, en) (record {
+    leads = λ s b₂ k. h.leads s b₂ (fields-next t types go i' m' j' n' b' p q hx hy g k);
   })

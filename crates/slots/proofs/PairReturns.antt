@@ -16,7 +16,8 @@ use Rattle.ptype.specs.Ty.{same_ty}
 use Rattle.ptype.specs.Words.{ty_of}
 use Rattle.ptype.specs.Slots.{Binding, binding, bound_to, Bound, all_bound, conflict, void_slot, bind_found, bind_one}
 use Rattle.slots.specs.declared.BindError.TheVariants.{Conflict, Void, NoRoom}
-use Rattle.slots.specs.Bindings.{Bind, first_pairs, pair_room, bindings_in, found_of, bindings_after, fitted, Binds}
+use Rattle.slots.specs.declared.Bindings.{Bindings}
+use Rattle.slots.specs.Bindings.{Bind, first_pairs, pair_room, bindings_of, found_of, bindings_after, fitted, Binds}
 use Rattle.slots.specs.BindLaws.{if_true, if_false, bind_one-void, bind_one-found, bound-here, bound-after}
 
 -- the newest of k pairs, and the others
@@ -59,18 +60,26 @@ unfolding fitted
 fitted_none room b h = rw (lt-leb (length (bindings_after b)) room h)
 
 -- the bindings that were there have room
-pub bindings-fit : (t : Texts) (l : List ℕ) (count : ℕ) → length (bindings_in t l count) ≤ pair_room l
-bindings-fit t l count = omega (arith, length-first t l (min count (pair_room l)))
+pub bindings-fit : (t : Texts) (b : Bindings) → length (bindings_of t b) ≤ pair_room b.pairs.now
+bindings-fit t b = omega (arith, length-first t b.pairs.now (min b.count (pair_room b.pairs.now)))
 
 -- two ways to bind that give the same of the bindings that there are
-pub same-binds : {t : Texts} {bind bind' : List Binding → Bound} {l : List ℕ} {count : ℕ} {r : Bind} {l' : List ℕ}
-    → bind (bindings_in t l count) ≡ bind' (bindings_in t l count) → Binds t bind' l count r l' → Binds t bind l count r l'
-same-binds e h = record { is = rw e h.is }
+pub same-binds : {t : Texts} {bind bind' : List Binding → Bound} {b b' : Bindings} {r : Bind} → bind (bindings_of t b) ≡ bind' (bindings_of t b) → Binds t bind' b r b' → Binds t bind b r b'
+same-binds e h = record { lent = h.lent; keeps = h.keeps; is = rw e h.is }
 
--- nothing more bound
-pub nothing-more : (t : Texts) (bind : List Binding → Bound) (l : List ℕ) (count : ℕ) → bind (bindings_in t l count) ≡ all_bound (bindings_in t l count) → Binds t bind l count (Ok count) l
-unfolding bindings_after
-nothing-more t bind l count e = record { is = rw e (fitted-some (pair_room l) (all_bound (bindings_in t l count)) (bindings-fit t l count)) }
+-- what is answered where the bindings stay: it is what was to be bound, with the bindings that there were
+module _ (t : Texts) (bind : List Binding → Bound) (b : Bindings) where
+  pub nothing-more : bind (bindings_of t b) ≡ all_bound (bindings_of t b) → Binds t bind b (Ok tt) b
+  unfolding bindings_after
+  nothing-more e = record { lent = refl; keeps = refl; is = rw e (fitted-some (pair_room b.pairs.now) (all_bound (bindings_of t b)) (bindings-fit t b)) }
+
+  pub void-met : {slot : ℕ} → bind (bindings_of t b) ≡ void_slot (bindings_of t b) (name_bytes t slot) → Binds t bind b (Err (Void slot)) b
+  unfolding bindings_after
+  void-met {slot} e = record { lent = refl; keeps = refl; is = rw e (fitted-some (pair_room b.pairs.now) (void_slot (bindings_of t b) (name_bytes t slot)) (bindings-fit t b)) }
+
+  pub conflict-met : {slot x a : ℕ} → bind (bindings_of t b) ≡ conflict (bindings_of t b) (name_bytes t slot) x a → Binds t bind b (Err (Conflict slot x a)) b
+  unfolding bindings_after
+  conflict-met {slot} {x} {a} e = record { lent = refl; keeps = refl; is = rw e (fitted-some (pair_room b.pairs.now) (conflict (bindings_of t b) (name_bytes t slot) x a) (bindings-fit t b)) }
 
 -- the first k pairs of two lists that agree on them
 first-same : (t : Texts) (l m : List ℕ) (k : ℕ) → ((j : ℕ) → j < 2 * k → get_or l j 0 ≡ get_or m j 0) → first_pairs t l k ≡ first_pairs t m k
@@ -79,58 +88,68 @@ first-same t l m zero h = refl
 first-same t l m (suc k) h = rw (h (2 * k) (omega arith), h (2 * k + 1) (omega arith), first-same t l m k (λ j p. h j (omega arith)))
 
 -- One pair more.
-module _ (l : List ℕ) (count slot ty : ℕ) {n : ℕ} (hn : n ≡ min count (length l / 2)) (t : Texts) where
-  pub push_put : n < length l / 2 → Binds t (λ bs. all_bound (binding (name_bytes t slot) ty ∷ bs)) l count (Ok (n + 1)) (set (set l (2 * n) slot) (2 * n + 1) ty)
+module _ (slot ty : ℕ) (b : Bindings) (t : Texts) where
+  abbrev pushed : List Binding → Bound
+  pushed bs = all_bound (binding (name_bytes t slot) ty ∷ bs)
+
+  pub push_put : {b' : Bindings} → b.count < length b.pairs.now / 2 → b'.pairs.ghost_name ≡ b.pairs.ghost_name → b'.count ≡ b.count + 1
+      → b'.pairs.now ≡ set (set b.pairs.now (2 * b.count) slot) (2 * b.count + 1) ty → Binds t pushed b (Ok tt) b'
   unfolding bindings_after
-  push_put h =
+  push_put {b'} h lent more put =
+      let l = b.pairs.now in
+      let n = b.count in
       let m = set (set l (2 * n) slot) (2 * n + 1) ty in
-      let e : length m / 2 ≡ length l / 2 = rw (length-set, length-set) in
+      let long : length m ≡ length l = rw (length-set, length-set) in
+      let e : length m / 2 ≡ length l / 2 = rw long in
       let k : min (n + 1) (length m / 2) ≡ suc n = rw e (omega arith) in
+      let k' : min n (length l / 2) ≡ n = omega arith in
       let s : get_or m (2 * n) 0 ≡ slot = get_or-set_other (set l (2 * n) slot) (2 * n + 1) (2 * n) ty 0 (λ z. omega arith) ∙ get_or-set_same l (2 * n) slot 0 (omega arith) in
       let y : get_or m (2 * n + 1) 0 ≡ ty = get_or-set_same (set l (2 * n) slot) (2 * n + 1) ty 0 (rw length-set (omega arith)) in
-      let o : first_pairs t m n ≡ first_pairs t l n =
-      first-same t m l n (λ j p. get_or-set_other (set l (2 * n) slot) (2 * n + 1) j ty 0 (λ z. omega arith) ∙ get_or-set_other l (2 * n) j slot 0 (λ z. omega arith)) in
+      let other : (j : ℕ) → j < 2 * n → get_or m j 0 ≡ get_or l j 0 = λ j p. get_or-set_other (set l (2 * n) slot) (2 * n + 1) j ty 0 (λ z. omega arith) ∙ get_or-set_other l (2 * n) j slot 0 (λ z. omega arith) in
+      let o : first_pairs t m n ≡ first_pairs t l n = first-same t m l n other in
+      let now : bindings_of t b' ≡ binding (name_bytes t slot) ty ∷ bindings_of t b = rw (put, more) (first_more t m k ∙ rw (s, y, o, k')) in
+      let room : length (binding (name_bytes t slot) ty ∷ bindings_of t b) ≤ pair_room l = omega (arith, length-first t l (min n (length l / 2))) in
       record {
-        is =
-            fitted-some (pair_room l) (all_bound (binding (name_bytes t slot) ty ∷ bindings_in t l count)) (omega (arith, length-first t l (min count (length l / 2))))
-            ∙ ap (λ b. some (all_bound b)) (sym (first_more t m k ∙ rw (s, y, o, hn)));
+        lent = lent;
+        keeps = rw put long;
+        is = fitted-some (pair_room l) (pushed (bindings_of t b)) room ∙ ap (λ bs. some (all_bound bs)) (sym now);
       }
 
-  pub push_full : length l / 2 ≤ n → Binds t (λ bs. all_bound (binding (name_bytes t slot) ty ∷ bs)) l count (Err NoRoom) l
+  pub push_full : {b' : Bindings} → length b.pairs.now / 2 ≤ b.count → b' ≡ b → Binds t pushed b (Err NoRoom) b'
   unfolding bindings_after
-  push_full h = record { is = fitted_none (pair_room l) (all_bound (binding (name_bytes t slot) ty ∷ bindings_in t l count)) (omega (arith, length-first t l (min count (length l / 2)))) }
+  push_full h e = rw e (record {
+    lent = refl;
+    keeps = refl;
+    is = fitted_none (pair_room b.pairs.now) (pushed (bindings_of t b)) (omega (arith, length-first t b.pairs.now (min b.count (length b.pairs.now / 2))));
+  })
 
 -- A slot and a type.
-module _ (t : Texts) (types l : List ℕ) (slot ty count : ℕ) {k : ℕ} (hk : k ≡ kind_of ty) where
-  pub one-void : k ≡ 1 → Binds t (bind_one t types (name_bytes t slot) ty) l count (Err (Void count slot)) l
-  unfolding bindings_after
-  one-void e = record {
-    is =
-        rw (bind_one-void t types (name_bytes t slot) ty (bindings_in t l count) (sym hk ∙ e))
-        (fitted-some (pair_room l) (void_slot (bindings_in t l count) (name_bytes t slot)) (bindings-fit t l count));
-  }
+module _ (t : Texts) (types : List ℕ) (slot ty : ℕ) (b : Bindings) where
+  abbrev one : List Binding → Bound
+  one = bind_one t types (name_bytes t slot) ty
 
-  module _ (f : Option ℕ) (p : k ≡ 1 → ⊥) (hf : found_of f ≡ bound_to (name_bytes t slot) (bindings_in t l count)) where
-    one-is : bind_one t types (name_bytes t slot) ty (bindings_in t l count) ≡ bind_found t types (name_bytes t slot) ty (bindings_in t l count) (found_of f)
-    one-is = rw hf (bind_one-found t types (name_bytes t slot) ty (bindings_in t l count) (λ e. p (hk ∙ e)))
+  pub one-void : kind_of ty ≡ 1 → Binds t one b (Err (Void slot)) b
+  one-void e = void-met t one b (bind_one-void t types (name_bytes t slot) ty (bindings_of t b) e)
 
-    pub one-new : {r : Bind} {l' : List ℕ} → f ≡ None → Binds t (λ bs. all_bound (binding (name_bytes t slot) ty ∷ bs)) l count r l'
-        → Binds t (bind_one t types (name_bytes t slot) ty) l count r l'
+  module _ (f : Option ℕ) (p : kind_of ty ≡ 1 → ⊥) (hf : found_of f ≡ bound_to (name_bytes t slot) (bindings_of t b)) where
+    one-is : one (bindings_of t b) ≡ bind_found t types (name_bytes t slot) ty (bindings_of t b) (found_of f)
+    one-is = rw hf (bind_one-found t types (name_bytes t slot) ty (bindings_of t b) p)
+
+    pub one-new : {r : Bind} {b' : Bindings} → f ≡ None → Binds t (λ bs. all_bound (binding (name_bytes t slot) ty ∷ bs)) b r b' → Binds t one b r b'
     unfolding bind_found
     one-new e h = same-binds (one-is ∙ rw e) h
 
     module _ {e : ℕ} {q : Bool} (he : f ≡ Some e) (hq : q ≡ same_ty (ty_of t types e) (ty_of t types ty)) where
-      pub one_same : q ≡ true → Binds t (bind_one t types (name_bytes t slot) ty) l count (Ok count) l
+      pub one_same : q ≡ true → Binds t one b (Ok tt) b
       unfolding bind_found
       one_same h =
-          nothing-more t (bind_one t types (name_bytes t slot) ty) l count
-          (one-is
-          ∙ rw he (if_true (all_bound (bindings_in t l count)) (conflict (bindings_in t l count) (name_bytes t slot) e ty) (same_ty (ty_of t types e) (ty_of t types ty)) (sym hq ∙ h)))
+          let bs = bindings_of t b in
+          let same = if_true (all_bound bs) (conflict bs (name_bytes t slot) e ty) (same_ty (ty_of t types e) (ty_of t types ty)) (sym hq ∙ h) in
+          nothing-more t one b (one-is ∙ rw he same)
 
-      pub one-conflict : q ≡ false → Binds t (bind_one t types (name_bytes t slot) ty) l count (Err (Conflict count slot e ty)) l
-      unfolding bind_found bindings_after
-      one-conflict h = record {
-        is =
-            rw (one-is, he, if_false (all_bound (bindings_in t l count)) (conflict (bindings_in t l count) (name_bytes t slot) e ty) (same_ty (ty_of t types e) (ty_of t types ty)) (sym hq ∙ h))
-            (fitted-some (pair_room l) (conflict (bindings_in t l count) (name_bytes t slot) e ty) (bindings-fit t l count));
-      }
+      pub one-conflict : q ≡ false → Binds t one b (Err (Conflict slot e ty)) b
+      unfolding bind_found
+      one-conflict h =
+          let bs = bindings_of t b in
+          let other = if_false (all_bound bs) (conflict bs (name_bytes t slot) e ty) (same_ty (ty_of t types e) (ty_of t types ty)) (sym hq ∙ h) in
+          conflict-met t one b (one-is ∙ rw he other)

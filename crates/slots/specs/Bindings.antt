@@ -1,9 +1,10 @@
 -- Bindings in a lent part of scratch, and what binding answers ("`HashMap` becomes lists in scratch"). Definitions.
-use Rattle.std.specs.Prelude.{◌≡◌, cond, List, [], ◌∷◌, ℕ, zero, suc, ◌+◌, ◌*◌, ◌/◌, min, length, get_or, leb, Option as Found, Some, None, Result, Ok, Err}
+use Rattle.std.specs.Prelude.{◌≡◌, cond, List, [], ◌∷◌, ℕ, zero, suc, ◌+◌, ◌*◌, ◌/◌, min, length, get_or, leb, ⊤, Option as Found, Some, None, Result, Ok, Err}
 use Rattle.std.proofs.Math.Option.{Option, none, some}
 use Rattle.tok.specs.Text.{Texts, name_bytes}
 use Rattle.ptype.specs.Slots.{Binding, binding, Bound, all_bound, conflict, void_slot}
 use Rattle.slots.specs.declared.BindError.{BindError}
+use Rattle.slots.specs.declared.Bindings.{Bindings}
 use Rattle.slots.specs.declared.BindError.TheVariants.{Conflict, Void, NoRoom}
 
 -- Pairs of words, a slot's and its type's: the first k of them as bindings, the newest first.
@@ -19,9 +20,13 @@ pair_room pairs = length pairs / 2
 abbrev pub bindings_in : Texts → (pairs : List ℕ) → (count : ℕ) → List Binding
 bindings_in texts pairs count = first_pairs texts pairs (min count (pair_room pairs))
 
--- how many pairs there are, or why a slot was not bound
+-- the bindings in a struct
+abbrev pub bindings_of : Texts → Bindings → List Binding
+bindings_of texts b = bindings_in texts b.pairs.now b.count
+
+-- that all is bound, or why a slot was not
 abbrev pub Bind : Type 0
-Bind = Result ℕ BindError
+Bind = Result ⊤ BindError
 
 -- bindings.get(slot)
 abbrev pub found_of : Found ℕ → Option ℕ
@@ -38,14 +43,16 @@ bindings_after (void_slot bs slot) = bs
 unfoldable pub fitted : (room : ℕ) → Bound → Option Bound
 fitted room b = cond (leb (length (bindings_after b)) room) (some b) none
 
--- The paper's values for each case of an answer, with the pairs that it leaves: all bound; "21 and 22 slot conflict and Void"; or no room.
-abbrev pub bound_of : Texts → Bind → (pairs : List ℕ) → Option Bound
-bound_of texts (Ok count) pairs = some (all_bound (bindings_in texts pairs count))
-bound_of texts (Err (Conflict count slot existing new)) pairs = some (conflict (bindings_in texts pairs count) (name_bytes texts slot) existing new)
-bound_of texts (Err (Void count slot)) pairs = some (void_slot (bindings_in texts pairs count) (name_bytes texts slot))
-bound_of texts (Err NoRoom) pairs = none
+-- The paper's values for each case of an answer, with the bindings that it leaves: all bound; "21 and 22 slot conflict and Void"; or no room.
+abbrev pub bound_of : Texts → Bind → List Binding → Option Bound
+bound_of texts (Ok done) bs = some (all_bound bs)
+bound_of texts (Err (Conflict slot existing new)) bs = some (conflict bs (name_bytes texts slot) existing new)
+bound_of texts (Err (Void slot)) bs = some (void_slot bs (name_bytes texts slot))
+bound_of texts (Err NoRoom) bs = none
 
--- What a function that binds answers: r, and the pairs after it. Where all bindings have room, it is exactly what `bind` gives of
--- the bindings that there were; else it is Err NoRoom, and the rules leave open what the pairs then hold.
-pub record Binds (texts : Texts) (bind : List Binding → Bound) (pairs : List ℕ) (count : ℕ) (r : Bind) (pairs' : List ℕ) : Type 0 where
-  pub is : fitted (pair_room pairs) (bind (bindings_in texts pairs count)) ≡ bound_of texts r pairs'
+-- What a function that binds answers: r, and the bindings b' after it, in the lent part that b had. Where all bindings have room, it is exactly
+-- what `bind` gives of the bindings that there were; else it is Err NoRoom, and the rules leave open what the pairs then hold.
+pub record Binds (texts : Texts) (bind : List Binding → Bound) (b : Bindings) (r : Bind) (b' : Bindings) : Type 0 where
+  pub lent : b'.pairs.ghost_name ≡ b.pairs.ghost_name
+  pub keeps : length b'.pairs.now ≡ length b.pairs.now
+  pub is : fitted (pair_room b.pairs.now) (bind (bindings_of texts b)) ≡ bound_of texts r (bindings_of texts b')

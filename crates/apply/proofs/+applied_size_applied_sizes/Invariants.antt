@@ -1,7 +1,7 @@
 -- `apply::applied_size` and `apply::applied_sizes` meet their contracts: by the equations of `size_within` for each kind. The depth falls.
 -- The loop's invariant: what was summed, with what is left, is the whole. Assumes nothing.
 use mathlib.Core.Path.{◌≡◌}
-use Rattle.slots.specs.Bindings.{bindings_in}
+use Rattle.slots.specs.Bindings.{bindings_of}
 use Rattle.apply.specs.Sizes.{sizes_of, size_within}
 use Prim.Native.Nat.{◌+◌, ◌-◌, ◌*◌}
 use Rattle.apply.proofs.+applied_size_applied_sizes.Given as goal
@@ -13,5 +13,5 @@ abbrev pub decreases-applied_sizes : goal.decreases-applied_sizes
 decreases-applied_sizes l = l.depth * 2 + 1
 
 abbrev pub invariant-applied_sizes-loop-i : goal.invariant-applied_sizes-loop-i
-invariant-applied_sizes-loop-i l = sizes_of (size_within l.texts (bindings_in l.texts l.pairs l.count) l.old l.depth) l.old l.at l.fields
-    ≡ l.sum + sizes_of (size_within l.texts (bindings_in l.texts l.pairs l.count) l.old l.depth) l.old (l.at + 2 * l.i) (l.fields - l.i)
+invariant-applied_sizes-loop-i l = sizes_of (size_within l.texts (bindings_of l.texts l.bindings) l.old l.depth) l.old l.at l.fields
+    ≡ l.sum + sizes_of (size_within l.texts (bindings_of l.texts l.bindings) l.old l.depth) l.old (l.at + 2 * l.i) (l.fields - l.i)

@@ -5,7 +5,7 @@ use lib.ListN.{length}
 use Rattle.ptype.specs.Slots.{any_bound_slot}
 use Rattle.ptype.specs.Words.{unfolded, fields_from, fields_of}
 use Rattle.ptype.specs.Marks.{Free}
-use Rattle.slots.specs.Bindings.{bindings_in}
+use Rattle.slots.specs.Bindings.{bindings_of}
 use Prim.Native.Nat.{◌+◌, ◌-◌, ◌*◌}
 use Rattle.slots.proofs.+any_bound_slot_bound_slot_in.Given as goal
 
@@ -16,6 +16,6 @@ abbrev pub decreases-bound_slot_in : goal.decreases-bound_slot_in
 decreases-bound_slot_in l = l.depth * 2
 
 abbrev pub invariant-any_bound_slot-loop-i : goal.invariant-any_bound_slot-loop-i
-invariant-any_bound_slot-loop-i l = (any_bound_slot (bindings_in l.texts l.pairs l.count) (fields_of (unfolded l.texts l.types l.depth) l.texts l.types l.w)
-    ≡ any_bound_slot (bindings_in l.texts l.pairs l.count) (fields_from (unfolded l.texts l.types l.depth) l.texts l.types (l.at + 1 + 2 * l.i) (l.i-end - l.i)))
-    × Free (any_bound_slot (bindings_in l.texts l.pairs l.count)) l.texts l.types l.free × (length l.free ≡ length l.initial.free)
+invariant-any_bound_slot-loop-i l = (any_bound_slot (bindings_of l.texts l.bindings) (fields_of (unfolded l.texts l.types l.depth) l.texts l.types l.w)
+    ≡ any_bound_slot (bindings_of l.texts l.bindings) (fields_from (unfolded l.texts l.types l.depth) l.texts l.types (l.at + 1 + 2 * l.i) (l.i-end - l.i)))
+    × Free (any_bound_slot (bindings_of l.texts l.bindings)) l.texts l.types l.free × (length l.free ≡ length l.initial.free)

@@ -12,4 +12,7 @@ abbrev pub decreases-bind_within : goal.decreases-bind_within
 decreases-bind_within l = l.depth * 2
 
 abbrev pub invariant-bind_fields-loop-k : goal.invariant-bind_fields-loop-k
-invariant-bind_fields-loop-k l = Left l.texts l.types (unfolded l.texts l.types l.depth) l.i l.m l.j l.n l.initial.pairs l.count (l.i + 2 * l.k) (l.m - l.k) (l.j + 2 * l.k) (l.n - l.k) l.pairs l.bound
+invariant-bind_fields-loop-k l =
+    let T = l.texts in
+    let go = unfolded T l.types l.depth in
+    Left T l.types go l.i l.m l.j l.n l.initial.bindings (l.i + 2 * l.k) (l.m - l.k) (l.j + 2 * l.k) (l.n - l.k) l.bindings
