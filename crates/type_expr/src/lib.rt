@@ -20,7 +20,7 @@ use add::{AddError, Added, word_of};
 use ast::ExprKind;
 use places::Image;
 use ptype::TypeKind;
-use tok::{payload, word_at};
+use tok::payload;
 
 // The token of a type expression: through Option and Array that of the innermost.
 pub fn type_token(image: &Image, t: u32) -> u32
@@ -30,8 +30,8 @@ pub fn type_token(image: &Image, t: u32) -> u32
     let mut here = t;
     loop {
         let at = image.type_place(here);
-        let w = word_at(image.words, at + 1);
-        match ExprKind::of(word_at(image.words, at)) {
+        let w = image.word_at(at + 1);
+        match ExprKind::of(image.word_at(at)) {
             ExprKind::Option | ExprKind::Array => here = w,
             _ => return w,
         }
@@ -73,13 +73,13 @@ fn deep_part(
         Onward image.now.words image.now.places t whole result types.new }
 {
     let at = image.type_place(t);
-    let head = word_at(image.words, at);
+    let head = image.word_at(at);
     match ExprKind::of(head) {
         ExprKind::Record => {
             let fields = (payload(head) - 2) / 2;
             deep_field(types, used, image, t, at + 2, fields)
         }
-        _ => Ok((word_at(image.words, at + 1), used)),
+        _ => Ok((image.word_at(at + 1), used)),
     }
 }
 
@@ -100,7 +100,7 @@ fn deep_field(
     let mut u = used;
     let mut here = at;
     for _ in 0..fields {
-        let t = word_at(image.words, here + 1);
+        let t = image.word_at(here + 1);
         if image.type_levels(t) > 32 {
             return Ok((t, u));
         }
@@ -118,21 +118,21 @@ fn build(types: &mut [u32], used: usize, image: &Image, t: u32) -> Added
     ensures { (T : Texts) (n : ℕ) → type_from T n (type_of image.now.words t) (buffer types.old used) ≡ result_of n result types.new }
 {
     let at = image.type_place(t);
-    let head = word_at(image.words, at);
+    let head = image.word_at(at);
     match ExprKind::of(head) {
-        ExprKind::Atom => Ok((word_of(word_at(image.words, at + 2), 0), used)),
-        ExprKind::Foreign => Ok((foreign_word(word_at(image.words, at + 1)), used)),
+        ExprKind::Atom => Ok((word_of(image.word_at(at + 2), 0), used)),
+        ExprKind::Foreign => Ok((foreign_word(image.word_at(at + 1)), used)),
         ExprKind::Record => {
             let fields = (payload(head) - 2) / 2;
             let (new, u) = fields_from_exprs(types, used, image, t, at + 2, fields)?;
             add::close_record(&types[..], new, u)
         }
         ExprKind::Option => {
-            let (inner, u) = build(types, used, image, word_at(image.words, at + 1))?;
+            let (inner, u) = build(types, used, image, image.word_at(at + 1))?;
             add::add_option(types, u, inner)
         }
         _ => {
-            let (inner, u) = build(types, used, image, word_at(image.words, at + 1))?;
+            let (inner, u) = build(types, used, image, image.word_at(at + 1))?;
             add::add_array(types, u, inner)
         }
     }
@@ -156,7 +156,7 @@ fn fields_from_exprs(
     let mut u = used;
     let mut here = at;
     for _ in 0..fields {
-        (_, u) = build(types, u, image, word_at(image.words, here + 1))?;
+        (_, u) = build(types, u, image, image.word_at(here + 1))?;
         here += 2;
     }
     let (new, end) = add::open_record(types, u, fields)?;
@@ -183,14 +183,9 @@ fn set_pairs(
     let mut here = at;
     let mut to = place;
     for _ in 0..fields {
-        let t = word_at(image.words, here + 1);
+        let t = image.word_at(here + 1);
         end += type_size(image, t);
-        add::set_pair(
-            types,
-            to,
-            word_at(image.words, here),
-            type_word(image, end, t),
-        );
+        add::set_pair(types, to, image.word_at(here), type_word(image, end, t));
         here += 2;
         to += 2;
     }
@@ -202,10 +197,10 @@ fn type_word(image: &Image, end: usize, t: u32) -> u32
     ensures { result ≡ word_before end (type_of image.now.words t) }
 {
     let at = image.type_place(t);
-    let head = word_at(image.words, at);
+    let head = image.word_at(at);
     match ExprKind::of(head) {
-        ExprKind::Atom => word_of(word_at(image.words, at + 2), 0),
-        ExprKind::Foreign => foreign_word(word_at(image.words, at + 1)),
+        ExprKind::Atom => word_of(image.word_at(at + 2), 0),
+        ExprKind::Foreign => foreign_word(image.word_at(at + 1)),
         ExprKind::Record => {
             let fields = (payload(head) - 2) / 2;
             word_of(TypeKind::Record.number(), end - (1 + 2 * fields))
@@ -223,14 +218,14 @@ fn type_size(image: &Image, t: u32) -> usize
     ensures { result ≡ size_of (type_of image.now.words t) }
 {
     let at = image.type_place(t);
-    let head = word_at(image.words, at);
+    let head = image.word_at(at);
     match ExprKind::of(head) {
         ExprKind::Atom | ExprKind::Foreign => 0,
         ExprKind::Record => {
             let fields = (payload(head) - 2) / 2;
             sizes(image, t, at + 2, fields) + (1 + 2 * fields)
         }
-        _ => type_size(image, word_at(image.words, at + 1)) + 1,
+        _ => type_size(image, image.word_at(at + 1)) + 1,
     }
 }
 
@@ -243,7 +238,7 @@ fn sizes(image: &Image, owner: u32, at: usize, fields: usize) -> usize
     let mut sum: usize = 0;
     let mut here = at;
     for _ in 0..fields {
-        sum += type_size(image, word_at(image.words, here + 1));
+        sum += type_size(image, image.word_at(here + 1));
         here += 2;
     }
     sum
