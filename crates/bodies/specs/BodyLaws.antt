@@ -21,7 +21,7 @@ use Rattle.state.specs.Reporting.{passed}
 use Rattle.visit.specs.declared.State.{State}
 use Rattle.visit.specs.Plain.{with_used, visit_of, steps-visits}
 use Rattle.visit.specs.Whole.{Lent, lent, Visit, whole, visited}
-use Rattle.visit.specs.Within.{Within, within-then, Keeps, goes, stops, Visits}
+use Rattle.visit.specs.Within.{Within, within-from, within-then, Keeps, goes, stops, Visits}
 use Rattle.visit.specs.Free.{Free, free-top}
 use Rattle.visiting.specs.Then.{visits-most}
 use Rattle.visiting.specs.Blocks.{left_of, inner_of, outer_within, outer_names}
@@ -105,17 +105,7 @@ module _ (c : Ctx) (image : List ℕ) (at n : ℕ) (words : List ℕ) {st : Stat
         where
           from_before : Keeps (2 * count_at image at) (3 + 2 * count_at image at) (inner_of (with_used st u)) (lent s f t d₁ m₁ e o) b₂ (Ok (w, st₂))
               → Keeps (2 * count_at image at) (3 + 2 * count_at image at) (inner_of st) (lent s f t d m e o) b₂ (Ok (w, st₂))
-          from_before (goes p) = goes (record {
-            base = p.base;
-            deeper = p.deeper;
-            taken = p.taken;
-            written = p.written;
-            names = p.names;
-            held = p.held;
-            packages = p.packages;
-            scratch = p.scratch;
-            functions = p.functions;
-          })
+          from_before (goes p) = goes (within-from p (omega arith) (omega arith))
 
 -- ── After the body ──
 

@@ -1,6 +1,6 @@
 -- Each return of the functions, from what the callees answered. By rewriting. Assumes nothing.
 use Rattle.std.specs.Prelude.{ℕ, ◌+◌, ◌*◌, ◌^◌, ◌≡◌, List, [], ◌∷◌, Option as Found, Some, None, Ok, Err}
-use Rattle.std.proofs.Common.{refl, sym, ap, ◌∙◌}
+use Rattle.std.proofs.Common.{refl, sym, ap, ◌∙◌, arith}
 use Rattle.std.specs.Result.{IsErrAnd}
 use Rattle.tok.specs.Text.{Texts, name_bytes}
 use Rattle.ptype.specs.Words.{void_word}
@@ -25,7 +25,7 @@ use Rattle.scope.specs.Found.{binding_of}
 use Rattle.values.specs.Answers.{found_of}
 use Rattle.visit.specs.declared.State.{State}
 use Rattle.visit.specs.Whole.{Visit, lent, visited}
-use Rattle.visit.specs.Within.{top, Within, goes, Visits}
+use Rattle.visit.specs.Within.{top, Within, within-from, goes, Visits}
 use Rattle.visit.specs.StoreLaws.{env-bound, env-unbound}
 use Rattle.visit.specs.Plain.{with_used, visit_of, steps-visits}
 use Rattle.visiting.specs.Then.{within_same, visits-stop, visits-then}
@@ -60,19 +60,7 @@ module _ (T : Texts) (n slot name : ℕ) (found : Binding) {st : State} {e : Lis
 -- a name is bound
 module _ {st : State} {e : List ℕ} {name : ℕ} (h : Bindable st e name) (u : Used) (words s f t d m : List ℕ) (o : More) where
   within : (x w : ℕ) → Within 2 0 (with_used st u) (lent s f t d m e o) (one_more st u) (lent s f t d m (write e (top st) (x ∷ w ∷ [])) o)
-  within x w =
-      let p = within-bound h.free x w u s f t d m s t d m o in
-      record {
-        base = p.base;
-        deeper = p.deeper;
-        taken = p.taken;
-        written = p.written;
-        names = p.names;
-        held = p.held;
-        packages = p.packages;
-        scratch = p.scratch;
-        functions = p.functions;
-      }
+  within x w = within-from (within-bound h.free x w u s f t d m s t d m o) (omega arith) (omega arith)
 
   binds : (bound : Found ℕ) → Visits (env_insert name (found_of bound)) 2 0 words (with_used st u) (lent s f t d m e o) (lent s f t d m (write e (top st) (local_words name bound)) o)
       (Ok (tt, one_more st u))

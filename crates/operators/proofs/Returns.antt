@@ -1,10 +1,12 @@
 -- Each return of the functions, over variables for what the calls gave. By rewriting with the tests. Assumes nothing.
 use Rattle.std.specs.Prelude.{ℕ, ◌≡◌, Bool, true, false, ◌&&◌, ◌||◌, List, Option, Some, None, Ok, Err, get_or, set, eqb, leb}
-use Rattle.std.proofs.Common.{sym, ◌∙◌}
+use Rattle.std.proofs.Common.{sym, ap, ◌∙◌}
 use Rattle.std.specs.Result.{IsErrAnd}
 use Rattle.tok.specs.Word.{kind_of, word_of}
 use Rattle.tok.specs.Text.{Texts}
 use Rattle.tok.specs.Step.{◌>>◌, when}
+use Rattle.ptype.specs.declared.TypeKind.{TypeKind}
+use Rattle.ptype.specs.TypeKind.{kind_of_type, number_of_type}
 use Rattle.ptype.specs.Ty.{same_ty}
 use Rattle.ptype.specs.Words.{ty_of}
 use Rattle.library.specs.Package.{Package}
@@ -20,7 +22,7 @@ use Rattle.state.specs.declared.Refusal.{Refusal}
 use Rattle.state.specs.Context.{ctx}
 use Rattle.state.specs.World.{Rest, world, Step, stepped, Steps}
 use Rattle.state.specs.Reporting.{told_of, reports_step, poisons-step, on-ok, on-err}
-use Rattle.operators.proofs.KindLaws.{unless_none, some_of, none_of}
+use Rattle.operators.proofs.KindLaws.{unless_none, result-by-kinds, castable-by-kinds, takes-by-kind, taken-number, some_of, none_of}
 
 -- a slot's type
 pub known-steps : (s : List ℕ) (u : Used) (slot w : ℕ) {s' : List ℕ} → s' ≡ set s slot w → (t d m : List ℕ) → Steps (set_known slot w) s t d m u s' t d m (Ok (Known slot, u))
@@ -28,52 +30,64 @@ unfolding set_known stepped
 known-steps s u slot w e t d m = record { step = λ rest. rw e }
 
 -- ---- fuse
-module _ (T : Texts) (s t d m : List ℕ) (u : Used) (n slot token op left right : ℕ) {l r kl kr : ℕ} {k : Option ℕ} (hl : l ≡ get_or s left 0) (hr : r ≡ get_or s right 0) (hkl : kl ≡ kind_of l) (hkr : kr ≡ kind_of r)
-    (hk : k ≡ unless_none (result_kind op kl kr)) where
+module _ (T : Texts) (s t d m : List ℕ) (u : Used) (n slot token op left right : ℕ) {l r : ℕ} {kl kr : TypeKind} {k : Option TypeKind} (hl : l ≡ get_or s left 0) (hr : r ≡ get_or s right 0)
+    (hkl : kl ≡ kind_of_type (kind_of l)) (hkr : kr ≡ kind_of_type (kind_of r)) (hk : k ≡ unless_none (result_kind op (number_of_type kl) (number_of_type kr))) where
+  found : k ≡ unless_none (result_kind op (kind_of l) (kind_of r))
+  found = hk ∙ ap (λ i. unless_none i) (result-by-kinds op (kind_of l) (kind_of r) hkl hkr)
+
+  none : k ≡ None → eqb (result_kind op (kind_of l) (kind_of r)) 0 ≡ true
+  none z = none_of (result_kind op (kind_of l) (kind_of r)) (sym z ∙ found)
+
   fuse-is :
       (ls : List Package) (v : ℕ) (rest : Rest) →
       fuse (ctx T ls v) n slot token op left right (world rest s t d m u)
-      ≡ when (eqb (result_kind op kl kr) 0)
+      ≡ when (eqb (result_kind op (kind_of l) (kind_of r)) 0)
       (when (same_ty (ty_of T t l) (ty_of T t r)) (poison n (unsupported token op (ty_of T t l))) (poison n (incompatible token op (ty_of T t l) (ty_of T t r))))
-      (set_known slot (word_of (result_kind op kl kr) 0)) (world rest s t d m u)
+      (set_known slot (word_of (result_kind op (kind_of l) (kind_of r)) 0)) (world rest s t d m u)
   unfolding fuse ty tree
-  fuse-is ls v rest = rw (hkl, hkr, hl, hr)
+  fuse-is ls v rest = rw (hl, hr)
 
   pub fuse-known :
-      {j w : ℕ} {s' : List ℕ} {q : Step Answer} → k ≡ Some j → w ≡ word_of j 0 → ((t d m : List ℕ) → Steps (set_known slot w) s t d m u s' t d m q) →
+      {j : TypeKind} {w : ℕ} {s' : List ℕ} {q : Step Answer} → k ≡ Some j → w ≡ word_of (number_of_type j) 0 → ((t d m : List ℕ) → Steps (set_known slot w) s t d m u s' t d m q) →
       (ls : List Package) (v : ℕ) → Steps (fuse (ctx T ls v) n slot token op left right) s t d m u s' t d m q
   unfolding when
   fuse-known {j} z e p ls v =
-      let (found, same) = some_of (result_kind op kl kr) j (sym z ∙ hk) in
-      record { step = λ rest. fuse-is ls v rest ∙ rw (found, ← same, ← e) ((p t d m).step rest) }
+      let (some, same) = some_of op (kind_of l) (kind_of r) j (sym z ∙ found) in
+      record { step = λ rest. fuse-is ls v rest ∙ rw (some, ← same, ← e) ((p t d m).step rest) }
 
   module _ {same : Bool} {d' m' : List ℕ} {x : Option Counts} {q : Step Answer} (z : k ≡ None) (hs : same ≡ same_ty (ty_of T t l) (ty_of T t r)) (hq : q ≡ told_of n u x Poison) where
     pub fuse-unsupported :
         same ≡ true → Reports (unsupported token op (ty_of T t l)) d m u.told d' m' x →
         (ls : List Package) (v : ℕ) → Steps (fuse (ctx T ls v) n slot token op left right) s t d m u s t d' m' q
     unfolding when
-    fuse-unsupported e p ls v = record { step = λ rest. fuse-is ls v rest ∙ rw (none_of (result_kind op kl kr) (sym z ∙ hk), ← hs, e, hq) ((poisons-step n p).step rest) }
+    fuse-unsupported e p ls v = record { step = λ rest. fuse-is ls v rest ∙ rw (none z, ← hs, e, hq) ((poisons-step n p).step rest) }
 
     pub fuse-incompatible :
         same ≡ false → Reports (incompatible token op (ty_of T t l) (ty_of T t r)) d m u.told d' m' x →
         (ls : List Package) (v : ℕ) → Steps (fuse (ctx T ls v) n slot token op left right) s t d m u s t d' m' q
     unfolding when
-    fuse-incompatible e p ls v = record { step = λ rest. fuse-is ls v rest ∙ rw (none_of (result_kind op kl kr) (sym z ∙ hk), ← hs, e, hq) ((poisons-step n p).step rest) }
+    fuse-incompatible e p ls v = record { step = λ rest. fuse-is ls v rest ∙ rw (none z, ← hs, e, hq) ((poisons-step n p).step rest) }
 
 -- ---- unary
-module _ (T : Texts) (s t d m : List ℕ) (u : Used) (n slot token op right : ℕ) {r k : ℕ} {takes : Bool} (hr : r ≡ get_or s right 0) (hk : k ≡ kind_of r) (ht : takes ≡ leb op 1 && (eqb k 3 || eqb k 4)) where
+module _ (T : Texts) (s t d m : List ℕ) (u : Used) (n slot token op right : ℕ) {r : ℕ} {kind : TypeKind} {takes : Bool} (hr : r ≡ get_or s right 0) (hk : kind ≡ kind_of_type (kind_of r))
+    (ht : takes ≡ leb op 1 && (eqb (number_of_type kind) 3 || eqb (number_of_type kind) 4)) where
+  taken : takes ≡ leb op 1 && (eqb (kind_of r) 3 || eqb (kind_of r) 4)
+  taken = ht ∙ takes-by-kind (leb op 1) (kind_of r) hk
+
   unary-is :
       (ls : List Package) (v : ℕ) (rest : Rest) →
       unary (ctx T ls v) n slot token op right (world rest s t d m u)
-      ≡ when takes (set_known slot (word_of k 0)) (poison n (bad_unary token op (ty_of T t r))) (world rest s t d m u)
+      ≡ when takes (set_known slot (word_of (kind_of r) 0)) (poison n (bad_unary token op (ty_of T t r))) (world rest s t d m u)
   unfolding unary ty tree
-  unary-is ls v rest = rw (ht, hk, hr)
+  unary-is ls v rest = rw (taken, hr)
 
   pub unary-known :
-      {w : ℕ} {s' : List ℕ} {q : Step Answer} → takes ≡ true → w ≡ word_of k 0 → ((t d m : List ℕ) → Steps (set_known slot w) s t d m u s' t d m q) →
+      {w : ℕ} {s' : List ℕ} {q : Step Answer} → takes ≡ true → w ≡ word_of (number_of_type kind) 0 → ((t d m : List ℕ) → Steps (set_known slot w) s t d m u s' t d m q) →
       (ls : List Package) (v : ℕ) → Steps (unary (ctx T ls v) n slot token op right) s t d m u s' t d m q
   unfolding when
-  unary-known z e p ls v = record { step = λ rest. unary-is ls v rest ∙ rw (z, ← e) ((p t d m).step rest) }
+  unary-known z e p ls v =
+      let same : number_of_type kind ≡ kind_of r = rw hk (taken-number (leb op 1) (kind_of r) (sym taken ∙ z)) in
+      record { step = λ rest. unary-is ls v rest ∙ rw (z, ← same, ← e) ((p t d m).step rest) }
 
   pub unary_bad :
       {d' m' : List ℕ} {x : Option Counts} {q : Step Answer} → takes ≡ false → Reports (bad_unary token op (ty_of T t r)) d m u.told d' m' x → q ≡ told_of n u x Poison →
@@ -82,7 +96,8 @@ module _ (T : Texts) (s t d m : List ℕ) (u : Used) (n slot token op right : �
   unary_bad z p hq ls v = record { step = λ rest. unary-is ls v rest ∙ rw (z, hq) ((poisons-step n p).step rest) }
 
 -- ---- cast
-module _ (T : Texts) (s t d m : List ℕ) (u : Used) (n slot token left to : ℕ) {l kl kt : ℕ} {casts : Bool} (hl : l ≡ get_or s left 0) (hkl : kl ≡ kind_of l) (hkt : kt ≡ kind_of to) (hc : casts ≡ castable kl kt) where
+module _ (T : Texts) (s t d m : List ℕ) (u : Used) (n slot token left to : ℕ) {l : ℕ} {kl kt : TypeKind} {casts : Bool} (hl : l ≡ get_or s left 0)
+    (hkl : kl ≡ kind_of_type (kind_of l)) (hkt : kt ≡ kind_of_type (kind_of to)) (hc : casts ≡ castable (number_of_type kl) (number_of_type kt)) where
   cast_is :
       (ls : List Package) (v : ℕ) (rest : Rest) →
       cast (ctx T ls v) n slot token left to (world rest s t d m u)
@@ -90,7 +105,7 @@ module _ (T : Texts) (s t d m : List ℕ) (u : Used) (n slot token left to : ℕ
       (when (same_ty (ty_of T t l) (ty_of T t to)) (report n (redundant_cast token (ty_of T t l)) >> set_known slot to) (poison n (bad_cast token (ty_of T t l) (ty_of T t to))))
       (world rest s t d m u)
   unfolding cast ty tree
-  cast_is ls v rest = rw (hc, hkl, hkt, hl)
+  cast_is ls v rest = rw (hc, castable-by-kinds (kind_of l) (kind_of to) hkl hkt, hl)
 
   pub cast-known :
       {s' : List ℕ} {q : Step Answer} → casts ≡ true → ((t d m : List ℕ) → Steps (set_known slot to) s t d m u s' t d m q) →

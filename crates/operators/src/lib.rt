@@ -4,15 +4,17 @@
 
 ghost use Rattle.std.specs.Prelude.{◌≡◌, ◌&&◌, ◌||◌, List, ℕ, ◌<◌, cond, eqb, leb, set, None, Some};
 ghost use Rattle.tok.specs.Word.{word_of};
+ghost use Rattle.ptype.specs.TypeKind.{kind_of_type, number_of_type};
 ghost use Rattle.library.specs.Package.{Package};
 ghost use Rattle.rules.specs.Steps.{set_known};
 ghost use Rattle.rules.specs.Operators.{result_kind, fuse, unary, castable, cast};
 ghost use Rattle.state.specs.Context.{ctx};
 ghost use Rattle.state.specs.World.{Steps};
 
+use ptype::TypeKind;
 use rules::Answer;
 use state::{Step, Used};
-use tok::{Texts, kind, word_at};
+use tok::{Texts, word_at};
 
 // Slots.
 
@@ -34,11 +36,10 @@ pub fn set_known(slots: &mut [u32], used: Used, slot: u32, word: u32) -> Step<An
 }
 
 // The word of a kind that has no payload.
-fn plain_word(kind: u32) -> u32
-    requires { kind < 16 }
-    ensures { result ≡ word_of kind 0 }
+fn plain_word(kind: TypeKind) -> u32
+    ensures { result ≡ word_of (number_of_type kind) 0 }
 {
-    kind * 0x1000_0000
+    kind.number() * 0x1000_0000
 }
 
 // Operators.
@@ -91,20 +92,19 @@ const TABLES: [[[u8; 6]; 6]; 4] = [ARITHMETIC, REMAINDER, EQUALITY, ORDER];
 
 // The kind of an operator's result, by the kinds of its operands; none where it does not take them. The tables keep a kind in a byte: each
 // operator's visit holds a copy of them in its frame.
-fn result_kind(op: u32, left: u32, right: u32) -> Option<u32>
-    ensures { let k = result_kind op left right in result ≡ cond (eqb k 0) None (Some k) }
+fn result_kind(op: u32, left: TypeKind, right: TypeKind) -> Option<TypeKind>
+    ensures { let k = result_kind op (number_of_type left) (number_of_type right) in result ≡ cond (eqb k 0) None (Some (kind_of_type k)) }
 {
     let class = err_text::class_of(op);
-    let l = left as usize;
-    let r = right as usize;
+    let l = left.number() as usize;
+    let r = right.number() as usize;
     if class >= 4 || l >= 6 || r >= 6 {
         return None;
     }
-    let k = TABLES[class][l][r];
-    if k == 0 {
-        return None;
+    match TypeKind::from(TABLES[class][l][r] as u32) {
+        TypeKind::None => None,
+        kind => Some(kind),
     }
-    Some(k as u32)
 }
 
 // Typechecker::fuse, of two slots: the table's type; else 4 where both types are equal, 5 where they differ.
@@ -127,8 +127,8 @@ pub fn fuse(
 {
     let l = word_at(slots, left as usize);
     let r = word_at(slots, right as usize);
-    if let Some(k) = result_kind(op, kind(l), kind(r)) {
-        return set_known(slots, used, slot, plain_word(k));
+    if let Some(kind) = result_kind(op, TypeKind::of(l), TypeKind::of(r)) {
+        return set_known(slots, used, slot, plain_word(kind));
     }
     let counts = used.told;
     let free = err_text::first_free(messages, counts);
@@ -159,11 +159,14 @@ pub fn fuse(
     state::told(n, used, told, Answer::Poison)
 }
 
+// The number of the operator -; that of + is 0.
+const MINUS: u32 = 1;
+
 // Whether a unary operator takes a kind: + and - take Int and Double.
-fn takes(op: u32, kind: u32) -> bool
-    ensures { result ≡ leb op 1 && (eqb kind 3 || eqb kind 4) }
+fn takes(op: u32, kind: TypeKind) -> bool
+    ensures { result ≡ leb op 1 && (eqb (number_of_type kind) 3 || eqb (number_of_type kind) 4) }
 {
-    op <= 1 && (kind == 3 || kind == 4)
+    op <= MINUS && matches!(kind, TypeKind::Int | TypeKind::Double)
 }
 
 // The Unary arm, of a slot: Int or Double under + or -, else 6.
@@ -184,9 +187,9 @@ pub fn unary(
         used slots.new types.now diagnostics.new messages.new result) }
 {
     let r = word_at(slots, right as usize);
-    let k = kind(r);
-    if takes(op, k) {
-        return set_known(slots, used, slot, plain_word(k));
+    let kind = TypeKind::of(r);
+    if takes(op, kind) {
+        return set_known(slots, used, slot, plain_word(kind));
     }
     let counts = used.told;
     let free = err_text::first_free(messages, counts);
@@ -207,13 +210,14 @@ pub fn unary(
 
 // Whether there is a cast from one kind to another.
 #[tactic(auto, unfolding(rules::specs::Operators::castable))]
-fn castable(from: u32, to: u32) -> bool
-    ensures { result ≡ castable from to }
+fn castable(from: TypeKind, to: TypeKind) -> bool
+    ensures { result ≡ castable (number_of_type from) (number_of_type to) }
 {
-    (from == 3 && to == 4)
-        || (from == 4 && to == 3)
-        || (from == 2 && to == 3)
-        || (from == 3 && to == 2)
+    match from {
+        TypeKind::Int => matches!(to, TypeKind::Double | TypeKind::Bool),
+        TypeKind::Double | TypeKind::Bool => matches!(to, TypeKind::Int),
+        _ => false,
+    }
 }
 
 // Typechecker::cast, of a slot to a type: a cast to the same type is reported (10), yet known; one that does not exist is 11.
@@ -234,7 +238,7 @@ pub fn cast(
         slots.new types.now diagnostics.new messages.new result) }
 {
     let i = word_at(slots, left as usize);
-    if castable(kind(i), kind(to)) {
+    if castable(TypeKind::of(i), TypeKind::of(to)) {
         return set_known(slots, used, slot, to);
     }
     let counts = used.told;

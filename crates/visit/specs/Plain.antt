@@ -9,10 +9,7 @@ use Rattle.state.specs.World.{More, Step, stepped, Steps}
 use Rattle.visit.specs.declared.State.{State}
 use Rattle.visit.specs.Whole.{Visit, lent, rest_of, visited}
 use Rattle.visit.specs.Within.{Within, Keeps, goes, stops, Visits}
-
--- the state with other used counts
-abbrev pub with_used : State → Used → State
-with_used st u = record { used = u; base = st.base; depth = st.depth; held = st.held; packages = st.packages; functions = st.functions }
+pub use Rattle.visit.specs.Within.{with_used}
 
 -- what a plain step gives is what the walk gives, with the rest of the state as it was
 unfoldable pub visit_of : {A : Type 0} → State → Step A → Visit A

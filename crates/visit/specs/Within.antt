@@ -4,9 +4,15 @@ use Rattle.std.specs.Prelude.{ℕ, ◌+◌, ◌*◌, ◌≤◌, ◌≡◌, List,
 use Rattle.std.proofs.Common.{sym, ap, ◌∙◌, arith, take-take}
 use Rattle.rules.specs.World.{Walk}
 use Rattle.state.specs.declared.Refusal.{Refusal}
+use Rattle.state.specs.declared.Used.{Used}
+use Rattle.state.specs.World.{More}
 use Rattle.visit.specs.declared.State.{State}
-use Rattle.visit.specs.Whole.{Lent, Visit, function_words, whole, visited}
+use Rattle.visit.specs.Whole.{Lent, lent, Visit, function_words, whole, visited}
 use Rattle.visit.specs.Reach.{held_reach}
+
+-- the state with other used counts
+abbrev pub with_used : State → Used → State
+with_used st u = record { used = u; base = st.base; depth = st.depth; held = st.held; packages = st.packages; functions = st.functions }
 
 -- the words of scratch below those of the next name in scope
 abbrev pub top : State → ℕ
@@ -43,9 +49,11 @@ within-then {s₁ = s₁} {s₂ = s₂} {b₂ = b₂} {b₃ = b₃} p q =
       functions = q.functions ∙ p.functions;
     }
 
--- as much room as was asked for, or more
-pub within-most : {r w r' w' : ℕ} {s₁ s₂ : State} {b₁ b₂ : Lent} → Within r w s₁ b₁ s₂ b₂ → r ≤ r' → w ≤ w' → Within r' w' s₁ b₁ s₂ b₂
-within-most p h k = record {
+-- It does not go by what else was used, nor by the other buffers: it is the same seen from a state before or after, between which no more than
+-- these changed. And it holds with as much room as was asked for, or more.
+pub within-from : {r w r' w' : ℕ} {s₁ s₂ : State} {b₁ b₂ : Lent} {u : Used} {s t d m : List ℕ} {o : More} → Within r w s₁ b₁ s₂ b₂ → r ≤ r' → w ≤ w'
+    → Within r' w' (with_used s₁ u) (lent s b₁.functions t d m b₁.scratch o) s₂ b₂
+within-from p h k = record {
   base = p.base;
   deeper = p.deeper;
   taken = omega (arith, p.taken);
@@ -56,6 +64,9 @@ within-most p h k = record {
   scratch = p.scratch;
   functions = p.functions;
 }
+
+pub within-most : {r w r' w' : ℕ} {s₁ s₂ : State} {b₁ b₂ : Lent} → Within r w s₁ b₁ s₂ b₂ → r ≤ r' → w ≤ w' → Within r' w' s₁ b₁ s₂ b₂
+within-most p h k = within-from p h k
 
 -- Where it ended without a refusal, it kept within that.
 pub data Keeps {A : Type 0} (room rows : ℕ) (st : State) (b b' : Lent) : Visit A → Type 0 where
