@@ -1,12 +1,13 @@
 -- The lowest place at which the rule on groups fails, group by group. Assumes nothing.
-use Prim.Native.Nat.{ℕ, ◌+◌, ◌≤◌, ◌<◌, min}
+use Prim.Native.Nat.{ℕ, ◌+◌, ◌-◌, ◌≤◌, ◌<◌, min}
 use mathlib.Core.Path.{◌≡◌, sym, ap, subst, ◌∙◌}
 use mathlib.Core.Logic.{◌⊎◌, inl, inr}
 use mathlib.Core.Bool.{true}
 use mathlib.Core.List.{List}
 use native.Mathlib.Omega.{arith}
 use native.Mathlib.Decide.{dec_lt, ℕ_discrete}
-use lib.ListN.{get_or}
+use lib.ListN.{length, get_or, take, drop}
+use Rattle.std.proofs.Common.{get_or-take, get_or-drop, length-take-le, length-drop}
 use Rattle.tok.specs.Text.{Texts}
 use Rattle.name_order.specs.Order.{place_in, name_of, Grouped, GroupEnd}
 use Rattle.name_order.specs.OrderLaws.{Begins, begins-first, begins-next, group-is}
@@ -47,6 +48,29 @@ module _ (words order : List ℕ) (at low most : ℕ) where
 
   pub faults-done : (end i best : ℕ) → end ≤ i → FaultsFrom words order at i low most best → FaultsFrom words order at end low most best
   faults-done end i best l h = record { limit = h.limit; found = λ j m o. h.found j m (omega arith) }
+
+-- The same, found in the group's own ranks.
+module _ (order : List ℕ) (at end : ℕ) (l : at ≤ end) (within : end ≤ length order) where
+  abbrev group : List ℕ
+  group = take (end - at) (drop at order)
+
+  long : length group ≡ end - at
+  long = length-take-le (end - at) (drop at order) (omega (arith, length-drop at order))
+
+  there : (i : ℕ) → at ≤ i → i < end → get_or group (i - at) 0 ≡ get_or order i 0
+  there i m o =
+      let back : at + (i - at) ≡ i = omega arith in
+      get_or-take (end - at) (drop at order) (i - at) 0 (omega arith) ∙ get_or-drop at order (i - at) 0 ∙ ap (λ j. get_or order j 0) back
+
+  pub lowest_there : {low : ℕ} → Lowest group 0 (length group) low → Lowest order at end low
+  lowest_there h = record { each = λ i m o. omega (arith, h.each (i - at) (omega arith) (omega (arith, long)), ap place_in (there i m o)) }
+
+  pub faults_there : {words : List ℕ} {low most r : ℕ} → FaultsFrom words group 0 (length group) low most r → FaultsFrom words order at end low most r
+  faults_there {words} {low} {most} {r} h = record {
+    limit = h.limit;
+    found = λ i m o. subst (λ e. (place_in e ≡ low → ⊥) → (slotted words low ≡ true) ⊎ (slotted words (place_in e) ≡ true) → r ≤ place_in e)
+        (there i m o) (h.found (i - at) (omega arith) (omega (arith, long)));
+  }
 
 -- ── All groups ──
 

@@ -6,8 +6,9 @@ use mathlib.Core.List.{List}
 use native.Mathlib.Omega.{arith}
 use native.Mathlib.Decide.{dec_lt, ℕ_discrete}
 use native.Mathlib.Numerals.{add-one}
-use lib.ListN.{length, get_or, set, length-set}
+use lib.ListN.{length, get_or, set, take, length-set}
 use lib.Seq.{get_or-set_same, get_or-set_other}
+use Rattle.std.proofs.Common.{get_or-take, length-take-le}
 use Rattle.library.specs.Package.{function_end, functions_end}
 use Rattle.name_order.specs.Order.{place_in}
 use Rattle.library_groups.specs.Kept.{slotted, FunctionsListed, ListedEnd, NoneSlotted}
@@ -63,6 +64,17 @@ module _ {words : List ℕ} {from : ℕ} {before order : List ℕ} {at k : ℕ} 
 
   pub placing_done : FunctionsListed words from order k
   placing_done = record { ranks = h.ranks; few = omega (arith, h.few, h.long) }
+
+-- the list cut to what is listed
+pub listed_cut : {words : List ℕ} {from : ℕ} {order : List ℕ} {n : ℕ} → FunctionsListed words from order n
+    → FunctionsListed words from (take n order) (length (take n order))
+listed_cut {words} {from} {order} {n} h = record {
+  ranks = λ k l. ap place_in (get_or-take n order k 0 (omega (arith, long))) ∙ h.ranks k (omega (arith, long));
+  few = omega arith;
+}
+  where
+    long : length (take n order) ≡ n
+    long = length-take-le n order h.few
 
 -- ── The end of those listed ──
 

@@ -2,7 +2,7 @@
 // order of their names. Functions from there on are asked one by one (crate library_read).
 #![tactic(auto)]
 
-ghost use Rattle.std.specs.Prelude.{◌≡◌};
+ghost use Rattle.std.specs.Prelude.{◌≡◌, ℕ, length};
 ghost use Rattle.tok.specs.Text.{Texts};
 ghost use Rattle.library_groups.specs.Kept.{GroupsKept, FunctionsListed, ListedEnd, NoneSlotted, Lowest, FaultAt, FaultsFrom, FirstFault};
 ghost use Rattle.name_order.specs.Order.{Grouped};
@@ -27,20 +27,20 @@ fn function_places(words: &[u32], from: usize, count: usize, order: &mut [u16]) 
 }
 
 // The place after the last of them.
-fn listed_end(words: &[u32], from: usize, order: &[u16], n: usize) -> usize
-    ensures { FunctionsListed words.now from order.now n → ListedEnd words.now from n result }
+fn listed_end(words: &[u32], from: usize, order: &[u16]) -> usize
+    ensures { FunctionsListed words.now from order.now (length order.now) → ListedEnd words.now from (length order.now) result }
 {
-    if n == 0 {
+    if order.is_empty() {
         return from;
     }
-    library::function_end(words, name_order::place_at(order, n - 1))
+    library::function_end(words, name_order::place_at(order, order.len() - 1))
 }
 
 // Whether none of them has slots.
-fn none_slotted(words: &[u32], order: &[u16], n: usize) -> bool
-    ensures { NoneSlotted words.now order.now n result }
+fn none_slotted(words: &[u32], order: &[u16]) -> bool
+    ensures { NoneSlotted words.now order.now (length order.now) result }
 {
-    for i in 0..n {
+    for i in 0..order.len() {
         if library::with_slots(words, name_order::place_at(order, i)) {
             return false;
         }
@@ -49,12 +49,12 @@ fn none_slotted(words: &[u32], order: &[u16], n: usize) -> bool
 }
 
 // The lowest place of a group.
-fn lowest(order: &[u16], at: usize, end: usize) -> usize
-    ensures { Lowest order.now at end result }
+fn lowest(group: &[u16]) -> usize
+    ensures { Lowest group.now 0 (length group.now) result }
 {
-    let mut low = name_order::place_at(order, at);
-    for i in at..end {
-        low = low.min(name_order::place_at(order, i));
+    let mut low = name_order::place_at(group, 0);
+    for i in 0..group.len() {
+        low = low.min(name_order::place_at(group, i));
     }
     low
 }
@@ -71,26 +71,27 @@ fn fault_at(words: &[u32], low: usize, p: usize, most: usize) -> usize
 }
 
 // The lower of `most` and the lowest such place of a group.
-fn fault_in(words: &[u32], order: &[u16], at: usize, end: usize, low: usize, most: usize) -> usize
-    ensures { FaultsFrom words.now order.now at end low most result }
+fn fault_in(words: &[u32], group: &[u16], low: usize, most: usize) -> usize
+    ensures { FaultsFrom words.now group.now 0 (length group.now) low most result }
 {
     let mut best = most;
-    for i in at..end {
-        best = fault_at(words, low, name_order::place_at(order, i), best);
+    for i in 0..group.len() {
+        best = fault_at(words, low, name_order::place_at(group, i), best);
     }
     best
 }
 
 // The same of all groups.
-fn first_fault(words: &[u32], order: &[u16], n: usize, most: usize) -> usize
-    ensures { (t : Texts) → Grouped t words.now order.now n → FirstFault t words.now order.now n most result }
+fn first_fault(words: &[u32], order: &[u16], most: usize) -> usize
+    ensures { let n : ℕ = length order.now in
+        (t : Texts) → Grouped t words.now order.now n → FirstFault t words.now order.now n most result }
 {
     let mut best = most;
     let mut at = 0;
-    while at < n {
-        let end = name_order::group_end(order, at, n);
-        let low = lowest(order, at, end);
-        best = fault_in(words, order, at, end, low, best);
+    while at < order.len() {
+        let end = name_order::group_end(order, at);
+        let group = &order[at..end];
+        best = fault_in(words, group, lowest(group), best);
         at = end;
     }
     best
@@ -102,12 +103,13 @@ pub fn kept_up_to(texts: &Texts, words: &[u32], from: usize, count: usize) -> us
 {
     let mut order = [0u16; 2048];
     let n = function_places(words, from, count, &mut order);
-    let end = listed_end(words, from, &order, n);
-    if none_slotted(words, &order, n) {
+    let listed = &mut order[..n];
+    let end = listed_end(words, from, listed);
+    if none_slotted(words, listed) {
         return end;
     }
-    if name_order::group_names(texts, words, &mut order, n) {
-        return first_fault(words, &order, n, end);
+    if name_order::group_names(texts, words, listed) {
+        return first_fault(words, listed, end);
     }
     from
 }

@@ -73,22 +73,22 @@ fn word_of(words: &[u32], order: &[u16], i: usize) -> u32
 
 // Two entries change places.
 fn swap(order: &mut [u16], i: usize, j: usize)
-    ensures { (n : ℕ) → i < n → j < n → n ≤ length order.old → Rearranged order.old order.new n }
+    ensures { Rearranged order.old order.new (length order.old) }
 {
     if i < order.len() && j < order.len() {
         order.swap(i, j);
     }
 }
 
-// The sort: a heap of the first `end` entries, the last name on top.
+// The sort: a heap of the entries, the last name on top.
 
 // The one of two children of an entry whose name comes last.
-fn later_child(texts: &Texts, words: &[u32], order: &[u16], at: usize, end: usize) -> usize
-    requires { 2 * at + 1 < end }
-    ensures { (at < result) × (result < end) }
+fn later_child(texts: &Texts, words: &[u32], order: &[u16], at: usize) -> usize
+    requires { 2 * at + 1 < length order.now }
+    ensures { (at < result) × (result < length order.now) }
 {
     let child = 2 * at + 1;
-    if child + 1 >= end {
+    if child + 1 >= order.len() {
         return child;
     }
     let a = word_of(words, order, child);
@@ -100,12 +100,12 @@ fn later_child(texts: &Texts, words: &[u32], order: &[u16], at: usize, end: usiz
 }
 
 // An entry goes down until no child comes after it.
-fn sift(texts: &Texts, words: &[u32], order: &mut [u16], root: usize, end: usize)
-    ensures { (n : ℕ) → end ≤ n → n ≤ length order.old → Rearranged order.old order.new n }
+fn sift(texts: &Texts, words: &[u32], order: &mut [u16], root: usize)
+    ensures { Rearranged order.old order.new (length order.old) }
 {
     let mut at = root;
-    while at < end / 2 {
-        let child = later_child(texts, words, order, at, end);
+    while at < order.len() / 2 {
+        let child = later_child(texts, words, order, at);
         let a = word_of(words, order, at);
         let b = word_of(words, order, child);
         if !name_before(texts, a, b) {
@@ -116,21 +116,21 @@ fn sift(texts: &Texts, words: &[u32], order: &mut [u16], root: usize, end: usize
     }
 }
 
-fn make_heap(texts: &Texts, words: &[u32], order: &mut [u16], end: usize)
-    ensures { (n : ℕ) → end ≤ n → n ≤ length order.old → Rearranged order.old order.new n }
+fn make_heap(texts: &Texts, words: &[u32], order: &mut [u16])
+    ensures { Rearranged order.old order.new (length order.old) }
 {
-    for i in (0..end / 2).rev() {
-        sift(texts, words, order, i, end);
+    for i in (0..order.len() / 2).rev() {
+        sift(texts, words, order, i);
     }
 }
 
 // The last name of the heap goes behind it, again and again.
-fn take_heap(texts: &Texts, words: &[u32], order: &mut [u16], end: usize)
-    ensures { (n : ℕ) → end ≤ n → n ≤ length order.old → Rearranged order.old order.new n }
+fn take_heap(texts: &Texts, words: &[u32], order: &mut [u16])
+    ensures { Rearranged order.old order.new (length order.old) }
 {
-    for left in (1..end).rev() {
+    for left in (1..order.len()).rev() {
         swap(order, 0, left);
-        sift(texts, words, order, 0, left);
+        sift(texts, words, &mut order[..left], 0);
     }
 }
 
@@ -161,10 +161,10 @@ pub fn enter(order: &mut [u16], rank: usize, place: usize)
 }
 
 // Each entry is told whether its name is that of the one before it; false where the names are not in order.
-fn split(texts: &Texts, words: &[u32], order: &mut [u16], end: usize) -> bool
-    ensures { (end ≤ length order.old → Split texts.now words.now order.old order.new end result) }
+fn split(texts: &Texts, words: &[u32], order: &mut [u16]) -> bool
+    ensures { Split texts.now words.now order.old order.new (length order.old) result }
 {
-    for i in 1..end {
+    for i in 1..order.len() {
         let a = word_of(words, order, i - 1);
         let b = word_of(words, order, i);
         let new = name_before(texts, a, b);
@@ -177,24 +177,24 @@ fn split(texts: &Texts, words: &[u32], order: &mut [u16], end: usize) -> bool
     true
 }
 
-// The first n entries sorted by name and grouped; false where that did not succeed.
-pub fn group_names(texts: &Texts, words: &[u32], order: &mut [u16], n: usize) -> bool
-    ensures { (n ≤ length order.old → Grouping texts.now words.now order.old order.new n result) }
+// The entries sorted by name and grouped; false where that did not succeed.
+pub fn group_names(texts: &Texts, words: &[u32], order: &mut [u16]) -> bool
+    ensures { Grouping texts.now words.now order.old order.new (length order.old) result }
 {
-    make_heap(texts, words, order, n);
-    take_heap(texts, words, order, n);
-    split(texts, words, order, n)
+    make_heap(texts, words, order);
+    take_heap(texts, words, order);
+    split(texts, words, order)
 }
 
-// Where the group ends that begins at a rank: at the next new name, or with the last of n entries.
-pub fn group_end(order: &[u16], at: usize, n: usize) -> usize
-    requires { at < n }
-    ensures { GroupEnd order.now at n result }
+// Where the group ends that begins at a rank: at the next new name, or with the last entry.
+pub fn group_end(order: &[u16], at: usize) -> usize
+    requires { at < length order.now }
+    ensures { GroupEnd order.now at (length order.now) result }
 {
-    for i in at + 1..n {
+    for i in at + 1..order.len() {
         if entry_at(order, i) % 2 == 1 {
             return i;
         }
     }
-    n
+    order.len()
 }

@@ -4,4 +4,4 @@ use Rattle.library_groups.specs.Kept.{FaultsFrom}
 use Rattle.library_groups.proofs.fault_in.Given as goal
 
 abbrev pub invariant-loop-i : goal.invariant-loop-i
-invariant-loop-i l = FaultsFrom l.words l.order l.at l.i l.low l.most l.best
+invariant-loop-i l = FaultsFrom l.words l.group 0 l.i l.low l.most l.best

@@ -4,4 +4,4 @@ use Rattle.library_groups.specs.Kept.{Lowest}
 use Rattle.library_groups.proofs.lowest.Given as goal
 
 abbrev pub invariant-loop-i : goal.invariant-loop-i
-invariant-loop-i l = Lowest l.order l.at l.i l.low
+invariant-loop-i l = Lowest l.group 0 l.i l.low

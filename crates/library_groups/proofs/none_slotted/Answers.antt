@@ -1,4 +1,5 @@
 use native.Mathlib.Omega.{arith}
+use lib.ListN.{length}
 use Rattle.library_groups.proofs.PlaceWays.{none-past, none-yes, none-no}
 use Rattle.library_groups.proofs.none_slotted.Goals as goal
 
@@ -10,7 +11,7 @@ returns-then-with_slots c = none-no _ _ _
 
 pub loop-i-preserved : goal.loop-i-preserved
 loop-i-preserved c =
-    none-past c.args.words.now c.args.order.now c.args.n _ c.loop-i.invariant c.place_at.ensures c.with_slots.ensures c.if-with_slots.false
+    none-past c.args.words.now c.args.order.now (length c.args.order.now) _ c.loop-i.invariant c.place_at.ensures c.with_slots.ensures c.if-with_slots.false
 
 pub returns : goal.returns
 returns c = none-yes _ _ _ _ c.loop-i-test.false c.loop-i.invariant

@@ -1,11 +1,7 @@
 -- `name_order::split` meets its contract. The loop's invariant, `Telling`: the entries before rank i are told.
 -- Assumes nothing.
-use Prim.Native.Nat.{◌≤◌}
-use mathlib.Core.Path.{◌≡◌}
-use lib.ListN.{length}
-use Rattle.tok.specs.Text.{texts_of}
 use Rattle.name_order.proofs.SplitWays.{Telling}
 use Rattle.name_order.proofs.split.Given as goal
 
 abbrev pub invariant-loop-i : goal.invariant-loop-i
-invariant-loop-i l = (length l.order ≡ length l.initial.order) × (l.end ≤ length l.initial.order → Telling l.texts l.words l.initial.order l.order l.i)
+invariant-loop-i l = Telling l.texts l.words l.initial.order l.order l.i
