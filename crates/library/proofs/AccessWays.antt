@@ -11,6 +11,7 @@ use lib.Seq.{take_all, take-length, take-nil}
 use lib.Dec.{eqb}
 use Rattle.tok.specs.Text.{Texts, name_bytes, same_bytes}
 use Rattle.library.specs.Package.{param, params_from, function_at, function_end, functions_from, functions_end, packages_from, packages_of, find_package, group_of}
+use Rattle.library.specs.Access.{params_at, return_at}
 use Rattle.library.specs.PackagesRead.{package_at, package_end}
 use Rattle.library.specs.Past.{functions_end-after, functions-held, packages-held, functions_end-held}
 
@@ -147,7 +148,7 @@ module _ (t : Texts) (name words : List ℕ) (from k : ℕ) where
         let s : left ≡ 0 = omega arith in
         h ∙ ap (λ n. group_of t name (functions_from words at n)) s
 
--- ── The parts of a function ──
+-- ── The parts of a signature ──
 
 length-params : (words : List ℕ) (k at : ℕ) → length (params_from words at k) ≡ k
 unfolding params_from
@@ -162,41 +163,55 @@ get_d_params words (suc k) at zero j l e =
     rw s refl
 get_d_params words (suc k) at (suc i) j l e = get_d_params words k (at + 2) i j (omega arith) (omega arith)
 
+module _ (words : List ℕ) (at : ℕ) {n : ℕ} (en : n ≡ get_or words at 0) where
+  pub count-is : n ≡ length (params_at words at)
+  count-is = en ∙ sym (length-params words (get_or words at 0) (at + 1))
+
+  pub return-is : {w : ℕ} → w ≡ get_or words (at + (1 + 2 * n)) 0 → w ≡ return_at words at
+  return-is e =
+      let p : at + (1 + 2 * n) ≡ at + 1 + 2 * get_or words at 0 = omega arith in
+      e ∙ ap (λ q. get_or words q 0) p
+
+  module _ (i : ℕ) where
+    param-none : n ≤ i → get_or (params_at words at) i (param 0 0) ≡ param 0 0
+    param-none l = get_or-eq_default (params_at words at) (param 0 0) (rw length-params (omega arith))
+
+    param_is : i < n → get_or (params_at words at) i (param 0 0) ≡ param (get_or words (at + (1 + 2 * i)) 0) (get_or words (at + (2 + 2 * i)) 0)
+    param_is l =
+        let p : at + (1 + 2 * i) + 1 ≡ at + (2 + 2 * i) = omega arith in
+        get_d_params words (get_or words at 0) (at + 1) i (at + (1 + 2 * i)) (omega arith) (omega arith) ∙ ap (λ q. param (get_or words (at + (1 + 2 * i)) 0) (get_or words q 0)) p
+
+    pub name-none : n ≤ i → 0 ≡ (get_or (params_at words at) i (param 0 0)).name
+    name-none l = sym (ap (λ a. a.name) (param-none l))
+
+    pub name-is : {w : ℕ} → i < n → w ≡ get_or words (at + (1 + 2 * i)) 0 → w ≡ (get_or (params_at words at) i (param 0 0)).name
+    name-is l e = e ∙ sym (ap (λ a. a.name) (param_is l))
+
+    pub type-none : n ≤ i → 0 ≡ (get_or (params_at words at) i (param 0 0)).type
+    type-none l = sym (ap (λ a. a.type) (param-none l))
+
+    pub type-is : {w : ℕ} → i < n → w ≡ get_or words (at + (2 + 2 * i)) 0 → w ≡ (get_or (params_at words at) i (param 0 0)).type
+    type-is l e = e ∙ sym (ap (λ a. a.type) (param_is l))
+
+-- ── The parts of a function ──
+
 module _ (words : List ℕ) (at : ℕ) where
   pub slots-are : {w : ℕ} → w ≡ get_or words (at + 1) 0 → eqb w 1 ≡ (function_at words at).sig.with_slots
   unfolding function_at
   slots-are e = rw e refl
 
-  module _ {n : ℕ} (en : n ≡ get_or words (at + 2) 0) where
-    pub count-is : n ≡ length (function_at words at).sig.params
-    unfolding function_at
-    count-is = en ∙ sym (length-params words (get_or words (at + 2) 0) (at + 3))
-
-    pub return-is : {w : ℕ} → w ≡ get_or words (at + (3 + 2 * n)) 0 → w ≡ (function_at words at).sig.ret
-    unfolding function_at
-    return-is e =
-        let p : at + (3 + 2 * n) ≡ at + 3 + 2 * get_or words (at + 2) 0 = omega arith in
-        e ∙ ap (λ q. get_or words q 0) p
-
-    module _ (i : ℕ) where
-      param-none : n ≤ i → get_or (function_at words at).sig.params i (param 0 0) ≡ param 0 0
-      unfolding function_at
-      param-none l = get_or-eq_default (params_from words (at + 3) (get_or words (at + 2) 0)) (param 0 0) (rw length-params (omega arith))
-
-      param_is : i < n → get_or (function_at words at).sig.params i (param 0 0) ≡ param (get_or words (at + (3 + 2 * i)) 0) (get_or words (at + (4 + 2 * i)) 0)
-      unfolding function_at
-      param_is l =
-          let p : at + (3 + 2 * i) + 1 ≡ at + (4 + 2 * i) = omega arith in
-          get_d_params words (get_or words (at + 2) 0) (at + 3) i (at + (3 + 2 * i)) (omega arith) (omega arith) ∙ ap (λ q. param (get_or words (at + (3 + 2 * i)) 0) (get_or words q 0)) p
-
-      pub name-none : n ≤ i → 0 ≡ (get_or (function_at words at).sig.params i (param 0 0)).name
-      name-none l = sym (ap (λ a. a.name) (param-none l))
-
-      pub name-is : {w : ℕ} → i < n → w ≡ get_or words (at + (3 + 2 * i)) 0 → w ≡ (get_or (function_at words at).sig.params i (param 0 0)).name
-      name-is l e = e ∙ sym (ap (λ a. a.name) (param_is l))
-
-      pub type-none : n ≤ i → 0 ≡ (get_or (function_at words at).sig.params i (param 0 0)).type
-      type-none l = sym (ap (λ a. a.type) (param-none l))
-
-      pub type-is : {w : ℕ} → i < n → w ≡ get_or words (at + (4 + 2 * i)) 0 → w ≡ (get_or (function_at words at).sig.params i (param 0 0)).type
-      type-is l e = e ∙ sym (ap (λ a. a.type) (param_is l))
+  -- its signature stands after its group name and the flag; past the end of the words it has no arguments, and returns word 0
+  pub signature-at : {place : ℕ} → place ≡ min at (length words) + 2 → (params_at words place ≡ (function_at words at).sig.params) × (return_at words place ≡ (function_at words at).sig.ret)
+  unfolding function_at params_from
+  signature-at {place} e = elim (dec_le at (length words)) [
+    | yes l ↦
+        let p : place ≡ at + 2 = omega arith in
+        let q : at + 2 + 1 ≡ at + 3 = omega arith in
+        rw (p, q) (refl, refl)
+    | no l ↦
+        let p : get_or words place 0 ≡ 0 = get_or-eq_default words 0 (omega arith) in
+        let q : get_or words (at + 2) 0 ≡ 0 = get_or-eq_default words 0 (omega arith) in
+        let r : get_or words (place + 1 + 2 * 0) 0 ≡ 0 = get_or-eq_default words 0 (omega arith) in
+        let s : get_or words (at + 3 + 2 * 0) 0 ≡ 0 = get_or-eq_default words 0 (omega arith) in
+        rw (p, q) (refl, r ∙ sym s)
+  ]

@@ -1,13 +1,13 @@
 -- Laws of entries: those of the library are its functions; a place may be held to the end of the words. By induction on how many there are.
 -- Assumes nothing.
 use Prim.Native.Nat.{ℕ, zero, suc, ◌+◌, ◌*◌, ◌≤◌, min}
-use Rattle.std.specs.Prelude.{◌≡◌, Bool, List, [], ◌∷◌, length, eqb}
+use Rattle.std.specs.Prelude.{◌≡◌, List, [], ◌∷◌, length}
 use Rattle.std.proofs.Math.Path.{refl, sym, ap₂}
 use Rattle.std.proofs.Common.{ap, ◌∙◌, arith}
 use Rattle.std.proofs.Math.Decide.{dec_le}
 use Rattle.std.proofs.Math.ListN.{get_or, get_or-eq_default}
-use Rattle.library.specs.Package.{Function, signature, function, params_from, function_at, function_end, functions_from}
-use Rattle.state.specs.Signatures.{signature_at, slotted, entry_at, entry_end, entries_from}
+use Rattle.library.specs.Package.{params_from, function_at, function_end, functions_from}
+use Rattle.state.specs.Signatures.{signature_at, entry_at, entry_end, entries_from}
 
 -- ── With one flag, entries are the library's functions ──
 
