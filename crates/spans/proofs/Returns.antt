@@ -1,7 +1,8 @@
 -- Each return of `match_span`, `list_span` and `span_of`, over variables for what the calls gave: by the kind of the record. Assumes nothing.
-use Prim.Native.Nat.{ℕ, zero, suc, ◌+◌, ◌*◌, ◌-◌, ◌/◌, ◌<◌}
+use Prim.Native.Nat.{ℕ, zero, suc, ◌+◌, ◌*◌, ◌-◌, ◌/◌, ◌≤◌, ◌<◌}
 use mathlib.Core.Path.{◌≡◌, refl, sym, ap, ◌∙◌}
 use mathlib.Core.List.{List, ◌∷◌}
+use mathlib.Core.Logic.{◌⊎◌, inl, inr}
 use native.Mathlib.Omega.{arith}
 use lib.ListN.{get_or}
 use Rattle.tok.specs.Word.{kind_of, payload_of}
@@ -10,12 +11,37 @@ use Rattle.tok.specs.Span.{token_span, cover}
 use Rattle.tok.proofs.SpanLaws.{cover_spans-two}
 use Rattle.ast.specs.Image.{record_length}
 use Rattle.ast.specs.TypeExpr.{type_of}
+use Rattle.ast.specs.declared.NodeKind.{NodeKind}
+use Rattle.ast.specs.declared.NodeKind.TheVariants as node
+use Rattle.ast.specs.Kinds.{kind_of_node}
+use Rattle.ast.specs.KindLaws.{NodeNumber, node-number, node-not}
 use Rattle.ast.specs.Node.{tree_of, cases_end}
 use Rattle.ast.specs.Span.{type_span, span_of}
 use Rattle.places.specs.NodesAt.{NodeReady, length-there, node-atom, node-ident, node-bin, node-unary, node_let, node-fn, node-match, node_call, node-field, node-cast, node_import, node-extern, node_record, node-array}
 use Rattle.spans.specs.Covers.{cover_from, cover-append, cover-from, cover-three, token-whole, span-whole}
 use Rattle.spans.specs.Lists.{spans_at, value_spans_at, case_spans_at, token_spans_at, extern_spans_at}
-use Rattle.spans.specs.Ready.{MatchReady}
+use Rattle.spans.specs.Ready.{MatchReady, Listed, is-listed, is-array}
+
+-- ── The kind that `span_of` and `list_span` match on ──
+
+module _ {x : NodeKind} (k : ℕ) (e : x ≡ kind_of_node k) where
+  pub leaf-kind : (x ≡ node.Atom) ⊎ (x ≡ node.Ident) → k < 2
+  leaf-kind (inl q) = let n : NodeNumber node.Atom k = node-number k (sym q ∙ e) in omega (arith, n)
+  leaf-kind (inr q) = let n : NodeNumber node.Ident k = node-number k (sym q ∙ e) in omega (arith, n)
+
+  -- without the kinds that `span_of` names
+  pub listed-left : k < 14 → (x ≡ node.Atom → ⊥) → (x ≡ node.Ident → ⊥) → (x ≡ node.Bin → ⊥) → (x ≡ node.Unary → ⊥) → (x ≡ node.Let → ⊥)
+      → (x ≡ node.Field → ⊥) → (x ≡ node.Cast → ⊥) → Listed k
+  listed-left small a i b u l f c =
+      let na = node-not {y = node.Atom} _ e a in
+      let ni = node-not {y = node.Ident} _ e i in
+      let two : 2 ≤ k = omega (arith, na, ni) in
+      is-listed small two (node-not _ e b) (node-not _ e u) (node-not _ e l) (node-not _ e f) (node-not _ e c)
+
+  -- and without those that `list_span` names
+  pub array-left : Listed k → (x ≡ node.Fn → ⊥) → (x ≡ node.Match → ⊥) → (x ≡ node.Call → ⊥) → (x ≡ node.Import → ⊥) → (x ≡ node.Extern → ⊥)
+      → (x ≡ node.Record → ⊥) → k ≡ 13
+  array-left l f m c i t r = is-array l (node-not _ e f) (node-not _ e m) (node-not _ e c) (node-not _ e i) (node-not _ e t) (node-not _ e r)
 
 module _ {image places : List ℕ} {n at : ℕ} (r : NodeReady image places n) (e : at ≡ get_or places n 0) {h k : ℕ} (eh : h ≡ get_or image at 0) (ek : k ≡ kind_of h) where
   -- first: the token or name of most kinds

@@ -2,3 +2,4 @@
 pub mod Covers
 pub mod Lists
 pub mod Ready
+pub mod Seen

@@ -12,31 +12,9 @@ ghost use Rattle.spans.specs.Covers.{cover_from};
 ghost use Rattle.spans.specs.Lists.{spans_at, value_spans_at, case_spans_at, token_spans_at, arg_spans_at, extern_spans_at};
 ghost use Rattle.spans.specs.Ready.{NodesReady, ValuesReady, CasesReady, ArgsReady, ExternsReady, ListReady, MatchReady};
 
+use ast::NodeKind;
 use places::Image;
-use tok::{Span, cover_spans, kind, payload, token_span, wide, word_at};
-
-// The kinds of node records.
-const BIN: u32 = 2;
-
-const UNARY: u32 = 3;
-
-const LET: u32 = 4;
-
-const FN: u32 = 5;
-
-const MATCH: u32 = 6;
-
-const CALL: u32 = 7;
-
-const FIELD: u32 = 8;
-
-const CAST: u32 = 9;
-
-const IMPORT: u32 = 10;
-
-const EXTERN: u32 = 11;
-
-const RECORD: u32 = 12;
+use tok::{Span, cover_spans, payload, token_span, word_at};
 
 // The span of a type expression: that of its token.
 pub fn type_span(image: &Image, t: u32) -> Span
@@ -85,7 +63,7 @@ fn cover_externs(image: &Image, span: Span, at: usize, k: usize) -> Span
     let mut covered = span;
     let mut i = at;
     for _ in 0..k {
-        let count = wide(word_at(image.words, i + 2));
+        let count = word_at(image.words, i + 2) as usize;
         let named = cover_spans(covered, token_span(word_at(image.words, i)));
         let args = cover_args(image, named, i + 3, count);
         covered = cover_spans(args, type_span(image, word_at(image.words, i + 1)));
@@ -101,7 +79,7 @@ fn cases_end(image: &Image, owner: u32, at: usize, k: usize) -> usize
 {
     let mut i = at;
     for _ in 0..k {
-        i = i + 3 + wide(word_at(image.words, i + 2));
+        i = i + 3 + word_at(image.words, i + 2) as usize;
     }
     i
 }
@@ -146,7 +124,7 @@ fn cover_cases(image: &Image, owner: u32, span: Span, at: usize, k: usize) -> Sp
     let mut covered = span;
     let mut i = at;
     for _ in 0..k {
-        let count = wide(word_at(image.words, i + 2));
+        let count = word_at(image.words, i + 2) as usize;
         let begun = cover_spans(covered, token_span(word_at(image.words, i)));
         let tested = cover_spans(begun, span_of(image, word_at(image.words, i + 1)));
         covered = cover_nodes(image, owner, tested, i + 3, count);
@@ -163,7 +141,7 @@ fn match_span(image: &Image, n: u32, at: usize, end: usize) -> Span
     requires { MatchReady image.now.words image.now.places n at end }
     ensures { result ≡ span_of (tree_of image.now.words n) }
 {
-    let count = wide(word_at(image.words, at + 2));
+    let count = word_at(image.words, at + 2) as usize;
     let default = cases_end(image, n, at + 3, count);
     let first = token_span(word_at(image.words, default));
     let cases = cover_cases(image, n, first, at + 3, count);
@@ -176,31 +154,27 @@ fn list_span(image: &Image, n: u32, at: usize, head: u32) -> Span
     requires { ListReady image.now.words image.now.places n at head }
     ensures { result ≡ span_of (tree_of image.now.words n) }
 {
-    let k = kind(head);
     let long = payload(head);
     let first = token_span(word_at(image.words, at + 2));
-    if k == FN {
-        let words = 5 + 2 * wide(word_at(image.words, at + 4));
-        return cover_nodes(image, n, first, at + words, long - words);
+    match NodeKind::of(head) {
+        NodeKind::Fn => {
+            let words = 5 + 2 * (word_at(image.words, at + 4) as usize);
+            cover_nodes(image, n, first, at + words, long - words)
+        }
+        NodeKind::Match => match_span(image, n, at, at + long),
+        NodeKind::Call => {
+            let target = span_of(image, word_at(image.words, at + 2));
+            cover_nodes(image, n, target, at + 3, long - 3)
+        }
+        NodeKind::Import => cover_tokens(image.words, first, at + 3, long - 3),
+        NodeKind::Extern => {
+            let named = cover_spans(first, token_span(word_at(image.words, at + 3)));
+            cover_externs(image, named, at + 5, word_at(image.words, at + 4) as usize)
+        }
+        NodeKind::Record => cover_values(image, n, first, at + 3, (long - 3) / 2),
+        // an Array: no other kind has a list
+        _ => cover_nodes(image, n, first, at + 3, long - 3),
     }
-    if k == MATCH {
-        return match_span(image, n, at, at + long);
-    }
-    if k == CALL {
-        let target = span_of(image, word_at(image.words, at + 2));
-        return cover_nodes(image, n, target, at + 3, long - 3);
-    }
-    if k == IMPORT {
-        return cover_tokens(image.words, first, at + 3, long - 3);
-    }
-    if k == EXTERN {
-        let named = cover_spans(first, token_span(word_at(image.words, at + 3)));
-        return cover_externs(image, named, at + 5, wide(word_at(image.words, at + 4)));
-    }
-    if k == RECORD {
-        return cover_values(image, n, first, at + 3, (long - 3) / 2);
-    }
-    cover_nodes(image, n, first, at + 3, long - 3)
 }
 
 // The span of a node.
@@ -211,30 +185,25 @@ pub fn span_of(image: &Image, n: u32) -> Span
 {
     let at = image.node_place(n);
     let head = word_at(image.words, at);
-    let k = kind(head);
     let first = token_span(word_at(image.words, at + 2));
-    if k < BIN {
-        return first;
+    match NodeKind::of(head) {
+        NodeKind::Atom | NodeKind::Ident => first,
+        NodeKind::Bin => {
+            let left = span_of(image, word_at(image.words, at + 4));
+            let right = span_of(image, word_at(image.words, at + 5));
+            cover_spans(cover_spans(left, first), right)
+        }
+        NodeKind::Unary => cover_spans(first, span_of(image, word_at(image.words, at + 4))),
+        NodeKind::Let => cover_spans(first, span_of(image, word_at(image.words, at + 3))),
+        NodeKind::Field => {
+            let target = span_of(image, word_at(image.words, at + 2));
+            cover_spans(target, token_span(word_at(image.words, at + 3)))
+        }
+        NodeKind::Cast => {
+            let left = span_of(image, word_at(image.words, at + 3));
+            let ty = type_span(image, word_at(image.words, at + 4));
+            cover_spans(cover_spans(left, first), ty)
+        }
+        _ => list_span(image, n, at, head),
     }
-    if k == BIN {
-        let left = span_of(image, word_at(image.words, at + 4));
-        let right = span_of(image, word_at(image.words, at + 5));
-        return cover_spans(cover_spans(left, first), right);
-    }
-    if k == UNARY {
-        return cover_spans(first, span_of(image, word_at(image.words, at + 4)));
-    }
-    if k == LET {
-        return cover_spans(first, span_of(image, word_at(image.words, at + 3)));
-    }
-    if k == FIELD {
-        let target = span_of(image, word_at(image.words, at + 2));
-        return cover_spans(target, token_span(word_at(image.words, at + 3)));
-    }
-    if k == CAST {
-        let left = span_of(image, word_at(image.words, at + 3));
-        let ty = type_span(image, word_at(image.words, at + 4));
-        return cover_spans(cover_spans(left, first), ty);
-    }
-    list_span(image, n, at, head)
 }
