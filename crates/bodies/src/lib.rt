@@ -12,7 +12,7 @@ ghost use Rattle.bodies.specs.Bodies.{BeginReady, EndReady, Begins, end_at};
 
 use places::Image;
 use rules::Answer;
-use tok::{Texts, word_at};
+use tok::Texts;
 use visit::{State, Visit};
 
 // Up to the body, of the Fn whose record stands at a word of the image: the return type's word, and the state in which the body begins;
@@ -36,7 +36,7 @@ pub fn begin(
         let b' : Lent = lent slots.new functions.new types.new diagnostics.new messages.new scratch.new o in
         Begins (ctx texts.now ls v) image.now.words at n words st b b' result) }
 {
-    let name = word_at(image.words, at + 2);
+    let name = image.word_at(at + 2);
     let (is_new, used) = functions::unless_defined(
         &functions[..],
         diagnostics,
@@ -58,11 +58,11 @@ pub fn begin(
         image,
         visiting::inner(st),
         n,
-        word_at(image.words, at + 1) as usize + 1,
+        image.word_at(at + 1) as usize + 1,
         name,
-        word_at(image.words, at + 3),
+        image.word_at(at + 3),
         at + 5,
-        word_at(image.words, at + 4) as usize,
+        image.word_at(at + 4) as usize,
     )?;
     Ok((Some(ret), inner))
 }
@@ -97,9 +97,9 @@ pub fn end(
         image,
         inside.used,
         n,
-        word_at(image.words, at + 1),
-        word_at(image.words, at + 2),
-        word_at(image.words, at + 3),
+        image.word_at(at + 1),
+        image.word_at(at + 2),
+        image.word_at(at + 3),
         ret,
         computed,
     );

@@ -16,7 +16,6 @@ ghost use Rattle.extern_package.specs.Packing.{FunctionsRoom, WritesFunctions, E
 use places::Image;
 use rules::Answer;
 use state::{Step, Used};
-use tok::word_at;
 use visit::{State, Visit};
 
 // The word of Void.
@@ -42,7 +41,7 @@ pub fn extern_functions(
     let mut to = at;
     for _ in 0..count {
         (_, after) = externs::extern_function(types, scratch, image, after, n, place, to)?;
-        let size = 3 + 2 * (word_at(image.words, place + 2) as usize);
+        let size = 3 + 2 * (image.word_at(place + 2) as usize);
         place += size;
         to += size;
     }

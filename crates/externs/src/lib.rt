@@ -8,7 +8,6 @@ ghost use Rattle.externs.specs.Entries.{ArgumentsRoom, ArguesExtern, FunctionRoo
 
 use places::Image;
 use state::{Step, Used};
-use tok::word_at;
 use type_expr::type_from_type_expr;
 
 // The arguments of a function, of which `count` stand in the image from word `from` on: their pairs from word `at` of scratch on.
@@ -27,10 +26,10 @@ pub fn extern_arguments(
 {
     let mut after = used;
     for k in 0..count {
-        let t = word_at(image.words, from + 2 * k + 1);
+        let t = image.word_at(from + 2 * k + 1);
         let added = type_from_type_expr(types, after.types, image, t);
         let (w, next) = state::added(n, after, added)?;
-        let name = word_at(image.words, from + 2 * k);
+        let name = image.word_at(from + 2 * k);
         add::set_pair(scratch, at + 2 * k, name, w);
         after = next;
     }
@@ -50,12 +49,12 @@ pub fn extern_function(
     requires { FunctionRoom image.now.words image.now.places scratch.old from at }
     ensures { EntersExtern image.now.words n from at types.old used scratch.old types.new scratch.new result }
 {
-    let name = word_at(image.words, from);
-    let count = word_at(image.words, from + 2);
+    let name = image.word_at(from);
+    let count = image.word_at(from + 2);
     add::set_pair(scratch, at, name, count);
     let arguments = count as usize;
     let (_, used) = extern_arguments(types, scratch, image, used, n, from + 3, at + 2, arguments)?;
-    let t = word_at(image.words, from + 1);
+    let t = image.word_at(from + 1);
     let added = type_from_type_expr(types, used.types, image, t);
     let (w, used) = state::added(n, used, added)?;
     operators::store(scratch, at + 2 + 2 * arguments, w);

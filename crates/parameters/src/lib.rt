@@ -13,7 +13,6 @@ ghost use Rattle.visit.specs.Whole.{Lent, lent};
 ghost use Rattle.parameters.specs.Arguments.{ArgumentReady, ArgumentsReady, Argues};
 
 use places::Image;
-use tok::word_at;
 use type_expr::type_from_type_expr;
 use visit::{State, Visit};
 
@@ -34,8 +33,8 @@ pub fn one_argument(
         let b' : Lent = lent slots.new f types.new d m scratch.new o in
         Argues (fn_arguments (ctx T ls v) n slot (args_from image.now.words at 1)) 1 words st b b' result) }
 {
-    let name = word_at(image.words, at);
-    let t = word_at(image.words, at + 1);
+    let name = image.word_at(at);
+    let t = image.word_at(at + 1);
     let added = type_from_type_expr(types, st.used.types, image, t);
     let (w, used) = state::added(n, st.used, added)?;
     operators::store(slots, slot, w);
