@@ -2,12 +2,13 @@
 use Rattle.std.specs.Prelude.{Option, Some, None}
 use Prim.Native.Nat.{ℕ, zero, suc, ◌+◌, ◌-◌, ◌≤◌, ◌<◌}
 use mathlib.Core.Path.{◌≡◌, refl, sym, ap, ap₂, ◌∙◌}
-use mathlib.Core.Bool.{Bool}
+use mathlib.Core.Bool.{Bool, true, false}
 use mathlib.Core.List.{List, [], ◌∷◌, ◌++◌, map}
+use native.Mathlib.Numerals.{add-one}
 use native.Mathlib.Omega.{arith}
 use lib.ListN.{length, get_or, take, drop, length-drop, drop_of_length-le}
 use lib.Seq.{get_or-drop, take_all}
-use Rattle.tok.specs.Text.{Texts, text}
+use Rattle.tok.specs.Text.{Texts, text, name_bytes, same_bytes}
 use Rattle.ptype.specs.Ty.{Ty}
 use Rattle.ptype.specs.Words.{ty_of, fields_from}
 use Rattle.display.specs.declared.Writer.{Writer}
@@ -15,12 +16,13 @@ use Rattle.display.specs.Joined.{joined, sig, separated}
 use Rattle.display.specs.JoinedLaws.{joined_after, joined-start, joined-turn, joined_end}
 use Rattle.display.specs.Signature.{arg_types, args_of}
 use Rattle.display.specs.WritingLaws.{Owes}
-use Rattle.library.specs.Package.{params_from}
-use Rattle.state.specs.Signatures.{signature_at}
+use Rattle.library.specs.Package.{Signature, params_from, group_of}
+use Rattle.state.specs.Signatures.{signature_at, entry_at, entry_end, entries_from}
 use Rattle.signatures.specs.declared.Entry.{Entry}
-use Rattle.signatures.specs.Entries.{Finds}
+use Rattle.signatures.specs.EntryList.{Entries, entries}
+use Rattle.signatures.specs.Entries.{flag_words, Finds}
 use Rattle.selection.specs.Candidates.{group, param_types}
-use Rattle.selection.proofs.Ways.{none_left_lem, over-is, one-is}
+use Rattle.selection.proofs.Ways.{found_of}
 use Rattle.group_select.specs.Selects.{candidate_types}
 
 -- ── One candidate ──
@@ -49,36 +51,46 @@ module _ (texts : Texts) (types words : List ℕ) where
   unfolding fields_from arg_types sig joined
   candidate_past at h f = ap sig (sym (candidate_is at f)) ∙ rw (drop_of_length-le words {i = at} (omega arith)) refl
 
--- ── All of them: `count` are written, the others are owed ──
+-- ── All of them: some are written, the others are owed; `count` is 0 while none is written ──
 
-module _ (texts : Texts) (types name words : List ℕ) (flags from k : ℕ) where
-  -- the text of those left
-  abbrev pub listed : (first left : ℕ) → List (List ℕ)
-  listed first left = map sig (candidate_types (ty_of texts types) (group texts name words flags first left))
+-- the separator is the same before each but the first
+joined-later : (n : ℕ) (sep : List ℕ) (ps : List (List ℕ)) → joined_after (n + 1) sep ps ≡ joined_after 1 sep ps
+unfolding joined_after
+joined-later n sep ps = rw add-one refl
 
-  pub record Listing (w₀ w : Writer) (first left count : ℕ) : Type 0 where
-    pub owes : Owes w₀ (joined (text " | ") (listed from k)) w (joined_after count (text " | ") (listed first left))
-    pub most : count + left ≤ k
+module _ (texts : Texts) (types name : List ℕ) (es : Entries) where
+  -- the text of candidates
+  abbrev pub listed : List Signature → List (List ℕ)
+  listed fs = map sig (candidate_types (ty_of texts types) fs)
 
-  pub listing-begin : (w : Writer) → Listing w w from k 0
-  listing-begin w = record { owes = (refl, rw (joined-start (text " | ") (listed from k))); most = omega arith }
+  -- those of all entries, and those after one
+  abbrev pub all_of : List Signature
+  all_of = group texts name es.words (flag_words es.flagged) es.from es.count
 
-  module _ {w₀ w : Writer} {first left count : ℕ} (l : Listing w₀ w first left count) where
+  abbrev pub others_of : Entry → List Signature
+  others_of x = group texts name es.words (flag_words es.flagged) x.next x.left
+
+  pub record Listing (w₀ w : Writer) (found : Option Entry) (count : ℕ) : Type 0 where
+    pub owes : Owes w₀ (joined (text " | ") (listed all_of)) w (joined_after count (text " | ") (listed (found_of texts name es found)))
+
+  pub listing-begin : (w : Writer) {found : Option Entry} → Finds texts name es.words (flag_words es.flagged) es.from es.count found → Listing w w found 0
+  listing-begin w {found} h = record { owes = (refl, rw (joined-start (text " | ") (listed (found_of texts name es found)), ← h.is)) }
+
+  module _ {w₀ w : Writer} {found : Option Entry} {count : ℕ} (l : Listing w₀ w found count) where
     -- none are left
-    ends : group texts name words flags first left ≡ [] → Owes w₀ (joined (text " | ") (listed from k)) w []
-    ends e = (l.owes.0, l.owes.1 ∙ rw (e, joined_end count (text " | ")))
+    pub listing-over : found ≡ None → Owes w₀ (joined (text " | ") (listed all_of)) w []
+    listing-over e = (l.owes.0, l.owes.1 ∙ rw (e, joined_end count (text " | ")))
 
-    pub listing_none : left ≤ 0 → Owes w₀ (joined (text " | ") (listed from k)) w []
-    listing_none h = ends (none_left_lem texts name words flags first left h)
-
-    module _ {r : Option Entry} (found : Finds texts name words flags first left r) where
-      pub listing-over : r ≡ None → Owes w₀ (joined (text " | ") (listed from k)) w []
-      listing-over e = ends (over-is texts name words flags found e)
-
+    module _ {x : Entry} (e : found ≡ Some x) where
       -- one is found: it is owed after the separator, and then the others
-      pub listing-turn : {x : Entry} → r ≡ Some x
-          → joined_after count (text " | ") (listed first left) ≡ separated count (text " | ") ++ sig (param_types (ty_of texts types) (signature_at words x.at x.slotted).params) ++ joined_after (count + 1) (text " | ") (listed x.next x.left)
-      listing-turn {x} e = rw (one-is texts name words flags found e) (joined-turn count (text " | ") (sig (param_types (ty_of texts types) (signature_at words x.at x.slotted).params)) (listed x.next x.left))
+      pub listing-turn : joined_after count (text " | ") (listed (found_of texts name es found))
+          ≡ separated count (text " | ") ++ sig (param_types (ty_of texts types) (signature_at es.words x.at x.slotted).params)
+          ++ joined_after (count + 1) (text " | ") (listed (others_of x))
+      listing-turn = rw e (joined-turn count (text " | ") (sig (param_types (ty_of texts types) (signature_at es.words x.at x.slotted).params)) (listed (others_of x)))
 
-      pub listing-more : {x : Entry} {v : Writer} → r ≡ Some x → 0 < left → Owes w₀ (joined (text " | ") (listed from k)) v (joined_after (count + 1) (text " | ") (listed x.next x.left)) → Listing w₀ v x.next x.left (count + 1)
-      listing-more {x} e h p = record { owes = p; most = omega (arith, l.most, rw e at found.fewer) }
+      pub listing-more : {later : Entries} {r : Option Entry} {v : Writer} → later ≡ entries es.words es.flagged x.next x.left
+          → Finds texts name later.words (flag_words later.flagged) later.from later.count r
+          → Owes w₀ (joined (text " | ") (listed all_of)) v (joined_after (count + 1) (text " | ") (listed (others_of x))) → Listing w₀ v r 1
+      listing-more {r = r} el h p =
+          let i = rw el at h.is in
+          record { owes = (p.0, p.1 ∙ rw (i, joined-later count (text " | ") (listed (found_of texts name es r)))) }

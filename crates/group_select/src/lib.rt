@@ -3,12 +3,13 @@
 // are asked for, so that no place of theirs is kept.
 #![tactic(auto)]
 
-ghost use Rattle.std.specs.Prelude.{◌≡◌, Bool, map, ℕ, ◌+◌, ◌≤◌, length};
+ghost use Rattle.std.specs.Prelude.{◌≡◌, Bool, List, map, ℕ};
 ghost use Rattle.tok.specs.Text.{text};
 ghost use Rattle.ptype.specs.Ty.{Ty};
 ghost use Rattle.ptype.specs.Words.{ty_of};
 ghost use Rattle.display.specs.Writing.{Writes};
 ghost use Rattle.display.specs.Joined.{joined, sig};
+ghost use Rattle.library.specs.Package.{Signature};
 ghost use Rattle.err.specs.Message.{call_name, no_specialisation};
 ghost use Rattle.err_text.specs.Rest.{ReportsIn};
 ghost use Rattle.state.specs.Signatures.{signature_at};
@@ -19,6 +20,7 @@ ghost use Rattle.group_select.specs.Selects.{candidate_types, NoneFits, Selects}
 use display::{Full, Writer};
 use err::{CallName, Counts};
 use rules::Answer;
+use signatures::Entries;
 use state::{Step, Used};
 use tok::Texts;
 
@@ -38,32 +40,25 @@ fn put_candidate(
     out.put(b"")
 }
 
-// Writes the candidates of a name among k entries from a place on, joined by ` | `.
+// Writes the candidates, joined by ` | `.
 fn put_candidates(
     out: &mut Writer,
     types: &[u32],
     texts: &Texts,
-    words: &[u32],
-    flagged: bool,
-    from: usize,
-    k: usize,
+    entries: &Entries,
     name: &[u8],
 ) -> Result<(), Full>
-    ensures { Writes out.old out.new result
-        (joined (text " | ") (map sig (candidate_types (ty_of texts.now types.now) (group texts.now name.now words.now (flag_words flagged) from k)))) }
+    ensures { let fs : List Signature = group texts.now name.now entries.now.words (flag_words entries.now.flagged) entries.now.from entries.now.count in
+        Writes out.old out.new result (joined (text " | ") (map sig (candidate_types (ty_of texts.now types.now) fs))) }
 {
-    let mut first = from;
-    let mut left = k;
-    let mut count = 0;
-    while left > 0 {
-        let Some(entry) = signatures::find_entry(texts, words, flagged, first, left, name) else {
-            return out.put(b"");
-        };
-        out.put_separator(count, b" | ")?;
-        put_candidate(out, types, texts, words, entry.at)?;
-        count += 1;
-        first = entry.next;
-        left = entry.left;
+    // 1 once a candidate is written
+    let mut before = 0;
+    let mut found = entries.find(texts, name);
+    while let Some(entry) = found {
+        out.put_separator(before, b" | ")?;
+        put_candidate(out, types, texts, entries.words, entry.at)?;
+        before = 1;
+        found = entries.after(entry).find(texts, name);
     }
     out.put(b"")
 }
@@ -78,16 +73,12 @@ fn no_specialisation(
     token: u32,
     callee: CallName,
     provided: &[u32],
-    words: &[u32],
-    flagged: bool,
-    from: usize,
-    k: usize,
+    entries: &Entries,
     name: &[u8],
 ) -> Option<Counts>
     ensures { let U : ℕ → Ty = ty_of texts.now types.now in
-        ReportsIn
-        (no_specialisation token (call_name texts.now callee) (map U provided.now) (candidate_types U (group texts.now name.now words.now (flag_words flagged) from k)))
-        diagnostics.old rest.old counts diagnostics.new rest.new result }
+        let fs : List Signature = group texts.now name.now entries.now.words (flag_words entries.now.flagged) entries.now.from entries.now.count in
+        ReportsIn (no_specialisation token (call_name texts.now callee) (map U provided.now) (candidate_types U fs)) diagnostics.old rest.old counts diagnostics.new rest.new result }
 {
     let mut out = Writer::new(rest);
     let a = out.put(b"no specialisation of ");
@@ -95,7 +86,7 @@ fn no_specialisation(
     let c = b.and(out.put(b" accepts ("));
     let d = c.and(display::show_types(&mut out, types, texts, provided));
     let e = d.and(out.put(b"); available: "));
-    let f = e.and(put_candidates(&mut out, types, texts, words, flagged, from, k, name));
+    let f = e.and(put_candidates(&mut out, types, texts, entries, name));
     err_text::report(
         diagnostics,
         counts,
@@ -120,14 +111,11 @@ fn none_fits(
     token: u32,
     callee: CallName,
     provided: &[u32],
-    words: &[u32],
-    flagged: bool,
-    from: usize,
-    k: usize,
+    entries: &Entries,
     name: &[u8],
 ) -> Step<Answer>
     ensures { NoneFits texts.now n slot token (call_name texts.now callee) (map (ty_of texts.now types.now) provided.now)
-        (group texts.now name.now words.now (flag_words flagged) from k) slots.old types.now diagnostics.old messages.old used
+        (group texts.now name.now entries.now.words (flag_words entries.now.flagged) entries.now.from entries.now.count) slots.old types.now diagnostics.old messages.old used
         slots.new diagnostics.new messages.new result }
 {
     let free = err_text::first_free(messages, used.told);
@@ -140,16 +128,11 @@ fn none_fits(
         token,
         callee,
         provided,
-        words,
-        flagged,
-        from,
-        k,
+        entries,
         name,
     );
     let (_, used) = state::told(n, used, r, ())?;
-    selection::common_return(
-        slots, types, texts, used, slot, words, flagged, from, k, name,
-    )
+    selection::common_return(slots, types, texts, used, slot, entries, name)
 }
 
 // A group of several: the first that fits; where an argument is poisoned, or none fits, what all return.
@@ -165,23 +148,17 @@ pub fn select(
     token: u32,
     callee: CallName,
     provided: &[u32],
-    words: &[u32],
-    flagged: bool,
-    from: usize,
-    k: usize,
+    entries: &Entries,
     name: &[u8],
     poisoned: bool,
 ) -> Step<Answer>
-    ensures { Selects texts.now n slot token (call_name texts.now callee) provided.now poisoned (group texts.now name.now words.now (flag_words flagged) from k) slots.old
-        types.now diagnostics.old messages.old used slots.new diagnostics.new messages.new result }
+    ensures { Selects texts.now n slot token (call_name texts.now callee) provided.now poisoned
+        (group texts.now name.now entries.now.words (flag_words entries.now.flagged) entries.now.from entries.now.count) slots.old types.now diagnostics.old messages.old used slots.new diagnostics.new messages.new result }
 {
     if poisoned {
-        return selection::common_return(
-            slots, types, texts, used, slot, words, flagged, from, k, name,
-        );
+        return selection::common_return(slots, types, texts, used, slot, entries, name);
     }
-    let taken = selection::position(types, texts, words, flagged, from, k, name, provided);
-    let Some(entry) = taken else {
+    let Some(entry) = selection::position(types, texts, entries, name, provided) else {
         return none_fits(
             slots,
             types,
@@ -194,13 +171,10 @@ pub fn select(
             token,
             callee,
             provided,
-            words,
-            flagged,
-            from,
-            k,
+            entries,
             name,
         );
     };
-    let ret = signatures::return_type(words, entry.at);
+    let ret = signatures::return_type(entries.words, entry.at);
     operators::set_known(slots, used, slot, ret)
 }

@@ -23,29 +23,34 @@ use Rattle.state.specs.Context.{ctx}
 use Rattle.state.specs.Signatures.{signature_at, entries_from}
 use Rattle.state.specs.World.{world, Step, stepped, Steps}
 use Rattle.signatures.specs.declared.Entry.{Entry}
-use Rattle.signatures.specs.Entries.{entries_of, Finds}
+use Rattle.signatures.specs.EntryList.{Entries, entries}
+use Rattle.signatures.specs.Entries.{flag_words, entries_of, Finds}
 use Rattle.selection.specs.Candidates.{group, param_types, position_of, all_return_of, CommonReturn}
 use Rattle.selection.proofs.Read.{returns-are}
 
--- ── The candidates that are left ──
+-- ── What is found ──
 
-module _ (texts : Texts) (name words : List ℕ) (flags : ℕ) where
-  pub none_left_lem : (first left : ℕ) → left ≤ 0 → group texts name words flags first left ≡ []
-  unfolding group_of entries_from
-  none_left_lem first left l =
-      let e : left ≡ 0 = omega arith in
-      rw e refl
+module _ (texts : Texts) (name words : List ℕ) (flags : ℕ) {first left : ℕ} {r : Found Entry} (h : Finds texts name words flags first left r) where
+  pub over-is : r ≡ None → group texts name words flags first left ≡ []
+  over-is e = h.is ∙ ap (entries_of texts name words flags) e
 
-  module _ {first left : ℕ} {r : Found Entry} (h : Finds texts name words flags first left r) where
-    pub over-is : r ≡ None → group texts name words flags first left ≡ []
-    over-is e = h.is ∙ ap (entries_of texts name words flags) e
+  pub one-is : {x : Entry} → r ≡ Some x → group texts name words flags first left ≡ signature_at words x.at x.slotted ∷ group texts name words flags x.next x.left
+  one-is e = h.is ∙ ap (entries_of texts name words flags) e
 
-    module _ {x : Entry} (e : r ≡ Some x) where
-      pub one-is : group texts name words flags first left ≡ signature_at words x.at x.slotted ∷ group texts name words flags x.next x.left
-      one-is = h.is ∙ ap (entries_of texts name words flags) e
+-- the candidates from the one that was found on
+abbrev pub found_of : Texts → (name : List ℕ) → Entries → Found Entry → List Signature
+found_of texts name es r = entries_of texts name es.words (flag_words es.flagged) r
 
-      pub one_less : 0 < left → x.left < left
-      one_less l = omega (arith, rw e at h.fewer)
+-- The one that was found, and then the others: what is found among the entries after it.
+module _ (texts : Texts) (name : List ℕ) (es : Entries) {found : Found Entry} {x : Entry} (e : found ≡ Some x) {later : Entries} {r : Found Entry}
+    (el : later ≡ entries es.words es.flagged x.next x.left) (h : Finds texts name later.words (flag_words later.flagged) later.from later.count r) where
+  pub found-next : found_of texts name es found ≡ signature_at es.words x.at x.slotted ∷ found_of texts name es r
+  found-next =
+      let i = rw el at h.is in
+      ap (found_of texts name es) e ∙ ap (λ fs. signature_at es.words x.at x.slotted ∷ fs) i
+
+  pub found-fewer : length (found_of texts name es r) < length (found_of texts name es found)
+  found-fewer = rw found-next (omega arith)
 
 -- ── The types of one candidate ──
 
@@ -85,88 +90,68 @@ module _ (U : ℕ → Ty) {ps : List Param} {provided : List ℕ} {i : ℕ} (a :
       let k : length ps ≤ i = omega (arith, a.long) in
       a.so ∙ rw (drop_of_length-le ps {i = i} k, drop_of_length-le provided {i = i} l) refl
 
--- ── The first that fits ──
+-- ── Whether one candidate fits ──
 
-module _ (texts : Texts) (name words : List ℕ) (flags : ℕ) (U : ℕ → Ty) (provided : List ℕ) (from k : ℕ) where
-  -- it is among the candidates that are left
-  pub record Ahead (first left : ℕ) : Type 0 where
-    pub rest : position_of U (map U provided) (group texts name words flags from k) ≡ position_of U (map U provided) (group texts name words flags first left)
+module _ (U : ℕ → Ty) (words : List ℕ) (at : ℕ) (provided : List ℕ) where
+  module _ {n : ℕ} (en : (f : Bool) → n ≡ length (signature_at words at f).params) where
+    pub count-differs : (n ≡ length provided → ⊥) → (f : Bool) → false ≡ overload_matches (param_types U (signature_at words at f).params) (map U provided)
+    count-differs d f =
+        sym
+        (lengths_differ (param_types U (signature_at words at f).params) (map U provided)
+        (λ z. d (en f ∙ sym (length-map (signature_at words at f).params (λ p. U p.type)) ∙ z ∙ length-map provided U)))
 
-  pub ahead-begin : Ahead from k
-  ahead-begin = record { rest = refl }
+    pub alike-begin : n ≡ length provided → (f : Bool) → Alike U (signature_at words at f).params provided 0
+    alike-begin z f = record { long = sym (en f) ∙ z; so = refl }
 
-  module _ {first left : ℕ} (h : Ahead first left) where
-    pub position-none : left ≤ 0 → position_of U (map U provided) (group texts name words flags from k) ≡ none
-    unfolding position_of
-    position-none l = h.rest ∙ rw (none_left_lem texts name words flags first left l) refl
+  module _ {i : ℕ} (a : (f : Bool) → Alike U (signature_at words at f).params provided i) where
+    pub type-differs : i < length provided → {w v : ℕ} {q : Bool} → ((f : Bool) → w ≡ (get_or (signature_at words at f).params i (param 0 0)).type) → v ≡ get_or provided i 0
+        → q ≡ same_ty (U w) (U v) → q ≡ false → (f : Bool) → false ≡ overload_matches (param_types U (signature_at words at f).params) (map U provided)
+    type-differs l ew ev eq n f = sym (alike-not U (a f) l (ew f) ev eq n)
 
-    module _ {r : Found Entry} (found : Finds texts name words flags first left r) where
-      pub position-over : r ≡ None → position_of U (map U provided) (group texts name words flags from k) ≡ none
-      unfolding position_of
-      position-over e = h.rest ∙ rw (over-is texts name words flags found e) refl
+    pub alike_next : i < length provided → {w v : ℕ} {q : Bool} → ((f : Bool) → w ≡ (get_or (signature_at words at f).params i (param 0 0)).type) → v ≡ get_or provided i 0
+        → q ≡ same_ty (U w) (U v) → q ≡ true → (f : Bool) → Alike U (signature_at words at f).params provided (i + 1)
+    alike_next l ew ev eq y f = alike-more U (a f) l (ew f) ev eq y
 
-      module _ {x : Entry} (e : r ≡ Some x) where
-        is : position_of U (map U provided) (group texts name words flags from k)
-            ≡ elim (overload_matches (param_types U (signature_at words x.at x.slotted).params) (map U provided)) [
-              | true ↦ some (signature_at words x.at x.slotted)
-              | false ↦ position_of U (map U provided) (group texts name words flags x.next x.left)
-            ]
-        unfolding position_of
-        is = h.rest ∙ rw (one-is texts name words flags found e) refl
+    pub all_alike : length provided ≤ i → (f : Bool) → true ≡ overload_matches (param_types U (signature_at words at f).params) (map U provided)
+    all_alike l f = sym (alike_all U (a f) l)
 
-        past : overload_matches (param_types U (signature_at words x.at x.slotted).params) (map U provided) ≡ false → Ahead x.next x.left
-        past n = record { rest = is ∙ rw n refl }
+-- ── The first that fits: it is looked for among `gs`, of which one is looked at ──
 
-        module _ {n : ℕ} (en : (f : Bool) → n ≡ length (signature_at words x.at f).params) where
-          pub count-differs : (n ≡ length provided → ⊥) → Ahead x.next x.left
-          count-differs d =
-              past (lengths_differ (param_types U (signature_at words x.at x.slotted).params) (map U provided)
-              (λ z. d (en x.slotted ∙ sym (length-map (signature_at words x.at x.slotted).params (λ p. U p.type)) ∙ z ∙ length-map provided U)))
+module _ (U : ℕ → Ty) (provided words : List ℕ) (at : ℕ) (slotted : Bool) (fs : List Signature) {gs rest : List Signature}
+    (h : position_of U (map U provided) fs ≡ position_of U (map U provided) gs) (e : gs ≡ signature_at words at slotted ∷ rest) {lent : List ℕ} (el : lent ≡ words)
+    {q : Bool} (eq : (f : Bool) → q ≡ overload_matches (param_types U (signature_at lent at f).params) (map U provided)) where
+  splits : position_of U (map U provided) fs ≡ elim q [ true ↦ some (signature_at words at slotted) | false ↦ position_of U (map U provided) rest ]
+  unfolding position_of
+  splits = h ∙ rw (e, eq slotted, el) refl
 
-          pub alike-begin : n ≡ length provided → Alike U (signature_at words x.at x.slotted).params provided 0
-          alike-begin z = record { long = sym (en x.slotted) ∙ z; so = refl }
+  pub position_at : q ≡ true → position_of U (map U provided) fs ≡ some (signature_at words at slotted)
+  position_at y = splits ∙ rw y refl
 
-        module _ {i : ℕ} (a : Alike U (signature_at words x.at x.slotted).params provided i) where
-          pub type-differs : i < length provided → {w v : ℕ} {q : Bool} → ((f : Bool) → w ≡ (get_or (signature_at words x.at f).params i (param 0 0)).type) → v ≡ get_or provided i 0
-              → q ≡ same_ty (U w) (U v) → q ≡ false → Ahead x.next x.left
-          type-differs l ew ev eq n = past (alike-not U a l (ew x.slotted) ev eq n)
+  pub position-past : q ≡ false → position_of U (map U provided) fs ≡ position_of U (map U provided) rest
+  position-past n = splits ∙ rw n refl
 
-          pub alike_next : i < length provided → {w v : ℕ} {q : Bool} → ((f : Bool) → w ≡ (get_or (signature_at words x.at f).params i (param 0 0)).type) → v ≡ get_or provided i 0
-              → q ≡ same_ty (U w) (U v) → q ≡ true → Alike U (signature_at words x.at x.slotted).params provided (i + 1)
-          alike_next l ew ev eq y = alike-more U a l (ew x.slotted) ev eq y
+pub position-none : (U : ℕ → Ty) (provided : List Ty) (fs : List Signature) {gs : List Signature} → position_of U provided fs ≡ position_of U provided gs → gs ≡ [] → position_of U provided fs ≡ none
+unfolding position_of
+position-none U provided fs h e = h ∙ ap (position_of U provided) e
 
-          pub position_at : length provided ≤ i → position_of U (map U provided) (group texts name words flags from k) ≡ some (signature_at words x.at x.slotted)
-          position_at l = is ∙ rw (alike_all U a l) refl
+-- ── What all return: it is owed of `gs`, of which one is looked at ──
 
--- ── What all return ──
+module _ (U : ℕ → Ty) (ret : ℕ) (words : List ℕ) (at : ℕ) (slotted : Bool) (fs : List Signature) {gs rest : List Signature}
+    (h : all_return_of U (U ret) fs ≡ all_return_of U (U ret) gs) (e : gs ≡ signature_at words at slotted ∷ rest) {lent : List ℕ} (el : lent ≡ words)
+    {w : ℕ} {q : Bool} (ew : (f : Bool) → w ≡ (signature_at lent at f).ret) (eq : q ≡ same_ty (U w) (U ret)) where
+  owed-is : all_return_of U (U ret) fs ≡ (q && all_return_of U (U ret) rest)
+  unfolding all_return_of
+  owed-is = h ∙ rw (e, eq, ew slotted, el) refl
 
-module _ (texts : Texts) (name words : List ℕ) (flags : ℕ) (U : ℕ → Ty) (ret from k : ℕ) where
-  pub record Owed (first left : ℕ) : Type 0 where
-    pub rest : all_return_of U (U ret) (group texts name words flags from k) ≡ all_return_of U (U ret) (group texts name words flags first left)
+  pub return-differs : q ≡ false → false ≡ all_return_of U (U ret) fs
+  return-differs n = sym (owed-is ∙ rw n refl)
 
-  pub owed-begin : Owed from k
-  owed-begin = record { rest = refl }
+  pub owed-less : q ≡ true → all_return_of U (U ret) fs ≡ all_return_of U (U ret) rest
+  owed-less y = owed-is ∙ rw y refl
 
-  module _ {first left : ℕ} (h : Owed first left) where
-    pub return-none : left ≤ 0 → true ≡ all_return_of U (U ret) (group texts name words flags from k)
-    unfolding all_return_of
-    return-none l = sym (h.rest ∙ rw (none_left_lem texts name words flags first left l) refl)
-
-    module _ {r : Found Entry} (found : Finds texts name words flags first left r) where
-      pub return-over : r ≡ None → true ≡ all_return_of U (U ret) (group texts name words flags from k)
-      unfolding all_return_of
-      return-over e = sym (h.rest ∙ rw (over-is texts name words flags found e) refl)
-
-      module _ {x : Entry} (e : r ≡ Some x) {w : ℕ} {q : Bool} (ew : (f : Bool) → w ≡ (signature_at words x.at f).ret) (eq : q ≡ same_ty (U w) (U ret)) where
-        owed-is : all_return_of U (U ret) (group texts name words flags from k) ≡ (q && all_return_of U (U ret) (group texts name words flags x.next x.left))
-        unfolding all_return_of
-        owed-is = h.rest ∙ rw (one-is texts name words flags found e, eq, ew x.slotted) refl
-
-        pub return-differs : q ≡ false → false ≡ all_return_of U (U ret) (group texts name words flags from k)
-        return-differs n = sym (owed-is ∙ rw n refl)
-
-        pub owed-less : q ≡ true → Owed x.next x.left
-        owed-less y = record { rest = owed-is ∙ rw y refl }
+pub return-none : (U : ℕ → Ty) (t : Ty) (fs : List Signature) {gs : List Signature} → all_return_of U t fs ≡ all_return_of U t gs → gs ≡ [] → true ≡ all_return_of U t fs
+unfolding all_return_of
+return-none U t fs h e = sym (h ∙ ap (all_return_of U t) e)
 
 -- ── The common return type ──
 

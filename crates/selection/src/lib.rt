@@ -1,80 +1,71 @@
 // A package group of several (typecheck/lib.rs, `resolve_pkg_call`; err.rs, `common_return`): the first candidate whose every argument type is
-// equal, else diagnostic 18 and what all candidates return. The candidates are the entries of a name among k entries from a place of `words`.
+// equal, else diagnostic 18 and what all candidates return. The candidates are those of some entries that have a name.
 #![tactic(auto)]
 
-ghost use Rattle.std.specs.Prelude.{◌≡◌, map, ℕ};
+ghost use Rattle.std.specs.Prelude.{◌≡◌, Bool, map, ℕ};
 ghost use Rattle.ptype.specs.Ty.{Ty};
 ghost use Rattle.ptype.specs.Words.{ty_of};
+ghost use Rattle.rules.specs.Calls.{overload_matches};
+ghost use Rattle.state.specs.Signatures.{signature_at};
 ghost use Rattle.signatures.specs.Entries.{flag_words};
-ghost use Rattle.selection.specs.Candidates.{group, position_of, all_return_of, position_in, CommonReturn};
+ghost use Rattle.selection.specs.Candidates.{group, param_types, position_of, all_return_of, position_in, CommonReturn};
 
 use rules::Answer;
-use signatures::Entry;
+use signatures::{Entries, Entry};
 use state::{Step, Used};
 use tok::Texts;
+
+// Whether every argument type of the signature at a word is equal to the provided one, counts alike.
+fn fits(types: &[u32], texts: &Texts, words: &[u32], at: usize, provided: &[u32]) -> bool
+    ensures { let U : ℕ → Ty = ty_of texts.now types.now in
+        ((f : Bool) → result ≡ overload_matches (param_types U (signature_at words.now at f).params) (map U provided.now)) }
+{
+    if signatures::argument_count(words, at) != provided.len() {
+        return false;
+    }
+    for i in 0..provided.len() {
+        let expected = signatures::argument_type(words, at, i);
+        if !ptype::same_type(types, texts, expected, tok::word_at(provided, i)) {
+            return false;
+        }
+    }
+    true
+}
 
 // The first candidate whose every argument type is equal to the provided one, counts alike.
 pub fn position(
     types: &[u32],
     texts: &Texts,
-    words: &[u32],
-    flagged: bool,
-    from: usize,
-    k: usize,
+    entries: &Entries,
     name: &[u8],
     provided: &[u32],
 ) -> Option<Entry>
     ensures { let U : ℕ → Ty = ty_of texts.now types.now in
-        position_of U (map U provided.now) (group texts.now name.now words.now (flag_words flagged) from k) ≡ position_in words.now result }
+        position_of U (map U provided.now) (group texts.now name.now entries.now.words (flag_words entries.now.flagged) entries.now.from entries.now.count)
+        ≡ position_in entries.now.words result }
 {
-    let mut first = from;
-    let mut left = k;
-    'candidates: while left > 0 {
-        let Some(entry) = signatures::find_entry(texts, words, flagged, first, left, name) else {
-            return None;
-        };
-        first = entry.next;
-        left = entry.left;
-        if signatures::argument_count(words, entry.at) != provided.len() {
-            continue 'candidates;
+    let mut found = entries.find(texts, name);
+    while let Some(entry) = found {
+        if fits(types, texts, entries.words, entry.at, provided) {
+            return Some(entry);
         }
-        for i in 0..provided.len() {
-            let expected = signatures::argument_type(words, entry.at, i);
-            if !ptype::same_type(types, texts, expected, tok::word_at(provided, i)) {
-                continue 'candidates;
-            }
-        }
-        return Some(entry);
+        found = entries.after(entry).find(texts, name);
     }
     None
 }
 
 // Whether all candidates return a type equal to that of `ret`.
-fn all_return(
-    types: &[u32],
-    texts: &Texts,
-    words: &[u32],
-    flagged: bool,
-    from: usize,
-    k: usize,
-    name: &[u8],
-    ret: u32,
-) -> bool
+fn all_return(types: &[u32], texts: &Texts, entries: &Entries, name: &[u8], ret: u32) -> bool
     ensures { let U : ℕ → Ty = ty_of texts.now types.now in
-        result ≡ all_return_of U (U ret) (group texts.now name.now words.now (flag_words flagged) from k) }
+        result ≡ all_return_of U (U ret) (group texts.now name.now entries.now.words (flag_words entries.now.flagged) entries.now.from entries.now.count) }
 {
-    let mut first = from;
-    let mut left = k;
-    while left > 0 {
-        let Some(entry) = signatures::find_entry(texts, words, flagged, first, left, name) else {
-            return true;
-        };
-        let other = signatures::return_type(words, entry.at);
+    let mut found = entries.find(texts, name);
+    while let Some(entry) = found {
+        let other = signatures::return_type(entries.words, entry.at);
         if !ptype::same_type(types, texts, other, ret) {
             return false;
         }
-        first = entry.next;
-        left = entry.left;
+        found = entries.after(entry).find(texts, name);
     }
     true
 }
@@ -86,21 +77,17 @@ pub fn common_return(
     texts: &Texts,
     used: Used,
     slot: u32,
-    words: &[u32],
-    flagged: bool,
-    from: usize,
-    k: usize,
+    entries: &Entries,
     name: &[u8],
 ) -> Step<Answer>
-    ensures { CommonReturn texts.now slot (group texts.now name.now words.now (flag_words flagged) from k) slots.old types.now used slots.new result }
+    ensures { CommonReturn texts.now slot (group texts.now name.now entries.now.words (flag_words entries.now.flagged) entries.now.from entries.now.count)
+        slots.old types.now used slots.new result }
 {
-    let Some(entry) = signatures::find_entry(texts, words, flagged, from, k, name) else {
+    let Some(entry) = entries.find(texts, name) else {
         return Ok((Answer::Poison, used));
     };
-    let ret = signatures::return_type(words, entry.at);
-    if all_return(
-        types, texts, words, flagged, entry.next, entry.left, name, ret,
-    ) {
+    let ret = signatures::return_type(entries.words, entry.at);
+    if all_return(types, texts, &entries.after(entry), name, ret) {
         return operators::set_known(slots, used, slot, ret);
     }
     Ok((Answer::Poison, used))

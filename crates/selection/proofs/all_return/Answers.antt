@@ -1,20 +1,16 @@
-use Rattle.selection.proofs.Ways.{one_less, owed-begin, return-none, return-over, return-differs, owed-less}
+use Rattle.std.proofs.Common.{ap}
+use Rattle.selection.proofs.Ways.{found_of, found-next, return-differs, owed-less, return-none}
 use Rattle.selection.proofs.all_return.Goals as goal
 
-pub loop-left-init : goal.loop-left-init
-loop-left-init c = owed-begin _ _ _ _ _ _ _ _
-
-pub returns-in_default : goal.returns-in_default
-returns-in_default c = return-over _ _ _ _ _ _ _ _ c.loop-left.invariant c.find_entry.ensures c.in_default.is
-
 pub returns-then-not-same_type : goal.returns-then-not-same_type
-returns-then-not-same_type c = return-differs _ _ _ _ _ _ _ _ c.loop-left.invariant c.find_entry.ensures c.in-Some.is c.return_type-other.ensures c.same_type.ensures c.if-not-same_type.true
+returns-then-not-same_type c =
+    let n = ap (found_of c.args.texts.now c.args.name.now c.args.entries.now) c.in-Some.is in
+    return-differs _ _ _ _ _ _ c.loop-found.invariant n (ap (λ e. e.words) c.entries.view_is) c.return_type-other.ensures c.same_type.ensures c.if-not-same_type.true
 
-pub loop-left-smaller : goal.loop-left-smaller
-loop-left-smaller c = one_less _ _ _ _ c.find_entry.ensures c.in-Some.is c.loop-left-test.true
-
-pub loop-left-preserved : goal.loop-left-preserved
-loop-left-preserved c = owed-less _ _ _ _ _ _ _ _ c.loop-left.invariant c.find_entry.ensures c.in-Some.is c.return_type-other.ensures c.same_type.ensures c.if-not-same_type.false
+pub loop-found-preserved : goal.loop-found-preserved
+loop-found-preserved c =
+    let n = found-next _ _ c.args.entries.now c.in-Some.is c.after.ensures c.find-found-in-Some.ensures in
+    owed-less _ _ _ _ _ _ c.loop-found.invariant n (ap (λ e. e.words) c.entries.view_is) c.return_type-other.ensures c.same_type.ensures c.if-not-same_type.false
 
 pub returns : goal.returns
-returns c = return-none _ _ _ _ _ _ _ _ c.loop-left.invariant c.loop-left-test.false
+returns c = return-none _ _ _ c.loop-found.invariant (ap (found_of c.args.texts.now c.args.name.now c.args.entries.now) c.in_default.is)

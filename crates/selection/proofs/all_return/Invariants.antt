@@ -1,12 +1,17 @@
--- `selection::all_return` meets its contract. The loop's invariant: the answer is that of the candidates that are left; the measure is how many
--- entries are left. Assumes nothing.
-use Rattle.selection.proofs.Ways.{Owed}
+-- `selection::all_return` meets its contract. The loop's invariant: the answer is that of the candidates from the one found on; the measure is how
+-- many they are. Assumes nothing.
+use Rattle.std.proofs.Common.{◌≡◌, length}
 use Rattle.signatures.specs.Entries.{flag_words}
 use Rattle.ptype.specs.Words.{ty_of}
+use Rattle.selection.specs.Candidates.{group, all_return_of}
+use Rattle.selection.proofs.Ways.{found_of}
 use Rattle.selection.proofs.all_return.Given as goal
 
-abbrev pub invariant-loop-left : goal.invariant-loop-left
-invariant-loop-left l = Owed l.texts l.name l.words (flag_words l.flagged) (ty_of l.texts l.types) l.ret l.from l.k l.first l.left
+abbrev pub invariant-loop-found : goal.invariant-loop-found
+invariant-loop-found l =
+    let U = ty_of l.texts l.types in
+    all_return_of U (U l.ret) (group l.texts l.name l.entries.words (flag_words l.entries.flagged) l.entries.from l.entries.count)
+    ≡ all_return_of U (U l.ret) (found_of l.texts l.name l.entries l.found)
 
-abbrev pub decreases-loop-left : goal.decreases-loop-left
-decreases-loop-left l = l.left
+abbrev pub decreases-loop-found : goal.decreases-loop-found
+decreases-loop-found l = length (found_of l.texts l.name l.entries l.found)
