@@ -1,5 +1,5 @@
-// One argument of a call of a function with slots (typecheck/lib.rs, `check_call_args`, the body of its loop; ptype.rs). The bindings stand as
-// pairs in a lent part of scratch. The buffers are lent in one order: slots, types, diagnostics, messages, pairs; then the two texts.
+// One argument of a call of a function with slots (typecheck/lib.rs, `check_call_args`, the body of its loop; ptype.rs). The buffers are lent in
+// one order: slots, types, diagnostics, messages; then the bindings and the two texts.
 #![tactic(auto)]
 
 ghost use Rattle.std.specs.Prelude.{◌≡◌, true, Ok};
@@ -7,37 +7,37 @@ ghost use Rattle.err.specs.Message.{call_name};
 ghost use Rattle.library.specs.Package.{param};
 ghost use Rattle.rules.specs.Calls.{argument};
 ghost use Rattle.arguments.specs.Argument.{given};
+ghost use Rattle.slots.specs.Bindings.{bindings_of};
 ghost use Rattle.slotted.specs.Argues.{AfterBinding, Argues};
 ghost use Rattle.slotted.specs.Meant.{Meant, ArgumentMeant};
 
 use err::CallName;
-use slots::{Bind, BindError};
+use slots::{Bind, BindError, Bindings};
 use state::{Refusal, Step, Used};
 use tok::{Span, Texts};
 
-// The argument bound without an error, with `count` pairs then: the expected type with its slots applied is compared.
+// The argument bound without an error: the expected type with its slots applied is compared.
 fn applied(
     types: &mut [u32],
     diagnostics: &mut [u32],
     messages: &mut [u8],
-    pairs: &[u32],
+    bindings: &Bindings,
     texts: &Texts,
     used: Used,
-    count: usize,
     n: u32,
     callee: CallName,
     name: u32,
     expected: u32,
     provided: u32,
     span: Span,
-) -> Step<usize>
+) -> Step<()>
     requires { Meant texts.now types.old used.types expected × Meant texts.now types.old used.types provided }
-    ensures { AfterBinding texts.now n (call_name texts.now callee) name expected span provided types.old diagnostics.old messages.old used pairs.now (Ok count)
+    ensures { AfterBinding texts.now n (call_name texts.now callee) name expected span provided types.old diagnostics.old messages.old used (bindings_of texts.now bindings.now) (Ok tt)
         types.new diagnostics.new messages.new result }
 {
-    let added = apply::apply_slot_binding(types, used.types, texts, pairs, count, expected);
+    let added = apply::apply_slot_binding(types, used.types, texts, bindings, expected);
     let (word, used) = state::added(n, used, added)?;
-    let (_, after) = arguments::compared(
+    arguments::compared(
         &types[..],
         diagnostics,
         messages,
@@ -49,17 +49,15 @@ fn applied(
         span,
         word,
         provided,
-    )?;
-    Ok((count, after))
+    )
 }
 
-// What a binding leads to, and how many pairs there are then: an error is reported, 21 or 22, and the argument left; else the types are
-// compared.
+// What a binding leads to: an error is reported, 21 or 22, and the argument left; else the types are compared.
 fn after_binding(
     types: &mut [u32],
     diagnostics: &mut [u32],
     messages: &mut [u8],
-    pairs: &[u32],
+    bindings: &Bindings,
     texts: &Texts,
     used: Used,
     bound: Bind,
@@ -69,20 +67,19 @@ fn after_binding(
     expected: u32,
     provided: u32,
     span: Span,
-) -> Step<usize>
+) -> Step<()>
     requires { Meant texts.now types.old used.types expected × Meant texts.now types.old used.types provided }
-    ensures { AfterBinding texts.now n (call_name texts.now callee) name expected span provided types.old diagnostics.old messages.old used pairs.now bound
+    ensures { AfterBinding texts.now n (call_name texts.now callee) name expected span provided types.old diagnostics.old messages.old used (bindings_of texts.now bindings.now) bound
         types.new diagnostics.new messages.new result }
 {
     match bound {
-        Ok(count) => applied(
+        Ok(()) => applied(
             types,
             diagnostics,
             messages,
-            pairs,
+            bindings,
             texts,
             used,
-            count,
             n,
             callee,
             name,
@@ -92,7 +89,6 @@ fn after_binding(
         ),
         Err(error) => match error {
             BindError::Conflict {
-                count,
                 slot,
                 existing,
                 new,
@@ -110,9 +106,9 @@ fn after_binding(
                     existing,
                     new,
                 );
-                state::told(n, used, reported, count)
+                state::told(n, used, reported, ())
             }
-            BindError::Void { count, slot } => {
+            BindError::Void { slot } => {
                 let free = err_text::first_free(messages, used.told);
                 let reported = err_arguments::slot_void(
                     diagnostics,
@@ -123,48 +119,47 @@ fn after_binding(
                     callee,
                     slot,
                 );
-                state::told(n, used, reported, count)
+                state::told(n, used, reported, ())
             }
-            // The caller's pairs have room for all bindings of an argument (`ArgumentMeant`), so that no call comes here.
+            // There is room for all bindings of an argument (`ArgumentMeant`), so that no call comes here.
             BindError::NoRoom => Err(Refusal::TypesFull(n)),
         },
     }
 }
 
-// An argument of a function with slots, and how many pairs there are then. One that contains a Slot is passed over.
+// An argument of a function with slots. One that contains a Slot is passed over.
 pub fn slotted_argument(
     slots: &[u32],
     types: &mut [u32],
     diagnostics: &mut [u32],
     messages: &mut [u8],
-    pairs: &mut [u32],
+    bindings: &mut Bindings,
     texts: &Texts,
     used: Used,
-    count: usize,
     n: u32,
     callee: CallName,
     name: u32,
     expected: u32,
     slot: u32,
     span: Span,
-) -> Step<usize>
-    requires { ArgumentMeant texts.now slots.now types.old used.types expected slot pairs.old count }
+) -> Step<()>
+    requires { ArgumentMeant texts.now slots.now types.old used.types expected slot bindings.old }
     ensures { Argues texts.now (λ c. argument c n (call_name texts.now callee) true (param name expected) (given slot span)) slots.now types.old diagnostics.old
-        messages.old used pairs.old count types.new diagnostics.new messages.new pairs.new result }
+        messages.old used bindings.old types.new diagnostics.new messages.new bindings.new result }
 {
     let w = tok::word_at(slots, slot as usize);
     if arguments::is_unchecked(&types[..], w) {
-        return Ok((count, used));
+        return Ok(((), used));
     }
     if ptype::contains_slot(&types[..], w) {
-        return Ok((count, used));
+        return Ok(((), used));
     }
-    let bound = slots::bind_slots(&types[..], texts, expected, w, pairs, count);
+    let bound = slots::bind_slots(bindings, &types[..], texts, expected, w);
     after_binding(
         types,
         diagnostics,
         messages,
-        &pairs[..],
+        bindings,
         texts,
         used,
         bound,

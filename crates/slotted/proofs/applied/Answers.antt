@@ -1,14 +1,10 @@
 -- `slotted::applied` meets its contract: the applied type is compared, or it is not added, for want of room (7) or for its depth (8). Assumes
 -- nothing.
-use Rattle.slotted.proofs.Returns.{applied_refused, applied_compared, compared_refused}
+use Rattle.slotted.proofs.Returns.{applied_refused, applied_compared}
 use Rattle.slotted.proofs.applied.Goals as goal
 
 pub returns-in_err-word : goal.returns-in_err-word
-returns-in_err-word c = applied_refused _ _ _ _ _ _ _ _ _ _ _ _ _ c.requires.0 c.requires.1 _ _ c.apply_slot_binding-added.ensures c.added.ensures c.in_err-word.was c.from_residual.ensures.1
-
-pub returns-in_err-after : goal.returns-in_err-after
-returns-in_err-after c =
-    compared_refused _ _ _ _ _ _ _ _ _ _ _ _ _ c.requires.0 c.requires.1 _ _ c.apply_slot_binding-added.ensures c.added.ensures c.in_ok-word.was c.compared.ensures c.in_err-after.was c.from_residual-in_err-after.ensures.1
+returns-in_err-word c = applied_refused _ _ _ _ _ _ _ _ _ _ _ _ c.requires.0 c.requires.1 _ _ c.apply_slot_binding-added.ensures c.added.ensures c.in_err-word.was c.from_residual.ensures.1
 
 pub returns : goal.returns
-returns c = applied_compared _ _ _ _ _ _ _ _ _ _ _ _ _ c.requires.0 c.requires.1 _ _ c.apply_slot_binding-added.ensures c.added.ensures c.in_ok-word.was c.compared.ensures c.in_ok-after.was
+returns c = applied_compared _ _ _ _ _ _ _ _ _ _ _ _ c.requires.0 c.requires.1 _ _ c.apply_slot_binding-added.ensures c.added.ensures c.in_ok-word.was c.compared.ensures

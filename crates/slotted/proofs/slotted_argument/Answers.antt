@@ -4,12 +4,12 @@ use Rattle.slotted.proofs.Returns.{slotted-unchecked, slotted-slot, slotted-boun
 use Rattle.slotted.proofs.slotted_argument.Goals as goal
 
 pub returns-then-is_unchecked : goal.returns-then-is_unchecked
-returns-then-is_unchecked c = slotted-unchecked _ _ _ _ _ _ _ _ _ _ _ _ _ _ c.word_at-w.ensures c.is_unchecked.ensures c.if-is_unchecked.true
+returns-then-is_unchecked c = slotted-unchecked _ _ _ _ _ _ _ _ _ _ _ _ _ c.word_at-w.ensures c.is_unchecked.ensures c.if-is_unchecked.true
 
 pub returns-then-contains_slot : goal.returns-then-contains_slot
-returns-then-contains_slot c = slotted-slot _ _ _ _ _ _ _ _ _ _ _ _ _ _ c.word_at-w.ensures c.is_unchecked.ensures c.if-is_unchecked.false c.contains_slot.ensures c.if-contains_slot.true
+returns-then-contains_slot c = slotted-slot _ _ _ _ _ _ _ _ _ _ _ _ _ c.word_at-w.ensures c.is_unchecked.ensures c.if-is_unchecked.false c.contains_slot.ensures c.if-contains_slot.true
 
 pub returns : goal.returns
 returns c =
-    slotted-bound _ _ _ _ _ _ _ _ _ _ _ _ _ _ c.word_at-w.ensures c.is_unchecked.ensures c.if-is_unchecked.false c.contains_slot.ensures c.requires c.bind_slots-bound.ensures c.if-contains_slot.false
+    slotted-bound _ _ _ _ _ _ _ _ _ _ _ _ _ c.word_at-w.ensures c.is_unchecked.ensures c.if-is_unchecked.false c.contains_slot.ensures c.requires c.bind_slots-bound.ensures c.if-contains_slot.false
     c.after_binding.ensures
