@@ -106,8 +106,8 @@ module _ (image : List ℕ) (at head : ℕ) (eh : head ≡ word_at image at) whe
     other (suc (suc (suc (suc (suc (suc (suc (suc (suc (suc (suc (suc (suc (suc j)))))))))))))) d = refl
 
     module _ {x : NodeKind} (e : x ≡ kind_of_node k) where
-      pub no_row : (x ≡ node.Bin → ⊥) → (x ≡ node.Unary → ⊥) → (x ≡ node.Let → ⊥) → (x ≡ node.Fn → ⊥) → (x ≡ node.Call → ⊥) → (x ≡ node.Field → ⊥) → (x ≡ node.Cast → ⊥)
-          → (x ≡ node.Record → ⊥) → (x ≡ node.Array → ⊥) → RunHere image at (run 0 0 1)
+      pub no_row : (x ≡ node.Bin → ⊥) → (x ≡ node.Unary → ⊥) → (x ≡ node.Let → ⊥) → (x ≡ node.Fn → ⊥) → (x ≡ node.Call → ⊥)
+          → (x ≡ node.Field → ⊥) → (x ≡ node.Cast → ⊥) → (x ≡ node.Record → ⊥) → (x ≡ node.Array → ⊥) → RunHere image at (run 0 0 1)
       no_row b u l f c d t r a =
           let others : Other k =
           (((((((((tt, node-not k e b), node-not k e u), node-not k e l), node-not k e f), node-not k e c), node-not k e d), node-not k e t), node-not k e r), node-not k e a) in

@@ -22,10 +22,14 @@ unfolding runs_by_kind
 returns-in-Let c = handed c.stretch-in-Let.ensures (row _ _ _ c.word_at-head.ensures _ refl _ 4 (node-number _ c.in-Let.ensures) refl (omega arith) (omega arith))
 
 pub returns-in-Fn : goal.returns-in-Fn
-returns-in-Fn c = handed c.stretch-in-Fn.ensures (fn_row_lem _ _ _ c.word_at-head.ensures _ refl _ c.payload-long.ensures (omega arith) _ _ (node-number _ c.in-Fn.ensures) (omega arith) c.arguments-n.ensures c.saturating_sub.ensures)
+returns-in-Fn c =
+    let e = node-number _ c.in-Fn.ensures in
+    handed c.stretch-in-Fn.ensures (fn_row_lem _ _ _ c.word_at-head.ensures _ refl _ c.payload-long.ensures (omega arith) _ _ e (omega arith) c.arguments-n.ensures c.saturating_sub.ensures)
 
 pub returns-in-Call : goal.returns-in-Call
-returns-in-Call c = handed c.stretch-in-Call.ensures (call-row _ _ _ c.word_at-head.ensures _ refl _ c.payload-long.ensures (omega arith) _ (node-number _ c.in-Call.ensures) c.saturating_sub-in-Call.ensures)
+returns-in-Call c =
+    let e = node-number _ c.in-Call.ensures in
+    handed c.stretch-in-Call.ensures (call-row _ _ _ c.word_at-head.ensures _ refl _ c.payload-long.ensures (omega arith) _ e c.saturating_sub-in-Call.ensures)
 
 pub returns-in-Field : goal.returns-in-Field
 unfolding runs_by_kind
@@ -36,10 +40,14 @@ unfolding runs_by_kind
 returns-in-Cast c = handed c.stretch-in-Cast.ensures (row _ _ _ c.word_at-head.ensures _ refl _ 9 (node-number _ c.in-Cast.ensures) refl (omega arith) (omega arith))
 
 pub returns-in-Record : goal.returns-in-Record
-returns-in-Record c = handed c.stretch-in-Record.ensures (record_row _ _ _ c.word_at-head.ensures _ refl _ c.payload-long.ensures (omega arith) _ (node-number _ c.in-Record.ensures) c.saturating_sub-in-Record.ensures)
+returns-in-Record c =
+    let e = node-number _ c.in-Record.ensures in
+    handed c.stretch-in-Record.ensures (record_row _ _ _ c.word_at-head.ensures _ refl _ c.payload-long.ensures (omega arith) _ e c.saturating_sub-in-Record.ensures)
 
 pub returns-in-Array : goal.returns-in-Array
-returns-in-Array c = handed c.stretch-in-Array.ensures (array_row _ _ _ c.word_at-head.ensures _ refl _ c.payload-long.ensures (omega arith) _ (node-number _ c.in-Array.ensures) c.saturating_sub-in-Array.ensures)
+returns-in-Array c =
+    let e = node-number _ c.in-Array.ensures in
+    handed c.stretch-in-Array.ensures (array_row _ _ _ c.word_at-head.ensures _ refl _ c.payload-long.ensures (omega arith) _ e c.saturating_sub-in-Array.ensures)
 
 pub returns-in_default : goal.returns-in_default
 returns-in_default c =
