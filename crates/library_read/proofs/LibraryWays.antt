@@ -1,15 +1,17 @@
 -- Reading the whole library as the code does: the counts, the pool, and where that is accepted the packages. Where one of them offends, the
 -- library does. Assumes nothing.
-use Prim.Native.Nat.{ℕ, ◌+◌, ◌*◌, ◌≤◌, min}
+use Prim.Native.Nat.{ℕ, ◌+◌, ◌*◌, ◌≤◌, ◌<◌, min}
 use mathlib.Core.Path.{◌≡◌, refl, sym, ap, ap₂, subst, ◌∙◌}
 use mathlib.Core.Bool.{Bool, true, false, cond}
 use mathlib.Core.List.{List, []}
 use mathlib.Core.Option.{some}
 use native.Mathlib.Omega.{arith}
+use native.Mathlib.Decide.{dec_lt}
 use lib.ListN.{length, get_or, take, drop, length-take, length-drop}
 use lib.Seq.{get_or-take, get_or-drop}
 use lib.Dec.{ltb}
 use Rattle.std.specs.Prelude.{Result, Ok, Err}
+use Rattle.std.proofs.Common.{length-take-le}
 use Rattle.tok.specs.Text.{Texts}
 use Rattle.tok.specs.Reader.{owing, many, ends, fault_of, most_bytes}
 use Rattle.reader.specs.declared.Place.{Place}
@@ -24,7 +26,8 @@ use Rattle.library.specs.Package.{Package}
 use Rattle.library.specs.PackageRecords.{package_record}
 use Rattle.library.specs.LibraryFault.{pool_read, library, library_read, library_fault}
 use Rattle.library.specs.Accepted.{pool_in_lem}
-use Rattle.library_slots.specs.NamedLaws.{PoolAt}
+use Rattle.library_slots.specs.Named.{SlotsNamed}
+use Rattle.library_slots.specs.NamedLaws.{PoolAt, named-same}
 use Rattle.library_read.specs.Ready.{Ready}
 
 begins-at_0 : (n least : ℕ) (from : Place) → beginning n least ≡ Ok from → from.at ≡ 0
@@ -36,6 +39,19 @@ begins-at_0 n least from e = by (ltb most_bytes n) e
 
 pub sums_long : (types : List ℕ) (i : ℕ) {sums : List ℕ} → sums ≡ sums_to types i → 8193 ≡ length sums
 sums_long types i e = sym (ap length e ∙ length-sums_to types i)
+
+-- The slots by name, cut to as many as there are.
+module _ {t : Texts} {words order : List ℕ} {n : ℕ} (named : 0 < n → SlotsNamed t words order n) where
+  pub slots_few : n ≤ 8192
+  slots_few = elim (dec_lt 0 n) [
+    | yes l ↦ (named l).listed.few
+    | no d ↦ omega arith
+  ]
+
+  pub slots_cut : n ≤ length order → 0 < length (take n order) → SlotsNamed t words (take n order) (length (take n order))
+  slots_cut l z =
+      let long = length-take-le n order l in
+      rw long (named-same (λ i o. sym (get_or-take n order i 0 o)) (named (omega (arith, z, long))))
 
 module _ (t : Texts) (words : List ℕ) where
   abbrev Stops : Fault → Type 0

@@ -141,20 +141,19 @@ fn good_return(
     pool: &[u32],
     sums: &[u16],
     order: &[u16],
-    n: usize,
     flag: u32,
     pairs: &[u32],
     w: u32,
     first: usize,
     end: usize,
 ) -> bool
-    ensures { ((words : List ℕ) → Ready texts.now pool.now sums.now → Ordered texts.now words pool.now order.now n
+    ensures { ((words : List ℕ) → Ready texts.now pool.now sums.now → Ordered texts.now words pool.now order.now (length order.now)
         → Each (TypeWord (pool_in texts.now pool.now) (length pool.now)) (types_in pairs.now) → Placed words (types_in pairs.now) w first end
         → result ≡ (good_signature_type (pool_in texts.now pool.now) flag w && return_stands (pool_in texts.now pool.now) (types_in pairs.now) w)) }
 {
     good_signature_type(texts.library, pool, sums, flag, w)
         && (!library_slots::has_slot(pool, sums, w)
-            || library_slots::return_stands(texts, pool, pairs, w, order, n, first, end))
+            || library_slots::return_stands(texts, pool, pairs, w, order, first, end))
 }
 
 // Records.
@@ -166,13 +165,12 @@ fn function_record(
     pool: &[u32],
     sums: &[u16],
     order: &[u16],
-    n: usize,
     start: usize,
     k: usize,
     kept: bool,
     from: Place,
 ) -> Result<Place, Fault>
-    ensures { (Ready texts.now pool.now sums.now → Ordered texts.now words.now pool.now order.now n
+    ensures { (Ready texts.now pool.now sums.now → Ordered texts.now words.now pool.now order.now (length order.now)
         → (kept ≡ true → GroupFine (pool_in texts.now pool.now) (functions_from words.now start k) (function_at words.now from.at))
         → onward words.now from (function_record (pool_in texts.now pool.now) (functions_from words.now start k))
         ≡ gave words.now (function_at words.now from.at) result) }
@@ -188,7 +186,7 @@ fn function_record(
     let end = arguments(texts.library, words, pool, sums, flag, count, args)?;
     let w = reader::next_word(words, end);
     let pairs = pairs_at(words, args.at, count);
-    let good = good_return(texts, pool, sums, order, n, flag, pairs, w, args.at, end.at);
+    let good = good_return(texts, pool, sums, order, flag, pairs, w, args.at, end.at);
     reader::word(words, end, good)
 }
 
@@ -199,11 +197,10 @@ fn function_records(
     pool: &[u32],
     sums: &[u16],
     order: &[u16],
-    n: usize,
     count: u32,
     from: Place,
 ) -> Result<Place, Fault>
-    ensures { (Ready texts.now pool.now sums.now → Ordered texts.now words.now pool.now order.now n
+    ensures { (Ready texts.now pool.now sums.now → Ordered texts.now words.now pool.now order.now (length order.now)
         → onward words.now from (function_records (pool_in texts.now pool.now) count [])
         ≡ gave words.now (functions_from words.now from.at count) result) }
 {
@@ -213,7 +210,7 @@ fn function_records(
     let mut to = from;
     for k in 0..end {
         let known = to.at < kept;
-        to = function_record(texts, words, pool, sums, order, n, start, k, known, to)?;
+        to = function_record(texts, words, pool, sums, order, start, k, known, to)?;
     }
     Ok(to)
 }
@@ -225,17 +222,16 @@ fn package_record(
     pool: &[u32],
     sums: &[u16],
     order: &[u16],
-    n: usize,
     from: Place,
 ) -> Result<Place, Fault>
-    ensures { (Ready texts.now pool.now sums.now → Ordered texts.now words.now pool.now order.now n
+    ensures { (Ready texts.now pool.now sums.now → Ordered texts.now words.now pool.now order.now (length order.now)
         → onward words.now from (package_record (pool_in texts.now pool.now))
         ≡ gave words.now (package_at words.now from.at) result) }
 {
     let at = library_pool::name(texts.library, words, from)?;
     let count = reader::next_word(words, at);
     let at = reader::owing(words, at, true, 4 * count as usize)?;
-    function_records(texts, words, pool, sums, order, n, count, at)
+    function_records(texts, words, pool, sums, order, count, at)
 }
 
 // All packages.
@@ -245,17 +241,16 @@ fn packages(
     pool: &[u32],
     sums: &[u16],
     order: &[u16],
-    n: usize,
     count: u32,
     from: Place,
 ) -> Result<Place, Fault>
-    ensures { (Ready texts.now pool.now sums.now → Ordered texts.now words.now pool.now order.now n
+    ensures { (Ready texts.now pool.now sums.now → Ordered texts.now words.now pool.now order.now (length order.now)
         → onward words.now from (many count (package_record (pool_in texts.now pool.now)))
         ≡ gave words.now (packages_from words.now from.at count) result) }
 {
     let mut to = from;
     for _ in 0..count {
-        to = package_record(texts, words, pool, sums, order, n, to)?;
+        to = package_record(texts, words, pool, sums, order, to)?;
     }
     Ok(to)
 }
@@ -273,9 +268,10 @@ pub fn library_fault(texts: &Texts, words: &[u32]) -> Result<(), Fault>
     let at = library_pool::pool_words(texts.library, words, pool, size, at)?;
     let mut sums = [0u16; 8193];
     library_slots::slot_sums(pool, &mut sums);
-    let mut order = [0u16; 8192];
-    let n = library_slots::named_slots(texts, words, pool, &sums, &mut order);
-    let at = packages(texts, words, pool, &sums, &order, n, count, at)?;
+    let mut places = [0u16; 8192];
+    let n = library_slots::named_slots(texts, words, pool, &sums, &mut places);
+    let order = &places[..n];
+    let at = packages(texts, words, pool, &sums, order, count, at)?;
     reader::ends(words, at)?;
     Ok(())
 }

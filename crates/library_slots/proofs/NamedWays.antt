@@ -1,11 +1,12 @@
 -- Slots by the order of their names as the code asks for them, one law for each way out. Assumes nothing.
-use Prim.Native.Nat.{ℕ, ◌+◌, ◌≤◌, ◌<◌}
+use Prim.Native.Nat.{ℕ, ◌+◌, ◌-◌, ◌≤◌, ◌<◌}
 use mathlib.Core.Path.{◌≡◌, refl, sym, ap, ◌∙◌}
 use mathlib.Core.Bool.{Bool, true, false, not, true≢false}
-use mathlib.Core.List.{List, [], ◌∷◌}
+use mathlib.Core.List.{List, [], ◌∷◌, ◌++◌}
 use native.Mathlib.Omega.{arith}
 use native.Mathlib.Decide.{dec_lt}
-use lib.ListN.{length, get_or, replicate}
+use lib.ListN.{length, get_or, replicate, take, drop, get_or-append}
+use Rattle.std.proofs.Common.{get_or-take, get_or-drop, length-take-le, length-drop}
 use Rattle.tok.specs.Word.{kind_of}
 use Rattle.tok.specs.Text.{Texts, name_bytes}
 use Rattle.library.specs.SlotSums.{zeros}
@@ -15,6 +16,7 @@ use Rattle.library_slots.proofs.NameWays.{return-slot, return-other}
 use Rattle.name_order.specs.Order.{place_in, Listed, Grouped, Grouping, GroupEnd}
 use Rattle.name_order.specs.OrderLaws.{Begins, begins-first, begins-next, group-is}
 use Rattle.library_slots.specs.Named.{argued, wanted, Told, Had, NamesStand, ReturnAsked, SlotsListed, SlotsNamed}
+use Rattle.library_slots.specs.NamedLaws.{listed_same, named-same}
 
 -- ── Group by group ──
 
@@ -80,6 +82,28 @@ module _ {order : List ℕ} {n : ℕ} {have want : ℕ → Bool} where
             };
           }
 
+-- what is told of a group, found in its own ranks
+pub told_there : {test : ℕ → Bool} {order : List ℕ} {at end : ℕ} {r : Bool} → at ≤ end → end ≤ length order
+    → Told test (take (end - at) (drop at order)) 0 (length (take (end - at) (drop at order))) r → Told test order at end r
+told_there {test} {order} {at} {end} {r} l m h = record {
+  yes = λ y. let f = h.yes y in record {
+    rank = at + f.rank;
+    low = omega arith;
+    high = omega (arith, f.high, long);
+    holds = ap (λ e. test (place_in e)) (sym (there f.rank (omega (arith, f.high, long)))) ∙ f.holds;
+  };
+  no = λ n i o p.
+      let back : at + (i - at) ≡ i = omega arith in
+      ap (λ j. test (place_in (get_or order j 0))) (sym back) ∙ ap (λ e. test (place_in e)) (sym (there (i - at) (omega arith)))
+      ∙ h.no n (i - at) (omega arith) (omega (arith, long));
+}
+  where
+    long : length (take (end - at) (drop at order)) ≡ end - at
+    long = length-take-le (end - at) (drop at order) (omega (arith, length-drop at order))
+
+    there : (i : ℕ) → i < end - at → get_or (take (end - at) (drop at order)) i 0 ≡ get_or order (at + i) 0
+    there i o = get_or-take (end - at) (drop at order) i 0 o ∙ get_or-drop at order i 0
+
 -- ── The return type ──
 
 pub zeros-are : replicate 8192 0 ≡ zeros 8192
@@ -116,18 +140,26 @@ pub record Listing (words before order : List ℕ) (n i : ℕ) : Type 0 where
   pub long : length order ≡ length before
   pub few : n + 2 ≤ i
   pub most : i ≤ 8193
-  pub all : 8192 ≤ length before → (p : ℕ) → 2 ≤ p → p < i → kind_of (get_or words p 0) ≡ 10 → Listed order n p
-  pub only : 8192 ≤ length before → (p : ℕ) → Listed order n p → kind_of (get_or words p 0) ≡ 10
+  pub all : (p : ℕ) → 2 ≤ p → p < i → kind_of (get_or words p 0) ≡ 10 → Listed order n p
+  pub only : (p : ℕ) → Listed order n p → kind_of (get_or words p 0) ≡ 10
 
-pub slots-named : (t : Texts) (words a b c : List ℕ) (n : ℕ) (r : Bool) → SlotsListed words b n → (n ≤ length b → Grouping t words b c n r) → length b ≡ length a
-    → 8192 ≤ length a → r ≡ true → SlotsNamed t words c n
-slots-named t words a b c n r s g e l y =
-    let h = g (omega (arith, s.few)) in
-    record {
-      listed = record {
-        all = λ p o m q k. h.rearranged.all p (s.all p o m q k);
-        only = λ p r. s.only p (h.rearranged.only p r);
-        few = s.few;
-      };
-      grouped = h.grouped y;
-    }
+-- the slots listed are sorted in front of what lies behind
+pub slots-named : {t : Texts} {words b c : List ℕ} (rest : List ℕ) {n : ℕ} {r : Bool} → SlotsListed words b n → n ≤ length b
+    → Grouping t words (take n b) c (length (take n b)) r → r ≡ true → SlotsNamed t words (c ++ rest) n
+slots-named {t} {words} {b} {c} rest {n} {r} s l g y = named-same front (record {
+  listed = record {
+    all = λ p o m q k. h.rearranged.all p (cut.all p o m q k);
+    only = λ p r. cut.only p (h.rearranged.only p r);
+    few = s.few;
+  };
+  grouped = h.grouped y;
+})
+  where
+    h : Grouping t words (take n b) c n r
+    h = rw (length-take-le n b l) at g
+
+    cut : SlotsListed words (take n b) n
+    cut = listed_same (λ i o. sym (get_or-take n b i 0 o)) s
+
+    front : (i : ℕ) → i < n → get_or c i 0 ≡ get_or (c ++ rest) i 0
+    front i o = sym (get_or-append c rest 0 i (omega (arith, h.rearranged.long, length-take-le n b l)))

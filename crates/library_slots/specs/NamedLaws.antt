@@ -23,8 +23,8 @@ use Rattle.library.specs.SlotSums.{zeros, get_d_zeros, length-zeros}
 use Rattle.library.specs.SlotMarks.{any_marked, is_slot, any_slot_of}
 use Rattle.library.specs.SlotReach.{slots-reached}
 use Rattle.library.specs.ReturnSlots.{among_marked, reached_from, among-missing, all_among_lem, Witness, any_some}
-use Rattle.name_order.specs.Order.{place_in, name_of}
-use Rattle.library_slots.specs.Named.{of_pairs, in_pool, Had, Lacks, NamesStand, SlotsListed}
+use Rattle.name_order.specs.Order.{place_in, new_in, name_of, Listed}
+use Rattle.library_slots.specs.Named.{of_pairs, in_pool, Had, Lacks, NamesStand, SlotsListed, SlotsNamed}
 
 -- ── Slots by name ──
 
@@ -238,3 +238,25 @@ ret_selves t words ret end er l m = record {
           let z : get_or words p 0 ≡ 0 = get_or-eq_default words 0 (omega arith) in
           absurd (omega arith)
     ]
+
+-- ── Lists whose first n entries are the same ──
+
+module _ {words a b : List ℕ} {n : ℕ} (h : (i : ℕ) → i < n → get_or a i 0 ≡ get_or b i 0) where
+  pub listed_same : SlotsListed words a n → SlotsListed words b n
+  listed_same s = record {
+    all = λ p o m q k. let l = s.all p o m q k in record { rank = l.rank; below = l.below; is = ap place_in (sym (h l.rank l.below)) ∙ l.is };
+    only = λ p l. s.only p (record { rank = l.rank; below = l.below; is = ap place_in (h l.rank l.below) ∙ l.is });
+    few = s.few;
+  }
+
+  pub named-same : {t : Texts} → SlotsNamed t words a n → SlotsNamed t words b n
+  named-same {t} s = record {
+    listed = listed_same s.listed;
+    grouped = record {
+      same = λ m l o e. sym (name (m - 1) (omega arith)) ∙ s.grouped.same m l o (ap new_in (h m o) ∙ e) ∙ name m o;
+      apart = λ m l o e i j p q r f. s.grouped.apart m l o (ap new_in (h m o) ∙ e) i j p q r (name i (omega arith) ∙ f ∙ sym (name j r));
+    };
+  }
+    where
+      name : (i : ℕ) → i < n → name_of t words a i ≡ name_of t words b i
+      name i l = ap (λ e. name_bytes t (get_or words (place_in e) 0)) (h i l)

@@ -4,21 +4,22 @@
 #![tactic(auto)]
 
 ghost use Rattle.std.specs.Prelude.{◌≡◌, cond, List, ℕ, ◌+◌, ◌*◌, ◌≤◌, ◌<◌, ◌^◌, min, length, get_or, set, eqb};
+ghost use Rattle.tok.specs.Word.{kind_of};
 ghost use Rattle.tok.specs.Text.{Texts, name_bytes};
-ghost use Rattle.ptype.specs.Kinds.{wraps};
 ghost use Rattle.library.specs.SlotSums.{slot_by, zeros, sums_to};
 ghost use Rattle.library.specs.SlotMarks.{mark_fields, mark_inside, mark_all, spread, any_marked, is_slot, any_slot_of, types_in};
 ghost use Rattle.library.specs.ReturnSlots.{among_marked, missing};
 ghost use Rattle.name_order.specs.Order.{Grouped};
 ghost use Rattle.library_slots.specs.Named.{of_pairs, in_pool, argued, wanted, reached, Told, NamesStand, ReturnAsked, SlotsListed, SlotsNamed};
 
+use ptype::TypeKind;
 use tok::Texts;
 
-// Option and Array.
-fn wraps(k: u32) -> bool
-    ensures { result ≡ wraps k }
+// Whether a word's kind is that of a slot.
+fn slot_kind(w: u32) -> bool
+    ensures { result ≡ eqb (kind_of w) 10 }
 {
-    k == ptype::OPTION || k == ptype::ARRAY
+    matches!(TypeKind::of(w), TypeKind::Slot)
 }
 
 // Counts.
@@ -35,17 +36,15 @@ fn sum_at(sums: &[u16], j: usize) -> u16
 pub fn has_slot(pool: &[u32], sums: &[u16], w: u32) -> bool
     ensures { result ≡ slot_by (λ j. get_or sums.now j 0) pool.now w }
 {
-    let k = tok::kind(w);
     let q = tok::payload(w);
-    if k == ptype::SLOT {
-        true
-    } else if wraps(k) {
-        sum_at(sums, q) < sum_at(sums, q + 1)
-    } else if k == ptype::RECORD {
-        let n = ptype::field_count(pool, w);
-        sum_at(sums, q + 1) < sum_at(sums, q + 1 + 2 * n)
-    } else {
-        false
+    match TypeKind::of(w) {
+        TypeKind::Slot => true,
+        TypeKind::Option | TypeKind::Array => sum_at(sums, q) < sum_at(sums, q + 1),
+        TypeKind::Record => {
+            let n = ptype::field_count(pool, w);
+            sum_at(sums, q + 1) < sum_at(sums, q + 1 + 2 * n)
+        }
+        _ => false,
     }
 }
 
@@ -95,12 +94,11 @@ fn mark_fields(marks: &mut [u8], at: usize, n: usize)
 fn mark_inside(pool: &[u32], w: u32, marks: &mut [u8])
     ensures { marks.new ≡ mark_inside pool.now w marks.old }
 {
-    let k = tok::kind(w);
     let q = tok::payload(w);
-    if wraps(k) {
-        mark(marks, q);
-    } else if k == ptype::RECORD {
-        mark_fields(marks, q + 2, ptype::field_count(pool, w));
+    match TypeKind::of(w) {
+        TypeKind::Option | TypeKind::Array => mark(marks, q),
+        TypeKind::Record => mark_fields(marks, q + 2, ptype::field_count(pool, w)),
+        _ => {}
     }
 }
 
@@ -138,7 +136,7 @@ fn mark_types(pool: &[u32], pairs: &[u32], marks: &mut [u8])
 fn is_slot(texts: &Texts, named: u32, w: u32) -> bool
     ensures { result ≡ is_slot texts.now (name_bytes texts.now named) w }
 {
-    tok::kind(w) == ptype::SLOT && tok::same_name(texts, named, w)
+    slot_kind(w) && tok::same_name(texts, named, w)
 }
 
 // Whether one of the types of some pairs is.
@@ -178,7 +176,7 @@ fn among(texts: &Texts, pool: &[u32], pairs: &[u32], marks: &[u8], named: u32) -
 fn missing(texts: &Texts, pool: &[u32], pairs: &[u32], marks: &[u8], w: u32) -> bool
     ensures { result ≡ missing texts.now pool.now (types_in pairs.now) marks.now w }
 {
-    tok::kind(w) == ptype::SLOT && !among(texts, pool, pairs, marks, w)
+    slot_kind(w) && !among(texts, pool, pairs, marks, w)
 }
 
 // Whether a marked pool word is one. A word that the arguments reach too is none.
@@ -242,21 +240,19 @@ fn reached(returned: bool, size: usize, marks: &[u8], first: usize, end: usize, 
     }
 }
 
-// Whether it reaches one of the ranks from `from` up to `to`.
+// Whether it reaches one of a group.
 fn any_reached(
-    order: &[u16],
+    group: &[u16],
     returned: bool,
     size: usize,
     marks: &[u8],
     first: usize,
     end: usize,
-    from: usize,
-    to: usize,
 ) -> bool
-    ensures { Told (reached returned size marks.now first end) order.now from to result }
+    ensures { Told (reached returned size marks.now first end) group.now 0 (length group.now) result }
 {
-    for i in from..to {
-        let p = name_order::place_at(order, i);
+    for i in 0..group.len() {
+        let p = name_order::place_at(group, i);
         if reached(returned, size, marks, first, end, p) {
             return true;
         }
@@ -267,21 +263,22 @@ fn any_reached(
 // Whether each name that the return type reaches is one that an argument reaches: group by group.
 fn names_stand(
     order: &[u16],
-    n: usize,
     size: usize,
     args: &[u8],
     marks: &[u8],
     first: usize,
     end: usize,
 ) -> bool
-    ensures { (t : Texts) (words : List ℕ) → Grouped t words order.now n
+    ensures { let n : ℕ = length order.now in
+        (t : Texts) (words : List ℕ) → Grouped t words order.now n
         → NamesStand t words order.now n (argued size args.now first end) (wanted size marks.now end) result }
 {
     let mut at = 0;
-    while at < n {
-        let next = name_order::group_end(order, at, n);
-        if any_reached(order, true, size, marks, first, end, at, next)
-            && !any_reached(order, false, size, args, first, end, at, next)
+    while at < order.len() {
+        let next = name_order::group_end(order, at);
+        let group = &order[at..next];
+        if any_reached(group, true, size, marks, first, end)
+            && !any_reached(group, false, size, args, first, end)
         {
             return false;
         }
@@ -291,19 +288,18 @@ fn names_stand(
 }
 
 // Whether each slot of the return type stands in an argument, where the arguments' pairs stand from place `first` on and the return type at `end`:
-// by the library's n slots in order, or by name where there are none.
+// by the library's slots in order, or by name where there are none.
 pub fn return_stands(
     texts: &Texts,
     pool: &[u32],
     pairs: &[u32],
     ret: u32,
     order: &[u16],
-    n: usize,
     first: usize,
     end: usize,
 ) -> bool
     ensures { let P : List ℕ = pool.now in
-        ReturnAsked texts.now P (types_in pairs.now) ret order.now n first end result }
+        ReturnAsked texts.now P (types_in pairs.now) ret order.now (length order.now) first end result }
 {
     let mut args = [0u8; 8192];
     mark_types(pool, pairs, &mut args);
@@ -311,9 +307,9 @@ pub fn return_stands(
     let mut marks = [0u8; 8192];
     mark_inside(pool, ret, &mut marks);
     spread(pool, &mut marks);
-    if n > 0 {
-        names_stand(order, n, pool.len(), &args, &marks, first, end)
-    } else if tok::kind(ret) == ptype::SLOT {
+    if order.len() > 0 {
+        names_stand(order, pool.len(), &args, &marks, first, end)
+    } else if slot_kind(ret) {
         among(texts, pool, pairs, &args, ret)
     } else {
         !any_missing(texts, pool, pairs, &args, &marks)
@@ -321,12 +317,12 @@ pub fn return_stands(
 }
 
 // The places of the slots in a library, from the pool on, and how many there are.
-fn slot_places(words: &[u32], order: &mut [u16]) -> usize
-    ensures { 8192 ≤ length order.old → SlotsListed words.now order.new result }
+fn slot_places(words: &[u32], order: &mut [u16; 8192]) -> usize
+    ensures { SlotsListed words.now order.new result }
 {
     let mut n = 0;
     for i in 2..words.len().min(8193) {
-        if tok::kind(words[i]) == ptype::SLOT {
+        if slot_kind(words[i]) {
             name_order::enter(order, n, i);
             n += 1;
         }
@@ -340,15 +336,15 @@ pub fn named_slots(
     words: &[u32],
     pool: &[u32],
     sums: &[u16],
-    order: &mut [u16],
+    order: &mut [u16; 8192],
 ) -> usize
-    ensures { (8192 ≤ length order.old → 0 < result → SlotsNamed texts.now words.now order.new result) }
+    ensures { (0 < result → SlotsNamed texts.now words.now order.new result) }
 {
     if sum_at(sums, pool.len()) == 0 {
         return 0;
     }
     let n = slot_places(words, order);
-    if name_order::group_names(texts, words, order, n) {
+    if name_order::group_names(texts, words, &mut order[..n]) {
         n
     } else {
         0

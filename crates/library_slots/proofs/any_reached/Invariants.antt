@@ -1,6 +1,6 @@
 -- `library_slots::any_reached` meets its contract. The loop's invariant: the test fails at the ranks before i.
 -- Assumes nothing.
-use Prim.Native.Nat.{ℕ, ◌≤◌, ◌<◌}
+use Prim.Native.Nat.{ℕ, ◌<◌}
 use mathlib.Core.Path.{◌≡◌}
 use mathlib.Core.Bool.{false}
 use lib.ListN.{get_or}
@@ -9,4 +9,4 @@ use Rattle.library_slots.specs.Named.{reached}
 use Rattle.library_slots.proofs.any_reached.Given as goal
 
 abbrev pub invariant-loop-i : goal.invariant-loop-i
-invariant-loop-i l = (l.from ≤ l.i) × ((j : ℕ) → l.from ≤ j → j < l.i → reached l.returned l.size l.marks l.first l.end (place_in (get_or l.order j 0)) ≡ false)
+invariant-loop-i l = (j : ℕ) → j < l.i → reached l.returned l.size l.marks l.first l.end (place_in (get_or l.group j 0)) ≡ false

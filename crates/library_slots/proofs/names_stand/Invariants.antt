@@ -1,12 +1,13 @@
 -- `library_slots::names_stand` meets its contract. The loop's invariant, `StandsTo`: each name wanted before rank `at` is had.
 -- The measure is how many ranks are left. Assumes nothing.
 use Prim.Native.Nat.{◌-◌}
+use lib.ListN.{length}
 use Rattle.library_slots.specs.Named.{argued, wanted}
 use Rattle.library_slots.proofs.NamedWays.{StandsTo}
 use Rattle.library_slots.proofs.names_stand.Given as goal
 
 abbrev pub invariant-loop-at : goal.invariant-loop-at
-invariant-loop-at l = StandsTo l.order l.n (argued l.size l.args l.first l.end) (wanted l.size l.marks l.end) l.at
+invariant-loop-at l = StandsTo l.order (length l.order) (argued l.size l.args l.first l.end) (wanted l.size l.marks l.end) l.at
 
 abbrev pub decreases-loop-at : goal.decreases-loop-at
-decreases-loop-at l = l.n - l.at
+decreases-loop-at l = length l.order - l.at
