@@ -17,13 +17,11 @@ ghost use Rattle.visit.specs.Within.{Visits};
 ghost use Rattle.calls.specs.Callees.{callee_at, is_through_field, call_end, CallAt, FieldCall};
 ghost use Rattle.calls.specs.CallVisits.{Resolvable};
 
+use ast::NodeKind;
 use places::{Image, Sources};
 use rules::Answer;
-use tok::{Texts, kind, word_at};
+use tok::{Texts, word_at};
 use visit::{State, Visit};
-
-// The kind of an Ident.
-const IDENT: u32 = 1;
 
 // Is the target a Field of what is no Ident? Such a call visits none of its arguments.
 pub fn through_field(image: &Image, at: usize) -> bool
@@ -31,11 +29,13 @@ pub fn through_field(image: &Image, at: usize) -> bool
     ensures { result ≡ is_through_field (callee_at image.now.words at) }
 {
     let target = image.node_place(word_at(image.words, at + 2));
-    if kind(word_at(image.words, target)) == IDENT {
-        return false;
+    match NodeKind::of(word_at(image.words, target)) {
+        NodeKind::Ident => false,
+        _ => {
+            let of = image.node_place(word_at(image.words, target + 2));
+            !matches!(NodeKind::of(word_at(image.words, of)), NodeKind::Ident)
+        }
     }
-    let of = image.node_place(word_at(image.words, target + 2));
-    kind(word_at(image.words, of)) != IDENT
 }
 
 // Such a call: 14.
@@ -126,54 +126,53 @@ pub fn resolve(
     n: u32,
     poisoned: bool,
 ) -> Visit<Answer>
-    requires { Resolvable sources.now.texts sources.now.image.words sources.now.image.places sources.now.library n at count st (lent slots.old functions.now types.old diagnostics.old messages.old scratch.old no_more) }
+    requires { let b : Lent = lent slots.old functions.now types.old diagnostics.old messages.old scratch.old no_more in
+        Resolvable sources.now.texts sources.now.image.words sources.now.image.places sources.now.library n at count st b }
     ensures { let b : Lent = lent slots.old functions.now types.old diagnostics.old messages.old scratch.old no_more in
         ((ls : List Package) (v : ℕ) →
         let b' : Lent = lent slots.new functions.now types.new diagnostics.new messages.new scratch.new no_more in
-        Visits (call_end (ctx sources.now.texts ls v) n (get_or sources.now.image.words (at + 1) 0) (callee_at sources.now.image.words at) (given_from sources.now.image.words (at + 3) count) poisoned) count 0
-        sources.now.library st b b' result) }
+        let image : List ℕ = sources.now.image.words in
+        Visits (call_end (ctx sources.now.texts ls v) n (get_or image (at + 1) 0) (callee_at image at) (given_from image (at + 3) count) poisoned) count 0 sources.now.library st b b' result) }
 {
-    let slot = word_at(sources.image.words, at + 1);
-    let target = sources
-        .image
-        .node_place(word_at(sources.image.words, at + 2));
-    if kind(word_at(sources.image.words, target)) == IDENT {
-        let name = word_at(sources.image.words, target + 2);
-        return resolve_own(
+    let image = &sources.image;
+    let slot = word_at(image.words, at + 1);
+    let target = image.node_place(word_at(image.words, at + 2));
+    match NodeKind::of(word_at(image.words, target)) {
+        NodeKind::Ident => resolve_own(
             slots,
             functions,
             &types[..],
             diagnostics,
             messages,
             &sources.texts,
-            &sources.image,
+            image,
             st,
             n,
             slot,
-            name,
+            word_at(image.words, target + 2),
             at + 3,
             count,
-        );
+        ),
+        _ => {
+            let of = image.node_place(word_at(image.words, target + 2));
+            let pkg = word_at(image.words, of + 2);
+            let name = word_at(image.words, target + 3);
+            pkg_call::resolve_pkg_call(
+                slots,
+                types,
+                diagnostics,
+                messages,
+                scratch,
+                sources,
+                st,
+                n,
+                slot,
+                pkg,
+                name,
+                at + 3,
+                count,
+                poisoned,
+            )
+        }
     }
-    let of = sources
-        .image
-        .node_place(word_at(sources.image.words, target + 2));
-    let pkg = word_at(sources.image.words, of + 2);
-    let name = word_at(sources.image.words, target + 3);
-    pkg_call::resolve_pkg_call(
-        slots,
-        types,
-        diagnostics,
-        messages,
-        scratch,
-        sources,
-        st,
-        n,
-        slot,
-        pkg,
-        name,
-        at + 3,
-        count,
-        poisoned,
-    )
 }

@@ -19,7 +19,10 @@ pub overflow_add-i-in-loop : goal.overflow_add-i-in-loop
 overflow_add-i-in-loop c = omega (arith, c.loop.invariant.ready.room, (some-left c.loop-test.true))
 
 pub loop-preserved : goal.loop-preserved
-loop-preserved c = rw one-less (args-less c.loop.invariant (some-left c.loop-test.true) (rw (words-seen c.image.view_is) at c.word_at.ensures) c.token_span.ensures c.cover_spans-named.ensures (rw (words-seen c.image.view_is) at c.word_at-in-loop.ensures) c.type_span.ensures c.cover_spans-covered.ensures)
+loop-preserved c =
+    let e = words-seen c.image.view_is in
+    rw one-less
+    (args-less c.loop.invariant (some-left c.loop-test.true) (rw e at c.word_at.ensures) c.token_span.ensures c.cover_spans-named.ensures (rw e at c.word_at-in-loop.ensures) c.type_span.ensures c.cover_spans-covered.ensures)
 
 pub returns : goal.returns
 returns c = args-done c.loop.invariant (none-left c.loop-test.false)

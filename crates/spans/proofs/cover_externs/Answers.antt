@@ -35,7 +35,10 @@ pub overflow_add-i-in-loop-4 : goal.overflow_add-i-in-loop-4
 overflow_add-i-in-loop-4 c = omega (arith, extern-room (some-left c.loop-test.true) c.loop.invariant.ready (rw (words-seen c.image.view_is) at c.word_at-count.ensures))
 
 pub loop-preserved : goal.loop-preserved
-loop-preserved c = rw one-less (externs_less c.loop.invariant (some-left c.loop-test.true) (rw (words-seen c.image.view_is) at c.word_at-count.ensures) (rw (words-seen c.image.view_is) at c.word_at.ensures) c.token_span.ensures c.cover_spans-named.ensures c.cover_args-args.ensures (rw (words-seen c.image.view_is) at c.word_at-in-loop.ensures) c.type_span.ensures c.cover_spans-covered.ensures)
+loop-preserved c =
+    let e = words-seen c.image.view_is in
+    rw one-less
+    (externs_less c.loop.invariant (some-left c.loop-test.true) (rw e at c.word_at-count.ensures) (rw e at c.word_at.ensures) c.token_span.ensures c.cover_spans-named.ensures c.cover_args-args.ensures (rw e at c.word_at-in-loop.ensures) c.type_span.ensures c.cover_spans-covered.ensures)
 
 pub returns : goal.returns
 returns c = externs_done c.loop.invariant (none-left c.loop-test.false)
