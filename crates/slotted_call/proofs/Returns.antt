@@ -1,5 +1,5 @@
 -- A call of a function with slots, one law for each way out of the code. Assumes nothing.
-use Rattle.std.specs.Prelude.{ℕ, suc, ◌+◌, ◌-◌, ◌≤◌, ◌<◌, ◌≡◌, min, Bool, true, false, ◌||◌, List, [], Option, Ok, Err, eqb, length, get_or, drop}
+use Rattle.std.specs.Prelude.{ℕ, suc, ◌+◌, ◌-◌, ◌≤◌, ◌<◌, ◌≡◌, min, Bool, true, false, ◌||◌, List, [], Option, Ok, Err, eqb, length, get_or, drop, ⊤}
 use Rattle.std.specs.Result.{IsErrAnd}
 use Rattle.std.proofs.Math.Path.{refl}
 use Rattle.std.proofs.Common.{sym, ap, ◌∙◌, arith}
@@ -18,7 +18,8 @@ use Rattle.add.specs.Answer.{Added, result_of}
 use Rattle.add.specs.Means.{Grown}
 use Rattle.add.specs.AddLaws.{grown-same, grown-then, means-grown}
 use Rattle.add.specs.StepLaws.{next-ok, of-answer}
-use Rattle.slots.specs.Bindings.{first_pairs, pair_room, bindings_in, bindings_after}
+use Rattle.slots.specs.declared.Bindings.{Bindings}
+use Rattle.slots.specs.Bindings.{first_pairs, pair_room, bindings_of, bindings_after}
 use Rattle.apply.specs.Apply.{apply_word}
 use Rattle.ast.specs.Node.{nodes_from, tree_of, slot_of}
 use Rattle.ast.specs.Span.{span_of}
@@ -110,41 +111,46 @@ somewhere = record { functions = buffer [] 0; env = []; packages = []; own = [];
 
 -- ── Each argument ──
 
-no_pairs : (texts : Texts) (pairs : List ℕ) → bindings_in texts pairs 0 ≡ []
+no_pairs : (texts : Texts) (b : Bindings) → b.count ≡ 0 → bindings_of texts b ≡ []
 unfolding first_pairs
-no_pairs texts pairs =
-    let z : min 0 (pair_room pairs) ≡ 0 = omega arith in
+no_pairs texts b e =
+    let z : min b.count (pair_room b.pairs.now) ≡ 0 = omega (arith, e) in
     rw z refl
 
-module _ (texts : Texts) (n : ℕ) (call_name : List ℕ) (ps : List Param) (image : List ℕ) (args count : ℕ) (s t d m : List ℕ) (u : Used) where
+module _ (texts : Texts) (n : ℕ) (call_name : List ℕ) (ps : List Param) (image : List ℕ) (args count : ℕ) (s t d m : List ℕ) (u : Used) (b : Bindings) where
   -- i arguments are done
-  pub record SoFar (i : ℕ) (t' d' m' : List ℕ) (u' : Used) (pairs' : List ℕ) (bound : ℕ) : Type 0 where
+  pub record SoFar (i : ℕ) (t' d' m' : List ℕ) (u' : Used) (b' : Bindings) : Type 0 where
     pub within : i ≤ count
+    pub lent : b'.pairs.ghost_name ≡ b.pairs.ghost_name
+    pub keeps : length b'.pairs.now ≡ length b.pairs.now
     pub so : (library : List Package) (void : ℕ) (rest : Rest)
         → arguments (ctx texts library void) n call_name true ps (given_from image args count) [] (world rest s t d m u)
-        ≡ arguments (ctx texts library void) n call_name true (drop i ps) (given_from image (args + i) (count - i)) (bindings_in texts pairs' bound) (world rest s t' d' m' u')
+        ≡ arguments (ctx texts library void) n call_name true (drop i ps) (given_from image (args + i) (count - i)) (bindings_of texts b') (world rest s t' d' m' u')
     pub grown : Grown (buffer t u.types) (buffer t' u'.types)
-    pub bindable : Bindable texts t ps (bindings_in texts pairs' bound)
+    pub bindable : Bindable texts t ps (bindings_of texts b')
 
-  pub none_done : (pairs : List ℕ) → SoFar 0 t d m u pairs 0
-  none_done pairs =
+  pub none_done : b.count ≡ 0 → SoFar 0 t d m u b
+  none_done e =
       let a : args + 0 ≡ args = omega arith in
-      let b : count - 0 ≡ count = omega arith in
+      let z : count - 0 ≡ count = omega arith in
       record {
         within = omega arith;
-        so = λ library void rest. rw (a, b, no_pairs texts pairs) refl;
+        lent = refl;
+        keeps = refl;
+        so = λ library void rest. rw (a, z, no_pairs texts b e) refl;
         grown = grown-same (buffer t u.types);
-        bindable = rw (no_pairs texts pairs) none;
+        bindable = rw (no_pairs texts b e) none;
       }
 
-  module _ {i : ℕ} {t' d' m' : List ℕ} {u' : Used} {pairs' : List ℕ} {bound : ℕ} (h : SoFar i t' d' m' u' pairs' bound) where
-    pub all_done : count ≤ i → Arguments texts n call_name ps image args count s t d m u t' d' m' pairs' (Ok (bound, u'))
+  module _ {i : ℕ} {t' d' m' : List ℕ} {u' : Used} {b' : Bindings} (h : SoFar i t' d' m' u' b') where
+    pub all_done : count ≤ i → Arguments texts n call_name ps image args count s t d m u b t' d' m' b' (Ok (tt, u'))
     unfolding nodes_from provided_of stepped with_answer
     all_done l =
         let z : count - i ≡ 0 = omega arith in
         record {
+          lent = h.lent;
           step = λ library void.
-              record { step = λ rest. h.so library void rest ∙ rw z (arguments-none (ctx texts library void) n call_name true (drop i ps) (bindings_in texts pairs' bound) (world rest s t' d' m' u')) };
+              record { step = λ rest. h.so library void rest ∙ rw z (arguments-none (ctx texts library void) n call_name true (drop i ps) (bindings_of texts b') (world rest s t' d' m' u')) };
           grown = h.grown;
         }
 
@@ -153,70 +159,72 @@ module _ (texts : Texts) (n : ℕ) (call_name : List ℕ) (ps : List Param) (ima
       -- what the step of the argument takes for granted
       pub argument-ready : ((j : ℕ) → j < length ps → Meant texts t u.types (get_or ps j (param 0 0)).type)
           → ((j : ℕ) → j < count → Meant texts t u.types (get_or s (slot_of (tree_of image (get_or image (args + j) 0))) 0))
-          → (pairs : List ℕ) → ((bs : List Binding) → Bindable texts t ps bs → length bs ≤ pair_room pairs) → length pairs' ≡ length pairs
-          → ArgumentMeant texts s t' u'.types type slot pairs' bound
-      argument-ready mp mg pairs room el =
+          → ((bs : List Binding) → Bindable texts t ps bs → length bs ≤ pair_room b.pairs.now) → ArgumentMeant texts s t' u'.types type slot b'
+      argument-ready mp mg room =
           let k : i < length ps = omega (arith, long) in
           let m₁ = mp i k in
           let z : slot ≡ slot_of (tree_of image (get_or image (args + i) 0)) = eslot ∙ ap (λ x. slot_of (tree_of image x)) en in
+          let p = get_or ps i (param 0 0) in
+          let after = bindings_after (bind_slots texts t' (ty_of texts t p.type) (get_or s slot 0) (bindings_of texts b')) in
           record {
             expects = rw etype (meant-grown h.grown m₁);
             provides = rw z (meant-grown h.grown (mg i l));
-            room =
-                rw (etype, same-type h.grown m₁)
-                (omega (arith, el, room (bindings_after (bind_slots texts t' (ty_of texts t (get_or ps i (param 0 0)).type) (get_or s slot 0) (bindings_in texts pairs' bound))) (more h.bindable i k t' (get_or s slot 0) refl)));
+            room = rw (etype, same-type h.grown m₁) (omega (arith, h.keeps, room after (more h.bindable i k t' (get_or s slot 0) refl)));
           }
 
-      module _ (mp : (j : ℕ) → j < length ps → Meant texts t u.types (get_or ps j (param 0 0)).type) {span : Span} (espan : span ≡ span_of (tree_of image number)) {t'' d'' m'' pairs'' : List ℕ} {r : Step ℕ}
-          (a : Argues texts (λ c. argument c n call_name true (param name type) (given slot span)) s t' d' m' u' pairs' bound t'' d'' m'' pairs'' r) where
+      module _ (mp : (j : ℕ) → j < length ps → Meant texts t u.types (get_or ps j (param 0 0)).type) {span : Span} (espan : span ≡ span_of (tree_of image number)) {t'' d'' m'' : List ℕ} {b'' : Bindings} {r : Step ⊤}
+          (a : Argues texts (λ c. argument c n call_name true (param name type) (given slot span)) s t' d' m' u' b' t'' d'' m'' b'' r) where
         one : (library : List Package) (void : ℕ)
-            → Steps (argument (ctx texts library void) n call_name true (get_or ps i (param 0 0)) (given (slot_of (tree_of image (get_or image (args + i) 0))) (span_of (tree_of image (get_or image (args + i) 0)))) (bindings_in texts pairs' bound))
-            s t' d' m' u' s t'' d'' m'' (with_answer (bindings_in texts pairs'') r)
+            → Steps (argument (ctx texts library void) n call_name true (get_or ps i (param 0 0)) (given (slot_of (tree_of image (get_or image (args + i) 0))) (span_of (tree_of image (get_or image (args + i) 0)))) (bindings_of texts b'))
+            s t' d' m' u' s t'' d'' m'' (with_answer (λ _. bindings_of texts b'') r)
         one library void = rw (ename, etype, eslot, espan, en) at (a.step library void)
 
         split : (library : List Package) (void : ℕ) (rest : Rest)
             → arguments (ctx texts library void) n call_name true ps (given_from image args count) [] (world rest s t d m u)
-            ≡ next (stepped rest s t'' d'' m'' (with_answer (bindings_in texts pairs'') r)) (λ more. arguments (ctx texts library void) n call_name true (drop (suc i) ps) (given_from image (args + i + 1) (count - suc i)) more)
+            ≡ next (stepped rest s t'' d'' m'' (with_answer (λ _. bindings_of texts b'') r)) (λ more. arguments (ctx texts library void) n call_name true (drop (suc i) ps) (given_from image (args + i + 1) (count - suc i)) more)
         unfolding arguments nodes_from provided_of
         split library void rest =
             let k : i < length ps = omega (arith, long) in
             let z : count - i ≡ suc (count - suc i) = omega arith in
             h.so library void rest ∙ rw (drop-cons ps i (param 0 0) k, z, (one library void).step rest) refl
 
-        pub more-done : {b : ℕ} {v : Used} → r ≡ Ok (b, v) → SoFar (i + 1) t'' d'' m'' v pairs'' b
+        pub more-done : {done : ⊤} {v : Used} → r ≡ Ok (done, v) → SoFar (i + 1) t'' d'' m'' v b''
         unfolding stepped with_answer
-        more-done {b} {v} o =
+        more-done {v = v} o =
             let k : i < length ps = omega (arith, long) in
             let z : args + (i + 1) ≡ args + i + 1 = omega arith in
-            let e = (one [] 0).step somewhere ∙ ap (λ x. stepped somewhere s t'' d'' m'' (with_answer (bindings_in texts pairs'') x)) o in
+            let e = (one [] 0).step somewhere ∙ ap (λ x. stepped somewhere s t'' d'' m'' (with_answer (λ _. bindings_of texts b'') x)) o in
             let p = get_or ps i (param 0 0) in
             let x = given (slot_of (tree_of image (get_or image (args + i) 0))) (span_of (tree_of image (get_or image (args + i) 0))) in
             record {
               within = omega arith;
+              lent = a.lent ∙ h.lent;
+              keeps = a.keeps ∙ h.keeps;
               so = λ library void rest. split library void rest ∙ rw (o, z, add-one i) refl;
-              grown = grown-then h.grown (argument_grows (ctx texts [] 0) n call_name true p x (bindings_in texts pairs' bound) (world somewhere s t' d' m' u') e);
+              grown = grown-then h.grown (argument_grows (ctx texts [] 0) n call_name true p x (bindings_of texts b') (world somewhere s t' d' m' u') e);
               bindable =
-                  argument-binds (Bindable texts t ps) (ctx texts [] 0) n call_name p x (bindings_in texts pairs' bound) (world somewhere s t' d' m' u') e h.bindable
+                  argument-binds (Bindable texts t ps) (ctx texts [] 0) n call_name p x (bindings_of texts b') (world somewhere s t' d' m' u') e h.bindable
                   (more h.bindable i k t' (get_or s x.slot 0) (rw (same-type h.grown (mp i k)) refl));
             }
 
-        pub done-stops : {f : Refusal} {q : Step ℕ} → r ≡ Err f → IsErrAnd q (λ y. y ≡ f) → Arguments texts n call_name ps image args count s t d m u t'' d'' m'' pairs'' q
+        pub done-stops : {f : Refusal} {q : Step ⊤} → r ≡ Err f → IsErrAnd q (λ y. y ≡ f) → Arguments texts n call_name ps image args count s t d m u b t'' d'' m'' b'' q
         unfolding stepped with_answer
         done-stops {f} {q} o k = record {
+          lent = a.lent ∙ h.lent;
           step = λ library void. record { step = λ rest. split library void rest ∙ rw (o, passed q k) refl };
           grown = rw (passed q k) tt;
         }
 
 -- ── The return type ──
 
-module _ (texts : Texts) (n slot ret : ℕ) (pairs : List ℕ) (bound : ℕ) (s t d m : List ℕ) (u : Used) (mr : Meant texts t u.types ret) (added : Added) (t' : List ℕ)
-    (e : (k : ℕ) → apply_word texts k (bindings_in texts pairs bound) ret (buffer t u.types) ≡ result_of k added t') {r : Step ℕ} (er : r ≡ added_of n u added) where
+module _ (texts : Texts) (n slot ret : ℕ) (bs : List Binding) (s t d m : List ℕ) (u : Used) (mr : Meant texts t u.types ret) (added : Added) (t' : List ℕ)
+    (e : (k : ℕ) → apply_word texts k bs ret (buffer t u.types) ≡ result_of k added t') {r : Step ℕ} (er : r ≡ added_of n u added) where
   pub returns-known : {w : ℕ} {v : Used} {s' : List ℕ} {q : Step Answer} → r ≡ Ok (w, v) → ((t d m : List ℕ) → Steps (set_known slot w) s t d m v s' t d m q)
-      → Steps (known_return texts n slot ret (bindings_in texts pairs bound) t) s t d m u s' t' d m q
-  returns-known p k = on-ok _ (applying texts n ret pairs bound s t d m u mr added e er) p (k t' d m)
+      → Steps (known_return texts n slot ret bs t) s t d m u s' t' d m q
+  returns-known p k = on-ok _ (applying texts n ret bs s t d m u mr added e er) p (k t' d m)
 
-  pub returns-refused : {f : Refusal} {q : Step Answer} → r ≡ Err f → IsErrAnd q (λ y. y ≡ f) → Steps (known_return texts n slot ret (bindings_in texts pairs bound) t) s t d m u s t' d m q
-  returns-refused p k = on-err _ (applying texts n ret pairs bound s t d m u mr added e er) p k
+  pub returns-refused : {f : Refusal} {q : Step Answer} → r ≡ Err f → IsErrAnd q (λ y. y ≡ f) → Steps (known_return texts n slot ret bs t) s t d m u s t' d m q
+  returns-refused p k = on-err _ (applying texts n ret bs s t d m u mr added e er) p k
 
 -- ── The call ──
 
@@ -230,19 +238,19 @@ module _ (texts : Texts) (n slot token : ℕ) (call_name words : List ℕ) (at :
     step = λ rest. rw (length-given image count args, ← en true, ne_eqb count required differ, w) ((poisons-step n {s = s} {t = t} {u = u} p).step rest);
   }
 
-  module _ (e : count ≡ required) {t' d' m' pairs' : List ℕ} {r : Step ℕ} (a : Arguments texts n call_name (signature_at words at true).params image args count s t d m u t' d' m' pairs' r) where
+  module _ (e : count ≡ required) {b b' : Bindings} {t' d' m' : List ℕ} {r : Step ⊤} (a : Arguments texts n call_name (signature_at words at true).params image args count s t d m u b t' d' m' b' r) where
     pub call-refused : {f : Refusal} {q : Step Answer} → r ≡ Err f → IsErrAnd q (λ y. y ≡ f)
         → (library : List Package) (void : ℕ) → Steps (check_call_args (ctx texts library void) n slot token call_name (signature_at words at true) (given_from image args count)) s t d m u s t' d' m' q
     unfolding check_call_args signature_at when with_answer
     call-refused {f} o k library void = rw (length-given image count args, ← en true, eq-eqb count required e) (on-err _ (a.step library void) {e = f} (rw o refl) k)
 
-    module _ {bound ret : ℕ} {v : Used} (o : r ≡ Ok (bound, v)) (er : (f : Bool) → ret ≡ (signature_at words at f).ret) where
+    module _ {done : ⊤} {ret : ℕ} {v : Used} (o : r ≡ Ok (done, v)) (er : (f : Bool) → ret ≡ (signature_at words at f).ret) where
       pub return-meant : Meant texts t u.types (signature_at words at true).ret → Meant texts t' v.types ret
       return-meant h = rw (er true) (meant-grown (rw o at a.grown) h)
 
-      pub call-returned : {s' t'' : List ℕ} {q : Step Answer} → ((d m : List ℕ) → Steps (known_return texts n slot ret (bindings_in texts pairs' bound) t') s t' d m v s' t'' d m q)
+      pub call-returned : {s' t'' : List ℕ} {q : Step Answer} → ((d m : List ℕ) → Steps (known_return texts n slot ret (bindings_of texts b') t') s t' d m v s' t'' d m q)
           → (library : List Package) (void : ℕ) → Steps (check_call_args (ctx texts library void) n slot token call_name (signature_at words at true) (given_from image args count)) s t d m u s' t'' d' m' q
       unfolding check_call_args returned signature_at tree when with_answer
       call-returned k library void =
           rw (length-given image count args, ← en true, eq-eqb count required e, ← er true)
-          (on-ok _ (a.step library void) {a = bindings_in texts pairs' bound} {u₁ = v} (rw o refl) (record { step = λ rest. (k d' m').step rest }))
+          (on-ok _ (a.step library void) {a = bindings_of texts b'} {u₁ = v} (rw o refl) (record { step = λ rest. (k d' m').step rest }))

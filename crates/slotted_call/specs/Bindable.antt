@@ -1,5 +1,5 @@
 -- What a call of a function with slots takes for granted, and the contract of its arguments. Definitions.
-use Rattle.std.specs.Prelude.{ℕ, ◌+◌, ◌≤◌, ◌<◌, ◌≡◌, Bool, true, List, [], length, get_or}
+use Rattle.std.specs.Prelude.{ℕ, ◌+◌, ◌≤◌, ◌<◌, ◌≡◌, Bool, true, List, [], length, get_or, ⊤}
 use Rattle.std.specs.Result.{IfOk}
 use Rattle.tok.specs.Text.{Texts}
 use Rattle.tok.specs.Step.{◌>>=◌}
@@ -7,7 +7,8 @@ use Rattle.ptype.specs.Words.{ty_of}
 use Rattle.ptype.specs.Add.{buffer}
 use Rattle.ptype.specs.Slots.{Binding, bind_slots, apply_slot_binding}
 use Rattle.add.specs.Means.{Grown}
-use Rattle.slots.specs.Bindings.{pair_room, bindings_in, bindings_after}
+use Rattle.slots.specs.declared.Bindings.{Bindings}
+use Rattle.slots.specs.Bindings.{pair_room, bindings_of, bindings_after}
 use Rattle.ast.specs.Node.{tree_of, slot_of}
 use Rattle.library.specs.Package.{Param, param, Package}
 use Rattle.rules.specs.declared.Answer.{Answer}
@@ -36,15 +37,18 @@ pub record SlottedReady (texts : Texts) (image places : List ℕ) (n args count 
   pub ret : Meant texts types used (signature_at words at true).ret
   pub room : (bs : List Binding) → Bindable texts types (signature_at words at true).params bs → length bs ≤ pair_room pairs
 
--- and there are as many as the signature asks for
-pub record Counted (texts : Texts) (image places : List ℕ) (n args count : ℕ) (slots types : List ℕ) (used : ℕ) (words : List ℕ) (at : ℕ) (pairs : List ℕ) : Type 0 where
-  pub ready : SlottedReady texts image places n args count slots types used words at pairs
+-- and there are as many as the signature asks for, and no bindings yet
+pub record Counted (texts : Texts) (image places : List ℕ) (n args count : ℕ) (slots types : List ℕ) (used : ℕ) (words : List ℕ) (at : ℕ) (b : Bindings) : Type 0 where
+  pub ready : SlottedReady texts image places n args count slots types used words at b.pairs.now
   pub counts : (f : Bool) → count ≡ length (signature_at words at f).params
+  pub fresh : b.count ≡ 0
 
--- All arguments, from no bindings on; the types buffer has grown.
-pub record Arguments (texts : Texts) (n : ℕ) (call_name : List ℕ) (ps : List Param) (image : List ℕ) (args count : ℕ) (s t d m : List ℕ) (u : Used) (t' d' m' pairs' : List ℕ) (r : Step ℕ) : Type 0 where
+-- All arguments, from no bindings on, which then are b', in the lent part that b had; the types buffer has grown.
+pub record Arguments (texts : Texts) (n : ℕ) (call_name : List ℕ) (ps : List Param) (image : List ℕ) (args count : ℕ) (s t d m : List ℕ) (u : Used) (b : Bindings)
+    (t' d' m' : List ℕ) (b' : Bindings) (r : Step ⊤) : Type 0 where
+  pub lent : b'.pairs.ghost_name ≡ b.pairs.ghost_name
   pub step : (library : List Package) (void : ℕ)
-      → Steps (arguments (ctx texts library void) n call_name true ps (given_from image args count) []) s t d m u s t' d' m' (with_answer (bindings_in texts pairs') r)
+      → Steps (arguments (ctx texts library void) n call_name true ps (given_from image args count) []) s t d m u s t' d' m' (with_answer (λ _. bindings_of texts b') r)
   pub grown : IfOk r (λ x. Grown (buffer t u.types) (buffer t' x.1.types))
 
 -- The return type with its slots applied, which is the slot's.

@@ -1,6 +1,6 @@
 // Typechecker::check_call_args, of a function with slots: argument count, each argument, the return type with its slots applied. The bindings
-// stand as pairs in a lent part of scratch. The buffers are lent in one order: slots, types, diagnostics, messages, pairs; then the two texts,
-// the image and the places of its records.
+// stand in a lent part of scratch. The buffers are lent in one order: slots, types, diagnostics, messages, the bindings or their pairs; then the
+// two texts and the image.
 #![tactic(auto)]
 
 ghost use Rattle.std.specs.Prelude.{true, List, ℕ};
@@ -10,7 +10,7 @@ ghost use Rattle.rules.specs.Calls.{check_call_args};
 ghost use Rattle.state.specs.Context.{ctx};
 ghost use Rattle.state.specs.Signatures.{signature_at};
 ghost use Rattle.state.specs.World.{Steps};
-ghost use Rattle.slots.specs.Bindings.{bindings_in};
+ghost use Rattle.slots.specs.Bindings.{bindings_of};
 ghost use Rattle.slotted.specs.Meant.{Meant};
 ghost use Rattle.call_args.specs.Given.{given_from};
 ghost use Rattle.slotted_call.specs.Bindable.{SlottedReady, Counted, Arguments, known_return};
@@ -18,16 +18,17 @@ ghost use Rattle.slotted_call.specs.Bindable.{SlottedReady, Counted, Arguments, 
 use err::CallName;
 use places::Image;
 use rules::Answer;
+use slots::Bindings;
 use state::{Step, Used};
 use tok::Texts;
 
-// Each argument, in order, and how many pairs there are then.
+// Each argument, in order.
 fn slotted_arguments(
     slots: &[u32],
     types: &mut [u32],
     diagnostics: &mut [u32],
     messages: &mut [u8],
-    pairs: &mut [u32],
+    bindings: &mut Bindings,
     texts: &Texts,
     image: &Image,
     used: Used,
@@ -37,24 +38,22 @@ fn slotted_arguments(
     at: usize,
     args: usize,
     count: usize,
-) -> Step<usize>
-    requires { Counted texts.now image.now.words image.now.places n args count slots.now types.old used.types words.now at pairs.old }
+) -> Step<()>
+    requires { Counted texts.now image.now.words image.now.places n args count slots.now types.old used.types words.now at bindings.old }
     ensures { Arguments texts.now n (call_name texts.now callee) (signature_at words.now at true).params image.now.words args count slots.now types.old
-        diagnostics.old messages.old used types.new diagnostics.new messages.new pairs.new result }
+        diagnostics.old messages.old used bindings.old types.new diagnostics.new messages.new bindings.new result }
 {
     let mut used = used;
-    let mut bound = 0;
     for i in 0..count {
         let number = tok::word_at(image.words, args + i);
-        let (more, after) = slotted::slotted_argument(
+        let (_, after) = slotted::slotted_argument(
             slots,
             types,
             diagnostics,
             messages,
-            pairs,
+            bindings,
             texts,
             used,
-            bound,
             n,
             callee,
             signatures::argument_name(words, at, i),
@@ -62,29 +61,27 @@ fn slotted_arguments(
             call_args::slot_of(image, number),
             spans::span_of(image, number),
         )?;
-        bound = more;
         used = after;
     }
-    Ok((bound, used))
+    Ok(((), used))
 }
 
 // The return type, with its slots applied.
 fn returned(
     slots: &mut [u32],
     types: &mut [u32],
-    pairs: &[u32],
+    bindings: &Bindings,
     texts: &Texts,
     used: Used,
-    bound: usize,
     n: u32,
     slot: u32,
     ret: u32,
 ) -> Step<Answer>
     requires { Meant texts.now types.old used.types ret }
-    ensures { (d m : List ℕ) → Steps (known_return texts.now n slot ret (bindings_in texts.now pairs.now bound) types.old) slots.old types.old d m used slots.new types.new d m
+    ensures { (d m : List ℕ) → Steps (known_return texts.now n slot ret (bindings_of texts.now bindings.now) types.old) slots.old types.old d m used slots.new types.new d m
         result }
 {
-    let added = apply::apply_slot_binding(types, used.types, texts, pairs, bound, ret);
+    let added = apply::apply_slot_binding(types, used.types, texts, bindings, ret);
     let (word, used) = state::added(n, used, added)?;
     operators::set_known(slots, used, slot, word)
 }
@@ -129,12 +126,13 @@ pub fn check_slotted(
         );
         return state::told(n, used, reported, Answer::Poison);
     }
-    let (bound, used) = slotted_arguments(
+    let mut bindings = Bindings::new(pairs);
+    let (_, used) = slotted_arguments(
         &slots[..],
         types,
         diagnostics,
         messages,
-        pairs,
+        &mut bindings,
         texts,
         image,
         used,
@@ -146,5 +144,5 @@ pub fn check_slotted(
         count,
     )?;
     let ret = signatures::return_type(words, at);
-    returned(slots, types, &pairs[..], texts, used, bound, n, slot, ret)
+    returned(slots, types, &bindings, texts, used, n, slot, ret)
 }

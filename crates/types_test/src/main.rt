@@ -4,41 +4,57 @@
 // The input is made by oracle/types_test/make_types_test.py, which says its form. The expected output is that of two Rust programs that do the same
 // with the original's `Type`, oracle/src/bin/ptype_test.rs and then types_test.rs; they say what each row means.
 // One interpreter of few commands, and not a function for each row, since a check's cost goes with the calls that lend a buffer and with the locals
-// of their functions, structs and enums first. So its state is one number, and what is more stands in the buffers.
+// of their functions, structs and enums first. So its state is one number beside the buffers.
 #![tactic(auto)]
-
-ghost use Rattle.std.specs.Prelude.{◌≡◌};
 
 use add::{AddError, Added};
 use display::{Full, Writer};
-use slots::{Bind, BindError};
+use slots::{Bind, BindError, Bindings};
 use std::io;
-use tok::{Texts, least};
+use tok::Texts;
 
-// Commands: the top four bits of a command's first word. 1 copies, 6 puts types for slots, 14 only prints.
-const PAIR: u32 = 0;
+// What a command does.
+#[derive(Clone, Copy)]
+enum Operation {
+    Pair,
+    Copy,
+    Option,
+    Array,
+    Open,
+    Close,
+    Apply,
+    Bound,
+    Show,
+    Depth,
+    Ask,
+    List,
+    Bind,
+    Count,
+    Print,
+}
 
-const OPTION: u32 = 2;
-
-const ARRAY: u32 = 3;
-
-const OPEN: u32 = 4;
-
-const CLOSE: u32 = 5;
-
-const BOUND: u32 = 7;
-
-const SHOW: u32 = 8;
-
-const DEPTH: u32 = 9;
-
-const ASK: u32 = 10;
-
-const LIST: u32 = 11;
-
-const BIND: u32 = 12;
-
-const COUNT: u32 = 13;
+// By the top four bits of a command's first word; a number that is none's only prints.
+impl From<u32> for Operation {
+    fn from(k: u32) -> Operation {
+        match k {
+            0 => Operation::Pair,
+            1 => Operation::Copy,
+            2 => Operation::Option,
+            3 => Operation::Array,
+            4 => Operation::Open,
+            5 => Operation::Close,
+            6 => Operation::Apply,
+            7 => Operation::Bound,
+            8 => Operation::Show,
+            9 => Operation::Depth,
+            10 => Operation::Ask,
+            11 => Operation::List,
+            12 => Operation::Bind,
+            13 => Operation::Count,
+            _ => Operation::Print,
+        }
+    }
+}
 
 // What is answered: names in the library text, so that no function here has a text of its own.
 const DONE: u32 = 0xC1011005;
@@ -55,7 +71,8 @@ const DEEP: u32 = 0xC1016005;
 
 const UNBOUND: u32 = 0xC1017002;
 
-// In the lists, after eight words for pairs: how many words are lent to what adds types, and how many of them were used before.
+// The lists are the words that stand in one struct with how many pairs count. In them, after eight words for pairs: how many words are lent to what
+// adds types, and how many of them were used before.
 const LENT: usize = 8;
 
 const BEFORE: usize = 9;
@@ -66,24 +83,15 @@ const ROOM: usize = 100_000;
 
 // A part of a list, told as names are: where it starts, in 16 bits, and in the low 8 its length.
 fn part<'a>(words: &'a [u32], told: u32) -> &'a [u32] {
-    let start = least(tok::wide(told / 0x100 % 0x1_0000), words.len());
-    let end = start + least(tok::wide(told % 0x100), words.len() - start);
+    let start = ((told / 0x100 % 0x1_0000) as usize).min(words.len());
+    let end = start + ((told % 0x100) as usize).min(words.len() - start);
     &words[start..end]
-}
-
-fn bit(b: bool) -> usize {
-    if b { 1 } else { 0 }
-}
-
-// How much more one number is than another.
-fn more(a: usize, b: usize) -> usize {
-    if b <= a { a - b } else { 0 }
 }
 
 fn sum(text: &[u8], n: usize) -> usize {
     let mut s = 0usize;
     for i in 0..n {
-        s = s % 4294967291 * 31 + tok::wide(tok::byte_at(text, i));
+        s = s % 4294967291 * 31 + tok::byte_at(text, i) as usize;
     }
     s
 }
@@ -105,8 +113,7 @@ fn number(rt: &impl Print, n: usize) -> io::Result<()> {
 // A blank and the first n bytes.
 fn front(rt: &impl Print, text: &[u8], n: usize) -> io::Result<()> {
     commands::print(rt, b" ")?;
-    let end = least(n, text.len());
-    commands::print(rt, &text[0..end])?;
+    commands::print(rt, &text[..n.min(text.len())])?;
     Ok(())
 }
 
@@ -128,7 +135,7 @@ fn told(rt: &impl Print, out: &[u8; ROOM], texts: &Texts, n: usize, how: u32) ->
     } else if how == 1 || n > 640 {
         number(rt, n)?;
         number(rt, sum(out, n))?;
-        front(rt, out, least(n, 64))
+        front(rt, out, n.min(64))
     } else {
         front(rt, out, n)
     }
@@ -136,20 +143,13 @@ fn told(rt: &impl Print, out: &[u8; ROOM], texts: &Texts, n: usize, how: u32) ->
 
 // Writes what a word stands for: a type, or a number, or a list that stands behind the types.
 fn write(out: &mut Writer, types: &[u32], texts: &Texts, what: u32, w: u32) -> Result<(), Full> {
-    if what == 0 {
-        return display::show_type(out, types, texts, w);
+    match what {
+        0 => display::show_type(out, types, texts, w),
+        1 => out.put_decimal(w as usize),
+        2 => display::show_signature(out, types, texts, part(types, w)),
+        3 => display::show_arg_types(out, types, texts, part(types, w)),
+        _ => display::show_types(out, types, texts, part(types, w)),
     }
-    if what == 1 {
-        return out.put_decimal(w as usize);
-    }
-    let list = part(types, w);
-    if what == 2 {
-        return display::show_signature(out, types, texts, list);
-    }
-    if what == 3 {
-        return display::show_arg_types(out, types, texts, list);
-    }
-    display::show_types(out, types, texts, list)
 }
 
 // How many bytes it wrote, where all had room.
@@ -169,8 +169,7 @@ fn show(
     w: u32,
 ) -> io::Result<()> {
     let mut out = [b'.'; ROOM];
-    let end = least(room, ROOM);
-    let n = written(&mut out[0..end], types, texts, form % 8, w);
+    let n = written(&mut out[..room.min(ROOM)], types, texts, form % 8, w);
     told(rt, &out, texts, length(n, form / 8), form / 8)
 }
 
@@ -184,12 +183,11 @@ fn text(rt: &impl Print, types: &[u32], texts: &Texts, w: u32) -> io::Result<()>
 fn bound(
     rt: &impl Print,
     types: &[u32],
-    lists: &[u32],
+    bindings: &Bindings,
     texts: &Texts,
-    count: usize,
     slot: u32,
 ) -> io::Result<()> {
-    match slots::bound_to(texts, lists, count, slot) {
+    match bindings.bound_to(texts, slot) {
         Some(w) => text(rt, types, texts, w),
         None => say(rt, texts, UNBOUND),
     }
@@ -201,52 +199,23 @@ fn shallow(types: &[u32], pool: &[u32]) -> bool {
 }
 
 fn whether(types: &[u32], texts: &Texts, a: u32, b: u32, what: u32) -> bool {
-    if what == 0 {
-        return ptype::contains_unknown(types, a);
+    match what {
+        0 => ptype::contains_unknown(types, a),
+        1 => ptype::contains_slot(types, a),
+        2 => ptype::same_type(types, texts, a, b),
+        3 => ptype::field_type(types, a as usize) == ptype::field_type(types, b as usize),
+        _ => shallow(types, part(types, a)),
     }
-    if what == 1 {
-        return ptype::contains_slot(types, a);
-    }
-    if what == 2 {
-        return ptype::same_type(types, texts, a, b);
-    }
-    if what == 3 {
-        return ptype::field_type(types, tok::wide(a)) == ptype::field_type(types, tok::wide(b));
-    }
-    shallow(types, part(types, a))
-}
-
-fn tell(
-    rt: &impl Print,
-    types: &[u32],
-    texts: &Texts,
-    kind: u32,
-    a: u32,
-    b: u32,
-    c: u32,
-) -> io::Result<()> {
-    if kind == SHOW {
-        show(rt, types, texts, a, tok::wide(b), c)?;
-    } else if kind == DEPTH {
-        commands::print_number(rt, ptype::depth(types, a))?;
-    } else if kind == ASK {
-        commands::print_number(rt, bit(whether(types, texts, a, b, c)))?;
-    }
-    Ok(())
 }
 
 // Binding.
 
-// What binding answered; how many pairs there are.
-fn answered(rt: &impl Print, types: &[u32], texts: &Texts, r: Bind) -> io::Result<usize> {
+// What binding answered.
+fn answered(rt: &impl Print, types: &[u32], texts: &Texts, r: Bind) -> io::Result<()> {
     match r {
-        Ok(count) => {
-            say(rt, texts, DONE)?;
-            Ok(count)
-        }
+        Ok(()) => say(rt, texts, DONE),
         Err(
             BindError::Conflict {
-                count,
                 slot,
                 existing,
                 new,
@@ -255,47 +224,59 @@ fn answered(rt: &impl Print, types: &[u32], texts: &Texts, r: Bind) -> io::Resul
             say(rt, texts, CONFLICT)?;
             text(rt, types, texts, slot)?;
             text(rt, types, texts, existing)?;
-            text(rt, types, texts, new)?;
-            Ok(count)
+            text(rt, types, texts, new)
         }
-        Err(BindError::Void { count, slot }) => {
+        Err(BindError::Void { slot }) => {
             say(rt, texts, VOID)?;
-            text(rt, types, texts, slot)?;
-            Ok(count)
+            text(rt, types, texts, slot)
         }
-        Err(BindError::NoRoom) => {
-            say(rt, texts, FULL)?;
-            Ok(0)
-        }
+        Err(BindError::NoRoom) => say(rt, texts, FULL),
     }
 }
 
-// Commands that write into the lists: puts two words there, or binds slots after the pairs that are there, in so many words. How many pairs there are
-// then.
+// Binds slots after the pairs that are there, in so many words. Where they had no room, no pair counts any more.
+fn bind(
+    lists: &mut Bindings,
+    types: &[u32],
+    texts: &Texts,
+    expected: u32,
+    provided: u32,
+    room: usize,
+) -> Bind {
+    let end = room.min(lists.pairs.len());
+    let mut bindings = Bindings {
+        pairs: &mut lists.pairs[..end],
+        count: lists.count,
+    };
+    let r = slots::bind_slots(&mut bindings, types, texts, expected, provided);
+    lists.count = match r {
+        Err(BindError::NoRoom) => 0,
+        _ => bindings.count,
+    };
+    r
+}
+
+// Commands that write into the lists: put two words there, bind slots, or say how many pairs count.
 fn relist(
     rt: &impl Print,
     types: &[u32],
-    lists: &mut [u32],
+    lists: &mut Bindings,
     texts: &Texts,
-    count: usize,
-    kind: u32,
+    operation: Operation,
     a: u32,
     b: u32,
     c: u32,
-) -> io::Result<usize> {
-    if kind == LIST {
-        add::set_pair(lists, tok::wide(a), b, c);
-        return Ok(count);
+) -> io::Result<()> {
+    match operation {
+        Operation::List => add::set_pair(lists.pairs, a as usize, b, c),
+        Operation::Bind => {
+            let r = bind(lists, types, texts, a, b, c as usize);
+            answered(rt, types, texts, r)?;
+        }
+        Operation::Count => lists.count = a as usize,
+        _ => {}
     }
-    if kind == BIND {
-        let end = least(tok::wide(c), lists.len());
-        let r = slots::bind_slots(types, texts, a, b, &mut lists[0..end], count);
-        return answered(rt, types, texts, r);
-    }
-    if kind == COUNT {
-        return Ok(tok::wide(a));
-    }
-    Ok(count)
+    Ok(())
 }
 
 // Adding.
@@ -312,8 +293,8 @@ fn added(
     match r {
         Ok((w, u)) => {
             say(rt, texts, PUT)?;
-            number(rt, more(u, used))?;
-            number(rt, bit(w == old))?;
+            number(rt, u.saturating_sub(used))?;
+            number(rt, usize::from(w == old))?;
             text(rt, types, texts, w)
         }
         Err(AddError::Full) => say(rt, texts, FULL),
@@ -321,115 +302,92 @@ fn added(
     }
 }
 
-fn wrap(types: &mut [u32], kind: u32, w: u32, used: usize) -> Added {
-    if kind == OPTION {
-        return add::add_option(types, used, w);
-    }
-    if kind == ARRAY {
-        return add::add_array(types, used, w);
-    }
-    if kind == OPEN {
-        return add::open_record(types, used, tok::wide(w));
-    }
-    add::close_record(types, w, used)
-}
-
 fn grow(
     types: &mut [u32],
-    lists: &[u32],
+    bindings: &Bindings,
     texts: &Texts,
-    count: usize,
-    kind: u32,
+    operation: Operation,
     w: u32,
     used: usize,
 ) -> Added {
-    if kind <= CLOSE {
-        return wrap(types, kind, w, used);
+    match operation {
+        Operation::Option => add::add_option(types, used, w),
+        Operation::Array => add::add_array(types, used, w),
+        Operation::Open => add::open_record(types, used, w as usize),
+        Operation::Close => add::close_record(types, w, used),
+        _ => apply::apply_slot_binding(types, used, texts, bindings, w),
     }
-    apply::apply_slot_binding(types, used, texts, lists, count, w)
 }
 
 // Adds to the words that are lent, and tells of it where a word is given.
 fn grown(
     rt: &impl Print,
     types: &mut [u32],
-    lists: &[u32],
+    lists: &Bindings,
     texts: &Texts,
-    count: usize,
-    kind: u32,
+    operation: Operation,
     a: u32,
     b: u32,
     old: u32,
 ) -> io::Result<()> {
-    let end = least(tok::wide(tok::word_at(lists, LENT)), types.len());
-    let r = grow(
-        &mut types[0..end],
-        lists,
-        texts,
-        count,
-        kind,
-        a,
-        tok::wide(b),
-    );
+    let end = (tok::word_at(lists.pairs, LENT) as usize).min(types.len());
+    let r = grow(&mut types[..end], lists, texts, operation, a, b as usize);
     if old != 0 {
-        let used = tok::wide(tok::word_at(lists, BEFORE));
+        let used = tok::word_at(lists.pairs, BEFORE) as usize;
         added(rt, types, texts, r, used, old)?;
     }
     Ok(())
 }
 
-// Puts two words into the types, or a part of the lists to the front of so many.
-fn put(
-    rt: &impl Print,
-    types: &mut [u32],
-    lists: &[u32],
-    kind: u32,
-    a: u32,
-    b: u32,
-    c: u32,
-) -> io::Result<()> {
-    if kind == PAIR {
-        add::set_pair(types, tok::wide(a), b, c);
-        return Ok(());
-    }
-    let end = least(tok::wide(b), types.len());
-    number(rt, bit(add::copy_pool(&mut types[0..end], part(lists, a))))
+// Copies a part of the lists to the front of so many words of the types, and tells whether it fits.
+fn copy(rt: &impl Print, types: &mut [u32], words: &[u32], lent: usize) -> io::Result<()> {
+    let end = lent.min(types.len());
+    number(rt, usize::from(add::copy_pool(&mut types[..end], words)))
 }
 
 // Commands that leave the lists as they are.
 fn obey(
     rt: &impl Print,
     types: &mut [u32],
-    lists: &[u32],
+    lists: &Bindings,
     texts: &Texts,
-    count: usize,
-    kind: u32,
+    operation: Operation,
     a: u32,
     b: u32,
     c: u32,
 ) -> io::Result<()> {
-    if kind < OPTION {
-        put(rt, types, lists, kind, a, b, c)
-    } else if kind < BOUND {
-        grown(rt, types, lists, texts, count, kind, a, b, c)
-    } else if kind == BOUND {
-        bound(rt, types, lists, texts, count, a)
-    } else {
-        tell(rt, types, texts, kind, a, b, c)
+    match operation {
+        Operation::Pair => add::set_pair(types, a as usize, b, c),
+        Operation::Copy => copy(rt, types, part(lists.pairs, a), b as usize)?,
+        Operation::Option
+        | Operation::Array
+        | Operation::Open
+        | Operation::Close
+        | Operation::Apply => grown(rt, types, lists, texts, operation, a, b, c)?,
+        Operation::Bound => bound(rt, types, lists, texts, a)?,
+        Operation::Show => show(rt, types, texts, a, b as usize, c)?,
+        Operation::Depth => {
+            commands::print_number(rt, ptype::depth(types, a))?;
+        }
+        Operation::Ask => {
+            commands::print_number(rt, usize::from(whether(types, texts, a, b, c)))?;
+        }
+        Operation::List | Operation::Bind | Operation::Count | Operation::Print => {}
     }
+    Ok(())
 }
 
 // Each command goes to both functions, so that neither is lent more than one buffer to write; one of them has nothing to do.
 fn run(rt: &(impl Input + Print), texts: &Texts, commands: usize) -> io::Result<()> {
     let mut types = [0u32; 8448];
-    let mut lists = [0u32; 256];
-    let mut count = 0;
+    let mut words = [0u32; 256];
+    let mut lists = Bindings::new(&mut words);
     for _ in 0..commands {
         let c = commands::next_command(rt)?;
-        let kind = tok::kind(c.op);
+        let operation = Operation::from(tok::kind(c.op));
         say(rt, texts, c.op)?;
-        count = relist(rt, &types, &mut lists, texts, count, kind, c.a, c.b, c.c)?;
-        obey(rt, &mut types, &lists, texts, count, kind, c.a, c.b, c.c)?;
+        relist(rt, &types, &mut lists, texts, operation, c.a, c.b, c.c)?;
+        obey(rt, &mut types, &lists, texts, operation, c.a, c.b, c.c)?;
     }
     Ok(())
 }
@@ -444,5 +402,5 @@ fn main(rt: HostRuntime) -> io::Result<()> {
         script: &script,
         library: &library,
     };
-    run(&rt, &texts, tok::wide(first.a))
+    run(&rt, &texts, first.a as usize)
 }

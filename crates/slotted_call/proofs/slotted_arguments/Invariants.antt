@@ -11,6 +11,8 @@ use Rattle.slotted_call.proofs.slotted_arguments.Given as goal
 abbrev pub invariant-loop-i : goal.invariant-loop-i
 invariant-loop-i l =
     let first = l.initial in
-    SoFar l.texts l.n (call_name l.texts l.callee) (signature_at l.words l.at true).params l.image.words l.args l.count l.slots first.types first.diagnostics first.messages first.used
-    l.i l.types l.diagnostics l.messages l.used l.pairs l.bound
-    × (length l.types ≡ length first.types) × (length l.diagnostics ≡ length first.diagnostics) × (length l.messages ≡ length first.messages) × (length l.pairs ≡ length first.pairs)
+    let name = call_name l.texts l.callee in
+    let params = (signature_at l.words l.at true).params in
+    SoFar l.texts l.n name params l.image.words l.args l.count l.slots first.types first.diagnostics first.messages first.used first.bindings
+    l.i l.types l.diagnostics l.messages l.used l.bindings
+    × (length l.types ≡ length first.types) × (length l.diagnostics ≡ length first.diagnostics) × (length l.messages ≡ length first.messages)
