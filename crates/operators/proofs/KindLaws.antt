@@ -20,7 +20,10 @@ use Rattle.rules.specs.Operators.{Table, arithmetic, remainder, equality, order,
 
 -- ---- kinds
 -- the number of a number's kind is that number, or 0 past the kinds
-back : (k : ℕ) → (number_of_type (kind_of_type k) ≡ k) ⊎ ((12 ≤ k) × (number_of_type (kind_of_type k) ≡ 0))
+abbrev Back : ℕ → Type 0
+Back k = (number_of_type (kind_of_type k) ≡ k) ⊎ ((12 ≤ k) × (number_of_type (kind_of_type k) ≡ 0))
+
+back : (k : ℕ) → Back k
 unfolding kind_of_type kinds_of_types
 back zero = inl refl
 back (suc zero) = inl refl
@@ -39,7 +42,7 @@ back (suc (suc (suc (suc (suc (suc (suc (suc (suc (suc (suc (suc k)))))))))))) =
 back-low : (k : ℕ) → k ≤ 4 → number_of_type (kind_of_type k) ≡ k
 back-low k h = by (back k)
   where
-    by : (number_of_type (kind_of_type k) ≡ k) ⊎ ((12 ≤ k) × (number_of_type (kind_of_type k) ≡ 0)) → number_of_type (kind_of_type k) ≡ k
+    by : Back k → number_of_type (kind_of_type k) ≡ k
     by (inl e) = e
     by (inr (far, _)) = absurd (omega (arith, h, far))
 
@@ -47,7 +50,7 @@ back-low k h = by (back k)
 kind-tested : (k j : ℕ) → 1 ≤ j → j ≤ 11 → eqb (number_of_type (kind_of_type k)) j ≡ eqb k j
 kind-tested k j h h' = by (back k)
   where
-    by : (number_of_type (kind_of_type k) ≡ k) ⊎ ((12 ≤ k) × (number_of_type (kind_of_type k) ≡ 0)) → eqb (number_of_type (kind_of_type k)) j ≡ eqb k j
+    by : Back k → eqb (number_of_type (kind_of_type k)) j ≡ eqb k j
     by (inl e) = ap (λ i. eqb i j) e
     by (inr (far, e)) = ap (λ i. eqb i j) e ∙ ne_eqb 0 j (λ z. omega (arith, h, z)) ∙ sym (ne_eqb k j (λ z. omega (arith, h', far, z)))
 
@@ -70,7 +73,7 @@ takes-by-kind b k hx =
 pub taken-number : (b : Bool) (k : ℕ) → b && (eqb k 3 || eqb k 4) ≡ true → number_of_type (kind_of_type k) ≡ k
 taken-number b k h = by (back k)
   where
-    by : (number_of_type (kind_of_type k) ≡ k) ⊎ ((12 ≤ k) × (number_of_type (kind_of_type k) ≡ 0)) → number_of_type (kind_of_type k) ≡ k
+    by : Back k → number_of_type (kind_of_type k) ≡ k
     by (inl e) = e
     by (inr (far, _)) =
         let z : eqb k 3 || eqb k 4 ≡ false = rw (ne_eqb k 3 (λ e. omega (arith, far, e)), ne_eqb k 4 (λ e. omega (arith, far, e))) refl in
@@ -163,7 +166,7 @@ module _ (op left right : ℕ) where
   unfolding result_kind
   left-back = by (back left)
     where
-      by : (number_of_type (kind_of_type left) ≡ left) ⊎ ((12 ≤ left) × (number_of_type (kind_of_type left) ≡ 0)) → result_kind op (number_of_type (kind_of_type left)) right ≡ result_kind op left right
+      by : Back left → result_kind op (number_of_type (kind_of_type left)) right ≡ result_kind op left right
       by (inl e) = ap (λ i. result_kind op i right) e
       by (inr (far, e)) = ap (λ i. result_kind op i right) e ∙ first-row (class_of op) 0 right right ∙ sym (past_left op left right (omega (arith, far)))
 
@@ -171,7 +174,7 @@ module _ (op left right : ℕ) where
   unfolding result_kind
   right-back = by (back right)
     where
-      by : (number_of_type (kind_of_type right) ≡ right) ⊎ ((12 ≤ right) × (number_of_type (kind_of_type right) ≡ 0)) → result_kind op left (number_of_type (kind_of_type right)) ≡ result_kind op left right
+      by : Back right → result_kind op left (number_of_type (kind_of_type right)) ≡ result_kind op left right
       by (inl e) = ap (λ i. result_kind op left i) e
       by (inr (far, e)) = ap (λ i. result_kind op left i) e ∙ first_column (class_of op) left right ∙ sym (past_right op left right (omega (arith, far)))
 

@@ -3,4 +3,5 @@ use Rattle.bodies.specs.BodyLaws.{ends-visit}
 use Rattle.bodies.proofs.end.Goals as goal
 
 pub returns : goal.returns
-returns c = λ ls v words f e o. ends-visit _ _ _ _ _ _ c.args.inside c.args.before c.word_at.ensures c.word_at-2.ensures c.word_at-3.ensures c.left.ensures c.answered.ensures (c.fn_end-step.ensures ls v) words f e o
+returns c ls v words f e o =
+    ends-visit _ _ _ _ _ _ c.args.inside c.args.before c.word_at.ensures c.word_at-2.ensures c.word_at-3.ensures c.left.ensures c.answered.ensures (c.fn_end-step.ensures ls v) words f e o

@@ -14,7 +14,11 @@ pub extern_functions-requires : goal.extern_functions-requires
 extern_functions-requires c = functions-room c.requires c.args.name refl refl refl c.set_pair.ensures c.store.ensures
 
 pub returns-in_err-used : goal.returns-in_err-used
-returns-in_err-used c = package_refused c.requires c.args.name refl refl refl c.set_pair.ensures c.store.ensures c.args.n c.args.slot c.extern_functions.result c.extern_functions.ensures c.in_err-used.was c.from_residual.ensures.1
+returns-in_err-used c =
+    let written = c.extern_functions in
+    package_refused c.requires c.args.name refl refl refl c.set_pair.ensures c.store.ensures c.args.n c.args.slot written.result written.ensures c.in_err-used.was c.from_residual.ensures.1
 
 pub returns : goal.returns
-returns c = package_done c.requires c.args.name refl refl refl c.set_pair.ensures c.store.ensures c.args.n c.args.slot c.extern_functions.result c.extern_functions.ensures c.in_ok-used.was c.store-2.ensures
+returns c =
+    let written = c.extern_functions in
+    package_done c.requires c.args.name refl refl refl c.set_pair.ensures c.store.ensures c.args.n c.args.slot written.result written.ensures c.in_ok-used.was c.store-2.ensures

@@ -9,10 +9,15 @@ pub type_from_type_expr-added-requires : goal.type_from_type_expr-added-requires
 type_from_type_expr-added-requires c = type-ready c.loop-k.invariant.0 c.loop-k.invariant.1 (omega arith) c.word_at-t.ensures
 
 pub returns-in_err-w : goal.returns-in_err-w
-returns-in_err-w c = writing_stops c.loop-k.invariant.0 c.loop-k.invariant.1 (omega arith) c.word_at-t.ensures c.type_from_type_expr-added.result c.type_from_type_expr-added.ensures c.added.ensures c.in_err-w.was c.from_residual.ensures.1
+returns-in_err-w c =
+    let added = c.type_from_type_expr-added in
+    writing_stops c.loop-k.invariant.0 c.loop-k.invariant.1 (omega arith) c.word_at-t.ensures added.result added.ensures c.added.ensures c.in_err-w.was c.from_residual.ensures.1
 
 pub loop-k-preserved : goal.loop-k-preserved
-loop-k-preserved c = (c.loop-k.invariant.0, writing_more c.loop-k.invariant.0 c.loop-k.invariant.1 (omega arith) c.word_at-t.ensures c.type_from_type_expr-added.result c.type_from_type_expr-added.ensures c.added.ensures c.in_ok-w.was c.word_at-name.ensures c.set_pair.ensures)
+loop-k-preserved c =
+    let (room, written) = c.loop-k.invariant in
+    let added = c.type_from_type_expr-added in
+    (room, writing_more room written (omega arith) c.word_at-t.ensures added.result added.ensures c.added.ensures c.in_ok-w.was c.word_at-name.ensures c.set_pair.ensures)
 
 pub returns : goal.returns
 returns c = writing_over c.loop-k.invariant.0 c.loop-k.invariant.1 (omega arith) (omega arith)

@@ -4,4 +4,6 @@ use Rattle.externs.proofs.Returns.{Writing}
 use Rattle.externs.proofs.extern_arguments.Given as goal
 
 abbrev pub invariant-loop-k : goal.invariant-loop-k
-invariant-loop-k l = ArgumentsRoom l.image.words l.image.places l.initial.scratch l.from l.at l.count × Writing l.image.words l.n l.from l.at l.k l.initial.types l.initial.after l.initial.scratch l.types l.after l.scratch
+invariant-loop-k l =
+    ArgumentsRoom l.image.words l.image.places l.initial.scratch l.from l.at l.count
+    × Writing l.image.words l.n l.from l.at l.k l.initial.types l.initial.after l.initial.scratch l.types l.after l.scratch

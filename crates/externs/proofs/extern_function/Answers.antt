@@ -6,7 +6,8 @@ pub extern_arguments-requires : goal.extern_arguments-requires
 extern_arguments-requires c = arguments-room c.requires c.word_at-name.ensures c.word_at-count.ensures c.set_pair.ensures
 
 pub returns-in_err-used : goal.returns-in_err-used
-returns-in_err-used c = function-stops c.requires c.word_at-name.ensures c.word_at-count.ensures c.set_pair.ensures c.extern_arguments.result c.extern_arguments.ensures c.in_err-used.was c.from_residual.ensures.1
+returns-in_err-used c =
+    function-stops c.requires c.word_at-name.ensures c.word_at-count.ensures c.set_pair.ensures c.extern_arguments.result c.extern_arguments.ensures c.in_err-used.was c.from_residual.ensures.1
 
 pub returns-in_err-w : goal.returns-in_err-w
 returns-in_err-w c =

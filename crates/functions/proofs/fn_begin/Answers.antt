@@ -5,7 +5,8 @@ use Rattle.functions.proofs.Returns.{begin-stops, begin-refused, entry-room, few
 use Rattle.functions.proofs.fn_begin.Goals as goal
 
 pub returns-in_err-inner : goal.returns-in_err-inner
-returns-in_err-inner c = begin-stops c.args.n c.args.slot c.args.name c.args.ret c.args.at c.args.count c.requires c.fn_arguments.result c.fn_arguments.ensures c.in_err-inner.was c.from_residual.ensures.1
+returns-in_err-inner c =
+    begin-stops c.args.n c.args.slot c.args.name c.args.ret c.args.at c.args.count c.requires c.fn_arguments.result c.fn_arguments.ensures c.in_err-inner.was c.from_residual.ensures.1
 
 pub returns-in_err-w : goal.returns-in_err-w
 returns-in_err-w c =
@@ -22,7 +23,8 @@ pub enter-requires : goal.enter-requires
 enter-requires c = entry-room c.args.n c.args.slot c.args.name c.args.ret c.args.at c.args.count c.requires c.fn_arguments.result c.fn_arguments.ensures c.in_ok-inner.was
 
 pub overflow_add-entered : goal.overflow_add-entered
-overflow_add-entered c = omega (arith, few-functions c.args.n c.args.slot c.args.name c.args.ret c.args.at c.args.count c.requires c.fn_arguments.result c.fn_arguments.ensures c.in_ok-inner.was c.well_formed.1.0.1)
+overflow_add-entered c =
+    omega (arith, few-functions c.args.n c.args.slot c.args.name c.args.ret c.args.at c.args.count c.requires c.fn_arguments.result c.fn_arguments.ensures c.in_ok-inner.was c.well_formed.1.0.1)
 
 pub returns : goal.returns
 returns c =

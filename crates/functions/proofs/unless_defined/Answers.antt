@@ -7,4 +7,6 @@ pub returns-in_default : goal.returns-in_default
 returns-in_default c = λ ls v words s t e o. name_new _ c.args.n c.args.name c.args.st _ c.find_own-own.result c.find_own-own.ensures c.in_default.is ls v words s t _ _ e o
 
 pub returns : goal.returns
-returns c = name-met _ c.args.n c.args.name c.args.st _ c.find_own-own.result c.find_own-own.ensures c.in-Some.is (told_in_whole c.args.messages.now c.first_free-free.ensures c.defined_already-met.ensures) c.told.ensures
+returns c =
+    let told = told_in_whole c.args.messages.now c.first_free-free.ensures c.defined_already-met.ensures in
+    name-met _ c.args.n c.args.name c.args.st _ c.find_own-own.result c.find_own-own.ensures c.in-Some.is told c.told.ensures

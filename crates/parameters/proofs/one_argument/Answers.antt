@@ -3,7 +3,12 @@ use Rattle.parameters.proofs.Returns.{one-refused, one-bound}
 use Rattle.parameters.proofs.one_argument.Goals as goal
 
 pub returns-in_err-w : goal.returns-in_err-w
-returns-in_err-w c = one-refused c.args.n c.args.slot c.args.at c.requires c.word_at-name.ensures c.word_at-t.ensures c.type_from_type_expr-added.result c.type_from_type_expr-added.ensures c.added.ensures c.in_err-w.was c.from_residual.ensures.1
+returns-in_err-w c =
+    let added = c.type_from_type_expr-added in
+    one-refused c.args.n c.args.slot c.args.at c.requires c.word_at-name.ensures c.word_at-t.ensures added.result added.ensures c.added.ensures c.in_err-w.was c.from_residual.ensures.1
 
 pub returns : goal.returns
-returns c = one-bound c.args.n c.args.slot c.args.at c.requires c.word_at-name.ensures c.word_at-t.ensures c.type_from_type_expr-added.result c.type_from_type_expr-added.ensures c.added.ensures c.in_ok-w.was c.store.ensures c.bind_name.ensures c.one_more.ensures
+returns c =
+    let added = c.type_from_type_expr-added in
+    one-bound c.args.n c.args.slot c.args.at c.requires c.word_at-name.ensures c.word_at-t.ensures added.result added.ensures c.added.ensures
+    c.in_ok-w.was c.store.ensures c.bind_name.ensures c.one_more.ensures
