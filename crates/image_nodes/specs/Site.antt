@@ -9,14 +9,14 @@ use Rattle.image_nodes.specs.declared.Sizes.{Sizes}
 abbrev pub counts_of : (text : List ℕ) → Sizes → Counts
 counts_of text n = record { text = text; nodes = n.nodes; types = n.types; slots = n.slots }
 
--- with the nodes before
-abbrev pub here_of : (text : List ℕ) (before : List Outline) → Site → Here
-here_of text before s =
+-- with the node's kind and the nodes before
+abbrev pub here_of : (text : List ℕ) (kind : ℕ) (before : List Outline) → Site → Here
+here_of text kind before s =
     record {
       counts = record { text = text; nodes = s.nodes; types = s.types; slots = s.slots };
       before = before;
       number = s.number;
-      kind = s.kind;
+      kind = kind;
       slot = s.slot;
       left = s.left;
     }

@@ -4,6 +4,7 @@
 ghost use Rattle.std.specs.Prelude.{◌≡◌, ◌&&◌, ◌||◌, List, ℕ, ◌+◌, ◌*◌, ◌-◌, ◌%◌, get_or, leb, ltb, eqb};
 ghost use Rattle.tok.specs.Word.{kind_of};
 ghost use Rattle.reader.specs.Reading.{onward, gave};
+ghost use Rattle.ast.specs.Kinds.{kind_of_node};
 ghost use Rattle.ast.specs.Outline.{Outline};
 ghost use Rattle.ast.specs.NodeRecords.{atom, ident, bin, unary, binding, good_arguments, fn, cases, match, call, field, cast, imports, good_extern_count, extern_functions, good_function_count, extern, record_node, array};
 ghost use Rattle.ast.specs.Nodes.{node_kind, good_node_head, node};
@@ -11,6 +12,7 @@ ghost use Rattle.image_laws.specs.OutlineAt.{outline_from};
 ghost use Rattle.image_words.specs.Leads.{Leads};
 ghost use Rattle.image_nodes.specs.Site.{counts_of, here_of, Kept};
 
+use ast::NodeKind;
 use image_words::{between, names, numbers, pairs, token};
 use reader::{Fault, Place};
 
@@ -22,14 +24,13 @@ pub struct Sizes {
     pub slots: usize,
 }
 
-// Where a node record is read: the counts of the image, the node's number, kind and slot, and how many words follow the slot.
+// Where a node record is read: the counts of the image, the node's number and slot, and how many words follow the slot.
 #[derive(Clone, Copy)]
 pub struct Site {
     pub nodes: usize,
     pub types: usize,
     pub slots: usize,
     pub number: usize,
-    pub kind: usize,
     pub slot: usize,
     pub left: usize,
 }
@@ -42,7 +43,7 @@ const OPERATORS: usize = 9;
 // 0 Atom: token, type kind 2 to 5.
 #[tactic(auto, unfolding(ast::specs::NodeRecords::atom, reader::specs::Reading::gave, image_words::specs::Leads::unanswered), using(image_words::specs::LeadLaws::leads))]
 fn atom(script: &[u8], words: &[u32], from: Place, site: Site) -> Result<Place, Fault>
-    ensures { (before : List Outline) → Leads words.now from (atom (here_of script.now before site)) result }
+    ensures { (kind : ℕ) (before : List Outline) → Leads words.now from (atom (here_of script.now kind before site)) result }
 {
     let at = token(script, words, from)?;
     let kind = reader::next_word(words, at) as usize;
@@ -52,7 +53,7 @@ fn atom(script: &[u8], words: &[u32], from: Place, site: Site) -> Result<Place, 
 // 1 Ident: name.
 #[tactic(auto, unfolding(ast::specs::NodeRecords::ident, reader::specs::Reading::gave, image_words::specs::Leads::unanswered), using(image_words::specs::LeadLaws::leads))]
 fn ident(script: &[u8], words: &[u32], from: Place, site: Site) -> Result<Place, Fault>
-    ensures { (before : List Outline) → Leads words.now from (ident (here_of script.now before site)) result }
+    ensures { (kind : ℕ) (before : List Outline) → Leads words.now from (ident (here_of script.now kind before site)) result }
 {
     token(script, words, from)
 }
@@ -60,7 +61,7 @@ fn ident(script: &[u8], words: &[u32], from: Place, site: Site) -> Result<Place,
 // 2 Bin: token, operator, left, right.
 #[tactic(auto, unfolding(ast::specs::NodeRecords::bin, reader::specs::Reading::gave, image_words::specs::Leads::unanswered), using(image_words::specs::LeadLaws::leads))]
 fn bin(script: &[u8], words: &[u32], from: Place, site: Site) -> Result<Place, Fault>
-    ensures { (before : List Outline) → Leads words.now from (bin (here_of script.now before site)) result }
+    ensures { (kind : ℕ) (before : List Outline) → Leads words.now from (bin (here_of script.now kind before site)) result }
 {
     let at = token(script, words, from)?;
     let at = reader::below(words, at, OPERATORS)?;
@@ -71,7 +72,7 @@ fn bin(script: &[u8], words: &[u32], from: Place, site: Site) -> Result<Place, F
 // 3 Unary: token, operator, right.
 #[tactic(auto, unfolding(ast::specs::NodeRecords::unary, reader::specs::Reading::gave, image_words::specs::Leads::unanswered), using(image_words::specs::LeadLaws::leads))]
 fn unary(script: &[u8], words: &[u32], from: Place, site: Site) -> Result<Place, Fault>
-    ensures { (before : List Outline) → Leads words.now from (unary (here_of script.now before site)) result }
+    ensures { (kind : ℕ) (before : List Outline) → Leads words.now from (unary (here_of script.now kind before site)) result }
 {
     let at = token(script, words, from)?;
     let at = reader::below(words, at, OPERATORS)?;
@@ -81,7 +82,7 @@ fn unary(script: &[u8], words: &[u32], from: Place, site: Site) -> Result<Place,
 // 4 Let: name, right.
 #[tactic(auto, unfolding(ast::specs::NodeRecords::binding, reader::specs::Reading::gave, image_words::specs::Leads::unanswered), using(image_words::specs::LeadLaws::leads))]
 fn binding(script: &[u8], words: &[u32], from: Place, site: Site) -> Result<Place, Fault>
-    ensures { (before : List Outline) → Leads words.now from (binding (here_of script.now before site)) result }
+    ensures { (kind : ℕ) (before : List Outline) → Leads words.now from (binding (here_of script.now kind before site)) result }
 {
     let at = token(script, words, from)?;
     reader::below(words, at, site.number)
@@ -89,7 +90,7 @@ fn binding(script: &[u8], words: &[u32], from: Place, site: Site) -> Result<Plac
 
 // Whether n arguments of an Fn lie within its record, and their slots below V.
 fn arguments_fit(site: Site, n: usize) -> bool
-    ensures { (text : List ℕ) (before : List Outline) → result ≡ good_arguments (here_of text before site) n }
+    ensures { (text : List ℕ) (kind : ℕ) (before : List Outline) → result ≡ good_arguments (here_of text kind before site) n }
 {
     n <= site.left.saturating_sub(3) / 2 && n < site.slots.saturating_sub(site.slot)
 }
@@ -97,7 +98,7 @@ fn arguments_fit(site: Site, n: usize) -> bool
 // 5 Fn: name, return type, argument count, name and type of each, body.
 #[tactic(auto, unfolding(ast::specs::Outline::typed_name, reader::specs::Reading::gave, image_words::specs::Leads::unanswered), using(crate::proofs::Rows::fn_words, image_words::specs::LeadLaws::leads))]
 fn function(script: &[u8], words: &[u32], from: Place, site: Site) -> Result<Place, Fault>
-    ensures { (before : List Outline) → Leads words.now from (fn (here_of script.now before site)) result }
+    ensures { (kind : ℕ) (before : List Outline) → Leads words.now from (fn (here_of script.now kind before site)) result }
 {
     let at = token(script, words, from)?;
     let at = reader::below(words, at, site.types)?;
@@ -125,7 +126,7 @@ fn cases(
     count: usize,
     left: usize,
 ) -> Result<Place, Fault>
-    ensures { (before : List Outline) → Leads words.now from (cases (here_of script.now before site) count left) result }
+    ensures { (kind : ℕ) (before : List Outline) → Leads words.now from (cases (here_of script.now kind before site) count left) result }
 {
     let mut to = from;
     let mut room = left;
@@ -145,7 +146,7 @@ fn cases(
 // 6 Match: case count; the cases.
 #[tactic(auto, unfolding(reader::specs::Reading::gave, image_words::specs::Leads::unanswered), using(crate::proofs::Rows::match_words, image_words::specs::LeadLaws::leads))]
 fn matching(script: &[u8], words: &[u32], from: Place, site: Site) -> Result<Place, Fault>
-    ensures { (before : List Outline) → Leads words.now from (match (here_of script.now before site)) result }
+    ensures { (kind : ℕ) (before : List Outline) → Leads words.now from (match (here_of script.now kind before site)) result }
 {
     let count = reader::next_word(words, from) as usize;
     let room = site.left.saturating_sub(1);
@@ -163,7 +164,7 @@ fn callable(kinds: &[u8], p: usize, n: usize) -> bool
 // 7 Call: target (Ident or Field), arguments.
 #[tactic(auto, unfolding(ast::specs::NodeRecords::call, reader::specs::Reading::gave, image_words::specs::Leads::unanswered), using(image_words::specs::LeadLaws::leads))]
 fn call(words: &[u32], kinds: &[u8], from: Place, site: Site) -> Result<Place, Fault>
-    ensures { (text : List ℕ) (before : List Outline) → Kept kinds.now before site.number → Leads words.now from (call (here_of text before site)) result }
+    ensures { (text : List ℕ) (kind : ℕ) (before : List Outline) → Kept kinds.now before site.number → Leads words.now from (call (here_of text kind before site)) result }
 {
     let target = reader::next_word(words, from) as usize;
     let at = reader::word(words, from, callable(kinds, target, site.number))?;
@@ -173,7 +174,7 @@ fn call(words: &[u32], kinds: &[u8], from: Place, site: Site) -> Result<Place, F
 // 8 Field: target, name.
 #[tactic(auto, unfolding(ast::specs::NodeRecords::field, reader::specs::Reading::gave, image_words::specs::Leads::unanswered), using(image_words::specs::LeadLaws::leads))]
 fn field(script: &[u8], words: &[u32], from: Place, site: Site) -> Result<Place, Fault>
-    ensures { (before : List Outline) → Leads words.now from (field (here_of script.now before site)) result }
+    ensures { (kind : ℕ) (before : List Outline) → Leads words.now from (field (here_of script.now kind before site)) result }
 {
     let at = reader::below(words, from, site.number)?;
     token(script, words, at)
@@ -182,7 +183,7 @@ fn field(script: &[u8], words: &[u32], from: Place, site: Site) -> Result<Place,
 // 9 Cast: token, left, type.
 #[tactic(auto, unfolding(ast::specs::NodeRecords::cast, reader::specs::Reading::gave, image_words::specs::Leads::unanswered), using(image_words::specs::LeadLaws::leads))]
 fn cast(script: &[u8], words: &[u32], from: Place, site: Site) -> Result<Place, Fault>
-    ensures { (before : List Outline) → Leads words.now from (cast (here_of script.now before site)) result }
+    ensures { (kind : ℕ) (before : List Outline) → Leads words.now from (cast (here_of script.now kind before site)) result }
 {
     let at = token(script, words, from)?;
     let at = reader::below(words, at, site.number)?;
@@ -192,7 +193,7 @@ fn cast(script: &[u8], words: &[u32], from: Place, site: Site) -> Result<Place, 
 // 10 Import: token, paths.
 #[tactic(auto, unfolding(ast::specs::NodeRecords::imports, reader::specs::Reading::gave, image_words::specs::Leads::unanswered), using(image_words::specs::LeadLaws::leads))]
 fn imports(script: &[u8], words: &[u32], from: Place, site: Site) -> Result<Place, Fault>
-    ensures { (before : List Outline) → Leads words.now from (imports (here_of script.now before site)) result }
+    ensures { (kind : ℕ) (before : List Outline) → Leads words.now from (imports (here_of script.now kind before site)) result }
 {
     let at = token(script, words, from)?;
     names(script, words, at, site.left.saturating_sub(1))
@@ -223,7 +224,7 @@ fn functions(
     count: usize,
     left: usize,
 ) -> Result<Place, Fault>
-    ensures { (before : List Outline) → Leads words.now from (extern_functions (here_of script.now before site) count left) result }
+    ensures { (kind : ℕ) (before : List Outline) → Leads words.now from (extern_functions (here_of script.now kind before site) count left) result }
 {
     let mut to = from;
     let mut room = left;
@@ -253,7 +254,7 @@ fn functions_fit(count: usize, room: usize) -> bool
 // 11 Extern: token, name, function count; the functions.
 #[tactic(auto, unfolding(reader::specs::Reading::gave, image_words::specs::Leads::unanswered), using(crate::proofs::Rows::extern_words, image_words::specs::LeadLaws::leads))]
 fn externs(script: &[u8], words: &[u32], from: Place, site: Site) -> Result<Place, Fault>
-    ensures { (before : List Outline) → Leads words.now from (extern (here_of script.now before site)) result }
+    ensures { (kind : ℕ) (before : List Outline) → Leads words.now from (extern (here_of script.now kind before site)) result }
 {
     let at = token(script, words, from)?;
     let at = token(script, words, at)?;
@@ -266,7 +267,7 @@ fn externs(script: &[u8], words: &[u32], from: Place, site: Site) -> Result<Plac
 // 12 Record: token, name and value pairs.
 #[tactic(auto, unfolding(ast::specs::NodeRecords::record_node, ast::specs::NodeRecords::named_part, reader::specs::Reading::gave, image_words::specs::Leads::unanswered), using(image_words::specs::LeadLaws::leads))]
 fn record_node(script: &[u8], words: &[u32], from: Place, site: Site) -> Result<Place, Fault>
-    ensures { (before : List Outline) → Leads words.now from (record_node (here_of script.now before site)) result }
+    ensures { (kind : ℕ) (before : List Outline) → Leads words.now from (record_node (here_of script.now kind before site)) result }
 {
     let at = token(script, words, from)?;
     pairs(
@@ -281,7 +282,7 @@ fn record_node(script: &[u8], words: &[u32], from: Place, site: Site) -> Result<
 // 13 Array: token, members.
 #[tactic(auto, unfolding(ast::specs::NodeRecords::array, reader::specs::Reading::gave, image_words::specs::Leads::unanswered), using(image_words::specs::LeadLaws::leads))]
 fn array(script: &[u8], words: &[u32], from: Place, site: Site) -> Result<Place, Fault>
-    ensures { (before : List Outline) → Leads words.now from (array (here_of script.now before site)) result }
+    ensures { (kind : ℕ) (before : List Outline) → Leads words.now from (array (here_of script.now kind before site)) result }
 {
     let at = token(script, words, from)?;
     numbers(words, at, site.left.saturating_sub(1), site.number)
@@ -301,47 +302,53 @@ fn good_head(head: u32) -> bool
     ensures { result ≡ good_node_head head }
 {
     let long = tok::payload(head);
-    let kind = tok::kind(head);
-    match kind {
-        0 => long == 4,
-        1 => long == 3,
-        2 => long == 6,
-        3 => long == 5,
-        4 => long == 4,
-        5 => long >= 5,
-        6 => long >= 4,
-        7 => long >= 3,
-        8 => long == 4,
-        9 => long == 5,
-        10 => long >= 3,
-        11 => long >= 5,
-        12 => and_pairs(3, long),
-        13 => long >= 3,
-        _ => false,
+    match NodeKind::of(head) {
+        NodeKind::Atom => long == 4,
+        NodeKind::Ident => long == 3,
+        NodeKind::Bin => long == 6,
+        NodeKind::Unary => long == 5,
+        NodeKind::Let => long == 4,
+        NodeKind::Fn => long >= 5,
+        NodeKind::Match => long >= 4,
+        NodeKind::Call => long >= 3,
+        NodeKind::Field => long == 4,
+        NodeKind::Cast => long == 5,
+        NodeKind::Import => long >= 3,
+        NodeKind::Extern => long >= 5,
+        NodeKind::Record => and_pairs(3, long),
+        NodeKind::Array => long >= 3,
+        NodeKind::None => false,
     }
 }
 
 // The words after the slot, by kind.
-fn rest(script: &[u8], words: &[u32], kinds: &[u8], from: Place, site: Site) -> Result<Place, Fault>
-    ensures { (head : ℕ) (before : List Outline) → kind_of head ≡ site.kind → Kept kinds.now before site.number → Leads words.now from
-        ((node_kind head).rest (here_of script.now before site)) result }
+fn rest(
+    script: &[u8],
+    words: &[u32],
+    kinds: &[u8],
+    from: Place,
+    kind: NodeKind,
+    site: Site,
+) -> Result<Place, Fault>
+    ensures { (head : ℕ) (before : List Outline) → kind ≡ kind_of_node (kind_of head) → Kept kinds.now before site.number → Leads words.now from
+        ((node_kind head).rest (here_of script.now (kind_of head) before site)) result }
 {
-    match site.kind {
-        0 => atom(script, words, from, site),
-        1 => ident(script, words, from, site),
-        2 => bin(script, words, from, site),
-        3 => unary(script, words, from, site),
-        4 => binding(script, words, from, site),
-        5 => function(script, words, from, site),
-        6 => matching(script, words, from, site),
-        7 => call(words, kinds, from, site),
-        8 => field(script, words, from, site),
-        9 => cast(script, words, from, site),
-        10 => imports(script, words, from, site),
-        11 => externs(script, words, from, site),
-        12 => record_node(script, words, from, site),
-        13 => array(script, words, from, site),
-        _ => Ok(from),
+    match kind {
+        NodeKind::Atom => atom(script, words, from, site),
+        NodeKind::Ident => ident(script, words, from, site),
+        NodeKind::Bin => bin(script, words, from, site),
+        NodeKind::Unary => unary(script, words, from, site),
+        NodeKind::Let => binding(script, words, from, site),
+        NodeKind::Fn => function(script, words, from, site),
+        NodeKind::Match => matching(script, words, from, site),
+        NodeKind::Call => call(words, kinds, from, site),
+        NodeKind::Field => field(script, words, from, site),
+        NodeKind::Cast => cast(script, words, from, site),
+        NodeKind::Import => imports(script, words, from, site),
+        NodeKind::Extern => externs(script, words, from, site),
+        NodeKind::Record => record_node(script, words, from, site),
+        NodeKind::Array => array(script, words, from, site),
+        NodeKind::None => Ok(from),
     }
 }
 
@@ -368,9 +375,8 @@ pub fn node(
         types: sizes.types,
         slots: sizes.slots,
         number,
-        kind: tok::kind(head) as usize,
         slot,
         left: long.saturating_sub(2),
     };
-    rest(script, words, kinds, at, site)
+    rest(script, words, kinds, at, NodeKind::of(head), site)
 }

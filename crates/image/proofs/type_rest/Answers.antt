@@ -1,27 +1,24 @@
 -- `image::type_rest` meets its contract: the row of a word of the same kind (`TypeRows`), arm by arm. Assumes nothing.
+use mathlib.Core.Path.{sym, ◌∙◌}
+use Rattle.ast.specs.KindLaws.{expr-number}
 use Rattle.ast.specs.TypeRecords.{type_kind, type_kinds}
-use Rattle.image.proofs.TypeRows.{rest-by, no-rest}
+use Rattle.image.proofs.TypeRows.{rest-by, inner-rest, no-rest}
 use Rattle.image.proofs.type_rest.Goals as goal
 
-pub returns-in-0 : goal.returns-in-0
+pub returns-in-Atom : goal.returns-in-Atom
 unfolding type_kind type_kinds
-returns-in-0 c = λ head n t v e. rest-by _ _ _ head 0x0000_0000 _ _ _ _ e c.in-0.is (c.type_atom.ensures n t v _ _)
+returns-in-Atom c = λ head n t v e. rest-by _ _ _ head 0x0000_0000 _ _ _ (expr-number _ (sym c.in-Atom.is ∙ e)) (c.type_atom.ensures n t v _ _)
 
-pub returns-in-1 : goal.returns-in-1
+pub returns-in-Foreign : goal.returns-in-Foreign
 unfolding type_kind type_kinds
-returns-in-1 c = λ head n t v e. rest-by _ _ _ head 0x1000_0000 _ _ _ _ e c.in-1.is (c.type_foreign.ensures n t v _ _)
+returns-in-Foreign c = λ head n t v e. rest-by _ _ _ head 0x1000_0000 _ _ _ (expr-number _ (sym c.in-Foreign.is ∙ e)) (c.type_foreign.ensures n t v _ _)
 
-pub returns-in-2 : goal.returns-in-2
+pub returns-in-Option : goal.returns-in-Option
+returns-in-Option c = λ head n t v e. inner-rest _ _ _ head _ _ _ e c.in-Option.is (c.type_inner.ensures _ n t v _)
+
+pub returns-in-Record : goal.returns-in-Record
 unfolding type_kind type_kinds
-returns-in-2 c = λ head n t v e. rest-by _ _ _ head 0x2000_0000 _ _ _ _ e c.in-2.is (c.type_inner.ensures _ n t v _)
+returns-in-Record c = λ head n t v e. rest-by _ _ _ head 0x4000_0000 _ _ _ (expr-number _ (sym c.in-Record.is ∙ e)) (c.type_record.ensures n t v)
 
-pub returns-in-3 : goal.returns-in-3
-unfolding type_kind type_kinds
-returns-in-3 c = λ head n t v e. rest-by _ _ _ head 0x3000_0000 _ _ _ _ e c.in-3.is (c.type_inner-in-3.ensures _ n t v _)
-
-pub returns-in-4 : goal.returns-in-4
-unfolding type_kind type_kinds
-returns-in-4 c = λ head n t v e. rest-by _ _ _ head 0x4000_0000 _ _ _ _ e c.in-4.is (c.type_record.ensures n t v)
-
-pub returns-in_default : goal.returns-in_default
-returns-in_default c = λ head n t v e. no-rest _ _ head _ _ _ _ e c.in_default.in_default-own.rest
+pub returns-in-None : goal.returns-in-None
+returns-in-None c = λ head n t v e. no-rest _ _ head _ _ _ (expr-number _ (sym c.in-None.is ∙ e))

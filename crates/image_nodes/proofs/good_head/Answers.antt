@@ -1,64 +1,65 @@
 -- `image_nodes::good_head` meets its contract: the row of a word of the same kind (`Heads`), arm by arm. Assumes nothing.
-use mathlib.Core.Path.{sym, ◌∙◌}
+use mathlib.Core.Path.{◌∙◌}
 use Rattle.ast.specs.Nodes.{node_kind, node_kinds}
+use Rattle.ast.specs.KindLaws.{node-number}
 use Rattle.image_nodes.proofs.Heads.{head-by, no-head}
 use Rattle.image_nodes.proofs.good_head.Goals as goal
 
-pub returns-in-0 : goal.returns-in-0
+pub returns-in-Atom : goal.returns-in-Atom
 unfolding node_kind node_kinds
-returns-in-0 c = head-by _ 0x0000_0000 _ c.payload-long.ensures (sym c.kind-kind.ensures ∙ c.in-0.is)
+returns-in-Atom c = head-by _ 0x0000_0000 _ c.payload-long.ensures (node-number _ c.in-Atom.ensures)
 
-pub returns-in-1 : goal.returns-in-1
+pub returns-in-Ident : goal.returns-in-Ident
 unfolding node_kind node_kinds
-returns-in-1 c = head-by _ 0x1000_0000 _ c.payload-long.ensures (sym c.kind-kind.ensures ∙ c.in-1.is)
+returns-in-Ident c = head-by _ 0x1000_0000 _ c.payload-long.ensures (node-number _ c.in-Ident.ensures)
 
-pub returns-in-2 : goal.returns-in-2
+pub returns-in-Bin : goal.returns-in-Bin
 unfolding node_kind node_kinds
-returns-in-2 c = head-by _ 0x2000_0000 _ c.payload-long.ensures (sym c.kind-kind.ensures ∙ c.in-2.is)
+returns-in-Bin c = head-by _ 0x2000_0000 _ c.payload-long.ensures (node-number _ c.in-Bin.ensures)
 
-pub returns-in-3 : goal.returns-in-3
+pub returns-in-Unary : goal.returns-in-Unary
 unfolding node_kind node_kinds
-returns-in-3 c = head-by _ 0x3000_0000 _ c.payload-long.ensures (sym c.kind-kind.ensures ∙ c.in-3.is)
+returns-in-Unary c = head-by _ 0x3000_0000 _ c.payload-long.ensures (node-number _ c.in-Unary.ensures)
 
-pub returns-in-4 : goal.returns-in-4
+pub returns-in-Let : goal.returns-in-Let
 unfolding node_kind node_kinds
-returns-in-4 c = head-by _ 0x4000_0000 _ c.payload-long.ensures (sym c.kind-kind.ensures ∙ c.in-4.is)
+returns-in-Let c = head-by _ 0x4000_0000 _ c.payload-long.ensures (node-number _ c.in-Let.ensures)
 
-pub returns-in-5 : goal.returns-in-5
+pub returns-in-Fn : goal.returns-in-Fn
 unfolding node_kind node_kinds
-returns-in-5 c = head-by _ 0x5000_0000 _ c.payload-long.ensures (sym c.kind-kind.ensures ∙ c.in-5.is)
+returns-in-Fn c = head-by _ 0x5000_0000 _ c.payload-long.ensures (node-number _ c.in-Fn.ensures)
 
-pub returns-in-6 : goal.returns-in-6
+pub returns-in-Match : goal.returns-in-Match
 unfolding node_kind node_kinds
-returns-in-6 c = head-by _ 0x6000_0000 _ c.payload-long.ensures (sym c.kind-kind.ensures ∙ c.in-6.is)
+returns-in-Match c = head-by _ 0x6000_0000 _ c.payload-long.ensures (node-number _ c.in-Match.ensures)
 
-pub returns-in-7 : goal.returns-in-7
+pub returns-in-Call : goal.returns-in-Call
 unfolding node_kind node_kinds
-returns-in-7 c = head-by _ 0x7000_0000 _ c.payload-long.ensures (sym c.kind-kind.ensures ∙ c.in-7.is)
+returns-in-Call c = head-by _ 0x7000_0000 _ c.payload-long.ensures (node-number _ c.in-Call.ensures)
 
-pub returns-in-8 : goal.returns-in-8
+pub returns-in-Field : goal.returns-in-Field
 unfolding node_kind node_kinds
-returns-in-8 c = head-by _ 0x8000_0000 _ c.payload-long.ensures (sym c.kind-kind.ensures ∙ c.in-8.is)
+returns-in-Field c = head-by _ 0x8000_0000 _ c.payload-long.ensures (node-number _ c.in-Field.ensures)
 
-pub returns-in-9 : goal.returns-in-9
+pub returns-in-Cast : goal.returns-in-Cast
 unfolding node_kind node_kinds
-returns-in-9 c = head-by _ 0x9000_0000 _ c.payload-long.ensures (sym c.kind-kind.ensures ∙ c.in-9.is)
+returns-in-Cast c = head-by _ 0x9000_0000 _ c.payload-long.ensures (node-number _ c.in-Cast.ensures)
 
-pub returns-in-10 : goal.returns-in-10
+pub returns-in-Import : goal.returns-in-Import
 unfolding node_kind node_kinds
-returns-in-10 c = head-by _ 0xa000_0000 _ c.payload-long.ensures (sym c.kind-kind.ensures ∙ c.in-10.is)
+returns-in-Import c = head-by _ 0xa000_0000 _ c.payload-long.ensures (node-number _ c.in-Import.ensures)
 
-pub returns-in-11 : goal.returns-in-11
+pub returns-in-Extern : goal.returns-in-Extern
 unfolding node_kind node_kinds
-returns-in-11 c = head-by _ 0xb000_0000 _ c.payload-long.ensures (sym c.kind-kind.ensures ∙ c.in-11.is)
+returns-in-Extern c = head-by _ 0xb000_0000 _ c.payload-long.ensures (node-number _ c.in-Extern.ensures)
 
-pub returns-in-12 : goal.returns-in-12
+pub returns-in-Record : goal.returns-in-Record
 unfolding node_kind node_kinds
-returns-in-12 c = c.and_pairs.ensures ∙ head-by _ 0xc000_0000 _ c.payload-long.ensures (sym c.kind-kind.ensures ∙ c.in-12.is)
+returns-in-Record c = c.and_pairs.ensures ∙ head-by _ 0xc000_0000 _ c.payload-long.ensures (node-number _ c.in-Record.ensures)
 
-pub returns-in-13 : goal.returns-in-13
+pub returns-in-Array : goal.returns-in-Array
 unfolding node_kind node_kinds
-returns-in-13 c = head-by _ 0xd000_0000 _ c.payload-long.ensures (sym c.kind-kind.ensures ∙ c.in-13.is)
+returns-in-Array c = head-by _ 0xd000_0000 _ c.payload-long.ensures (node-number _ c.in-Array.ensures)
 
-pub returns-in_default : goal.returns-in_default
-returns-in_default c = no-head _ _ c.kind-kind.ensures c.in_default.in_default-own.rest
+pub returns-in-None : goal.returns-in-None
+returns-in-None c = no-head _ (node-number _ c.in-None.ensures)

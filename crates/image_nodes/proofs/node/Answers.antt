@@ -1,6 +1,6 @@
 -- `image_nodes::node` meets its contract: head, slot and rest; the answer is the outline that stands there (image_laws: `any_node`). Assumes nothing.
 use Prim.Native.Nat.{◌-◌}
-use mathlib.Core.Path.{sym, ap, ◌∙◌}
+use mathlib.Core.Path.{ap, ◌∙◌}
 use Rattle.tok.specs.Word.{payload_of}
 use Rattle.std.specs.Prelude.{Ok}
 use Rattle.reader.specs.Reading.{gave}
@@ -19,4 +19,4 @@ returns c = λ before kept.
     c.next_word-head.ensures c.good_head.ensures (c.saturating_sub.ensures ∙ ap (λ n. n - 3) c.payload-long.ensures) c.in_ok-at.ensures in
     let left = c.saturating_sub-2.ensures ∙ ap (λ n. n - 2) c.payload-long.ensures in
     leads_there _ _ _ _ _ _ (any_node (counts_of c.args.script.now c.args.sizes) before c.args.words.now c.args.number c.args.from.at c.args.from.least)
-    (rw (head, c.in_ok-at-2.ensures, ← c.next_word-slot.ensures) (rw (c.kind.ensures, left) at (c.rest.ensures c.next_word-head.result before (sym c.kind.ensures) kept)))
+    (rw (head, c.in_ok-at-2.ensures, ← c.next_word-slot.ensures) (rw left at (c.rest.ensures c.next_word-head.result before c.of.ensures kept)))

@@ -1,63 +1,65 @@
 -- `image_nodes::rest` meets its contract: the row of a word of the same kind (`Heads`), arm by arm. Assumes nothing.
+use mathlib.Core.Path.{sym, ◌∙◌}
 use Rattle.ast.specs.Nodes.{node_kind, node_kinds}
+use Rattle.ast.specs.KindLaws.{node-number}
 use Rattle.image_nodes.proofs.Heads.{rest-by, no-rest}
 use Rattle.image_nodes.proofs.rest.Goals as goal
 
-pub returns-in-0 : goal.returns-in-0
+pub returns-in-Atom : goal.returns-in-Atom
 unfolding node_kind node_kinds
-returns-in-0 c = λ head before e kept. rest-by _ _ _ head 0x0000_0000 _ _ e c.in-0.is (c.atom.ensures before)
+returns-in-Atom c = λ head before e kept. rest-by _ _ _ head 0x0000_0000 _ (node-number _ (sym c.in-Atom.is ∙ e)) (c.atom.ensures _ before)
 
-pub returns-in-1 : goal.returns-in-1
+pub returns-in-Ident : goal.returns-in-Ident
 unfolding node_kind node_kinds
-returns-in-1 c = λ head before e kept. rest-by _ _ _ head 0x1000_0000 _ _ e c.in-1.is (c.ident.ensures before)
+returns-in-Ident c = λ head before e kept. rest-by _ _ _ head 0x1000_0000 _ (node-number _ (sym c.in-Ident.is ∙ e)) (c.ident.ensures _ before)
 
-pub returns-in-2 : goal.returns-in-2
+pub returns-in-Bin : goal.returns-in-Bin
 unfolding node_kind node_kinds
-returns-in-2 c = λ head before e kept. rest-by _ _ _ head 0x2000_0000 _ _ e c.in-2.is (c.bin.ensures before)
+returns-in-Bin c = λ head before e kept. rest-by _ _ _ head 0x2000_0000 _ (node-number _ (sym c.in-Bin.is ∙ e)) (c.bin.ensures _ before)
 
-pub returns-in-3 : goal.returns-in-3
+pub returns-in-Unary : goal.returns-in-Unary
 unfolding node_kind node_kinds
-returns-in-3 c = λ head before e kept. rest-by _ _ _ head 0x3000_0000 _ _ e c.in-3.is (c.unary.ensures before)
+returns-in-Unary c = λ head before e kept. rest-by _ _ _ head 0x3000_0000 _ (node-number _ (sym c.in-Unary.is ∙ e)) (c.unary.ensures _ before)
 
-pub returns-in-4 : goal.returns-in-4
+pub returns-in-Let : goal.returns-in-Let
 unfolding node_kind node_kinds
-returns-in-4 c = λ head before e kept. rest-by _ _ _ head 0x4000_0000 _ _ e c.in-4.is (c.binding.ensures before)
+returns-in-Let c = λ head before e kept. rest-by _ _ _ head 0x4000_0000 _ (node-number _ (sym c.in-Let.is ∙ e)) (c.binding.ensures _ before)
 
-pub returns-in-5 : goal.returns-in-5
+pub returns-in-Fn : goal.returns-in-Fn
 unfolding node_kind node_kinds
-returns-in-5 c = λ head before e kept. rest-by _ _ _ head 0x5000_0000 _ _ e c.in-5.is (c.function.ensures before)
+returns-in-Fn c = λ head before e kept. rest-by _ _ _ head 0x5000_0000 _ (node-number _ (sym c.in-Fn.is ∙ e)) (c.function.ensures _ before)
 
-pub returns-in-6 : goal.returns-in-6
+pub returns-in-Match : goal.returns-in-Match
 unfolding node_kind node_kinds
-returns-in-6 c = λ head before e kept. rest-by _ _ _ head 0x6000_0000 _ _ e c.in-6.is (c.matching.ensures before)
+returns-in-Match c = λ head before e kept. rest-by _ _ _ head 0x6000_0000 _ (node-number _ (sym c.in-Match.is ∙ e)) (c.matching.ensures _ before)
 
-pub returns-in-7 : goal.returns-in-7
+pub returns-in-Call : goal.returns-in-Call
 unfolding node_kind node_kinds
-returns-in-7 c = λ head before e kept. rest-by _ _ _ head 0x7000_0000 _ _ e c.in-7.is (c.call.ensures _ before kept)
+returns-in-Call c = λ head before e kept. rest-by _ _ _ head 0x7000_0000 _ (node-number _ (sym c.in-Call.is ∙ e)) (c.call.ensures _ _ before kept)
 
-pub returns-in-8 : goal.returns-in-8
+pub returns-in-Field : goal.returns-in-Field
 unfolding node_kind node_kinds
-returns-in-8 c = λ head before e kept. rest-by _ _ _ head 0x8000_0000 _ _ e c.in-8.is (c.field.ensures before)
+returns-in-Field c = λ head before e kept. rest-by _ _ _ head 0x8000_0000 _ (node-number _ (sym c.in-Field.is ∙ e)) (c.field.ensures _ before)
 
-pub returns-in-9 : goal.returns-in-9
+pub returns-in-Cast : goal.returns-in-Cast
 unfolding node_kind node_kinds
-returns-in-9 c = λ head before e kept. rest-by _ _ _ head 0x9000_0000 _ _ e c.in-9.is (c.cast.ensures before)
+returns-in-Cast c = λ head before e kept. rest-by _ _ _ head 0x9000_0000 _ (node-number _ (sym c.in-Cast.is ∙ e)) (c.cast.ensures _ before)
 
-pub returns-in-10 : goal.returns-in-10
+pub returns-in-Import : goal.returns-in-Import
 unfolding node_kind node_kinds
-returns-in-10 c = λ head before e kept. rest-by _ _ _ head 0xa000_0000 _ _ e c.in-10.is (c.imports.ensures before)
+returns-in-Import c = λ head before e kept. rest-by _ _ _ head 0xa000_0000 _ (node-number _ (sym c.in-Import.is ∙ e)) (c.imports.ensures _ before)
 
-pub returns-in-11 : goal.returns-in-11
+pub returns-in-Extern : goal.returns-in-Extern
 unfolding node_kind node_kinds
-returns-in-11 c = λ head before e kept. rest-by _ _ _ head 0xb000_0000 _ _ e c.in-11.is (c.externs.ensures before)
+returns-in-Extern c = λ head before e kept. rest-by _ _ _ head 0xb000_0000 _ (node-number _ (sym c.in-Extern.is ∙ e)) (c.externs.ensures _ before)
 
-pub returns-in-12 : goal.returns-in-12
+pub returns-in-Record : goal.returns-in-Record
 unfolding node_kind node_kinds
-returns-in-12 c = λ head before e kept. rest-by _ _ _ head 0xc000_0000 _ _ e c.in-12.is (c.record_node.ensures before)
+returns-in-Record c = λ head before e kept. rest-by _ _ _ head 0xc000_0000 _ (node-number _ (sym c.in-Record.is ∙ e)) (c.record_node.ensures _ before)
 
-pub returns-in-13 : goal.returns-in-13
+pub returns-in-Array : goal.returns-in-Array
 unfolding node_kind node_kinds
-returns-in-13 c = λ head before e kept. rest-by _ _ _ head 0xd000_0000 _ _ e c.in-13.is (c.array.ensures before)
+returns-in-Array c = λ head before e kept. rest-by _ _ _ head 0xd000_0000 _ (node-number _ (sym c.in-Array.is ∙ e)) (c.array.ensures _ before)
 
-pub returns-in_default : goal.returns-in_default
-returns-in_default c = λ head before e kept. no-rest _ _ head _ _ e c.in_default.in_default-own.rest
+pub returns-in-None : goal.returns-in-None
+returns-in-None c = λ head before e kept. no-rest _ _ head _ (node-number _ (sym c.in-None.is ∙ e))
