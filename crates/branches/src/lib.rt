@@ -14,15 +14,14 @@ ghost use Rattle.visit.specs.Whole.{Lent, lent};
 ghost use Rattle.visit.specs.Within.{Visits};
 ghost use Rattle.branches.specs.Branches.{is_field, node_answer, body_answer, branches_from};
 
+use ast::NodeKind;
 use call_args::slot_of;
 use places::Image;
+use ptype::TypeKind;
 use rules::Answer;
 use state::{Step, Used};
 use tok::{Texts, word_at};
 use visit::{State, Visit};
-
-// The kind of a node that reads a field.
-const FIELD: u32 = 8;
 
 // The condition of the case at word `at`, of what it answered: 23 where it is not Bool.
 pub fn condition(
@@ -73,7 +72,10 @@ fn is_field(image: &Image, n: u32) -> bool
     requires { NodeReady image.now.words image.now.places n }
     ensures { result ≡ is_field image.now.words n }
 {
-    tok::kind(word_at(image.words, image.node_place(n))) == FIELD
+    matches!(
+        NodeKind::of(word_at(image.words, image.node_place(n))),
+        NodeKind::Field
+    )
 }
 
 // What node n has answered: poisoned it left no type in its slot, or Unknown where it read a field of that type.
@@ -87,7 +89,7 @@ fn node_answer(slots: &[u32], image: &Image, n: u32) -> Answer
     if w == 0 {
         return Answer::Poison;
     }
-    if tok::kind(w) == ptype::UNKNOWN && is_field(image, n) {
+    if matches!(TypeKind::of(w), TypeKind::Unknown) && is_field(image, n) {
         return Answer::Poison;
     }
     Answer::Known(slot)

@@ -46,7 +46,7 @@ fn visit_roots(
     let mut places = [0u16; 3072];
     places::record_places(&mut places, inputs.image);
     let nodes = tok::word_at(inputs.image, 0);
-    let roots = tok::wide(tok::word_at(inputs.image, 2));
+    let roots = tok::word_at(inputs.image, 2) as usize;
     let sources = Sources {
         texts: Texts {
             script: inputs.script,

@@ -111,7 +111,7 @@ pub fn finish(
             zero::zero_all(slots, functions, types, diagnostics, messages, scratch);
             Err(Refused {
                 number: refusal.number(),
-                place: tok::wide(refusal.place()),
+                place: refusal.place() as usize,
             })
         }
     }

@@ -8,16 +8,11 @@ ghost use Rattle.visit.specs.Whole.{Lent, lent};
 ghost use Rattle.walking.specs.Visited.{NodeVisited};
 ghost use Rattle.leaves.specs.Leaves.{LeafReady};
 
+use ast::NodeKind;
 use places::Sources;
 use rules::Answer;
-use tok::{Texts, kind, payload, word_at};
+use tok::{payload, word_at};
 use visit::{State, Visit};
-
-const ATOM: u32 = 0;
-
-const IDENT: u32 = 1;
-
-const IMPORT: u32 = 10;
 
 // The word of a type with nothing inside and no name.
 fn plain_word(kind: u32) -> u32
@@ -46,16 +41,15 @@ pub fn leaf(
 {
     let at = sources.image.node_place(n);
     let head = word_at(sources.image.words, at);
-    let k = kind(head);
     let slot = word_at(sources.image.words, at + 1);
     let first = word_at(sources.image.words, at + 2);
-    if k == ATOM {
-        let used = st.used;
-        let w = plain_word(word_at(sources.image.words, at + 3));
-        return visit::answered(st, operators::set_known(slots, used, slot, w));
-    }
-    if k == IDENT {
-        return names::ident(
+    match NodeKind::of(head) {
+        NodeKind::Atom => {
+            let used = st.used;
+            let w = plain_word(word_at(sources.image.words, at + 3));
+            visit::answered(st, operators::set_known(slots, used, slot, w))
+        }
+        NodeKind::Ident => names::ident(
             slots,
             diagnostics,
             messages,
@@ -65,10 +59,8 @@ pub fn leaf(
             n,
             slot,
             first,
-        );
-    }
-    if k == IMPORT {
-        return imports::import_node(
+        ),
+        NodeKind::Import => imports::import_node(
             slots,
             diagnostics,
             messages,
@@ -82,19 +74,20 @@ pub fn leaf(
             first,
             at + 3,
             payload(head) - 3,
-        );
+        ),
+        // Extern, which is left
+        _ => extern_package::extern_package(
+            slots,
+            types,
+            scratch,
+            &sources.image,
+            st,
+            n,
+            slot,
+            word_at(sources.image.words, at + 3),
+            at + 5,
+            at + payload(head),
+            word_at(sources.image.words, at + 4),
+        ),
     }
-    extern_package::extern_package(
-        slots,
-        types,
-        scratch,
-        &sources.image,
-        st,
-        n,
-        slot,
-        word_at(sources.image.words, at + 3),
-        at + 5,
-        at + payload(head),
-        word_at(sources.image.words, at + 4),
-    )
 }

@@ -79,6 +79,11 @@ module _ (image : List ℕ) (at : ℕ) where
   unfolding operand_at by_kind
   at_field e = rw e refl
 
+  -- a Field is what is left
+  pub at-other : (record_kind image at ≡ 3 → ⊥) → (record_kind image at ≡ 4 → ⊥) → operand_at image at ≡ word_at image (at + 2)
+  unfolding operand_at
+  at-other a b = by_field (word_at image (at + 4)) (word_at image (at + 3)) (word_at image (at + 2)) a b
+
   pub room-unary : record_kind image at ≡ 3 → one_room image at ≡ 0
   unfolding one_room
   room-unary e = by-unary 0 2 0 e

@@ -13,15 +13,11 @@ ghost use Rattle.visit.specs.Within.{Visits};
 ghost use Rattle.operands.specs.Ends.{operand_at, bin_end, one_end, one_room, cast_type, cast_end};
 ghost use Rattle.operands.specs.Ready.{OneReady, CastReady};
 
+use ast::NodeKind;
 use places::Image;
 use rules::Answer;
-use tok::{Texts, kind, word_at};
+use tok::{Texts, word_at};
 use visit::{State, Visit};
-
-// The kinds of nodes of one operand; the third is Field.
-const UNARY: u32 = 3;
-
-const LET: u32 = 4;
 
 // The number of the operand of a Unary, a Let or a Field.
 #[tactic(auto, unfolding(crate::specs::Ends::operand_at, crate::specs::Ends::by_kind))]
@@ -29,14 +25,11 @@ pub fn operand_of(image: &[u32], at: usize) -> u32
     requires { at ≤ 8192 }
     ensures { result ≡ operand_at image.now at }
 {
-    let k = kind(word_at(image, at));
-    if k == UNARY {
-        return word_at(image, at + 4);
+    match NodeKind::of(word_at(image, at)) {
+        NodeKind::Unary => word_at(image, at + 4),
+        NodeKind::Let => word_at(image, at + 3),
+        _ => word_at(image, at + 2),
     }
-    if k == LET {
-        return word_at(image, at + 3);
-    }
-    word_at(image, at + 2)
 }
 
 // Node::Bin after its operands: "a Known answer yields its slot, otherwise Poison ends the rule".
@@ -108,12 +101,12 @@ pub fn one_end(
         let b' : Lent = lent slots.new f types.now diagnostics.new messages.new scratch.new o in
         Visits (one_end (ctx texts.now ls v) image.now n at answer) (one_room image.now at) 0 words st b b' result) }
 {
-    let k = kind(word_at(image, at));
     let slot = word_at(image, at + 1);
     let second = word_at(image, at + 2);
     let third = word_at(image, at + 3);
-    if k == LET {
-        return names::let_end(
+    let used = st.used;
+    match NodeKind::of(word_at(image, at)) {
+        NodeKind::Let => names::let_end(
             slots,
             diagnostics,
             messages,
@@ -123,45 +116,49 @@ pub fn one_end(
             slot,
             second,
             answer,
-        );
-    }
-    let Answer::Known(operand) = answer else {
-        return Ok((Answer::Poison, st));
-    };
-    let used = st.used;
-    if k == UNARY {
-        return visit::answered(
-            st,
-            operators::unary(
-                slots,
-                types,
-                diagnostics,
-                messages,
-                texts,
-                used,
-                n,
-                slot,
-                second,
-                third,
-                operand,
-            ),
-        );
-    }
-    visit::answered(
-        st,
-        values::field(
-            slots,
-            types,
-            diagnostics,
-            messages,
-            texts,
-            used,
-            n,
-            slot,
-            third,
-            operand,
         ),
-    )
+        NodeKind::Unary => {
+            let Answer::Known(operand) = answer else {
+                return Ok((Answer::Poison, st));
+            };
+            visit::answered(
+                st,
+                operators::unary(
+                    slots,
+                    types,
+                    diagnostics,
+                    messages,
+                    texts,
+                    used,
+                    n,
+                    slot,
+                    second,
+                    third,
+                    operand,
+                ),
+            )
+        }
+        _ => {
+            let Answer::Known(operand) = answer else {
+                return Ok((Answer::Poison, st));
+            };
+            visit::answered(
+                st,
+                values::field(
+                    slots,
+                    types,
+                    diagnostics,
+                    messages,
+                    texts,
+                    used,
+                    n,
+                    slot,
+                    third,
+                    operand,
+                ),
+            )
+        }
+    }
 }
 
 // Node::Cast before its operand: the type that it casts to. Gives its word.

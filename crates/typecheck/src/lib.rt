@@ -7,29 +7,17 @@
 ghost use Rattle.state.specs.World.{no_more};
 ghost use Rattle.visit.specs.Whole.{Lent, lent};
 ghost use Rattle.ready.specs.Ready.{NodeVisit};
-ghost use Rattle.walking.specs.Kinds.{Operand, OneOperand, Listed, Sequence, Is};
+ghost use Rattle.walking.specs.Kinds.{OneOperand, Is};
 ghost use Rattle.walking.specs.Visited.{ClassVisit, ListVisit, CaseVisit, NodeVisited, ListVisited, CaseVisited};
 
+use ast::NodeKind;
 use places::Sources;
 use rules::Answer;
-use tok::{Texts, kind, payload, word_at};
+use tok::{payload, word_at};
 use visit::{State, Visit};
 
-// The kinds of nodes that have a function of their own.
-const BIN: u32 = 2;
-
-const FN: u32 = 5;
-
-const MATCH: u32 = 6;
-
-const CALL: u32 = 7;
-
-const CAST: u32 = 9;
-
-const RECORD: u32 = 12;
-
 // Typechecker::node: a node, by its kind.
-#[cycle(array_bin_block_call_case_cases_cast_func_listed_node_one_operand_part_record_node_sequence)]
+#[cycle(array_bin_block_call_case_cases_cast_func_node_one_part_record_node)]
 pub fn node(
     slots: &mut [u32],
     functions: &mut [u32],
@@ -47,12 +35,18 @@ pub fn node(
         let b' : Lent = lent slots.new functions.new types.new diagnostics.new messages.new scratch.new no_more in
         NodeVisited sources.now.texts sources.now.image.words sources.now.library n st b b' result }
 {
-    let k = kind(word_at(sources.image.words, sources.image.node_place(n)));
-    if walking::is_leaf(k) {
-        return leaves::leaf(slots, types, diagnostics, messages, scratch, sources, st, n);
-    }
-    if walking::has_operands(k) {
-        return operand(
+    match NodeKind::of(word_at(sources.image.words, sources.image.node_place(n))) {
+        NodeKind::Atom | NodeKind::Ident | NodeKind::Import | NodeKind::Extern => leaves::leaf(
+            slots,
+            types,
+            diagnostics,
+            messages,
+            scratch,
+            sources,
+            st,
+            n,
+        ),
+        NodeKind::Bin => bin(
             slots,
             functions,
             types,
@@ -62,24 +56,91 @@ pub fn node(
             sources,
             st,
             n,
-        );
+        ),
+        NodeKind::Cast => cast(
+            slots,
+            functions,
+            types,
+            diagnostics,
+            messages,
+            scratch,
+            sources,
+            st,
+            n,
+        ),
+        NodeKind::Unary | NodeKind::Let | NodeKind::Field => one(
+            slots,
+            functions,
+            types,
+            diagnostics,
+            messages,
+            scratch,
+            sources,
+            st,
+            n,
+        ),
+        NodeKind::Fn => func(
+            slots,
+            functions,
+            types,
+            diagnostics,
+            messages,
+            scratch,
+            sources,
+            st,
+            n,
+        ),
+        NodeKind::Match => cases(
+            slots,
+            functions,
+            types,
+            diagnostics,
+            messages,
+            scratch,
+            sources,
+            st,
+            n,
+        ),
+        NodeKind::Call => call(
+            slots,
+            functions,
+            types,
+            diagnostics,
+            messages,
+            scratch,
+            sources,
+            st,
+            n,
+        ),
+        NodeKind::Record => record_node(
+            slots,
+            functions,
+            types,
+            diagnostics,
+            messages,
+            scratch,
+            sources,
+            st,
+            n,
+        ),
+        NodeKind::Array => array(
+            slots,
+            functions,
+            types,
+            diagnostics,
+            messages,
+            scratch,
+            sources,
+            st,
+            n,
+        ),
+        NodeKind::None => unreachable!(),
     }
-    listed(
-        slots,
-        functions,
-        types,
-        diagnostics,
-        messages,
-        scratch,
-        sources,
-        st,
-        n,
-    )
 }
 
 // A part of a node: `node` of it. It only hands over. The compiler puts it into each rule in place of its calls, and what several visits in one
 // rule copy of the lent slices then shares its room in the rule's frame (docs/PERFORMANCE.md, "Stack").
-#[cycle(array_bin_block_call_case_cases_cast_func_listed_node_one_operand_part_record_node_sequence)]
+#[cycle(array_bin_block_call_case_cases_cast_func_node_one_part_record_node)]
 fn part(
     slots: &mut [u32],
     functions: &mut [u32],
@@ -110,67 +171,8 @@ fn part(
     )
 }
 
-// A node of one or two operands.
-#[cycle(array_bin_block_call_case_cases_cast_func_listed_node_one_operand_part_record_node_sequence)]
-fn operand(
-    slots: &mut [u32],
-    functions: &mut [u32],
-    types: &mut [u32],
-    diagnostics: &mut [u32],
-    messages: &mut [u8],
-    scratch: &mut [u32],
-    sources: &Sources,
-    st: State,
-    n: u32,
-) -> Visit<Answer>
-    requires { let b : Lent = lent slots.old functions.old types.old diagnostics.old messages.old scratch.old no_more in
-        ClassVisit Operand sources.now.texts sources.now.image.words sources.now.image.places sources.now.library n st b }
-    ensures { let b : Lent = lent slots.old functions.old types.old diagnostics.old messages.old scratch.old no_more in
-        let b' : Lent = lent slots.new functions.new types.new diagnostics.new messages.new scratch.new no_more in
-        NodeVisited sources.now.texts sources.now.image.words sources.now.library n st b b' result }
-{
-    let k = kind(word_at(sources.image.words, sources.image.node_place(n)));
-    if k == BIN {
-        return bin(
-            slots,
-            functions,
-            types,
-            diagnostics,
-            messages,
-            scratch,
-            sources,
-            st,
-            n,
-        );
-    }
-    if k == CAST {
-        return cast(
-            slots,
-            functions,
-            types,
-            diagnostics,
-            messages,
-            scratch,
-            sources,
-            st,
-            n,
-        );
-    }
-    one(
-        slots,
-        functions,
-        types,
-        diagnostics,
-        messages,
-        scratch,
-        sources,
-        st,
-        n,
-    )
-}
-
 // Node::Bin: both sides are visited, whatever the left answers.
-#[cycle(array_bin_block_call_case_cases_cast_func_listed_node_one_operand_part_record_node_sequence)]
+#[cycle(array_bin_block_call_case_cases_cast_func_node_one_part_record_node)]
 fn bin(
     slots: &mut [u32],
     functions: &mut [u32],
@@ -227,7 +229,7 @@ fn bin(
 }
 
 // Node::Unary, Node::Let and Node::Field.
-#[cycle(array_bin_block_call_case_cases_cast_func_listed_node_one_operand_part_record_node_sequence)]
+#[cycle(array_bin_block_call_case_cases_cast_func_node_one_part_record_node)]
 fn one(
     slots: &mut [u32],
     functions: &mut [u32],
@@ -274,7 +276,7 @@ fn one(
 }
 
 // Node::Cast: the type is made before the value is visited.
-#[cycle(array_bin_block_call_case_cases_cast_func_listed_node_one_operand_part_record_node_sequence)]
+#[cycle(array_bin_block_call_case_cases_cast_func_node_one_part_record_node)]
 fn cast(
     slots: &mut [u32],
     functions: &mut [u32],
@@ -364,7 +366,7 @@ pub fn nodes(
 }
 
 // Typechecker::block_type: parts of the node `owner`, one after the other; the last one's answer, or slot V where there is none.
-#[cycle(array_bin_block_call_case_cases_cast_func_listed_node_one_operand_part_record_node_sequence)]
+#[cycle(array_bin_block_call_case_cases_cast_func_node_one_part_record_node)]
 fn block(
     slots: &mut [u32],
     functions: &mut [u32],
@@ -406,67 +408,8 @@ fn block(
     Ok((answer, here))
 }
 
-// A node with a list.
-#[cycle(array_bin_block_call_case_cases_cast_func_listed_node_one_operand_part_record_node_sequence)]
-fn listed(
-    slots: &mut [u32],
-    functions: &mut [u32],
-    types: &mut [u32],
-    diagnostics: &mut [u32],
-    messages: &mut [u8],
-    scratch: &mut [u32],
-    sources: &Sources,
-    st: State,
-    n: u32,
-) -> Visit<Answer>
-    requires { let b : Lent = lent slots.old functions.old types.old diagnostics.old messages.old scratch.old no_more in
-        ClassVisit Listed sources.now.texts sources.now.image.words sources.now.image.places sources.now.library n st b }
-    ensures { let b : Lent = lent slots.old functions.old types.old diagnostics.old messages.old scratch.old no_more in
-        let b' : Lent = lent slots.new functions.new types.new diagnostics.new messages.new scratch.new no_more in
-        NodeVisited sources.now.texts sources.now.image.words sources.now.library n st b b' result }
-{
-    let k = kind(word_at(sources.image.words, sources.image.node_place(n)));
-    if k == FN {
-        return func(
-            slots,
-            functions,
-            types,
-            diagnostics,
-            messages,
-            scratch,
-            sources,
-            st,
-            n,
-        );
-    }
-    if k == MATCH {
-        return cases(
-            slots,
-            functions,
-            types,
-            diagnostics,
-            messages,
-            scratch,
-            sources,
-            st,
-            n,
-        );
-    }
-    sequence(
-        slots,
-        functions,
-        types,
-        diagnostics,
-        messages,
-        scratch,
-        sources,
-        st,
-        n,
-    )
-}
-
 // Node::Fn.
-#[cycle(array_bin_block_call_case_cases_cast_func_listed_node_one_operand_part_record_node_sequence)]
+#[cycle(array_bin_block_call_case_cases_cast_func_node_one_part_record_node)]
 fn func(
     slots: &mut [u32],
     functions: &mut [u32],
@@ -533,7 +476,7 @@ fn func(
 }
 
 // A case of a Match, which stands at a word of the image: its condition, then its body.
-#[cycle(array_bin_block_call_case_cases_cast_func_listed_node_one_operand_part_record_node_sequence)]
+#[cycle(array_bin_block_call_case_cases_cast_func_node_one_part_record_node)]
 fn case(
     slots: &mut [u32],
     functions: &mut [u32],
@@ -599,7 +542,7 @@ fn case(
 }
 
 // Node::Match: each case, then the default's body; then the cases are compared with it.
-#[cycle(array_bin_block_call_case_cases_cast_func_listed_node_one_operand_part_record_node_sequence)]
+#[cycle(array_bin_block_call_case_cases_cast_func_node_one_part_record_node)]
 fn cases(
     slots: &mut [u32],
     functions: &mut [u32],
@@ -670,67 +613,8 @@ fn cases(
     )
 }
 
-// Call, Record and Array.
-#[cycle(array_bin_block_call_case_cases_cast_func_listed_node_one_operand_part_record_node_sequence)]
-fn sequence(
-    slots: &mut [u32],
-    functions: &mut [u32],
-    types: &mut [u32],
-    diagnostics: &mut [u32],
-    messages: &mut [u8],
-    scratch: &mut [u32],
-    sources: &Sources,
-    st: State,
-    n: u32,
-) -> Visit<Answer>
-    requires { let b : Lent = lent slots.old functions.old types.old diagnostics.old messages.old scratch.old no_more in
-        ClassVisit Sequence sources.now.texts sources.now.image.words sources.now.image.places sources.now.library n st b }
-    ensures { let b : Lent = lent slots.old functions.old types.old diagnostics.old messages.old scratch.old no_more in
-        let b' : Lent = lent slots.new functions.new types.new diagnostics.new messages.new scratch.new no_more in
-        NodeVisited sources.now.texts sources.now.image.words sources.now.library n st b b' result }
-{
-    let k = kind(word_at(sources.image.words, sources.image.node_place(n)));
-    if k == CALL {
-        return call(
-            slots,
-            functions,
-            types,
-            diagnostics,
-            messages,
-            scratch,
-            sources,
-            st,
-            n,
-        );
-    }
-    if k == RECORD {
-        return record_node(
-            slots,
-            functions,
-            types,
-            diagnostics,
-            messages,
-            scratch,
-            sources,
-            st,
-            n,
-        );
-    }
-    array(
-        slots,
-        functions,
-        types,
-        diagnostics,
-        messages,
-        scratch,
-        sources,
-        st,
-        n,
-    )
-}
-
 // Node::Call: every argument is visited before the function is looked up. A call through a field visits none.
-#[cycle(array_bin_block_call_case_cases_cast_func_listed_node_one_operand_part_record_node_sequence)]
+#[cycle(array_bin_block_call_case_cases_cast_func_node_one_part_record_node)]
 fn call(
     slots: &mut [u32],
     functions: &mut [u32],
@@ -787,7 +671,7 @@ fn call(
 }
 
 // Node::Record.
-#[cycle(array_bin_block_call_case_cases_cast_func_listed_node_one_operand_part_record_node_sequence)]
+#[cycle(array_bin_block_call_case_cases_cast_func_node_one_part_record_node)]
 fn record_node(
     slots: &mut [u32],
     functions: &mut [u32],
@@ -826,7 +710,7 @@ fn record_node(
 }
 
 // Node::Array: the members are compared with the first, each when it is visited; one that differs ends the visits.
-#[cycle(array_bin_block_call_case_cases_cast_func_listed_node_one_operand_part_record_node_sequence)]
+#[cycle(array_bin_block_call_case_cases_cast_func_node_one_part_record_node)]
 fn array(
     slots: &mut [u32],
     functions: &mut [u32],

@@ -16,9 +16,9 @@ zeros-filled image e = e
 -- src/lib.rt:148:5
 pub nodes-requires : goal.nodes-requires
 nodes-requires c =
-    roots-counted c.requires (zeros-filled c.args.inputs.now.image c.record_places.ensures) c.word_at-nodes.ensures (c.wide-roots.ensures ∙ c.word_at.ensures)
+    roots-counted c.requires (zeros-filled c.args.inputs.now.image c.record_places.ensures) c.word_at-nodes.ensures c.word_at.ensures
 
 -- src/lib.rt:123:1
 pub returns : goal.returns
 returns c =
-    roots-visited (texts_of c.args.inputs.now.script c.args.inputs.now.library_text) c.args.inputs.now.image (c.wide-roots.ensures ∙ c.word_at.ensures) c.nodes.ensures
+    roots-visited (texts_of c.args.inputs.now.script c.args.inputs.now.library_text) c.args.inputs.now.image c.word_at.ensures c.nodes.ensures

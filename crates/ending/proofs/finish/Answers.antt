@@ -1,5 +1,5 @@
 -- `ending::finish` meets its contract: the walk answered, or it was refused. Assumes nothing.
-use Rattle.std.proofs.Common.{◌∙◌, arith}
+use Rattle.std.proofs.Common.{arith}
 use Rattle.ending.proofs.Left.{entries-inside, finish-answered, finish-refused}
 use Rattle.ending.proofs.finish.Goals as goal
 
@@ -14,4 +14,4 @@ returns-in-Ok c =
 pub returns-in-Err : goal.returns-in-Err
 returns-in-Err c =
     λ words. finish-refused words c.args.slots.now c.args.functions.now c.args.types.now c.args.diagnostics.now c.args.messages.now c.args.scratch.now
-    c.in-Err.is c.zero_all.ensures c.number.ensures (c.wide.ensures ∙ c.place.ensures)
+    c.in-Err.is c.zero_all.ensures c.number.ensures c.place.ensures

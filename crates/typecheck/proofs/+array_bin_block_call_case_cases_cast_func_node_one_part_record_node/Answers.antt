@@ -16,22 +16,44 @@ use Rattle.members.specs.ArrayVisits as Array
 use Rattle.calls.specs.CallVisits as Call
 use Rattle.walk_laws.specs.Lists as List
 use Rattle.walk_laws.specs.Bodies as Body
-use Rattle.walk_laws.specs.Dispatch.{to-array, to-listed, to_one, to_sequence}
-use Rattle.typecheck.proofs.+array_bin_block_call_case_cases_cast_func_listed_node_one_operand_part_record_node_sequence.Goals as goal
+use Rattle.ast.specs.KindLaws.{node-number}
+use Rattle.walk_laws.specs.Dispatch.{to-leaf, to_rule, to_one, a-kind}
+use Rattle.typecheck.proofs.+array_bin_block_call_case_cases_cast_func_node_one_part_record_node.Goals as goal
 
--- ── Which function takes which kind ──
+-- ── A node, by its kind ──
 
-pub node-listed-requires : goal.node-listed-requires
-node-listed-requires t c = (omega (arith, c.decreases), to-listed c.node_place.ensures c.word_at.ensures c.kind-k.ensures c.requires c.is_leaf.ensures c.if-is_leaf.false c.has_operands.ensures c.if-has_operands.false)
+pub node-leaf-requires : goal.node-leaf-requires
+node-leaf-requires t c = to-leaf c.node_place.ensures c.word_at.ensures c.requires c.of.ensures c.in-Atom.is
 
-pub operand-one-requires : goal.operand-one-requires
-operand-one-requires t c = (omega (arith, c.decreases), to_one c.node_place.ensures c.word_at.ensures c.kind-k.ensures c.requires c.if-k-eq-BIN.false c.if-k-eq-CAST.false)
+pub node-bin-requires : goal.node-bin-requires
+node-bin-requires t c = (omega (arith, c.decreases), to_rule c.node_place.ensures c.word_at.ensures c.requires (node-number _ c.in-Bin.ensures))
 
-pub listed-sequence-requires : goal.listed-sequence-requires
-listed-sequence-requires t c = (omega (arith, c.decreases), to_sequence c.node_place.ensures c.word_at.ensures c.kind-k.ensures c.requires c.if-k-eq-FN.false c.if-k-eq-MATCH.false)
+pub node-cast-requires : goal.node-cast-requires
+node-cast-requires t c = (omega (arith, c.decreases), to_rule c.node_place.ensures c.word_at.ensures c.requires (node-number _ c.in-Cast.ensures))
 
-pub sequence-array-requires : goal.sequence-array-requires
-sequence-array-requires t c = (omega (arith, c.decreases), to-array c.node_place.ensures c.word_at.ensures c.kind-k.ensures c.requires c.if-k-eq-CALL.false c.if-k-eq-RECORD.false)
+pub node-one-requires : goal.node-one-requires
+node-one-requires t c = (omega (arith, c.decreases), to_one c.node_place.ensures c.word_at.ensures c.requires c.of.ensures c.in-Unary.is)
+
+pub node-func-requires : goal.node-func-requires
+node-func-requires t c = (omega (arith, c.decreases), to_rule c.node_place.ensures c.word_at.ensures c.requires (node-number _ c.in-Fn.ensures))
+
+pub node-cases-requires : goal.node-cases-requires
+node-cases-requires t c = (omega (arith, c.decreases), to_rule c.node_place.ensures c.word_at.ensures c.requires (node-number _ c.in-Match.ensures))
+
+pub node-call-requires : goal.node-call-requires
+node-call-requires t c = (omega (arith, c.decreases), to_rule c.node_place.ensures c.word_at.ensures c.requires (node-number _ c.in-Call.ensures))
+
+pub node-record_node-requires : goal.node-record_node-requires
+node-record_node-requires t c = (omega (arith, c.decreases), to_rule c.node_place.ensures c.word_at.ensures c.requires (node-number _ c.in-Record.ensures))
+
+pub node-array-requires : goal.node-array-requires
+node-array-requires t c = (omega (arith, c.decreases), to_rule c.node_place.ensures c.word_at.ensures c.requires (node-number _ c.in-Array.ensures))
+
+pub node-unreachable-requires : goal.node-unreachable-requires
+node-unreachable-requires t c = a-kind c.node_place.ensures c.word_at.ensures c.requires c.of.ensures c.in-None.is
+
+pub node-returns-in-Atom : goal.node-returns-in-Atom
+node-returns-in-Atom t c = c.leaf.ensures _ no_more
 
 -- ── Node::Bin ──
 

@@ -1,5 +1,5 @@
 use Rattle.walking.specs.Measures as M
-use Rattle.typecheck.proofs.+array_bin_block_call_case_cases_cast_func_listed_node_one_operand_part_record_node_sequence.Given as goal
+use Rattle.typecheck.proofs.+array_bin_block_call_case_cases_cast_func_node_one_part_record_node.Given as goal
 use mathlib.Core.Path.{◌≡◌}
 use Prim.Native.Nat.{◌+◌, ◌-◌}
 use lib.ListN.{get_or}
@@ -36,26 +36,17 @@ decreases-cast l = M.μ-rule l.n
 abbrev pub decreases-func : goal.decreases-func
 decreases-func l = M.μ-rule l.n
 
-abbrev pub decreases-listed : goal.decreases-listed
-decreases-listed l = M.μ-step l.n
-
 abbrev pub decreases-node : goal.decreases-node
 decreases-node l = M.μ-node l.n
 
 abbrev pub decreases-one : goal.decreases-one
 decreases-one l = M.μ-rule l.n
 
-abbrev pub decreases-operand : goal.decreases-operand
-decreases-operand l = M.μ-step l.n
-
 abbrev pub decreases-part : goal.decreases-part
 decreases-part l = M.μ-part l.n
 
 abbrev pub decreases-record_node : goal.decreases-record_node
 decreases-record_node l = M.μ-rule l.n
-
-abbrev pub decreases-sequence : goal.decreases-sequence
-decreases-sequence l = M.μ-list l.n
 
 -- A case of a Match: `typecheck::case` meets its contract, one law for each return (branches, `Case`). The loop over its body has the
 -- invariant of nodes one after the other (walk_laws, `Lists`); the measure is how many are left. Assumes nothing.
