@@ -27,7 +27,7 @@ pub fn between(low: usize, high: usize, n: usize) -> bool
 fn good_token(script: &[u8], w: u32) -> bool
     ensures { result ≡ good_token script.now w }
 {
-    if tok::kind(w) != 12 {
+    if tok::kind(w) != tok::NAME {
         return false;
     }
     if w / 0x200_0000 % 8 != 0 {

@@ -8,9 +8,13 @@ ghost use Rattle.tok.specs.Reader.{word};
 ghost use Rattle.reader.specs.Reading.{next_word, onward, gave};
 ghost use Rattle.library.specs.Pool.{pool_at, good_plain, good_wrapped, good_record, good_named, good_type, fields, good_pool_word, pairs_after, pool_from};
 
+use ptype::TypeKind;
 use reader::{Fault, Place};
 
 // Type words.
+
+// The kind of a field count's word: no type has it.
+const COUNT: u32 = 0;
 
 // Void, Bool, Int, Double and Str have payload 0; Unknown is not allowed.
 #[tactic(auto, unfolding(library::specs::Pool::good_plain))]
@@ -36,12 +40,15 @@ fn good_wrapped(pool: &[u32], own: usize, w: u32) -> bool
 fn good_record(pool: &[u32], own: usize, w: u32) -> bool
     ensures { (script library : List ℕ) (size : ℕ) → result ≡ good_record (pool_at (texts_of script library) size pool.now) own w }
 {
+    let TypeKind::Record = TypeKind::of(w) else {
+        return false;
+    };
     let list = tok::payload(w);
-    if tok::kind(w) != 8 || list >= own {
+    if list >= own {
         return false;
     }
     let count = tok::word_at(pool, list);
-    tok::kind(count) == 0 && list + 1 + 2 * tok::payload(count) <= own
+    tok::kind(count) == COUNT && list + 1 + 2 * tok::payload(count) <= own
 }
 
 // Foreign and Slot carry a name payload.
@@ -118,7 +125,7 @@ fn good_pool_word(library: &[u8], pool: &[u32], size: usize, i: usize, w: u32) -
     requires { i < 2 ^ 40 }
     ensures { (script : List ℕ) → result ≡ good_pool_word (pool_at (texts_of script library.now) size pool.now) i w }
 {
-    if tok::kind(w) == 0 {
+    if tok::kind(w) == COUNT {
         i + 1 + 2 * tok::payload(w) <= size
     } else {
         good_type(library, pool, i, w)
@@ -129,7 +136,7 @@ fn good_pool_word(library: &[u8], pool: &[u32], size: usize, i: usize, w: u32) -
 fn pairs_after(w: u32) -> usize
     ensures { result ≡ pairs_after w }
 {
-    if tok::kind(w) == 0 {
+    if tok::kind(w) == COUNT {
         tok::payload(w)
     } else {
         0

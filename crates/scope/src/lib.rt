@@ -28,11 +28,14 @@ pub enum Held {
     Nothing,
 }
 
+// The kind of a poisoned name's word.
+const POISONED: u32 = 13;
+
 // Whether a name in scope is poisoned.
 fn is_poisoned(w: u32) -> bool
     ensures { result ≡ poisoned w }
 {
-    kind(w) == 13
+    kind(w) == POISONED
 }
 
 // The name's own word.

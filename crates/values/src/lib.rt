@@ -18,10 +18,10 @@ ghost use Rattle.state.specs.World.{Steps, with_answer};
 ghost use Rattle.values.specs.Answers.{found_of, member_of, alias, compare_branch};
 
 use operators::{set_known, store};
-use ptype::{contains_unknown, same_type};
+use ptype::{TypeKind, contains_unknown, same_type};
 use rules::Answer;
 use state::{Step, Used};
-use tok::{Span, Texts, kind, word_at};
+use tok::{Span, Texts, word_at};
 
 // What an array's member after the first is: of the first's type; silent, where a value is poisoned or an Unknown stands in a type; or of
 // another type, which was reported.
@@ -32,12 +32,10 @@ pub enum Compared {
     Differs,
 }
 
-// The kinds and words that the code asks for.
-const VOID: u32 = 1;
+// The words of Bool and of Unknown.
+const BOOL_WORD: u32 = TypeKind::Bool as u32 * 0x1000_0000;
 
-const BOOL_WORD: u32 = 0x2000_0000;
-
-const UNKNOWN_WORD: u32 = 0xB000_0000;
+const UNKNOWN_WORD: u32 = TypeKind::Unknown as u32 * 0x1000_0000;
 
 // Fields.
 
@@ -62,11 +60,13 @@ pub fn find_field(types: &[u32], texts: &Texts, name: u32, word: u32) -> Option<
 pub fn field_type(slots: &mut [u32], used: Used, slot: u32, word: u32) -> Step<Answer>
     ensures { (t d m : List ℕ) → Steps (field_type slot word) slots.old t d m used slots.new t d m result }
 {
-    if kind(word) == ptype::UNKNOWN {
-        store(slots, slot as usize, UNKNOWN_WORD);
-        return Ok((Answer::Poison, used));
+    match TypeKind::of(word) {
+        TypeKind::Unknown => {
+            store(slots, slot as usize, UNKNOWN_WORD);
+            Ok((Answer::Poison, used))
+        }
+        _ => set_known(slots, used, slot, word),
     }
-    set_known(slots, used, slot, word)
 }
 
 // Node::Field, of the target's slot: 12 where the target is no record, 13 where it has no such field.
@@ -87,7 +87,7 @@ pub fn field(
 {
     let w = word_at(slots, target as usize);
     let counts = used.told;
-    if kind(w) != ptype::RECORD {
+    let TypeKind::Record = TypeKind::of(w) else {
         let free = err_text::first_free(messages, counts);
         let other = err_values::no_record(
             diagnostics,
@@ -99,7 +99,7 @@ pub fn field(
             w,
         );
         return state::told(n, used, other, Answer::Poison);
-    }
+    };
     let found = find_field(types, texts, name, w);
     let Some(t) = found else {
         let free = err_text::first_free(messages, counts);
@@ -341,9 +341,9 @@ pub fn let_binding(
         return Ok((None, used));
     };
     let w = word_at(slots, right as usize);
-    if kind(w) != VOID {
+    let TypeKind::Void = TypeKind::of(w) else {
         return Ok((Some(w), used));
-    }
+    };
     let counts = used.told;
     let free = err_text::first_free(messages, counts);
     let reported = err_names::let_void(diagnostics, &mut messages[free..], counts, name);

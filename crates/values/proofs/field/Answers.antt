@@ -1,5 +1,7 @@
 -- `values::field` meets its contract: no record (12), no such field (13), or the field's type. Assumes nothing.
 use borrow.Author.Tests.{ne_eqb}
+use Rattle.tok.specs.Word.{kind_of}
+use Rattle.ptype.specs.TypeKindLaws.{type-number, type-not}
 use Rattle.err_text.specs.RestLaws.{told_in_whole}
 use Rattle.rules.specs.Rules.{field}
 use Rattle.rules.specs.Steps.{ty, tree, on_option}
@@ -9,22 +11,22 @@ use Rattle.values.specs.Answers.{found_of}
 use Rattle.values.proofs.Told.{same-steps}
 use Rattle.values.proofs.field.Goals as goal
 
-pub returns-then-kind-ne-RECORD : goal.returns-then-kind-ne-RECORD
+pub returns-in_default : goal.returns-in_default
 unfolding field ty tree when
-returns-then-kind-ne-RECORD c ls v =
+returns-in_default c ls v =
     rw c.told.ensures
     (same-steps (poisons-step c.args.n (told_in_whole _ c.first_free-free.ensures c.no_record-other.ensures))
-    (λ rest. rw (← c.word_at-w.ensures, ← c.kind.ensures, ne_eqb c.kind.result 8 c.if-kind-ne-RECORD.true)))
+    (λ rest. rw (← c.word_at-w.ensures, ne_eqb (kind_of c.word_at-w.result) 8 (type-not _ c.of.ensures c.in_default.not-Record))))
 
-pub returns-in_default : goal.returns-in_default
+pub returns-in_default-found : goal.returns-in_default-found
 unfolding field ty tree when on_option found_of
-returns-in_default c ls v =
-    rw c.told-in_default.ensures
-    (same-steps (poisons-step c.args.n (told_in_whole _ c.first_free-free-in_default.ensures c.no_field-none.ensures))
-    (λ rest. rw (← c.word_at-w.ensures, ← c.kind.ensures, c.if-kind-ne-RECORD.false, ← c.find_field-found.ensures, c.in_default.is)))
+returns-in_default-found c ls v =
+    rw c.told-in_default-found.ensures
+    (same-steps (poisons-step c.args.n (told_in_whole _ c.first_free-free-in_default-found.ensures c.no_field-none.ensures))
+    (λ rest. rw (← c.word_at-w.ensures, type-number _ c.in-Record.ensures, ← c.find_field-found.ensures, c.in_default-found.is)))
 
 pub returns : goal.returns
 unfolding field ty tree when on_option found_of
 returns c ls v =
     same-steps (c.field_type.ensures c.args.types.now c.args.diagnostics.now c.args.messages.now)
-    (λ rest. rw (← c.word_at-w.ensures, ← c.kind.ensures, c.if-kind-ne-RECORD.false, ← c.find_field-found.ensures, c.in-Some.is))
+    (λ rest. rw (← c.word_at-w.ensures, type-number _ c.in-Record.ensures, ← c.find_field-found.ensures, c.in-Some.is))

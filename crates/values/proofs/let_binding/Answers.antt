@@ -1,6 +1,10 @@
 -- `values::let_binding` meets its contract of Void: 7 is told. Assumes nothing.
+use Rattle.ptype.specs.TypeKindLaws.{type-number, type-not}
 use Rattle.err_text.specs.RestLaws.{told_in_whole}
-use Rattle.std.specs.Prelude.{None}
+use Rattle.std.proofs.Common.{rules, ◌≡◌, false, ne_eqb}
+use Rattle.std.specs.Prelude.{None, eqb}
+use Rattle.tok.specs.Word.{kind_of}
+use Rattle.state.specs.World.{stepped, with_answer}
 use Rattle.rules.specs.Rules.{let_binding}
 use Rattle.rules.specs.Steps.{ty}
 use Rattle.tok.specs.Step.{when}
@@ -8,8 +12,12 @@ use Rattle.values.specs.Answers.{found_of}
 use Rattle.values.proofs.Told.{told-means}
 use Rattle.values.proofs.let_binding.Goals as goal
 
+pub returns-in_default-of : goal.returns-in_default-of
+unfolding let_binding ty when stepped with_answer found_of
+returns-in_default-of c = let k : eqb (kind_of c.word_at-w.result) 1 ≡ false = ne_eqb _ 1 (type-not _ c.of.ensures c.in_default-of.not-Void) in search rules
+
 pub returns : goal.returns
 unfolding let_binding ty when found_of
 returns c t =
     told-means c.args.n (told_in_whole _ c.first_free-free.ensures c.let_void-reported.ensures) found_of None c.told.ensures
-    (λ rest. rw (c.in-Known.is, ← c.word_at-w.ensures, ← c.kind.ensures, c.if-kind-ne-VOID.false))
+    (λ rest. rw (c.in-Known.is, ← c.word_at-w.ensures, type-number _ c.in-Void.ensures))
