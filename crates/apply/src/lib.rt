@@ -226,12 +226,12 @@ fn slot_type(texts: &Texts, bindings: &Bindings, slot: u32) -> u32
     bindings.bound_to(texts, slot).unwrap_or(slot)
 }
 
-// Adds an Option or an Array: that which the type w is.
-fn add_wrap(types: &mut [u32], used: usize, w: u32, inner: u32) -> Added
-    requires { wraps (kind_of w) ≡ true }
-    ensures { Adds (λ t n. add_wrap t n (kind_of w) inner) types.old used result types.new }
+// Adds an Option or an Array, whichever the type `like` is.
+fn add_wrap(types: &mut [u32], used: usize, like: u32, inner: u32) -> Added
+    requires { wraps (kind_of like) ≡ true }
+    ensures { Adds (λ t n. add_wrap t n (kind_of like) inner) types.old used result types.new }
 {
-    match TypeKind::of(w) {
+    match TypeKind::of(like) {
         TypeKind::Option => add::add_option(types, used, inner),
         _ => add::add_array(types, used, inner),
     }

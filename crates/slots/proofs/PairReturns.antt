@@ -105,7 +105,8 @@ module _ (slot ty : ℕ) (b : Bindings) (t : Texts) where
       let k' : min n (length l / 2) ≡ n = omega arith in
       let s : get_or m (2 * n) 0 ≡ slot = get_or-set_other (set l (2 * n) slot) (2 * n + 1) (2 * n) ty 0 (λ z. omega arith) ∙ get_or-set_same l (2 * n) slot 0 (omega arith) in
       let y : get_or m (2 * n + 1) 0 ≡ ty = get_or-set_same (set l (2 * n) slot) (2 * n + 1) ty 0 (rw length-set (omega arith)) in
-      let other : (j : ℕ) → j < 2 * n → get_or m j 0 ≡ get_or l j 0 = λ j p. get_or-set_other (set l (2 * n) slot) (2 * n + 1) j ty 0 (λ z. omega arith) ∙ get_or-set_other l (2 * n) j slot 0 (λ z. omega arith) in
+      let other : (j : ℕ) → j < 2 * n → get_or m j 0 ≡ get_or l j 0 = λ j p.
+      get_or-set_other (set l (2 * n) slot) (2 * n + 1) j ty 0 (λ z. omega arith) ∙ get_or-set_other l (2 * n) j slot 0 (λ z. omega arith) in
       let o : first_pairs t m n ≡ first_pairs t l n = first-same t m l n other in
       let now : bindings_of t b' ≡ binding (name_bytes t slot) ty ∷ bindings_of t b = rw (put, more) (first_more t m k ∙ rw (s, y, o, k')) in
       let room : length (binding (name_bytes t slot) ty ∷ bindings_of t b) ≤ pair_room l = omega (arith, length-first t l (min n (length l / 2))) in

@@ -172,16 +172,19 @@ module _ (texts : Texts) (n : ℕ) (call_name : List ℕ) (ps : List Param) (ima
             room = rw (etype, same-type h.grown m₁) (omega (arith, h.keeps, room after (more h.bindable i k t' (get_or s slot 0) refl)));
           }
 
-      module _ (mp : (j : ℕ) → j < length ps → Meant texts t u.types (get_or ps j (param 0 0)).type) {span : Span} (espan : span ≡ span_of (tree_of image number)) {t'' d'' m'' : List ℕ} {b'' : Bindings} {r : Step ⊤}
+      module _ (mp : (j : ℕ) → j < length ps → Meant texts t u.types (get_or ps j (param 0 0)).type) {span : Span} (espan : span ≡ span_of (tree_of image number))
+          {t'' d'' m'' : List ℕ} {b'' : Bindings} {r : Step ⊤}
           (a : Argues texts (λ c. argument c n call_name true (param name type) (given slot span)) s t' d' m' u' b' t'' d'' m'' b'' r) where
         one : (library : List Package) (void : ℕ)
-            → Steps (argument (ctx texts library void) n call_name true (get_or ps i (param 0 0)) (given (slot_of (tree_of image (get_or image (args + i) 0))) (span_of (tree_of image (get_or image (args + i) 0)))) (bindings_of texts b'))
+            → Steps (argument (ctx texts library void) n call_name true (get_or ps i (param 0 0))
+            (given (slot_of (tree_of image (get_or image (args + i) 0))) (span_of (tree_of image (get_or image (args + i) 0)))) (bindings_of texts b'))
             s t' d' m' u' s t'' d'' m'' (with_answer (λ _. bindings_of texts b'') r)
         one library void = rw (ename, etype, eslot, espan, en) at (a.step library void)
 
         split : (library : List Package) (void : ℕ) (rest : Rest)
             → arguments (ctx texts library void) n call_name true ps (given_from image args count) [] (world rest s t d m u)
-            ≡ next (stepped rest s t'' d'' m'' (with_answer (λ _. bindings_of texts b'') r)) (λ more. arguments (ctx texts library void) n call_name true (drop (suc i) ps) (given_from image (args + i + 1) (count - suc i)) more)
+            ≡ next (stepped rest s t'' d'' m'' (with_answer (λ _. bindings_of texts b'') r))
+            (λ more. arguments (ctx texts library void) n call_name true (drop (suc i) ps) (given_from image (args + i + 1) (count - suc i)) more)
         unfolding arguments nodes_from provided_of
         split library void rest =
             let k : i < length ps = omega (arith, long) in
@@ -238,7 +241,8 @@ module _ (texts : Texts) (n slot token : ℕ) (call_name words : List ℕ) (at :
     step = λ rest. rw (length-given image count args, ← en true, ne_eqb count required differ, w) ((poisons-step n {s = s} {t = t} {u = u} p).step rest);
   }
 
-  module _ (e : count ≡ required) {b b' : Bindings} {t' d' m' : List ℕ} {r : Step ⊤} (a : Arguments texts n call_name (signature_at words at true).params image args count s t d m u b t' d' m' b' r) where
+  module _ (e : count ≡ required) {b b' : Bindings} {t' d' m' : List ℕ} {r : Step ⊤}
+      (a : Arguments texts n call_name (signature_at words at true).params image args count s t d m u b t' d' m' b' r) where
     pub call-refused : {f : Refusal} {q : Step Answer} → r ≡ Err f → IsErrAnd q (λ y. y ≡ f)
         → (library : List Package) (void : ℕ) → Steps (check_call_args (ctx texts library void) n slot token call_name (signature_at words at true) (given_from image args count)) s t d m u s t' d' m' q
     unfolding check_call_args signature_at when with_answer

@@ -10,7 +10,11 @@ returns-then-count-required c =
     miscounted _ _ _ _ _ _ _ _ _ _ _ _ _ _ _ c.argument_count-required.ensures c.if-count-required.true (told_in_whole _ c.first_free-free.ensures c.argument_count-reported.ensures) c.told.ensures
 
 pub slotted_arguments-requires : goal.slotted_arguments-requires
-slotted_arguments-requires c = record { ready = rw c.new-bindings.ensures.none_yet.0 c.requires; fresh = c.new-bindings.ensures.none_yet.1; counts = λ f. c.if-count-required.false ∙ c.argument_count-required.ensures f }
+slotted_arguments-requires c = record {
+  ready = rw c.new-bindings.ensures.none_yet.0 c.requires;
+  counts = λ f. c.if-count-required.false ∙ c.argument_count-required.ensures f;
+  fresh = c.new-bindings.ensures.none_yet.1;
+}
 
 pub returns-in_err-used : goal.returns-in_err-used
 returns-in_err-used c = call-refused _ _ _ _ _ _ _ _ _ _ _ _ _ _ _ c.argument_count-required.ensures c.if-count-required.false c.slotted_arguments.ensures c.in_err-used.was c.from_residual.ensures.1
@@ -21,4 +25,6 @@ returned-requires c =
     c.return_type-ret.ensures c.requires.ret
 
 pub returns : goal.returns
-returns c = call-returned _ _ _ _ _ _ _ _ _ _ _ _ _ _ _ c.argument_count-required.ensures c.if-count-required.false c.slotted_arguments.ensures c.in_ok-used.was c.return_type-ret.ensures c.returned.ensures
+returns c =
+    call-returned _ _ _ _ _ _ _ _ _ _ _ _ _ _ _ c.argument_count-required.ensures c.if-count-required.false c.slotted_arguments.ensures c.in_ok-used.was
+    c.return_type-ret.ensures c.returned.ensures
