@@ -25,9 +25,9 @@ use Rattle.state.specs.Reporting.{told_of, reports_step, poisons-step, on-ok, on
 use Rattle.operators.proofs.KindLaws.{unless_none, result-by-kinds, castable-by-kinds, takes-by-kind, taken-number, some_of, none_of}
 
 -- a slot's type
-pub known-steps : (s : List ℕ) (u : Used) (slot w : ℕ) {s' : List ℕ} → s' ≡ set s slot w → (t d m : List ℕ) → Steps (set_known slot w) s t d m u s' t d m (Ok (Known slot, u))
+pub known_steps : (s : List ℕ) (u : Used) (slot w : ℕ) {s' : List ℕ} → s' ≡ set s slot w → (t d m : List ℕ) → Steps (set_known slot w) s t d m u s' t d m (Ok (Known slot, u))
 unfolding set_known stepped
-known-steps s u slot w e t d m = record { step = λ rest. rw e }
+known_steps s u slot w e t d m = record { step = λ rest. rw e }
 
 -- ---- fuse
 module _ (T : Texts) (s t d m : List ℕ) (u : Used) (n slot token op left right : ℕ) {l r : ℕ} {kl kr : TypeKind} {k : Option TypeKind} (hl : l ≡ get_or s left 0) (hr : r ≡ get_or s right 0)

@@ -28,6 +28,7 @@ pub fn store(slots: &mut [u32], slot: usize, word: u32)
 }
 
 // Typechecker::set_known: a slot's type.
+#[tactic(auto, using(crate::proofs::Returns::known_steps))]
 pub fn set_known(slots: &mut [u32], used: Used, slot: u32, word: u32) -> Step<Answer>
     ensures { (t d m : List ℕ) → Steps (set_known slot word) slots.old t d m used slots.new t d m result }
 {
