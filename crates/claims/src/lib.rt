@@ -8,12 +8,10 @@ ghost use Rattle.ast.specs.Claims.{count_from};
 ghost use Rattle.image_laws.specs.OutlineAt.{parts_from, case_parts, parts_at, outlines_from};
 ghost use Rattle.claims.specs.Marks.{claims_by, claims_in, Marking, Claiming};
 
+use ast::NodeKind;
 use node_parts::Run;
 use reader::Fault;
 use tok::word_at;
-
-// "6 Match"
-const MATCH: u32 = 6;
 
 // Marks. Each function says whether a number was marked already, and ends at the first that was.
 
@@ -89,11 +87,12 @@ fn mark_parts(words: &[u32], at: usize, marks: &mut [u8]) -> bool
         return false;
     }
     let head = word_at(words, at);
-    if tok::kind(head) == MATCH {
-        let count = word_at(words, at + 2) as usize;
-        mark_cases(words, at + 3, count, at + tok::payload(head), marks)
-    } else {
-        mark_run(words, node_parts::run_at(words, at), marks)
+    match NodeKind::of(head) {
+        NodeKind::Match => {
+            let count = word_at(words, at + 2) as usize;
+            mark_cases(words, at + 3, count, at + tok::payload(head), marks)
+        }
+        _ => mark_run(words, node_parts::run_at(words, at), marks),
     }
 }
 

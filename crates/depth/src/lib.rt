@@ -8,12 +8,10 @@ ghost use Rattle.ast.specs.Depth.{deepest};
 ghost use Rattle.image_laws.specs.OutlineAt.{parts_from, case_parts, parts_at, outlines_from};
 ghost use Rattle.depth.specs.Depths.{depth_by, depth_in};
 
+use ast::NodeKind;
 use node_parts::Run;
 use reader::Fault;
 use tok::word_at;
-
-// "6 Match"
-const MATCH: u32 = 6;
 
 // "node depth 64 (a leaf is 1)"
 const MOST: u8 = 64;
@@ -93,11 +91,12 @@ fn deepest_part(words: &[u32], at: usize, depths: &[u8]) -> u8
         return 0;
     }
     let head = word_at(words, at);
-    if tok::kind(head) == MATCH {
-        let count = word_at(words, at + 2) as usize;
-        deepest_cases(words, at + 3, count, at + tok::payload(head), depths)
-    } else {
-        deepest_run(words, node_parts::run_at(words, at), depths)
+    match NodeKind::of(head) {
+        NodeKind::Match => {
+            let count = word_at(words, at + 2) as usize;
+            deepest_cases(words, at + 3, count, at + tok::payload(head), depths)
+        }
+        _ => deepest_run(words, node_parts::run_at(words, at), depths),
     }
 }
 

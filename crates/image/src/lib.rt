@@ -5,6 +5,7 @@ ghost use Rattle.std.specs.Prelude.{◌≡◌, ◌&&◌, List, [], ℕ, ◌%◌,
 ghost use Rattle.tok.specs.Text.{texts_of};
 ghost use Rattle.tok.specs.Word.{kind_of};
 ghost use Rattle.reader.specs.Reading.{next_word, offending};
+ghost use Rattle.ast.specs.Kinds.{kind_of_expr};
 ghost use Rattle.ast.specs.Nodes.{nodes};
 ghost use Rattle.ast.specs.TypeRecords.{type_atom, type_foreign, type_inner, type_record, type_kind, good_type_head, type_expression, type_expressions};
 ghost use Rattle.ast.specs.ImageFault.{image, image_fault};
@@ -12,6 +13,7 @@ ghost use Rattle.image_words.specs.Leads.{Leads};
 ghost use Rattle.image_nodes.specs.Site.{counts_of};
 ghost use Rattle.image.specs.Counted.{counted};
 
+use ast::ExprKind;
 use image_nodes::Sizes;
 use image_words::{between, numbers, pairs, token};
 use reader::{Fault, Place};
@@ -71,14 +73,11 @@ fn good_type_head(head: u32) -> bool
     ensures { result ≡ good_type_head head }
 {
     let long = tok::payload(head);
-    let kind = tok::kind(head);
-    match kind {
-        0 => long == 3,
-        1 => long == 2,
-        2 => long == 2,
-        3 => long == 2,
-        4 => even(long),
-        _ => false,
+    match ExprKind::of(head) {
+        ExprKind::Atom => long == 3,
+        ExprKind::Foreign | ExprKind::Option | ExprKind::Array => long == 2,
+        ExprKind::Record => even(long),
+        ExprKind::None => false,
     }
 }
 
@@ -87,19 +86,18 @@ fn type_rest(
     script: &[u8],
     words: &[u32],
     from: Place,
-    kind: u32,
+    kind: ExprKind,
     number: usize,
     left: usize,
 ) -> Result<Place, Fault>
-    ensures { (head n t v : ℕ) → kind_of head ≡ kind → Leads words.now from ((type_kind head).rest (counted script.now n t v) number left) result }
+    ensures { (head n t v : ℕ) → kind ≡ kind_of_expr (kind_of head) → Leads words.now from ((type_kind head).rest (counted script.now n t v) number left) result }
 {
     match kind {
-        0 => type_atom(script, words, from),
-        1 => type_foreign(script, words, from),
-        2 => type_inner(words, from, number),
-        3 => type_inner(words, from, number),
-        4 => type_record(script, words, from, number, left),
-        _ => Ok(from),
+        ExprKind::Atom => type_atom(script, words, from),
+        ExprKind::Foreign => type_foreign(script, words, from),
+        ExprKind::Option | ExprKind::Array => type_inner(words, from, number),
+        ExprKind::Record => type_record(script, words, from, number, left),
+        ExprKind::None => Ok(from),
     }
 }
 
@@ -115,7 +113,7 @@ fn type_expression(script: &[u8], words: &[u32], from: Place, number: usize) -> 
         script,
         words,
         at,
-        tok::kind(head),
+        ExprKind::of(head),
         number,
         long.saturating_sub(1),
     )

@@ -11,6 +11,7 @@ ghost use Rattle.image_laws.specs.OutlineAt.{outline_from};
 ghost use Rattle.image_words.specs.Leads.{Leads};
 ghost use Rattle.image_nodes.specs.Site.{counts_of, here_of, Kept};
 
+use ast::NodeKind;
 use image_words::{between, names, numbers, pairs, token};
 use reader::{Fault, Place};
 
@@ -29,7 +30,7 @@ pub struct Site {
     pub types: usize,
     pub slots: usize,
     pub number: usize,
-    pub kind: usize,
+    pub kind: u32,
     pub slot: usize,
     pub left: usize,
 }
@@ -301,22 +302,21 @@ fn good_head(head: u32) -> bool
     ensures { result ≡ good_node_head head }
 {
     let long = tok::payload(head);
-    let kind = tok::kind(head);
-    match kind {
-        0 => long == 4,
-        1 => long == 3,
-        2 => long == 6,
-        3 => long == 5,
-        4 => long == 4,
-        5 => long >= 5,
-        6 => long >= 4,
-        7 => long >= 3,
-        8 => long == 4,
-        9 => long == 5,
-        10 => long >= 3,
-        11 => long >= 5,
-        12 => and_pairs(3, long),
-        13 => long >= 3,
+    match NodeKind::of(head) {
+        NodeKind::Atom => long == 4,
+        NodeKind::Ident => long == 3,
+        NodeKind::Bin => long == 6,
+        NodeKind::Unary => long == 5,
+        NodeKind::Let => long == 4,
+        NodeKind::Fn => long >= 5,
+        NodeKind::Match => long >= 4,
+        NodeKind::Call => long >= 3,
+        NodeKind::Field => long == 4,
+        NodeKind::Cast => long == 5,
+        NodeKind::Import => long >= 3,
+        NodeKind::Extern => long >= 5,
+        NodeKind::Record => and_pairs(3, long),
+        NodeKind::Array => long >= 3,
         _ => false,
     }
 }
@@ -326,21 +326,21 @@ fn rest(script: &[u8], words: &[u32], kinds: &[u8], from: Place, site: Site) -> 
     ensures { (head : ℕ) (before : List Outline) → kind_of head ≡ site.kind → Kept kinds.now before site.number → Leads words.now from
         ((node_kind head).rest (here_of script.now before site)) result }
 {
-    match site.kind {
-        0 => atom(script, words, from, site),
-        1 => ident(script, words, from, site),
-        2 => bin(script, words, from, site),
-        3 => unary(script, words, from, site),
-        4 => binding(script, words, from, site),
-        5 => function(script, words, from, site),
-        6 => matching(script, words, from, site),
-        7 => call(words, kinds, from, site),
-        8 => field(script, words, from, site),
-        9 => cast(script, words, from, site),
-        10 => imports(script, words, from, site),
-        11 => externs(script, words, from, site),
-        12 => record_node(script, words, from, site),
-        13 => array(script, words, from, site),
+    match NodeKind::from(site.kind) {
+        NodeKind::Atom => atom(script, words, from, site),
+        NodeKind::Ident => ident(script, words, from, site),
+        NodeKind::Bin => bin(script, words, from, site),
+        NodeKind::Unary => unary(script, words, from, site),
+        NodeKind::Let => binding(script, words, from, site),
+        NodeKind::Fn => function(script, words, from, site),
+        NodeKind::Match => matching(script, words, from, site),
+        NodeKind::Call => call(words, kinds, from, site),
+        NodeKind::Field => field(script, words, from, site),
+        NodeKind::Cast => cast(script, words, from, site),
+        NodeKind::Import => imports(script, words, from, site),
+        NodeKind::Extern => externs(script, words, from, site),
+        NodeKind::Record => record_node(script, words, from, site),
+        NodeKind::Array => array(script, words, from, site),
         _ => Ok(from),
     }
 }
@@ -368,7 +368,7 @@ pub fn node(
         types: sizes.types,
         slots: sizes.slots,
         number,
-        kind: tok::kind(head) as usize,
+        kind: tok::kind(head),
         slot,
         left: long.saturating_sub(2),
     };

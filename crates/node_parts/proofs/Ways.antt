@@ -9,6 +9,10 @@ use borrow.Author.Tests.{ne_eqb}
 use Rattle.tok.specs.Word.{kind_of, payload_of}
 use Rattle.tok.proofs.WordLaws.{payload_of_lt}
 use Rattle.ast.specs.Image.{word_at, record_kind, record_length}
+use Rattle.ast.specs.declared.NodeKind.{NodeKind}
+use Rattle.ast.specs.declared.NodeKind.TheVariants as node
+use Rattle.ast.specs.Kinds.{kind_of_node}
+use Rattle.ast.specs.KindLaws.{node-not}
 use Rattle.image_laws.specs.OutlineAt.{arguments_at}
 use Rattle.node_parts.specs.declared.Run.{Run}
 use Rattle.node_parts.specs.Runs.{run, no_run, runs_by_kind, run_at, RunHere}
@@ -101,5 +105,10 @@ module _ (image : List ℕ) (at head : ℕ) (eh : head ≡ word_at image at) whe
     other (suc (suc (suc (suc (suc (suc (suc (suc (suc (suc (suc (suc (suc zero))))))))))))) d = absurd (d.1 refl)
     other (suc (suc (suc (suc (suc (suc (suc (suc (suc (suc (suc (suc (suc (suc j)))))))))))))) d = refl
 
-    pub no_row : Other k → RunHere image at (run 0 0 1)
-    no_row d = row _ k refl (other k d) (omega arith) (omega arith)
+    module _ {x : NodeKind} (e : x ≡ kind_of_node k) where
+      pub no_row : (x ≡ node.Bin → ⊥) → (x ≡ node.Unary → ⊥) → (x ≡ node.Let → ⊥) → (x ≡ node.Fn → ⊥) → (x ≡ node.Call → ⊥) → (x ≡ node.Field → ⊥) → (x ≡ node.Cast → ⊥)
+          → (x ≡ node.Record → ⊥) → (x ≡ node.Array → ⊥) → RunHere image at (run 0 0 1)
+      no_row b u l f c d t r a =
+          let others : Other k =
+              (((((((((tt, node-not k e b), node-not k e u), node-not k e l), node-not k e f), node-not k e c), node-not k e d), node-not k e t), node-not k e r), node-not k e a) in
+          row _ k refl (other k others) (omega arith) (omega arith)

@@ -6,7 +6,8 @@ ghost use Rattle.ast.specs.Image.{word_at, record_length};
 ghost use Rattle.image_laws.specs.OutlineAt.{arguments_at};
 ghost use Rattle.node_parts.specs.Runs.{run, RunHere};
 
-use tok::{kind, payload, word_at};
+use ast::NodeKind;
+use tok::{payload, word_at};
 
 // Words of an image that hold parts: `count` of them, each `step` after the one before.
 #[derive(Clone, Copy)]
@@ -15,9 +16,6 @@ pub struct Run {
     pub count: usize,
     pub step: usize,
 }
-
-// "5 Fn"
-const FN: u32 = 5;
 
 // The place after the record at a place. Past the end of an image a record has no words.
 pub fn after(words: &[u32], at: usize) -> usize
@@ -43,10 +41,12 @@ pub fn slot(words: &[u32], at: usize) -> u32
 pub fn arguments(words: &[u32], at: usize) -> u32
     ensures { result ≡ arguments_at words.now at }
 {
-    if at < words.len() && kind(word_at(words, at)) == FN {
-        word_at(words, at + 4)
-    } else {
-        0
+    if at >= words.len() {
+        return 0;
+    }
+    match NodeKind::of(word_at(words, at)) {
+        NodeKind::Fn => word_at(words, at + 4),
+        _ => 0,
     }
 }
 
@@ -66,16 +66,16 @@ pub fn run_at(words: &[u32], at: usize) -> Run
     let head = word_at(words, at);
     let long = payload(head);
     let n = arguments(words, at) as usize;
-    match kind(head) {
-        2 => stretch(at + 4, 2, 1),
-        3 => stretch(at + 4, 1, 1),
-        4 => stretch(at + 3, 1, 1),
-        5 => stretch(at + 5 + 2 * n, long.saturating_sub(5 + 2 * n), 1),
-        7 => stretch(at + 2, 1 + long.saturating_sub(3), 1),
-        8 => stretch(at + 2, 1, 1),
-        9 => stretch(at + 3, 1, 1),
-        12 => stretch(at + 4, long.saturating_sub(3) / 2, 2),
-        13 => stretch(at + 3, long.saturating_sub(3), 1),
+    match NodeKind::of(head) {
+        NodeKind::Bin => stretch(at + 4, 2, 1),
+        NodeKind::Unary => stretch(at + 4, 1, 1),
+        NodeKind::Let => stretch(at + 3, 1, 1),
+        NodeKind::Fn => stretch(at + 5 + 2 * n, long.saturating_sub(5 + 2 * n), 1),
+        NodeKind::Call => stretch(at + 2, 1 + long.saturating_sub(3), 1),
+        NodeKind::Field => stretch(at + 2, 1, 1),
+        NodeKind::Cast => stretch(at + 3, 1, 1),
+        NodeKind::Record => stretch(at + 4, long.saturating_sub(3) / 2, 2),
+        NodeKind::Array => stretch(at + 3, long.saturating_sub(3), 1),
         _ => stretch(0, 0, 1),
     }
 }

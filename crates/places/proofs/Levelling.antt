@@ -6,6 +6,12 @@ use mathlib.Core.List.{List}
 use native.Mathlib.Omega.{arith}
 use native.Mathlib.Nat.{sub-zero}
 use lib.ListN.{length, get_or, set, length-set}
+use Rattle.std.specs.Prelude.{◌⊎◌}
+use Rattle.std.proofs.Common.{inl, inr}
+use Rattle.ast.specs.declared.ExprKind.{ExprKind}
+use Rattle.ast.specs.declared.ExprKind.TheVariants as expr
+use Rattle.ast.specs.Kinds.{kind_of_expr}
+use Rattle.ast.specs.KindLaws.{expr-number}
 use Rattle.tok.specs.Word.{kind_of, payload_of}
 use Rattle.places.specs.Places.{clipped, levels_in, most_in, levels_inside, levels_at, fill_levels}
 
@@ -44,13 +50,18 @@ module _ (image places : List ℕ) (at : ℕ) {head k : ℕ} (eh : head ≡ get_
   kind : {j : ℕ} → k ≡ j → kind_of (get_or image at 0) ≡ j
   kind q = ap kind_of (sym eh) ∙ sym ek ∙ q
 
-  pub inside-option : {w r : ℕ} → k ≡ 2 → w ≡ get_or image (at + 1) 0 → r ≡ levels_in places w → r ≡ levels_inside image places at
+  inside-option : {w r : ℕ} → k ≡ 2 → w ≡ get_or image (at + 1) 0 → r ≡ levels_in places w → r ≡ levels_inside image places at
   unfolding levels_inside
   inside-option q ew er = er ∙ rw (ew, kind q)
 
-  pub inside-array : {w r : ℕ} → k ≡ 3 → w ≡ get_or image (at + 1) 0 → r ≡ levels_in places w → r ≡ levels_inside image places at
+  inside-array : {w r : ℕ} → k ≡ 3 → w ≡ get_or image (at + 1) 0 → r ≡ levels_in places w → r ≡ levels_inside image places at
   unfolding levels_inside
   inside-array q ew er = er ∙ rw (ew, kind q)
+
+  pub inside-inner : {x : ExprKind} {w r : ℕ} → x ≡ kind_of_expr k → (x ≡ expr.Option) ⊎ (x ≡ expr.Array) → w ≡ get_or image (at + 1) 0 → r ≡ levels_in places w
+      → r ≡ levels_inside image places at
+  inside-inner e (inl p) = inside-option (expr-number k (sym p ∙ e))
+  inside-inner e (inr p) = inside-array (expr-number k (sym p ∙ e))
 
   pub inside_record : {n r : ℕ} → k ≡ 4 → n ≡ (payload_of head - 2) / 2 → r ≡ most_in image places (at + 2) n → r ≡ levels_inside image places at
   unfolding levels_inside

@@ -4,7 +4,6 @@
 
 ghost use Rattle.std.specs.Prelude.{◌≡◌, ◌+◌, ◌-◌, ◌*◌, ◌/◌, ◌<◌, ◌^◌, get_or, set};
 ghost use Rattle.tok.specs.Word.{payload_of};
-ghost use Rattle.tok.specs.Text.{texts_of};
 ghost use Rattle.places.specs.Image.{Image, image_of, Sources, sources_of};
 ghost use Rattle.places.specs.Places.{clipped, place_after, Filled, most_in, levels_inside, levels_at, fill_levels, places_in};
 
@@ -36,7 +35,7 @@ pub struct Sources<'a> {
 impl<'a> Model for Sources<'a> {
     ghost Value = { Sources };
 
-    ghost view = { λ i. sources_of (texts_of i.texts.script.now i.texts.library.now) i.library.now (image_of i.image.words.now i.image.places.now) };
+    ghost view = { λ i. sources_of i.texts i.library.now i.image };
 }
 
 // The index of type 0's place.
@@ -58,6 +57,14 @@ fn levels(places: &[u16], t: u32) -> u16
 }
 
 impl<'a> Image<'a> {
+    // The word at an index; 0 past the end.
+    #[inline]
+    pub fn word_at(&self, at: usize) -> u32
+        ensures { result ≡ get_or self.now.words at 0 }
+    {
+        tok::word_at(self.words, at)
+    }
+
     // Where node n's record stands; 0 where the array has no place for it.
     pub fn node_place(&self, n: u32) -> usize
         ensures { result ≡ get_or self.now.places n 0 }

@@ -38,15 +38,15 @@ module _ {image places : List ℕ} {t at : ℕ} (r : TypeReady image places t) (
   unfolding levels_of
   levels_record q el em = rw (type_record_lem r ea eh ek el q, ← em)
 
-  levels-option : {i : ℕ} → i ≡ get_or image (at + 1) 0 → k ≡ 2 → levels_of (type_of image t) ≡ 1 + levels_of (type_of image i)
+  pub levels-option : {i : ℕ} → i ≡ get_or image (at + 1) 0 → k ≡ 2 → levels_of (type_of image t) ≡ 1 + levels_of (type_of image i)
   unfolding levels_of
   levels-option ei q = rw (type-option r ea eh ek q, ← ei)
 
-  levels-array : {i : ℕ} → i ≡ get_or image (at + 1) 0 → k ≡ 3 → levels_of (type_of image t) ≡ 1 + levels_of (type_of image i)
+  pub levels-array : {i : ℕ} → i ≡ get_or image (at + 1) 0 → k ≡ 3 → levels_of (type_of image t) ≡ 1 + levels_of (type_of image i)
   unfolding levels_of
   levels-array ei q = rw (type-array r ea eh ek q, ← ei)
 
-  pub levels-inner : {i : ℕ} → i ≡ get_or image (at + 1) 0 → (k ≡ 0 → ⊥) → (k ≡ 1 → ⊥) → (k ≡ 4 → ⊥) → levels_of (type_of image t) ≡ 1 + levels_of (type_of image i)
+  levels-inner : {i : ℕ} → i ≡ get_or image (at + 1) 0 → (k ≡ 0 → ⊥) → (k ≡ 1 → ⊥) → (k ≡ 4 → ⊥) → levels_of (type_of image t) ≡ 1 + levels_of (type_of image i)
   levels-inner ei na nf nr = elim (ℕ_discrete k 2) [
     | yes q ↦ levels-option ei q
     | no d ↦ levels-array ei (kind-array r ea eh ek na nf nr d)

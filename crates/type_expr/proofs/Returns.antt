@@ -5,6 +5,12 @@ use mathlib.Core.List.{List}
 use Prim.Native.Nat.{ℕ, ◌+◌, ◌-◌, ◌*◌, ◌/◌}
 use native.Mathlib.Decide.{ℕ_discrete}
 use lib.ListN.{get_or}
+use Rattle.std.specs.Prelude.{◌⊎◌}
+use Rattle.std.proofs.Common.{inl, inr}
+use Rattle.ast.specs.declared.ExprKind.{ExprKind}
+use Rattle.ast.specs.declared.ExprKind.TheVariants as expr
+use Rattle.ast.specs.Kinds.{kind_of_expr}
+use Rattle.ast.specs.KindLaws.{expr-number}
 use Rattle.tok.specs.Word.{kind_of, payload_of, word_of}
 use Rattle.tok.specs.Text.{Texts}
 use Rattle.tok.specs.Step.{Result, ok, Refusal, next}
@@ -25,13 +31,17 @@ module _ {image places : List ℕ} {t at : ℕ} (r : TypeReady image places t) (
   -- ── The token ──
 
   module _ {w : ℕ} (ew : w ≡ get_or image (at + 1) 0) where
-    pub token-option : {x : ℕ} → k ≡ 2 → x ≡ type_token (type_of image w) → x ≡ type_token (type_of image t)
+    token-option : {x : ℕ} → k ≡ 2 → x ≡ type_token (type_of image w) → x ≡ type_token (type_of image t)
     unfolding type_token
     token-option q ex = ex ∙ ap (λ i. type_token (type_of image i)) ew ∙ sym (ap type_token (type-option r ea eh ek q))
 
-    pub token-array : {x : ℕ} → k ≡ 3 → x ≡ type_token (type_of image w) → x ≡ type_token (type_of image t)
+    token-array : {x : ℕ} → k ≡ 3 → x ≡ type_token (type_of image w) → x ≡ type_token (type_of image t)
     unfolding type_token
     token-array q ex = ex ∙ ap (λ i. type_token (type_of image i)) ew ∙ sym (ap type_token (type-array r ea eh ek q))
+
+    pub token-inner : {y : ExprKind} {x : ℕ} → y ≡ kind_of_expr k → (y ≡ expr.Option) ⊎ (y ≡ expr.Array) → x ≡ type_token (type_of image w) → x ≡ type_token (type_of image t)
+    token-inner e (inl p) = token-option (expr-number k (sym p ∙ e))
+    token-inner e (inr p) = token-array (expr-number k (sym p ∙ e))
 
     pub token-own : (k ≡ 2 → ⊥) → (k ≡ 3 → ⊥) → w ≡ type_token (type_of image t)
     unfolding type_token
@@ -81,29 +91,33 @@ module _ {image places : List ℕ} {t at : ℕ} (r : TypeReady image places t) (
       unfolding type_from
       array-is q = rw (type-array r ea eh ek q, ← ei, g)
 
-      module _ (na : k ≡ 0 → ⊥) (nf : k ≡ 1 → ⊥) (nr : k ≡ 4 → ⊥) where
-        pub inner-stop : {e : AddError} → a ≡ Err e → type_from T n (type_of image t) (buffer l used) ≡ result_of n (Err e) l₁
-        inner-stop e = elim (ℕ_discrete k 2) [
-          | yes q ↦ option_is q ∙ rw e
-          | no d ↦ array-is (kind-array r ea eh ek na nf nr d) ∙ rw e
-        ]
+      module _ (q : k ≡ 2) where
+        pub option-stop : {e : AddError} → a ≡ Err e → type_from T n (type_of image t) (buffer l used) ≡ result_of n (Err e) l₁
+        option-stop e = option_is q ∙ rw e
 
-        module _ {v : ℕ × ℕ} (e : a ≡ Ok v) {y : Result Buffer Refusal ℕ} where
-          pub option-put : k ≡ 2 → add_wrap T n 6 v.0 (buffer l₁ v.1) ≡ y → type_from T n (type_of image t) (buffer l used) ≡ y
-          option-put q p = option_is q ∙ rw e p
+        pub option-put : {v : ℕ × ℕ} {y : Result Buffer Refusal ℕ} → a ≡ Ok v → add_wrap T n 6 v.0 (buffer l₁ v.1) ≡ y → type_from T n (type_of image t) (buffer l used) ≡ y
+        option-put e p = option_is q ∙ rw e p
 
-          pub array-put : (k ≡ 2 → ⊥) → add_wrap T n 7 v.0 (buffer l₁ v.1) ≡ y → type_from T n (type_of image t) (buffer l used) ≡ y
-          array-put d p = array-is (kind-array r ea eh ek na nf nr d) ∙ rw e p
+      module _ (q : k ≡ 3) where
+        pub array-stop : {e : AddError} → a ≡ Err e → type_from T n (type_of image t) (buffer l used) ≡ result_of n (Err e) l₁
+        array-stop e = array-is q ∙ rw e
+
+        pub array-put : {v : ℕ × ℕ} {y : Result Buffer Refusal ℕ} → a ≡ Ok v → add_wrap T n 7 v.0 (buffer l₁ v.1) ≡ y → type_from T n (type_of image t) (buffer l used) ≡ y
+        array-put e p = array-is q ∙ rw e p
 
   -- ── How many words it adds, and its word ──
 
-  pub size-atom : k ≡ 0 → size_of (type_of image t) ≡ 0
+  size-atom : k ≡ 0 → size_of (type_of image t) ≡ 0
   unfolding size_of
   size-atom q = rw (type-atom r ea eh ek q)
 
-  pub size-foreign : k ≡ 1 → size_of (type_of image t) ≡ 0
+  size-foreign : k ≡ 1 → size_of (type_of image t) ≡ 0
   unfolding size_of
   size-foreign q = rw (type-foreign r ea eh ek q)
+
+  pub size-flat : {x : ExprKind} → x ≡ kind_of_expr k → (x ≡ expr.Atom) ⊎ (x ≡ expr.Foreign) → size_of (type_of image t) ≡ 0
+  size-flat e (inl p) = size-atom (expr-number k (sym p ∙ e))
+  size-flat e (inr p) = size-foreign (expr-number k (sym p ∙ e))
 
   pub size_record : {long m : ℕ} → k ≡ 4 → long ≡ payload_of h → m ≡ (long - 2) / 2
       → size_of (type_of image t) ≡ sizes_of (type_fields_from (type_of image) image (at + 2) m) + (1 + 2 * m)

@@ -1,7 +1,11 @@
 -- A type expression by the words of its record, which begins at `at` with the word h, of kind k: one law for each kind. Assumes nothing.
-use Rattle.std.specs.Prelude.{ℕ, zero, suc, ◌+◌, ◌*◌, ◌-◌, ◌/◌, ◌≤◌, ◌<◌, ◌≡◌, refl, List, get_or}
-use Rattle.std.proofs.Common.{sym, ap, ◌∙◌, arith}
+use Rattle.std.specs.Prelude.{ℕ, zero, suc, ◌+◌, ◌*◌, ◌-◌, ◌/◌, ◌≤◌, ◌<◌, ◌≡◌, refl, ◌⊎◌, List, get_or}
+use Rattle.std.proofs.Common.{sym, ap, ◌∙◌, arith, inl, inr}
 use Rattle.std.proofs.Math.Decide.{ℕ_discrete}
+use Rattle.ast.specs.declared.ExprKind.{ExprKind}
+use Rattle.ast.specs.declared.ExprKind.TheVariants as expr
+use Rattle.ast.specs.Kinds.{kind_of_expr}
+use Rattle.ast.specs.KindLaws.{expr-number}
 use Rattle.tok.specs.Word.{kind_of, payload_of}
 use Rattle.ptype.proofs.UnfoldLaws.{one_less}
 use Rattle.ast.specs.Image.{type_place, record_kind, record_length}
@@ -82,6 +86,10 @@ module _ {image places : List ℕ} {t at : ℕ} (r : TypeReady image places t) (
 
     pub array-ready : {i : ℕ} → k ≡ 3 → i ≡ get_or image (at + 1) 0 → PartReady image places t i
     array-ready q = inside (type-array-words (type-read r.readable r.below e) (kind 3 q))
+
+    pub wrapped-ready : {x : ExprKind} {i : ℕ} → x ≡ kind_of_expr k → (x ≡ expr.Option) ⊎ (x ≡ expr.Array) → i ≡ get_or image (at + 1) 0 → PartReady image places t i
+    wrapped-ready p (inl q) = option-ready (expr-number k (sym q ∙ p))
+    wrapped-ready p (inr q) = array-ready (expr-number k (sym q ∙ p))
 
     pub inner-ready : {i : ℕ} → (k ≡ 0 → ⊥) → (k ≡ 1 → ⊥) → (k ≡ 4 → ⊥) → i ≡ get_or image (at + 1) 0 → PartReady image places t i
     inner-ready a f c ei = elim (ℕ_discrete k 2) [

@@ -16,20 +16,11 @@ ghost use Rattle.type_expr.specs.Ready.{TypeReady, FieldsReady};
 ghost use Rattle.type_expr.specs.Onward.{Onward};
 ghost use Rattle.type_expr.specs.Sizes.{size_of, sizes_of, word_before, pairs_after};
 
-use add::{AddError, Added};
+use add::{AddError, Added, word_of};
+use ast::ExprKind;
 use places::Image;
-use tok::{kind, payload, word_at};
-
-// The kinds of type records.
-const ATOM: u32 = 0;
-
-const FOREIGN: u32 = 1;
-
-const OPTION: u32 = 2;
-
-const ARRAY: u32 = 3;
-
-const RECORD: u32 = 4;
+use ptype::TypeKind;
+use tok::payload;
 
 // The token of a type expression: through Option and Array that of the innermost.
 pub fn type_token(image: &Image, t: u32) -> u32
@@ -39,33 +30,19 @@ pub fn type_token(image: &Image, t: u32) -> u32
     let mut here = t;
     loop {
         let at = image.type_place(here);
-        let k = kind(word_at(image.words, at));
-        let w = word_at(image.words, at + 1);
-        if k == OPTION {
-            here = w;
-            continue;
+        let w = image.word_at(at + 1);
+        match ExprKind::of(image.word_at(at)) {
+            ExprKind::Option | ExprKind::Array => here = w,
+            _ => return w,
         }
-        if k == ARRAY {
-            here = w;
-            continue;
-        }
-        return w;
     }
-}
-
-// The word of a type with nothing inside and no name.
-fn plain_word(kind: u32) -> u32
-    requires { kind < 16 }
-    ensures { result ≡ word_of kind 0 }
-{
-    kind * 0x1000_0000
 }
 
 // The word of a type of the script's: kind 9 with the token's payload.
 fn foreign_word(token: u32) -> u32
     ensures { result ≡ word_of 9 (payload_of token) }
 {
-    ptype::FOREIGN * 0x1000_0000 + token % 0x1000_0000
+    word_of(TypeKind::Foreign.number(), payload(token))
 }
 
 // Adds the type of a type expression, what is inside it first. Where it is refused, the rules leave open what the buffer holds.
@@ -96,12 +73,14 @@ fn deep_part(
         Onward image.now.words image.now.places t whole result types.new }
 {
     let at = image.type_place(t);
-    let head = word_at(image.words, at);
-    if kind(head) == RECORD {
-        let fields = (payload(head) - 2) / 2;
-        return deep_field(types, used, image, t, at + 2, fields);
+    let head = image.word_at(at);
+    match ExprKind::of(head) {
+        ExprKind::Record => {
+            let fields = (payload(head) - 2) / 2;
+            deep_field(types, used, image, t, at + 2, fields)
+        }
+        _ => Ok((image.word_at(at + 1), used)),
     }
-    Ok((word_at(image.words, at + 1), used))
 }
 
 // The same of the fields of the type `owner`: the types of those before the part are added.
@@ -121,7 +100,7 @@ fn deep_field(
     let mut u = used;
     let mut here = at;
     for _ in 0..fields {
-        let t = word_at(image.words, here + 1);
+        let t = image.word_at(here + 1);
         if image.type_levels(t) > 32 {
             return Ok((t, u));
         }
@@ -139,24 +118,24 @@ fn build(types: &mut [u32], used: usize, image: &Image, t: u32) -> Added
     ensures { (T : Texts) (n : ℕ) → type_from T n (type_of image.now.words t) (buffer types.old used) ≡ result_of n result types.new }
 {
     let at = image.type_place(t);
-    let head = word_at(image.words, at);
-    let k = kind(head);
-    if k == ATOM {
-        return Ok((plain_word(word_at(image.words, at + 2)), used));
+    let head = image.word_at(at);
+    match ExprKind::of(head) {
+        ExprKind::Atom => Ok((word_of(image.word_at(at + 2), 0), used)),
+        ExprKind::Foreign => Ok((foreign_word(image.word_at(at + 1)), used)),
+        ExprKind::Record => {
+            let fields = (payload(head) - 2) / 2;
+            let (new, u) = fields_from_exprs(types, used, image, t, at + 2, fields)?;
+            add::close_record(&types[..], new, u)
+        }
+        ExprKind::Option => {
+            let (inner, u) = build(types, used, image, image.word_at(at + 1))?;
+            add::add_option(types, u, inner)
+        }
+        _ => {
+            let (inner, u) = build(types, used, image, image.word_at(at + 1))?;
+            add::add_array(types, u, inner)
+        }
     }
-    if k == FOREIGN {
-        return Ok((foreign_word(word_at(image.words, at + 1)), used));
-    }
-    if k == RECORD {
-        let fields = (payload(head) - 2) / 2;
-        let (new, u) = fields_from_exprs(types, used, image, t, at + 2, fields)?;
-        return add::close_record(&types[..], new, u);
-    }
-    let (inner, u) = build(types, used, image, word_at(image.words, at + 1))?;
-    if k == OPTION {
-        return add::add_option(types, u, inner);
-    }
-    add::add_array(types, u, inner)
 }
 
 // Adds the Record of the fields of the type `owner`, which stand from word `at` on: first the types of all fields, then the Record is
@@ -177,7 +156,7 @@ fn fields_from_exprs(
     let mut u = used;
     let mut here = at;
     for _ in 0..fields {
-        (_, u) = build(types, u, image, word_at(image.words, here + 1))?;
+        (_, u) = build(types, u, image, image.word_at(here + 1))?;
         here += 2;
     }
     let (new, end) = add::open_record(types, u, fields)?;
@@ -204,14 +183,9 @@ fn set_pairs(
     let mut here = at;
     let mut to = place;
     for _ in 0..fields {
-        let t = word_at(image.words, here + 1);
+        let t = image.word_at(here + 1);
         end += type_size(image, t);
-        add::set_pair(
-            types,
-            to,
-            word_at(image.words, here),
-            type_word(image, end, t),
-        );
+        add::set_pair(types, to, image.word_at(here), type_word(image, end, t));
         here += 2;
         to += 2;
     }
@@ -223,30 +197,17 @@ fn type_word(image: &Image, end: usize, t: u32) -> u32
     ensures { result ≡ word_before end (type_of image.now.words t) }
 {
     let at = image.type_place(t);
-    let head = word_at(image.words, at);
-    let k = kind(head);
-    if k == ATOM {
-        return plain_word(word_at(image.words, at + 2));
+    let head = image.word_at(at);
+    match ExprKind::of(head) {
+        ExprKind::Atom => word_of(image.word_at(at + 2), 0),
+        ExprKind::Foreign => foreign_word(image.word_at(at + 1)),
+        ExprKind::Record => {
+            let fields = (payload(head) - 2) / 2;
+            word_of(TypeKind::Record.number(), end - (1 + 2 * fields))
+        }
+        ExprKind::Option => word_of(TypeKind::Option.number(), end - 1),
+        _ => word_of(TypeKind::Array.number(), end - 1),
     }
-    if k == FOREIGN {
-        return foreign_word(word_at(image.words, at + 1));
-    }
-    if k == RECORD {
-        let fields = (payload(head) - 2) / 2;
-        return compound_word(ptype::RECORD, end - (1 + 2 * fields));
-    }
-    if k == OPTION {
-        return compound_word(ptype::OPTION, end - 1);
-    }
-    compound_word(ptype::ARRAY, end - 1)
-}
-
-// The word of a type that stands at an index.
-fn compound_word(kind: u32, at: usize) -> u32
-    requires { (kind < 16) × (at ≤ 8192) }
-    ensures { result ≡ word_of kind at }
-{
-    kind * 0x1000_0000 + (at as u32)
 }
 
 // How many words a type expression adds. It is asked only of types that were just added: these have at most 32 levels and fit the
@@ -257,19 +218,15 @@ fn type_size(image: &Image, t: u32) -> usize
     ensures { result ≡ size_of (type_of image.now.words t) }
 {
     let at = image.type_place(t);
-    let head = word_at(image.words, at);
-    let k = kind(head);
-    if k == ATOM {
-        return 0;
+    let head = image.word_at(at);
+    match ExprKind::of(head) {
+        ExprKind::Atom | ExprKind::Foreign => 0,
+        ExprKind::Record => {
+            let fields = (payload(head) - 2) / 2;
+            sizes(image, t, at + 2, fields) + (1 + 2 * fields)
+        }
+        _ => type_size(image, image.word_at(at + 1)) + 1,
     }
-    if k == FOREIGN {
-        return 0;
-    }
-    if k == RECORD {
-        let fields = (payload(head) - 2) / 2;
-        return sizes(image, t, at + 2, fields) + (1 + 2 * fields);
-    }
-    type_size(image, word_at(image.words, at + 1)) + 1
 }
 
 // How many words the types of the fields of the type `owner` add, which stand from word `at` on.
@@ -281,7 +238,7 @@ fn sizes(image: &Image, owner: u32, at: usize, fields: usize) -> usize
     let mut sum: usize = 0;
     let mut here = at;
     for _ in 0..fields {
-        sum += type_size(image, word_at(image.words, here + 1));
+        sum += type_size(image, image.word_at(here + 1));
         here += 2;
     }
     sum

@@ -8,69 +8,102 @@ use native.Mathlib.Omega.{arith}
 use borrow.Author.Rules.{rules}
 use Rattle.tok.specs.Text.{texts_of}
 use Rattle.ast.specs.TypeExpr.{type_of}
-use Rattle.type_expr.specs.TypesAt.{two-words, atom-kind, inner-ready, fields-ready, first-ready, rest-ready}
+use Rattle.ast.specs.KindLaws.{expr-number, expr-not}
+use Rattle.type_expr.specs.TypesAt.{words-there, two-words, atom-kind, kind-array, option-ready, array-ready, fields-ready, first-ready, rest-ready}
 use Rattle.type_expr.specs.LevelLaws.{most-first}
-use Rattle.type_expr.proofs.DeepReturns.{levels_record, levels-inner}
-use Rattle.type_expr.proofs.Returns.{from-atom, from-foreign, record_refused, record_closed, inner-stop, option-put, array-put}
+use Rattle.type_expr.proofs.DeepReturns.{levels_record, levels-option, levels-array}
+use Rattle.type_expr.proofs.Returns.{from-atom, from-foreign, record_refused, record_closed, option-stop, option-put, array-stop, array-put}
 use Rattle.type_expr.proofs.FieldReturns.{goes-all, goes-next, goes-stop, open_stop, open_room, open_put}
 use Rattle.type_expr.proofs.+build_fields_from_exprs.Goals as goal
 
-pub build-plain_word-requires : goal.build-plain_word-requires
-build-plain_word-requires t c =
-    atom-kind c.requires.0 c.type_place-at.ensures c.word_at-head.ensures c.kind-k.ensures c.if-k-eq-ATOM.true c.word_at.ensures
+pub build-overflow_add-at : goal.build-overflow_add-at
+build-overflow_add-at t c = omega (arith, words-there c.requires.0 c.type_place-at.ensures)
 
-pub build-returns-then-k-eq-ATOM : goal.build-returns-then-k-eq-ATOM
-build-returns-then-k-eq-ATOM t c =
-    λ T n. from-atom c.requires.0 c.type_place-at.ensures c.word_at-head.ensures c.kind-k.ensures T n _ _ c.if-k-eq-ATOM.true c.word_at.ensures c.plain_word.ensures
+pub build-word_of-requires : goal.build-word_of-requires
+build-word_of-requires t c = (atom-kind c.requires.0 c.type_place-at.ensures c.word_at-head.ensures refl (expr-number _ c.in-Atom.ensures) c.word_at.ensures, omega arith)
 
-pub build-returns-then-k-eq-FOREIGN : goal.build-returns-then-k-eq-FOREIGN
-build-returns-then-k-eq-FOREIGN t c =
-    λ T n. from-foreign c.requires.0 c.type_place-at.ensures c.word_at-head.ensures c.kind-k.ensures T n _ _ c.if-k-eq-FOREIGN.true c.word_at-then-k-eq-FOREIGN.ensures c.foreign_word.ensures
+pub build-returns-in-Atom : goal.build-returns-in-Atom
+build-returns-in-Atom t c =
+    λ T n. from-atom c.requires.0 c.type_place-at.ensures c.word_at-head.ensures refl T n _ _ (expr-number _ c.in-Atom.ensures) c.word_at.ensures c.word_of.ensures
+
+pub build-overflow_add-at-in-Foreign : goal.build-overflow_add-at-in-Foreign
+build-overflow_add-at-in-Foreign t c = omega (arith, words-there c.requires.0 c.type_place-at.ensures)
+
+pub build-returns-in-Foreign : goal.build-returns-in-Foreign
+build-returns-in-Foreign t c =
+    λ T n. from-foreign c.requires.0 c.type_place-at.ensures c.word_at-head.ensures refl T n _ _ (expr-number _ c.in-Foreign.ensures) c.word_at-in-Foreign.ensures c.foreign_word.ensures
 
 pub build-overflow_sub-fields : goal.build-overflow_sub-fields
-build-overflow_sub-fields t c =
-    two-words c.requires.0 c.type_place-at.ensures c.word_at-head.ensures c.kind-k.ensures c.payload.ensures
+build-overflow_sub-fields t c = two-words c.requires.0 c.type_place-at.ensures c.word_at-head.ensures refl c.payload.ensures
+
+pub build-overflow_add-at-in-Record : goal.build-overflow_add-at-in-Record
+build-overflow_add-at-in-Record t c = omega (arith, words-there c.requires.0 c.type_place-at.ensures)
 
 pub build-fields_from_exprs-requires : goal.build-fields_from_exprs-requires
 build-fields_from_exprs-requires t c =
-    let f = fields-ready c.requires.0 c.type_place-at.ensures c.word_at-head.ensures c.kind-k.ensures c.payload.ensures c.if-k-eq-RECORD.true in
-    let l = levels_record c.requires.0 c.type_place-at.ensures c.word_at-head.ensures c.kind-k.ensures c.if-k-eq-RECORD.true c.payload.ensures refl in
+    let f = fields-ready c.requires.0 c.type_place-at.ensures c.word_at-head.ensures refl c.payload.ensures (expr-number _ c.in-Record.ensures) in
+    let l = levels_record c.requires.0 c.type_place-at.ensures c.word_at-head.ensures refl (expr-number _ c.in-Record.ensures) c.payload.ensures refl in
     (omega (arith, c.decreases, l), (f, omega (arith, c.requires.1, l)))
 
-pub build-returns-in_err-new : goal.build-returns-in_err-new
-build-returns-in_err-new t c =
+pub build-returns-in_err-new-in-Record : goal.build-returns-in_err-new-in-Record
+build-returns-in_err-new-in-Record t c =
     let p = err_from_is_err_and c.from_residual.result c.from_residual.ensures.1 in
     rw (p.1, p.2)
-    (λ T n. record_refused c.requires.0 c.type_place-at.ensures c.word_at-head.ensures c.kind-k.ensures T n _ _ c.fields_from_exprs.result c.fields_from_exprs.new.types
-    c.if-k-eq-RECORD.true c.payload.ensures refl (c.fields_from_exprs.ensures T n) c.in_err-new.was)
+    (λ T n. record_refused c.requires.0 c.type_place-at.ensures c.word_at-head.ensures refl T n _ _ c.fields_from_exprs.result c.fields_from_exprs.new.types
+    (expr-number _ c.in-Record.ensures) c.payload.ensures refl (c.fields_from_exprs.ensures T n) c.in_err-new-in-Record.was)
 
-pub build-returns-then-k-eq-RECORD : goal.build-returns-then-k-eq-RECORD
-build-returns-then-k-eq-RECORD t c =
-    λ T n. record_closed c.requires.0 c.type_place-at.ensures c.word_at-head.ensures c.kind-k.ensures T n _ _ c.fields_from_exprs.result c.fields_from_exprs.new.types
-    c.if-k-eq-RECORD.true c.payload.ensures refl (c.fields_from_exprs.ensures T n) c.in_ok-new.was (c.close_record.ensures T n)
+pub build-returns-in_ok-new-in-Record : goal.build-returns-in_ok-new-in-Record
+build-returns-in_ok-new-in-Record t c =
+    λ T n. record_closed c.requires.0 c.type_place-at.ensures c.word_at-head.ensures refl T n _ _ c.fields_from_exprs.result c.fields_from_exprs.new.types
+    (expr-number _ c.in-Record.ensures) c.payload.ensures refl (c.fields_from_exprs.ensures T n) c.in_ok-new-in-Record.was (c.close_record.ensures T n)
+
+pub build-overflow_add-at-in-Option : goal.build-overflow_add-at-in-Option
+build-overflow_add-at-in-Option t c = omega (arith, words-there c.requires.0 c.type_place-at.ensures)
 
 pub build-build-requires : goal.build-build-requires
 build-build-requires t c =
-    let p = inner-ready c.requires.0 c.type_place-at.ensures c.word_at-head.ensures c.kind-k.ensures c.if-k-eq-ATOM.false c.if-k-eq-FOREIGN.false c.if-k-eq-RECORD.false c.word_at-2.ensures in
-    let l = levels-inner c.requires.0 c.type_place-at.ensures c.word_at-head.ensures c.kind-k.ensures c.word_at-2.ensures c.if-k-eq-ATOM.false c.if-k-eq-FOREIGN.false c.if-k-eq-RECORD.false in
+    let p = option-ready c.requires.0 c.type_place-at.ensures c.word_at-head.ensures refl (expr-number _ c.in-Option.ensures) c.word_at-in-Option.ensures in
+    let l = levels-option c.requires.0 c.type_place-at.ensures c.word_at-head.ensures refl c.word_at-in-Option.ensures (expr-number _ c.in-Option.ensures) in
     (omega (arith, c.decreases, l), (p.ready, omega (arith, c.requires.1, l)))
 
-pub build-returns-in_err-inner : goal.build-returns-in_err-inner
-build-returns-in_err-inner t c =
-    let p = err_from_is_err_and c.from_residual-in_err-inner.result c.from_residual-in_err-inner.ensures.1 in
+pub build-returns-in_err-inner-in-Option : goal.build-returns-in_err-inner-in-Option
+build-returns-in_err-inner-in-Option t c =
+    let p = err_from_is_err_and c.from_residual-in_err-inner-in-Option.result c.from_residual-in_err-inner-in-Option.ensures.1 in
     rw (p.1, p.2)
-    (λ T n. inner-stop c.requires.0 c.type_place-at.ensures c.word_at-head.ensures c.kind-k.ensures T n _ _ c.word_at-2.ensures c.build.result c.build.new.types
-    (c.build.ensures T n) c.if-k-eq-ATOM.false c.if-k-eq-FOREIGN.false c.if-k-eq-RECORD.false c.in_err-inner.was)
+    (λ T n. option-stop c.requires.0 c.type_place-at.ensures c.word_at-head.ensures refl T n _ _ c.word_at-in-Option.ensures c.build.result c.build.new.types
+    (c.build.ensures T n) (expr-number _ c.in-Option.ensures) c.in_err-inner-in-Option.was)
 
-pub build-returns-then-k-eq-OPTION : goal.build-returns-then-k-eq-OPTION
-build-returns-then-k-eq-OPTION t c =
-    λ T n. option-put c.requires.0 c.type_place-at.ensures c.word_at-head.ensures c.kind-k.ensures T n _ _ c.word_at-2.ensures c.build.result c.build.new.types
-    (c.build.ensures T n) c.if-k-eq-ATOM.false c.if-k-eq-FOREIGN.false c.if-k-eq-RECORD.false c.in_ok-inner.was c.if-k-eq-OPTION.true (c.add_option.ensures.result T n)
+pub build-returns-in_ok-inner-in-Option : goal.build-returns-in_ok-inner-in-Option
+build-returns-in_ok-inner-in-Option t c =
+    λ T n. option-put c.requires.0 c.type_place-at.ensures c.word_at-head.ensures refl T n _ _ c.word_at-in-Option.ensures c.build.result c.build.new.types
+    (c.build.ensures T n) (expr-number _ c.in-Option.ensures) c.in_ok-inner-in-Option.was (c.add_option.ensures.result T n)
 
-pub build-returns : goal.build-returns
-build-returns t c =
-    λ T n. array-put c.requires.0 c.type_place-at.ensures c.word_at-head.ensures c.kind-k.ensures T n _ _ c.word_at-2.ensures c.build.result c.build.new.types
-    (c.build.ensures T n) c.if-k-eq-ATOM.false c.if-k-eq-FOREIGN.false c.if-k-eq-RECORD.false c.in_ok-inner.was c.if-k-eq-OPTION.false (c.add_array.ensures.result T n)
+pub build-overflow_add-at-in_default : goal.build-overflow_add-at-in_default
+build-overflow_add-at-in_default t c = omega (arith, words-there c.requires.0 c.type_place-at.ensures)
+
+pub build-build-requires-in_default : goal.build-build-requires-in_default
+build-build-requires-in_default t c =
+    let q = kind-array c.requires.0 c.type_place-at.ensures c.word_at-head.ensures refl (expr-not _ c.of.ensures c.in_default.not-Atom) (expr-not _ c.of.ensures c.in_default.not-Foreign)
+    (expr-not _ c.of.ensures c.in_default.not-Record) (expr-not _ c.of.ensures c.in_default.not-Option) in
+    let p = array-ready c.requires.0 c.type_place-at.ensures c.word_at-head.ensures refl q c.word_at-in_default.ensures in
+    let l = levels-array c.requires.0 c.type_place-at.ensures c.word_at-head.ensures refl c.word_at-in_default.ensures q in
+    (omega (arith, c.decreases, l), (p.ready, omega (arith, c.requires.1, l)))
+
+pub build-returns-in_err-inner-in_default : goal.build-returns-in_err-inner-in_default
+build-returns-in_err-inner-in_default t c =
+    let q = kind-array c.requires.0 c.type_place-at.ensures c.word_at-head.ensures refl (expr-not _ c.of.ensures c.in_default.not-Atom) (expr-not _ c.of.ensures c.in_default.not-Foreign)
+    (expr-not _ c.of.ensures c.in_default.not-Record) (expr-not _ c.of.ensures c.in_default.not-Option) in
+    let p = err_from_is_err_and c.from_residual-in_err-inner-in_default.result c.from_residual-in_err-inner-in_default.ensures.1 in
+    rw (p.1, p.2)
+    (λ T n. array-stop c.requires.0 c.type_place-at.ensures c.word_at-head.ensures refl T n _ _ c.word_at-in_default.ensures c.build-in_default.result c.build-in_default.new.types
+    (c.build-in_default.ensures T n) q c.in_err-inner-in_default.was)
+
+pub build-returns-in_ok-inner-in_default : goal.build-returns-in_ok-inner-in_default
+build-returns-in_ok-inner-in_default t c =
+    let q = kind-array c.requires.0 c.type_place-at.ensures c.word_at-head.ensures refl (expr-not _ c.of.ensures c.in_default.not-Atom) (expr-not _ c.of.ensures c.in_default.not-Foreign)
+    (expr-not _ c.of.ensures c.in_default.not-Record) (expr-not _ c.of.ensures c.in_default.not-Option) in
+    λ T n. array-put c.requires.0 c.type_place-at.ensures c.word_at-head.ensures refl T n _ _ c.word_at-in_default.ensures c.build-in_default.result c.build-in_default.new.types
+    (c.build-in_default.ensures T n) q c.in_ok-inner-in_default.was (c.add_array.ensures.result T n)
 
 pub fields_from_exprs-loop-init : goal.fields_from_exprs-loop-init
 fields_from_exprs-loop-init t c = rw sub-zero (((λ T n. goes-all _), (c.requires.0, (refl, omega arith))))

@@ -5,9 +5,10 @@ use mathlib.Core.Path.{refl, sym}
 use native.Mathlib.Nat.{zero-add}
 use native.Mathlib.Omega.{arith}
 use Rattle.ast.specs.TypeExpr.{type_of}
+use Rattle.ast.specs.KindLaws.{expr-number, expr-not}
 use Rattle.type_expr.specs.SizeLaws.{sizes_none, sizes_first}
-use Rattle.type_expr.specs.TypesAt.{two-words, inner-ready, fields-ready, first-ready, rest-ready}
-use Rattle.type_expr.proofs.Returns.{size-atom, size-foreign, size_record, size-inner}
+use Rattle.type_expr.specs.TypesAt.{words-there, two-words, inner-ready, fields-ready, first-ready, rest-ready}
+use Rattle.type_expr.proofs.Returns.{size-flat, size_record, size-inner}
 use Rattle.type_expr.proofs.+sizes_type_size.Goals as goal
 
 pub sizes-loop-init : goal.sizes-loop-init
@@ -25,29 +26,49 @@ sizes-loop-preserved t c = rw one-less ((rest-ready c.loop.invariant.0 (λ z. om
 pub sizes-returns : goal.sizes-returns
 sizes-returns t c = omega (arith, c.loop.invariant.1, sizes_none (type_of c.args.image.now.words) c.args.image.now.words c.loop.here (c.args.fields - c.loop.counter) (omega arith))
 
-pub type_size-returns-then-k-eq-ATOM : goal.type_size-returns-then-k-eq-ATOM
-type_size-returns-then-k-eq-ATOM t c = sym (size-atom c.requires.0 c.type_place-at.ensures c.word_at-head.ensures c.kind-k.ensures c.if-k-eq-ATOM.true)
+pub type_size-returns-in-Atom : goal.type_size-returns-in-Atom
+type_size-returns-in-Atom t c = sym (size-flat c.requires.0 c.type_place-at.ensures c.word_at-head.ensures refl c.of.ensures c.in-Atom.is)
 
-pub type_size-returns-then-k-eq-FOREIGN : goal.type_size-returns-then-k-eq-FOREIGN
-type_size-returns-then-k-eq-FOREIGN t c = sym (size-foreign c.requires.0 c.type_place-at.ensures c.word_at-head.ensures c.kind-k.ensures c.if-k-eq-FOREIGN.true)
+pub type_size-overflow_add-at : goal.type_size-overflow_add-at
+type_size-overflow_add-at t c = omega (arith, words-there c.requires.0 c.type_place-at.ensures)
 
 pub type_size-overflow_sub-fields : goal.type_size-overflow_sub-fields
-type_size-overflow_sub-fields t c = two-words c.requires.0 c.type_place-at.ensures c.word_at-head.ensures c.kind-k.ensures c.payload.ensures
+type_size-overflow_sub-fields t c = two-words c.requires.0 c.type_place-at.ensures c.word_at-head.ensures refl c.payload.ensures
 
 pub type_size-sizes-requires : goal.type_size-sizes-requires
-type_size-sizes-requires t c = let f = fields-ready c.requires.0 c.type_place-at.ensures c.word_at-head.ensures c.kind-k.ensures c.payload.ensures c.if-k-eq-RECORD.true in (omega (arith, c.decreases), (f, omega (arith, c.requires.1, size_record c.requires.0 c.type_place-at.ensures c.word_at-head.ensures c.kind-k.ensures c.if-k-eq-RECORD.true c.payload.ensures refl)))
+type_size-sizes-requires t c =
+    let f = fields-ready c.requires.0 c.type_place-at.ensures c.word_at-head.ensures refl c.payload.ensures (expr-number _ c.in-Record.ensures) in
+    let size = size_record c.requires.0 c.type_place-at.ensures c.word_at-head.ensures refl (expr-number _ c.in-Record.ensures) c.payload.ensures refl in
+    (omega (arith, c.decreases), (f, omega (arith, c.requires.1, size)))
 
-pub type_size-overflow_add-result-then-k-eq-RECORD : goal.type_size-overflow_add-result-then-k-eq-RECORD
-type_size-overflow_add-result-then-k-eq-RECORD t c = omega (arith, c.requires.1, c.sizes.ensures, size_record c.requires.0 c.type_place-at.ensures c.word_at-head.ensures c.kind-k.ensures c.if-k-eq-RECORD.true c.payload.ensures refl)
+pub type_size-overflow_add-result-in-Record : goal.type_size-overflow_add-result-in-Record
+type_size-overflow_add-result-in-Record t c =
+    omega (arith, c.requires.1, c.sizes.ensures, size_record c.requires.0 c.type_place-at.ensures c.word_at-head.ensures refl (expr-number _ c.in-Record.ensures) c.payload.ensures refl)
 
-pub type_size-returns-then-k-eq-RECORD : goal.type_size-returns-then-k-eq-RECORD
-type_size-returns-then-k-eq-RECORD t c = omega (arith, c.sizes.ensures, size_record c.requires.0 c.type_place-at.ensures c.word_at-head.ensures c.kind-k.ensures c.if-k-eq-RECORD.true c.payload.ensures refl)
+pub type_size-returns-in-Record : goal.type_size-returns-in-Record
+type_size-returns-in-Record t c =
+    omega (arith, c.sizes.ensures, size_record c.requires.0 c.type_place-at.ensures c.word_at-head.ensures refl (expr-number _ c.in-Record.ensures) c.payload.ensures refl)
+
+pub type_size-overflow_add-at-in_default : goal.type_size-overflow_add-at-in_default
+type_size-overflow_add-at-in_default t c = omega (arith, words-there c.requires.0 c.type_place-at.ensures)
 
 pub type_size-type_size-requires : goal.type_size-type_size-requires
-type_size-type_size-requires t c = let p = inner-ready c.requires.0 c.type_place-at.ensures c.word_at-head.ensures c.kind-k.ensures c.if-k-eq-ATOM.false c.if-k-eq-FOREIGN.false c.if-k-eq-RECORD.false c.word_at.ensures in (omega (arith, c.decreases, p.under), (p.ready, omega (arith, c.requires.1, size-inner c.requires.0 c.type_place-at.ensures c.word_at-head.ensures c.kind-k.ensures c.word_at.ensures c.if-k-eq-ATOM.false c.if-k-eq-FOREIGN.false c.if-k-eq-RECORD.false)))
+type_size-type_size-requires t c =
+    let na = expr-not _ c.of.ensures c.in_default.not-Atom in
+    let nf = expr-not _ c.of.ensures c.in_default.not-Foreign in
+    let nr = expr-not _ c.of.ensures c.in_default.not-Record in
+    let p = inner-ready c.requires.0 c.type_place-at.ensures c.word_at-head.ensures refl na nf nr c.word_at.ensures in
+    let size = size-inner c.requires.0 c.type_place-at.ensures c.word_at-head.ensures refl c.word_at.ensures na nf nr in
+    (omega (arith, c.decreases, p.under), (p.ready, omega (arith, c.requires.1, size)))
 
-pub type_size-overflow_add-result-2 : goal.type_size-overflow_add-result-2
-type_size-overflow_add-result-2 t c = omega (arith, c.requires.1, c.type_size.ensures, size-inner c.requires.0 c.type_place-at.ensures c.word_at-head.ensures c.kind-k.ensures c.word_at.ensures c.if-k-eq-ATOM.false c.if-k-eq-FOREIGN.false c.if-k-eq-RECORD.false)
+pub type_size-overflow_add-result-in_default : goal.type_size-overflow_add-result-in_default
+type_size-overflow_add-result-in_default t c =
+    let size = size-inner c.requires.0 c.type_place-at.ensures c.word_at-head.ensures refl c.word_at.ensures (expr-not _ c.of.ensures c.in_default.not-Atom)
+    (expr-not _ c.of.ensures c.in_default.not-Foreign) (expr-not _ c.of.ensures c.in_default.not-Record) in
+    omega (arith, c.requires.1, c.type_size.ensures, size)
 
-pub type_size-returns : goal.type_size-returns
-type_size-returns t c = omega (arith, c.type_size.ensures, size-inner c.requires.0 c.type_place-at.ensures c.word_at-head.ensures c.kind-k.ensures c.word_at.ensures c.if-k-eq-ATOM.false c.if-k-eq-FOREIGN.false c.if-k-eq-RECORD.false)
+pub type_size-returns-in_default : goal.type_size-returns-in_default
+type_size-returns-in_default t c =
+    let size = size-inner c.requires.0 c.type_place-at.ensures c.word_at-head.ensures refl c.word_at.ensures (expr-not _ c.of.ensures c.in_default.not-Atom)
+    (expr-not _ c.of.ensures c.in_default.not-Foreign) (expr-not _ c.of.ensures c.in_default.not-Record) in
+    omega (arith, c.type_size.ensures, size)

@@ -1,24 +1,30 @@
 -- `type_expr::deep_part` meets its contract: by the kind of the record. Assumes nothing.
 use mathlib.Core.Path.{refl}
 use native.Mathlib.Omega.{arith}
-use Rattle.type_expr.specs.TypesAt.{two-words, fields-ready}
+use Rattle.ast.specs.KindLaws.{expr-number, expr-not}
+use Rattle.type_expr.specs.TypesAt.{words-there, two-words, fields-ready}
 use Rattle.type_expr.proofs.DeepReturns.{levels_record, part_record, part-inner}
 use Rattle.type_expr.proofs.deep_part.Goals as goal
 
 pub overflow_sub-fields : goal.overflow_sub-fields
-overflow_sub-fields c =
-    two-words c.requires.0 c.type_place-at.ensures c.word_at-head.ensures c.kind.ensures c.payload.ensures
+overflow_sub-fields c = two-words c.requires.0 c.type_place-at.ensures c.word_at-head.ensures refl c.payload.ensures
+
+pub overflow_add-at : goal.overflow_add-at
+overflow_add-at c = omega (arith, words-there c.requires.0 c.type_place-at.ensures)
 
 pub deep_field-requires : goal.deep_field-requires
 deep_field-requires c = (
-  fields-ready c.requires.0 c.type_place-at.ensures c.word_at-head.ensures c.kind.ensures c.payload.ensures c.if-kind-eq-RECORD.true,
-  omega (arith, c.requires.1, levels_record c.requires.0 c.type_place-at.ensures c.word_at-head.ensures c.kind.ensures c.if-kind-eq-RECORD.true c.payload.ensures refl),
+  fields-ready c.requires.0 c.type_place-at.ensures c.word_at-head.ensures refl c.payload.ensures (expr-number _ c.in-Record.ensures),
+  omega (arith, c.requires.1, levels_record c.requires.0 c.type_place-at.ensures c.word_at-head.ensures refl (expr-number _ c.in-Record.ensures) c.payload.ensures refl),
 )
 
-pub returns-then-kind-eq-RECORD : goal.returns-then-kind-eq-RECORD
-returns-then-kind-eq-RECORD c =
-    part_record c.requires.0 c.type_place-at.ensures c.word_at-head.ensures c.kind.ensures _ _ c.requires.1 c.if-kind-eq-RECORD.true c.payload.ensures refl c.deep_field.ensures
+pub returns-in-Record : goal.returns-in-Record
+returns-in-Record c =
+    part_record c.requires.0 c.type_place-at.ensures c.word_at-head.ensures refl _ _ c.requires.1 (expr-number _ c.in-Record.ensures) c.payload.ensures refl c.deep_field.ensures
 
-pub returns : goal.returns
-returns c =
-    part-inner c.requires.0 c.type_place-at.ensures c.word_at-head.ensures c.kind.ensures _ _ c.requires.1 c.if-kind-eq-RECORD.false c.word_at.ensures
+pub overflow_add-at-in_default : goal.overflow_add-at-in_default
+overflow_add-at-in_default c = omega (arith, words-there c.requires.0 c.type_place-at.ensures)
+
+pub returns-in_default : goal.returns-in_default
+returns-in_default c =
+    part-inner c.requires.0 c.type_place-at.ensures c.word_at-head.ensures refl _ _ c.requires.1 (expr-not _ c.of.ensures c.in_default.not-Record) c.word_at.ensures

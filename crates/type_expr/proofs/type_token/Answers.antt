@@ -1,22 +1,27 @@
 use mathlib.Core.Path.{refl, sym, ◌∙◌}
-use Rattle.type_expr.specs.TypesAt.{option-ready, array-ready}
-use Rattle.type_expr.proofs.Returns.{token-option, token-array, token-own}
+use native.Mathlib.Omega.{arith}
+use Rattle.ast.specs.KindLaws.{expr-not}
+use Rattle.type_expr.specs.TypesAt.{words-there, wrapped-ready}
+use Rattle.type_expr.proofs.Returns.{token-inner, token-own}
 use Rattle.type_expr.proofs.type_token.Goals as goal
 
 pub loop-here-init : goal.loop-here-init
 loop-here-init c = (c.requires, refl)
 
-pub loop-here-smaller-then-k-eq-OPTION : goal.loop-here-smaller-then-k-eq-OPTION
-loop-here-smaller-then-k-eq-OPTION c = (option-ready c.loop-here.invariant.0 c.type_place-at.ensures c.word_at.ensures c.kind-k.ensures c.if-k-eq-OPTION.true c.word_at-w.ensures).under
-
-pub loop-here-preserved-then-k-eq-OPTION : goal.loop-here-preserved-then-k-eq-OPTION
-loop-here-preserved-then-k-eq-OPTION c = ((option-ready c.loop-here.invariant.0 c.type_place-at.ensures c.word_at.ensures c.kind-k.ensures c.if-k-eq-OPTION.true c.word_at-w.ensures).ready, c.loop-here.invariant.1 ∙ sym (token-option c.loop-here.invariant.0 c.type_place-at.ensures c.word_at.ensures c.kind-k.ensures c.word_at-w.ensures c.if-k-eq-OPTION.true refl))
+pub overflow_add-at : goal.overflow_add-at
+overflow_add-at c = omega (arith, words-there c.loop-here.invariant.0 c.type_place-at.ensures)
 
 pub loop-here-smaller : goal.loop-here-smaller
-loop-here-smaller c = (array-ready c.loop-here.invariant.0 c.type_place-at.ensures c.word_at.ensures c.kind-k.ensures c.if-k-eq-ARRAY.true c.word_at-w.ensures).under
+loop-here-smaller c = (wrapped-ready c.loop-here.invariant.0 c.type_place-at.ensures c.word_at.ensures refl c.of.ensures c.in-Option.is c.word_at-w.ensures).under
 
 pub loop-here-preserved : goal.loop-here-preserved
-loop-here-preserved c = ((array-ready c.loop-here.invariant.0 c.type_place-at.ensures c.word_at.ensures c.kind-k.ensures c.if-k-eq-ARRAY.true c.word_at-w.ensures).ready, c.loop-here.invariant.1 ∙ sym (token-array c.loop-here.invariant.0 c.type_place-at.ensures c.word_at.ensures c.kind-k.ensures c.word_at-w.ensures c.if-k-eq-ARRAY.true refl))
+loop-here-preserved c =
+    let r = c.loop-here.invariant.0 in (
+      (wrapped-ready r c.type_place-at.ensures c.word_at.ensures refl c.of.ensures c.in-Option.is c.word_at-w.ensures).ready,
+      c.loop-here.invariant.1 ∙ sym (token-inner r c.type_place-at.ensures c.word_at.ensures refl c.word_at-w.ensures c.of.ensures c.in-Option.is refl),
+    )
 
-pub returns-in-loop-here : goal.returns-in-loop-here
-returns-in-loop-here c = token-own c.loop-here.invariant.0 c.type_place-at.ensures c.word_at.ensures c.kind-k.ensures c.word_at-w.ensures c.if-k-eq-OPTION.false c.if-k-eq-ARRAY.false ∙ sym c.loop-here.invariant.1
+pub returns-in_default : goal.returns-in_default
+returns-in_default c =
+    let none = token-own c.loop-here.invariant.0 c.type_place-at.ensures c.word_at.ensures refl c.word_at-w.ensures in
+    none (expr-not _ c.of.ensures c.in_default.not-Option) (expr-not _ c.of.ensures c.in_default.not-Array) ∙ sym c.loop-here.invariant.1

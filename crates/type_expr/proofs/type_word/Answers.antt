@@ -1,36 +1,51 @@
 -- `type_expr::type_word` meets its contract: by the kind of the record. Assumes nothing.
 use mathlib.Core.Path.{refl}
 use native.Mathlib.Omega.{arith}
-use Rattle.type_expr.specs.TypesAt.{two-words, atom-kind}
+use Rattle.ast.specs.KindLaws.{expr-number, expr-not}
+use Rattle.type_expr.specs.TypesAt.{words-there, two-words, atom-kind}
 use Rattle.type_expr.proofs.Returns.{size_record, size-option, size-inner, word-atom, word-foreign, word_record, word-option, word-array}
 use Rattle.type_expr.proofs.type_word.Goals as goal
 
-pub plain_word-requires : goal.plain_word-requires
-plain_word-requires c = atom-kind c.requires.0 c.type_place-at.ensures c.word_at-head.ensures c.kind-k.ensures c.if-k-eq-ATOM.true c.word_at.ensures
+pub overflow_add-at : goal.overflow_add-at
+overflow_add-at c = omega (arith, words-there c.requires.0 c.type_place-at.ensures)
 
-pub returns-then-k-eq-ATOM : goal.returns-then-k-eq-ATOM
-returns-then-k-eq-ATOM c = word-atom c.requires.0 c.type_place-at.ensures c.word_at-head.ensures c.kind-k.ensures _ c.if-k-eq-ATOM.true c.word_at.ensures c.plain_word.ensures
+pub word_of-requires : goal.word_of-requires
+word_of-requires c = (atom-kind c.requires.0 c.type_place-at.ensures c.word_at-head.ensures refl (expr-number _ c.in-Atom.ensures) c.word_at.ensures, omega arith)
 
-pub returns-then-k-eq-FOREIGN : goal.returns-then-k-eq-FOREIGN
-returns-then-k-eq-FOREIGN c = word-foreign c.requires.0 c.type_place-at.ensures c.word_at-head.ensures c.kind-k.ensures _ c.if-k-eq-FOREIGN.true c.word_at-then-k-eq-FOREIGN.ensures c.foreign_word.ensures
+pub returns-in-Atom : goal.returns-in-Atom
+returns-in-Atom c = word-atom c.requires.0 c.type_place-at.ensures c.word_at-head.ensures refl _ (expr-number _ c.in-Atom.ensures) c.word_at.ensures c.word_of.ensures
+
+pub overflow_add-at-in-Foreign : goal.overflow_add-at-in-Foreign
+overflow_add-at-in-Foreign c = omega (arith, words-there c.requires.0 c.type_place-at.ensures)
+
+pub returns-in-Foreign : goal.returns-in-Foreign
+returns-in-Foreign c =
+    word-foreign c.requires.0 c.type_place-at.ensures c.word_at-head.ensures refl _ (expr-number _ c.in-Foreign.ensures) c.word_at-in-Foreign.ensures c.foreign_word.ensures
 
 pub overflow_sub-fields : goal.overflow_sub-fields
-overflow_sub-fields c = two-words c.requires.0 c.type_place-at.ensures c.word_at-head.ensures c.kind-k.ensures c.payload.ensures
+overflow_sub-fields c = two-words c.requires.0 c.type_place-at.ensures c.word_at-head.ensures refl c.payload.ensures
 
 pub overflow_sub-end : goal.overflow_sub-end
-overflow_sub-end c = omega (arith, c.requires.1, size_record c.requires.0 c.type_place-at.ensures c.word_at-head.ensures c.kind-k.ensures c.if-k-eq-RECORD.true c.payload.ensures refl)
+overflow_sub-end c = omega (arith, c.requires.1, size_record c.requires.0 c.type_place-at.ensures c.word_at-head.ensures refl (expr-number _ c.in-Record.ensures) c.payload.ensures refl)
 
-pub returns-then-k-eq-RECORD : goal.returns-then-k-eq-RECORD
-returns-then-k-eq-RECORD c = word_record c.requires.0 c.type_place-at.ensures c.word_at-head.ensures c.kind-k.ensures _ c.if-k-eq-RECORD.true c.payload.ensures refl c.compound_word.ensures
+pub returns-in-Record : goal.returns-in-Record
+returns-in-Record c =
+    word_record c.requires.0 c.type_place-at.ensures c.word_at-head.ensures refl _ (expr-number _ c.in-Record.ensures) c.payload.ensures refl (rw c.number.ensures at c.word_of-in-Record.ensures)
 
-pub overflow_sub-end-then-k-eq-OPTION : goal.overflow_sub-end-then-k-eq-OPTION
-overflow_sub-end-then-k-eq-OPTION c = omega (arith, c.requires.1, size-option c.requires.0 c.type_place-at.ensures c.word_at-head.ensures c.kind-k.ensures refl c.if-k-eq-OPTION.true)
+pub overflow_sub-end-in-Option : goal.overflow_sub-end-in-Option
+overflow_sub-end-in-Option c = omega (arith, c.requires.1, size-option c.requires.0 c.type_place-at.ensures c.word_at-head.ensures refl refl (expr-number _ c.in-Option.ensures))
 
-pub returns-then-k-eq-OPTION : goal.returns-then-k-eq-OPTION
-returns-then-k-eq-OPTION c = word-option c.requires.0 c.type_place-at.ensures c.word_at-head.ensures c.kind-k.ensures _ c.if-k-eq-OPTION.true c.compound_word-then-k-eq-OPTION.ensures
+pub returns-in-Option : goal.returns-in-Option
+returns-in-Option c =
+    word-option c.requires.0 c.type_place-at.ensures c.word_at-head.ensures refl _ (expr-number _ c.in-Option.ensures) (rw c.number-in-Option.ensures at c.word_of-in-Option.ensures)
 
-pub overflow_sub-end-2 : goal.overflow_sub-end-2
-overflow_sub-end-2 c = omega (arith, c.requires.1, size-inner c.requires.0 c.type_place-at.ensures c.word_at-head.ensures c.kind-k.ensures refl c.if-k-eq-ATOM.false c.if-k-eq-FOREIGN.false c.if-k-eq-RECORD.false)
+pub overflow_sub-end-in_default : goal.overflow_sub-end-in_default
+overflow_sub-end-in_default c =
+    let size = size-inner c.requires.0 c.type_place-at.ensures c.word_at-head.ensures refl refl (expr-not _ c.of.ensures c.in_default.not-Atom) (expr-not _ c.of.ensures c.in_default.not-Foreign)
+    (expr-not _ c.of.ensures c.in_default.not-Record) in
+    omega (arith, c.requires.1, size)
 
-pub returns : goal.returns
-returns c = word-array c.requires.0 c.type_place-at.ensures c.word_at-head.ensures c.kind-k.ensures _ c.if-k-eq-ATOM.false c.if-k-eq-FOREIGN.false c.if-k-eq-RECORD.false c.if-k-eq-OPTION.false c.compound_word-2.ensures
+pub returns-in_default : goal.returns-in_default
+returns-in_default c =
+    word-array c.requires.0 c.type_place-at.ensures c.word_at-head.ensures refl _ (expr-not _ c.of.ensures c.in_default.not-Atom) (expr-not _ c.of.ensures c.in_default.not-Foreign)
+    (expr-not _ c.of.ensures c.in_default.not-Record) (expr-not _ c.of.ensures c.in_default.not-Option) (rw c.number-in_default.ensures at c.word_of-in_default.ensures)
