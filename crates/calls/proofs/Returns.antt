@@ -4,11 +4,9 @@ use Prim.Native.Nat.{ℕ, ◌+◌, ◌≤◌}
 use native.Mathlib.Omega.{arith}
 use native.Mathlib.Decide.{ℕ_discrete}
 use mathlib.Core.Path.{◌≡◌, refl, sym, ap, ◌∙◌}
-use mathlib.Core.Bool.{Bool, false, not, true≢false}
+use mathlib.Core.Bool.{Bool, true, false, true≢false}
 use mathlib.Core.List.{List}
 use lib.ListN.{get_or}
-use lib.Dec.{eqb}
-use borrow.Author.Tests.{eq-eqb, ne_eqb}
 use Rattle.tok.specs.Text.{Texts}
 use Rattle.tok.specs.Word.{kind_of}
 use Rattle.library.specs.Package.{Package}
@@ -41,13 +39,15 @@ module _ {image places : List ℕ} {at : ℕ} (c : CallAt image places at) {t p 
   unfolding is_through_field
   no_field q = sym (ap is_through_field (callee_own c et ep eh ek q))
 
-  pub of_other : (k ≡ 1 → ⊥) → {x q g j : ℕ} → x ≡ get_or image (p + 2) 0 → q ≡ get_or places x 0 → g ≡ get_or image q 0 → j ≡ kind_of g → not (eqb j 1) ≡ is_through_field (callee_at image at)
-  unfolding is_through_field
-  of_other d {x} {q} {g} {j} ex eq eg ej = by (ℕ_discrete j 1)
-    where
-      by : Dec (j ≡ 1) → not (eqb j 1) ≡ is_through_field (callee_at image at)
-      by (yes i) = rw (eq-eqb j 1 i, callee_package c et ep eh ek d ex eq eg ej i) refl
-      by (no i) = rw (ne_eqb j 1 i, callee_field c et ep eh ek d ex eq eg ej i) refl
+  -- what it is a Field of
+  module _ (d : k ≡ 1 → ⊥) {x q g j : ℕ} (ex : x ≡ get_or image (p + 2) 0) (eq : q ≡ get_or places x 0) (eg : g ≡ get_or image q 0) (ej : j ≡ kind_of g) where
+    pub of_ident : j ≡ 1 → false ≡ is_through_field (callee_at image at)
+    unfolding is_through_field
+    of_ident i = sym (ap is_through_field (callee_package c et ep eh ek d ex eq eg ej i))
+
+    pub of_other : (j ≡ 1 → ⊥) → true ≡ is_through_field (callee_at image at)
+    unfolding is_through_field
+    of_other i = sym (ap is_through_field (callee_field c et ep eh ek d ex eq eg ej i))
 
 -- ── A call through a field ──
 
