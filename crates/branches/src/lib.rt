@@ -30,7 +30,7 @@ pub fn condition(
     diagnostics: &mut [u32],
     messages: &mut [u8],
     texts: &Texts,
-    image: &[u32],
+    image: &Image,
     at: usize,
     st: State,
     n: u32,
@@ -39,10 +39,10 @@ pub fn condition(
     ensures { ((ls : List Package) (v : ℕ) (words f e : List ℕ) (o : More) →
         let b : Lent = lent slots.now f types.now diagnostics.old messages.old e o in
         let b' : Lent = lent slots.now f types.now diagnostics.new messages.new e o in
-        Visits (condition (ctx texts.now ls v) n (word_at image.now at) answer) 0 0 words st b b' result) }
+        Visits (condition (ctx texts.now ls v) n (word_at image.now.words at) answer) 0 0 words st b b' result) }
 {
     let used = st.used;
-    let token = word_at(image, at);
+    let token = image.word_at(at);
     let step = values::condition(
         slots,
         types,
@@ -58,11 +58,11 @@ pub fn condition(
 }
 
 // The word after the case at word `at`: token, condition, body count, body.
-pub fn case_end(image: &[u32], at: usize) -> usize
+pub fn case_end(image: &Image, at: usize) -> usize
     requires { at ≤ 8192 }
-    ensures { result ≡ at + 3 + word_at image.now (at + 2) }
+    ensures { result ≡ at + 3 + word_at image.now.words (at + 2) }
 {
-    at + 3 + word_at(image, at + 2) as usize
+    at + 3 + image.word_at(at + 2) as usize
 }
 
 // The branches, once all bodies are visited: their answers are read from slots, so that no Match keeps room for them while it visits.
@@ -73,7 +73,7 @@ fn is_field(image: &Image, n: u32) -> bool
     ensures { result ≡ is_field image.now.words n }
 {
     matches!(
-        NodeKind::of(word_at(image.words, image.node_place(n))),
+        NodeKind::of(image.word_at(image.node_place(n))),
         NodeKind::Field
     )
 }
@@ -102,9 +102,9 @@ fn body_answer(slots: &[u32], image: &Image, n: u32, at: usize, count: usize) ->
     ensures { result ≡ body_answer image.now.words slots.now at count }
 {
     if count == 0 {
-        return Answer::Known(word_at(image.words, 3));
+        return Answer::Known(image.word_at(3));
     }
-    node_answer(slots, image, word_at(image.words, at + (count - 1)))
+    node_answer(slots, image, image.word_at(at + (count - 1)))
 }
 
 // The branches of the Match n, whose cases stand from word `at` on, against the default's slot, in order: 24 for each that differs.
@@ -128,7 +128,7 @@ fn compare_branches(
     let mut here = used;
     let mut place = at;
     for _ in 0..count {
-        let body = word_at(image.words, place + 2) as usize;
+        let body = image.word_at(place + 2) as usize;
         let answer = body_answer(slots, image, n, place + 3, body);
         let (_, after) = values::compare_branch(
             slots,
@@ -139,7 +139,7 @@ fn compare_branches(
             here,
             n,
             default,
-            word_at(image.words, place),
+            image.word_at(place),
             answer,
         )?;
         here = after;
@@ -172,7 +172,7 @@ pub fn end(
         return Ok((Answer::Poison, st));
     };
     let used = st.used;
-    let count = word_at(image.words, at + 2) as usize;
+    let count = image.word_at(at + 2) as usize;
     let (_, after) = compare_branches(
         &slots[..],
         types,
@@ -186,6 +186,6 @@ pub fn end(
         n,
         slot,
     )?;
-    let own = word_at(image.words, at + 1);
+    let own = image.word_at(at + 1);
     visit::answered(st, values::alias(slots, after, own, slot))
 }

@@ -36,7 +36,7 @@ fn open(types: &mut [u32], st: State, n: u32, k: usize) -> Visit<u32>
 fn close(
     slots: &mut [u32],
     types: &[u32],
-    image: &[u32],
+    image: &Image,
     at: usize,
     st: State,
     n: u32,
@@ -46,13 +46,13 @@ fn close(
     ensures { ((T : Texts) (words f d m e : List ℕ) (o : More) →
         let b : Lent = lent slots.old f types.now d m e o in
         let b' : Lent = lent slots.new f types.now d m e o in
-        Visits (record_end T n (get_or image.now (at + 1) 0) word) 0 0 words st b b' result) }
+        Visits (record_end T n (get_or image.now.words (at + 1) 0) word) 0 0 words st b b' result) }
 {
     if !add::is_shallow(types, word) {
         return Err(Refusal::TooDeep(n));
     }
     let used = st.used;
-    let step = operators::set_known(slots, used, tok::word_at(image, at + 1), word);
+    let step = operators::set_known(slots, used, image.word_at(at + 1), word);
     visit::answered(st, step)
 }
 
@@ -83,8 +83,8 @@ fn set_pairs(
     ensures { types.new ≡ write types.old to (pairs_read image.now.words slots.now at count) }
 {
     for i in 0..count {
-        let name = tok::word_at(image.words, at + 2 * i);
-        let value = tok::word_at(image.words, at + 2 * i + 1);
+        let name = image.word_at(at + 2 * i);
+        let value = image.word_at(at + 2 * i + 1);
         let ty = node_value(slots, image, value);
         add::set_pair(types, to + 2 * i, name, ty);
     }
@@ -110,5 +110,5 @@ pub fn make(
     let (word, end) = open(types, st, n, count)?;
     let to = tok::payload(word) + 1;
     set_pairs(&slots[..], types, image, n, at + 3, count, to);
-    close(slots, &types[..], image.words, at, end, n, word)
+    close(slots, &types[..], image, at, end, n, word)
 }

@@ -11,7 +11,7 @@ ghost use Rattle.leaves.specs.Leaves.{LeafReady};
 use ast::NodeKind;
 use places::Sources;
 use rules::Answer;
-use tok::{payload, word_at};
+use tok::payload;
 use visit::{State, Visit};
 
 // The word of a type with nothing inside and no name.
@@ -40,13 +40,13 @@ pub fn leaf(
         NodeVisited sources.now.texts sources.now.image.words sources.now.library n st b b' result) }
 {
     let at = sources.image.node_place(n);
-    let head = word_at(sources.image.words, at);
-    let slot = word_at(sources.image.words, at + 1);
-    let first = word_at(sources.image.words, at + 2);
+    let head = sources.image.word_at(at);
+    let slot = sources.image.word_at(at + 1);
+    let first = sources.image.word_at(at + 2);
     match NodeKind::of(head) {
         NodeKind::Atom => {
             let used = st.used;
-            let w = plain_word(word_at(sources.image.words, at + 3));
+            let w = plain_word(sources.image.word_at(at + 3));
             visit::answered(st, operators::set_known(slots, used, slot, w))
         }
         NodeKind::Ident => names::ident(
@@ -84,10 +84,10 @@ pub fn leaf(
             st,
             n,
             slot,
-            word_at(sources.image.words, at + 3),
+            sources.image.word_at(at + 3),
             at + 5,
             at + payload(head),
-            word_at(sources.image.words, at + 4),
+            sources.image.word_at(at + 4),
         ),
     }
 }

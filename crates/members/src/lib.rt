@@ -19,7 +19,7 @@ ghost use Rattle.members.specs.Turns.{member_turn};
 
 use places::Image;
 use rules::Answer;
-use tok::{Texts, word_at};
+use tok::Texts;
 use values::Compared;
 use visit::{State, Visit};
 
@@ -27,7 +27,7 @@ use visit::{State, Visit};
 pub fn empty(
     diagnostics: &mut [u32],
     messages: &mut [u8],
-    image: &[u32],
+    image: &Image,
     at: usize,
     st: State,
     n: u32,
@@ -36,10 +36,10 @@ pub fn empty(
     ensures { ((words s f t e : List ℕ) (o : More) →
         let b : Lent = lent s f t diagnostics.old messages.old e o in
         let b' : Lent = lent s f t diagnostics.new messages.new e o in
-        Visits (poison n (empty_array (get_or image.now (at + 2) 0))) 0 0 words st b b' result) }
+        Visits (poison n (empty_array (get_or image.now.words (at + 2) 0))) 0 0 words st b b' result) }
 {
     let used = st.used;
-    let step = values::empty_array(diagnostics, messages, used, n, word_at(image, at + 2));
+    let step = values::empty_array(diagnostics, messages, used, n, image.word_at(at + 2));
     visit::answered(st, step)
 }
 
@@ -91,7 +91,7 @@ pub fn member(
 pub fn end(
     slots: &mut [u32],
     types: &mut [u32],
-    image: &[u32],
+    image: &Image,
     at: usize,
     st: State,
     n: u32,
@@ -102,7 +102,7 @@ pub fn end(
     ensures { ((T : Texts) (ls : List Package) (v : ℕ) (words f d m e : List ℕ) (o : More) →
         let b : Lent = lent slots.old f types.old d m e o in
         let b' : Lent = lent slots.new f types.new d m e o in
-        Visits (array_of (ctx T ls v) n (get_or image.now (at + 1) 0) first poisoned) 0 0 words st b b' result) }
+        Visits (array_of (ctx T ls v) n (get_or image.now.words (at + 1) 0) first poisoned) 0 0 words st b b' result) }
 {
     let used = st.used;
     let step = values::array_of(
@@ -110,7 +110,7 @@ pub fn end(
         types,
         used,
         n,
-        word_at(image, at + 1),
+        image.word_at(at + 1),
         first,
         poisoned,
     );

@@ -16,19 +16,19 @@ ghost use Rattle.operands.specs.Ready.{OneReady, CastReady};
 use ast::NodeKind;
 use places::Image;
 use rules::Answer;
-use tok::{Texts, word_at};
+use tok::Texts;
 use visit::{State, Visit};
 
 // The number of the operand of a Unary, a Let or a Field.
 #[tactic(auto, unfolding(crate::specs::Ends::operand_at, crate::specs::Ends::by_kind))]
-pub fn operand_of(image: &[u32], at: usize) -> u32
+pub fn operand_of(image: &Image, at: usize) -> u32
     requires { at ≤ 8192 }
-    ensures { result ≡ operand_at image.now at }
+    ensures { result ≡ operand_at image.now.words at }
 {
-    match NodeKind::of(word_at(image, at)) {
-        NodeKind::Unary => word_at(image, at + 4),
-        NodeKind::Let => word_at(image, at + 3),
-        _ => word_at(image, at + 2),
+    match NodeKind::of(image.word_at(at)) {
+        NodeKind::Unary => image.word_at(at + 4),
+        NodeKind::Let => image.word_at(at + 3),
+        _ => image.word_at(at + 2),
     }
 }
 
@@ -39,7 +39,7 @@ pub fn bin_end(
     diagnostics: &mut [u32],
     messages: &mut [u8],
     texts: &Texts,
-    image: &[u32],
+    image: &Image,
     at: usize,
     st: State,
     n: u32,
@@ -50,7 +50,7 @@ pub fn bin_end(
     ensures { ((ls : List Package) (v : ℕ) (words f e : List ℕ) (o : More) →
         let b : Lent = lent slots.old f types.now diagnostics.old messages.old e o in
         let b' : Lent = lent slots.new f types.now diagnostics.new messages.new e o in
-        Visits (bin_end (ctx texts.now ls v) image.now n at left right) 0 0 words st b b' result) }
+        Visits (bin_end (ctx texts.now ls v) image.now.words n at left right) 0 0 words st b b' result) }
 {
     let Answer::Known(left_slot) = left else {
         return Ok((Answer::Poison, st));
@@ -59,9 +59,9 @@ pub fn bin_end(
         return Ok((Answer::Poison, st));
     };
     let used = st.used;
-    let slot = word_at(image, at + 1);
-    let token = word_at(image, at + 2);
-    let op = word_at(image, at + 3);
+    let slot = image.word_at(at + 1);
+    let token = image.word_at(at + 2);
+    let op = image.word_at(at + 3);
     visit::answered(
         st,
         operators::fuse(
@@ -89,23 +89,23 @@ pub fn one_end(
     messages: &mut [u8],
     scratch: &mut [u32],
     texts: &Texts,
-    image: &[u32],
+    image: &Image,
     at: usize,
     st: State,
     n: u32,
     answer: Answer,
 ) -> Visit<Answer>
-    requires { OneReady image.now at st scratch.old }
+    requires { OneReady image.now.words at st scratch.old }
     ensures { ((ls : List Package) (v : ℕ) (words f : List ℕ) (o : More) →
         let b : Lent = lent slots.old f types.now diagnostics.old messages.old scratch.old o in
         let b' : Lent = lent slots.new f types.now diagnostics.new messages.new scratch.new o in
-        Visits (one_end (ctx texts.now ls v) image.now n at answer) (one_room image.now at) 0 words st b b' result) }
+        Visits (one_end (ctx texts.now ls v) image.now.words n at answer) (one_room image.now.words at) 0 words st b b' result) }
 {
-    let slot = word_at(image, at + 1);
-    let second = word_at(image, at + 2);
-    let third = word_at(image, at + 3);
+    let slot = image.word_at(at + 1);
+    let second = image.word_at(at + 2);
+    let third = image.word_at(at + 3);
     let used = st.used;
-    match NodeKind::of(word_at(image, at)) {
+    match NodeKind::of(image.word_at(at)) {
         NodeKind::Let => names::let_end(
             slots,
             diagnostics,
@@ -170,7 +170,7 @@ pub fn cast_begin(types: &mut [u32], image: &Image, at: usize, st: State, n: u32
         Visits (cast_type (ctx T ls v) image.now.words n at) 0 0 words st b b' result) }
 {
     let used = st.used;
-    let expr = word_at(image.words, at + 4);
+    let expr = image.word_at(at + 4);
     let added = type_expr::type_from_type_expr(types, used.types, image, expr);
     visit::answered(st, state::added(n, used, added))
 }
@@ -182,7 +182,7 @@ pub fn cast_end(
     diagnostics: &mut [u32],
     messages: &mut [u8],
     texts: &Texts,
-    image: &[u32],
+    image: &Image,
     at: usize,
     st: State,
     n: u32,
@@ -193,14 +193,14 @@ pub fn cast_end(
     ensures { ((ls : List Package) (v : ℕ) (words f e : List ℕ) (o : More) →
         let b : Lent = lent slots.old f types.now diagnostics.old messages.old e o in
         let b' : Lent = lent slots.new f types.now diagnostics.new messages.new e o in
-        Visits (cast_end (ctx texts.now ls v) image.now n at to answer) 0 0 words st b b' result) }
+        Visits (cast_end (ctx texts.now ls v) image.now.words n at to answer) 0 0 words st b b' result) }
 {
     let Answer::Known(value) = answer else {
         return Ok((Answer::Poison, st));
     };
     let used = st.used;
-    let slot = word_at(image, at + 1);
-    let token = word_at(image, at + 2);
+    let slot = image.word_at(at + 1);
+    let token = image.word_at(at + 2);
     visit::answered(
         st,
         operators::cast(

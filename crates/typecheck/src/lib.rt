@@ -13,7 +13,7 @@ ghost use Rattle.walking.specs.Visited.{ClassVisit, ListVisit, CaseVisit, NodeVi
 use ast::NodeKind;
 use places::Sources;
 use rules::Answer;
-use tok::{payload, word_at};
+use tok::payload;
 use visit::{State, Visit};
 
 // Typechecker::node: a node, by its kind.
@@ -35,7 +35,7 @@ pub fn node(
         let b' : Lent = lent slots.new functions.new types.new diagnostics.new messages.new scratch.new no_more in
         NodeVisited sources.now.texts sources.now.image.words sources.now.library n st b b' result }
 {
-    match NodeKind::of(word_at(sources.image.words, sources.image.node_place(n))) {
+    match NodeKind::of(sources.image.word_at(sources.image.node_place(n))) {
         NodeKind::Atom | NodeKind::Ident | NodeKind::Import | NodeKind::Extern => leaves::leaf(
             slots,
             types,
@@ -200,7 +200,7 @@ fn bin(
         scratch,
         sources,
         st,
-        word_at(sources.image.words, at + 4),
+        sources.image.word_at(at + 4),
     )?;
     let (r, end) = part(
         slots,
@@ -211,7 +211,7 @@ fn bin(
         scratch,
         sources,
         between,
-        word_at(sources.image.words, at + 5),
+        sources.image.word_at(at + 5),
     )?;
     operands::bin_end(
         slots,
@@ -219,7 +219,7 @@ fn bin(
         diagnostics,
         messages,
         &sources.texts,
-        sources.image.words,
+        &sources.image,
         at,
         end,
         n,
@@ -248,7 +248,7 @@ fn one(
         NodeVisited sources.now.texts sources.now.image.words sources.now.library n st b b' result }
 {
     let at = sources.image.node_place(n);
-    let value = operands::operand_of(sources.image.words, at);
+    let value = operands::operand_of(&sources.image, at);
     let (a, end) = part(
         slots,
         functions,
@@ -267,7 +267,7 @@ fn one(
         messages,
         scratch,
         &sources.texts,
-        sources.image.words,
+        &sources.image,
         at,
         end,
         n,
@@ -305,7 +305,7 @@ fn cast(
         scratch,
         sources,
         begun,
-        word_at(sources.image.words, at + 3),
+        sources.image.word_at(at + 3),
     )?;
     operands::cast_end(
         slots,
@@ -313,7 +313,7 @@ fn cast(
         diagnostics,
         messages,
         &sources.texts,
-        sources.image.words,
+        &sources.image,
         at,
         end,
         n,
@@ -343,7 +343,7 @@ pub fn nodes(
         let b' : Lent = lent slots.new functions.new types.new diagnostics.new messages.new scratch.new no_more in
         ListVisited sources.now.texts sources.now.image.words sources.now.library at k st b b' result }
 {
-    let mut answer = Answer::Known(word_at(sources.image.words, 3));
+    let mut answer = Answer::Known(sources.image.word_at(3));
     let mut here = st;
     let mut place = at;
     for _ in 0..k {
@@ -356,7 +356,7 @@ pub fn nodes(
             scratch,
             sources,
             here,
-            word_at(sources.image.words, place),
+            sources.image.word_at(place),
         )?;
         answer = a;
         here = next;
@@ -386,7 +386,7 @@ fn block(
         let b' : Lent = lent slots.new functions.new types.new diagnostics.new messages.new scratch.new no_more in
         ListVisited sources.now.texts sources.now.image.words sources.now.library at k st b b' result }
 {
-    let mut answer = Answer::Known(word_at(sources.image.words, 3));
+    let mut answer = Answer::Known(sources.image.word_at(3));
     let mut here = st;
     let mut place = at;
     for _ in 0..k {
@@ -399,7 +399,7 @@ fn block(
             scratch,
             sources,
             here,
-            word_at(sources.image.words, place),
+            sources.image.word_at(place),
         )?;
         answer = a;
         here = next;
@@ -428,7 +428,7 @@ fn func(
         NodeVisited sources.now.texts sources.now.image.words sources.now.library n st b b' result }
 {
     let at = sources.image.node_place(n);
-    let count = word_at(sources.image.words, at + 4) as usize;
+    let count = sources.image.word_at(at + 4) as usize;
     let (begun, inner) = bodies::begin(
         slots,
         functions,
@@ -445,7 +445,7 @@ fn func(
     let Some(ret) = begun else {
         return Ok((Answer::Poison, inner));
     };
-    let long = payload(word_at(sources.image.words, at));
+    let long = payload(sources.image.word_at(at));
     let (computed, inside) = block(
         slots,
         functions,
@@ -504,7 +504,7 @@ fn case(
         scratch,
         sources,
         st,
-        word_at(sources.image.words, at + 1),
+        sources.image.word_at(at + 1),
     )?;
     let (_, begun) = branches::condition(
         &slots[..],
@@ -512,16 +512,16 @@ fn case(
         diagnostics,
         messages,
         &sources.texts,
-        sources.image.words,
+        &sources.image,
         at,
         tested,
         n,
         a,
     )?;
-    let mut answer = Answer::Known(word_at(sources.image.words, 3));
+    let mut answer = Answer::Known(sources.image.word_at(3));
     let mut here = begun;
     let mut place = at + 3;
-    let left = word_at(sources.image.words, at + 2) as usize;
+    let left = sources.image.word_at(at + 2) as usize;
     for _ in 0..left {
         let (a, next) = part(
             slots,
@@ -532,7 +532,7 @@ fn case(
             scratch,
             sources,
             here,
-            word_at(sources.image.words, place),
+            sources.image.word_at(place),
         )?;
         answer = a;
         here = next;
@@ -561,7 +561,7 @@ fn cases(
         NodeVisited sources.now.texts sources.now.image.words sources.now.library n st b b' result }
 {
     let at = sources.image.node_place(n);
-    let count = word_at(sources.image.words, at + 2) as usize;
+    let count = sources.image.word_at(at + 2) as usize;
     let mut here = st;
     let mut place = at + 3;
     for _ in 0..count {
@@ -578,11 +578,11 @@ fn cases(
             place,
         )?;
         here = next;
-        place = branches::case_end(sources.image.words, place);
+        place = branches::case_end(&sources.image, place);
     }
     let next = place + 1;
-    let left = at + payload(word_at(sources.image.words, at)) - next;
-    let mut default = Answer::Known(word_at(sources.image.words, 3));
+    let left = at + payload(sources.image.word_at(at)) - next;
+    let mut default = Answer::Known(sources.image.word_at(3));
     let mut end = here;
     for i in 0..left {
         let (a, on) = part(
@@ -594,7 +594,7 @@ fn cases(
             scratch,
             sources,
             end,
-            word_at(sources.image.words, next + i),
+            sources.image.word_at(next + i),
         )?;
         default = a;
         end = on;
@@ -636,7 +636,7 @@ fn call(
     if calls::through_field(&sources.image, at) {
         return calls::report_field(diagnostics, messages, &sources.image, at, st, n);
     }
-    let count = payload(word_at(sources.image.words, at)) - 3;
+    let count = payload(sources.image.word_at(at)) - 3;
     let mut poisoned = false;
     let mut here = st;
     for i in 0..count {
@@ -649,7 +649,7 @@ fn call(
             scratch,
             sources,
             here,
-            word_at(sources.image.words, at + 3 + i),
+            sources.image.word_at(at + 3 + i),
         )?;
         poisoned = calls::or_poison(poisoned, a);
         here = next;
@@ -690,7 +690,7 @@ fn record_node(
         NodeVisited sources.now.texts sources.now.image.words sources.now.library n st b b' result }
 {
     let at = sources.image.node_place(n);
-    let count = (payload(word_at(sources.image.words, at)) - 3) / 2;
+    let count = (payload(sources.image.word_at(at)) - 3) / 2;
     let mut here = st;
     for i in 0..count {
         let (_, next) = part(
@@ -702,7 +702,7 @@ fn record_node(
             scratch,
             sources,
             here,
-            word_at(sources.image.words, at + 4 + 2 * i),
+            sources.image.word_at(at + 4 + 2 * i),
         )?;
         here = next;
     }
@@ -729,9 +729,9 @@ fn array(
         NodeVisited sources.now.texts sources.now.image.words sources.now.library n st b b' result }
 {
     let at = sources.image.node_place(n);
-    let count = payload(word_at(sources.image.words, at)) - 3;
+    let count = payload(sources.image.word_at(at)) - 3;
     if count == 0 {
-        return members::empty(diagnostics, messages, sources.image.words, at, st, n);
+        return members::empty(diagnostics, messages, &sources.image, at, st, n);
     }
     let (first, begun) = part(
         slots,
@@ -742,12 +742,12 @@ fn array(
         scratch,
         sources,
         st,
-        word_at(sources.image.words, at + 3),
+        sources.image.word_at(at + 3),
     )?;
     let mut poisoned = false;
     let mut here = begun;
     for i in 1..count {
-        let member = word_at(sources.image.words, at + 3 + i);
+        let member = sources.image.word_at(at + 3 + i);
         let (a, next) = part(
             slots,
             functions,
@@ -779,14 +779,5 @@ fn array(
         poisoned = p;
         here = on;
     }
-    members::end(
-        slots,
-        types,
-        sources.image.words,
-        at,
-        here,
-        n,
-        first,
-        poisoned,
-    )
+    members::end(slots, types, &sources.image, at, here, n, first, poisoned)
 }

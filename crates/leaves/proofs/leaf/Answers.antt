@@ -45,4 +45,3 @@ pub returns-in-Import : goal.returns-in-Import
 returns-in-Import c =
     λ f o. import_visited _ _ c.requires.node c.node_place-at.ensures c.word_at-head.ensures refl (node-number _ c.in-Import.ensures) c.word_at-slot.ensures c.word_at-first.ensures
     c.payload.ensures (c.import_node.ensures _ _ _ o)
-

@@ -19,25 +19,25 @@ let_end-requires c = let_binds c.requires c.word_at.ensures refl (node-number _ 
 
 pub returns-in-Let : goal.returns-in-Let
 returns-in-Let c =
-    one_let _ c.args.image.now c.args.n c.args.at c.args.st c.args.answer c.word_at.ensures refl (node-number _ c.in-Let.ensures) c.word_at-slot.ensures c.word_at-second.ensures
+    one_let _ c.args.image.now.words c.args.n c.args.at c.args.st c.args.answer c.word_at.ensures refl (node-number _ c.in-Let.ensures) c.word_at-slot.ensures c.word_at-second.ensures
     c.let_end.ensures
 
 pub returns-in_default-answer : goal.returns-in_default-answer
 returns-in_default-answer c =
     let unary = node-number _ c.in-Unary.ensures in
-    λ ls v words f o. one-poisoned _ c.args.image.now c.args.n c.args.at c.args.st c.args.answer c.word_at.ensures refl (λ q. omega (arith, q, unary)) c.in_default-answer.is ls v words _ f _ _ _ _ o
+    λ ls v words f o. one-poisoned _ c.args.image.now.words c.args.n c.args.at c.args.st c.args.answer c.word_at.ensures refl (λ q. omega (arith, q, unary)) c.in_default-answer.is ls v words _ f _ _ _ _ o
 
 pub returns-in_default-answer-2 : goal.returns-in_default-answer-2
 returns-in_default-answer-2 c =
-    λ ls v words f o. one-poisoned _ c.args.image.now c.args.n c.args.at c.args.st c.args.answer c.word_at.ensures refl (node-not _ c.of.ensures c.in_default.not-Let) c.in_default-answer-2.is
+    λ ls v words f o. one-poisoned _ c.args.image.now.words c.args.n c.args.at c.args.st c.args.answer c.word_at.ensures refl (node-not _ c.of.ensures c.in_default.not-Let) c.in_default-answer-2.is
     ls v words _ f _ _ _ _ o
 
 pub returns-in-Known : goal.returns-in-Known
 returns-in-Known c =
-    one-unary _ c.args.image.now c.args.n c.args.at c.args.st c.args.answer c.word_at.ensures refl (node-number _ c.in-Unary.ensures) c.in-Known.is
+    one-unary _ c.args.image.now.words c.args.n c.args.at c.args.st c.args.answer c.word_at.ensures refl (node-number _ c.in-Unary.ensures) c.in-Known.is
     c.word_at-slot.ensures c.word_at-second.ensures c.word_at-third.ensures c.unary.ensures c.answered.ensures _
 
 pub returns-in-Known-answer : goal.returns-in-Known-answer
 returns-in-Known-answer c =
-    one_field _ c.args.image.now c.args.n c.args.at c.args.st c.args.answer c.word_at.ensures refl (node-not _ c.of.ensures c.in_default.not-Unary) (node-not _ c.of.ensures c.in_default.not-Let)
+    one_field _ c.args.image.now.words c.args.n c.args.at c.args.st c.args.answer c.word_at.ensures refl (node-not _ c.of.ensures c.in_default.not-Unary) (node-not _ c.of.ensures c.in_default.not-Let)
     c.in-Known-answer.is c.word_at-slot.ensures c.word_at-third.ensures c.field.ensures c.answered-in_default.ensures _
