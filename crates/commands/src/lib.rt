@@ -44,6 +44,9 @@ pub const CASES: usize = 13;
 
 // Reading commands.
 
+// The command that has a program run its case.
+pub const CASE: u32 = 4;
+
 #[derive(Clone, Copy)]
 pub struct Command {
     pub op: u32,

@@ -4,22 +4,17 @@
 // library's functions, of lists, and of the cases, eight to a case: the code and the parameters of its function.
 #![tactic(auto)]
 
-ghost use Rattle.std.specs.Prelude.{◌≡◌, ◌<◌};
-
 use err::{CallName, Counts};
 use std::io;
-use tok::{Span, Texts, least, little_endian};
+use tok::{Span, Texts, little_endian};
 
 // How much is read of the input, and how many bytes of messages are lent.
 const LARGE: usize = 65_536;
 
-// Reading the input.
+// The kind of a diagnostic's first word.
+const DIAGNOSTIC: u32 = 13;
 
-fn wide(b: u8) -> u32
-    ensures { result ≡ b }
-{
-    b as u32
-}
+// Reading the input.
 
 // The words from a place on, as many as there is room for.
 fn fill(out: &mut [u32], s: &[u8], at: usize) {
@@ -30,14 +25,14 @@ fn fill(out: &mut [u32], s: &[u8], at: usize) {
 
 // The part of a slice that starts at a place, as long as told or as there is.
 fn bytes_in<'a>(s: &'a [u8], at: usize, len: usize) -> &'a [u8] {
-    let start = least(at, s.len());
-    let end = start + least(len, s.len() - start);
+    let start = at.min(s.len());
+    let end = start + len.min(s.len() - start);
     &s[start..end]
 }
 
 fn words_in<'a>(s: &'a [u32], at: usize, len: usize) -> &'a [u32] {
-    let start = least(at, s.len());
-    let end = start + least(len, s.len() - start);
+    let start = at.min(s.len());
+    let end = start + len.min(s.len() - start);
     &s[start..end]
 }
 
@@ -71,8 +66,8 @@ fn case_at(cases: &[u32], k: usize) -> Case {
 
 fn span(start: u32, len: u32) -> Span {
     Span {
-        start: tok::wide(start),
-        len: tok::wide(len),
+        start: start as usize,
+        len: len as usize,
     }
 }
 
@@ -92,12 +87,9 @@ fn of_values(
     texts: &Texts,
     c: Case,
 ) -> Option<Counts> {
-    let code = c.code;
-    if code == 1 {
-        return err_values::empty_array(diagnostics, rest, counts, c.a);
-    }
-    if code == 2 {
-        return err_values::members_differ(
+    match c.code {
+        1 => err_values::empty_array(diagnostics, rest, counts, c.a),
+        2 => err_values::members_differ(
             diagnostics,
             rest,
             counts,
@@ -106,28 +98,12 @@ fn of_values(
             span(c.a, c.b),
             c.c,
             c.d,
-        );
+        ),
+        4 => err_values::unsupported(diagnostics, rest, counts, types, texts, c.a, c.b, c.c),
+        5 => err_values::incompatible(diagnostics, rest, counts, types, texts, c.a, c.b, c.c, c.d),
+        6 => err_values::bad_unary(diagnostics, rest, counts, types, texts, c.a, c.b, c.c),
+        _ => of_casts_and_fields(diagnostics, rest, counts, types, texts, c),
     }
-    if code == 4 {
-        return err_values::unsupported(diagnostics, rest, counts, types, texts, c.a, c.b, c.c);
-    }
-    if code == 5 {
-        return err_values::incompatible(
-            diagnostics,
-            rest,
-            counts,
-            types,
-            texts,
-            c.a,
-            c.b,
-            c.c,
-            c.d,
-        );
-    }
-    if code == 6 {
-        return err_values::bad_unary(diagnostics, rest, counts, types, texts, c.a, c.b, c.c);
-    }
-    of_casts_and_fields(diagnostics, rest, counts, types, texts, c)
 }
 
 fn of_casts_and_fields(
@@ -138,20 +114,13 @@ fn of_casts_and_fields(
     texts: &Texts,
     c: Case,
 ) -> Option<Counts> {
-    let code = c.code;
-    if code == 10 {
-        return err_values::redundant_cast(diagnostics, rest, counts, types, texts, c.a, c.b);
+    match c.code {
+        10 => err_values::redundant_cast(diagnostics, rest, counts, types, texts, c.a, c.b),
+        11 => err_values::bad_cast(diagnostics, rest, counts, types, texts, c.a, c.b, c.c),
+        12 => err_values::no_record(diagnostics, rest, counts, types, texts, c.a, c.b),
+        13 => err_values::no_field(diagnostics, rest, counts, types, texts, c.a, c.b),
+        _ => of_names(diagnostics, rest, counts, types, texts, c),
     }
-    if code == 11 {
-        return err_values::bad_cast(diagnostics, rest, counts, types, texts, c.a, c.b, c.c);
-    }
-    if code == 12 {
-        return err_values::no_record(diagnostics, rest, counts, types, texts, c.a, c.b);
-    }
-    if code == 13 {
-        return err_values::no_field(diagnostics, rest, counts, types, texts, c.a, c.b);
-    }
-    of_names(diagnostics, rest, counts, types, texts, c)
 }
 
 fn of_names(
@@ -162,20 +131,13 @@ fn of_names(
     texts: &Texts,
     c: Case,
 ) -> Option<Counts> {
-    let code = c.code;
-    if code == 3 {
-        return err_names::no_binding(diagnostics, rest, counts, texts, c.a);
+    match c.code {
+        3 => err_names::no_binding(diagnostics, rest, counts, texts, c.a),
+        7 => err_names::let_void(diagnostics, rest, counts, c.a),
+        8 => err_names::defined_already(diagnostics, rest, counts, texts, c.a),
+        9 => err_names::bad_return(diagnostics, rest, counts, types, texts, c.a, c.b, c.c, c.d),
+        _ => of_matches_and_imports(diagnostics, rest, counts, types, texts, c),
     }
-    if code == 7 {
-        return err_names::let_void(diagnostics, rest, counts, c.a);
-    }
-    if code == 8 {
-        return err_names::defined_already(diagnostics, rest, counts, texts, c.a);
-    }
-    if code == 9 {
-        return err_names::bad_return(diagnostics, rest, counts, types, texts, c.a, c.b, c.c, c.d);
-    }
-    of_matches_and_imports(diagnostics, rest, counts, types, texts, c)
 }
 
 fn of_matches_and_imports(
@@ -186,20 +148,13 @@ fn of_matches_and_imports(
     texts: &Texts,
     c: Case,
 ) -> Option<Counts> {
-    let code = c.code;
-    if code == 23 {
-        return err_names::bad_condition(diagnostics, rest, counts, types, texts, c.a, c.b);
+    match c.code {
+        23 => err_names::bad_condition(diagnostics, rest, counts, types, texts, c.a, c.b),
+        24 => err_names::match_cases(diagnostics, rest, counts, types, texts, c.a, c.b, c.c),
+        25 => err_names::empty_import(diagnostics, rest, counts, c.a),
+        26 => err_names::no_import(diagnostics, rest, counts, texts, c.a),
+        _ => of_arguments(diagnostics, rest, counts, types, texts, c),
     }
-    if code == 24 {
-        return err_names::match_cases(diagnostics, rest, counts, types, texts, c.a, c.b, c.c);
-    }
-    if code == 25 {
-        return err_names::empty_import(diagnostics, rest, counts, c.a);
-    }
-    if code == 26 {
-        return err_names::no_import(diagnostics, rest, counts, texts, c.a);
-    }
-    of_arguments(diagnostics, rest, counts, types, texts, c)
 }
 
 fn of_arguments(
@@ -210,10 +165,9 @@ fn of_arguments(
     texts: &Texts,
     c: Case,
 ) -> Option<Counts> {
-    let code = c.code;
     let at = span(c.a, c.b);
-    if code == 20 {
-        return err_arguments::arg_mismatch(
+    match c.code {
+        20 => err_arguments::arg_mismatch(
             diagnostics,
             rest,
             counts,
@@ -224,10 +178,8 @@ fn of_arguments(
             c.c,
             c.d,
             c.e,
-        );
-    }
-    if code == 21 {
-        return err_arguments::slot_conflict(
+        ),
+        21 => err_arguments::slot_conflict(
             diagnostics,
             rest,
             counts,
@@ -238,20 +190,10 @@ fn of_arguments(
             c.c,
             c.d,
             c.e,
-        );
+        ),
+        22 => err_arguments::slot_void(diagnostics, rest, counts, texts, at, callee(c.d, c.e), c.c),
+        _ => None,
     }
-    if code == 22 {
-        return err_arguments::slot_void(
-            diagnostics,
-            rest,
-            counts,
-            texts,
-            at,
-            callee(c.d, c.e),
-            c.c,
-        );
-    }
-    None
 }
 
 fn of_calls(
@@ -262,32 +204,23 @@ fn of_calls(
     texts: &Texts,
     c: Case,
 ) -> Option<Counts> {
-    let code = c.code;
-    if code == 14 {
-        return err_calls::call_through_field(diagnostics, rest, counts, c.a);
-    }
-    if code == 15 {
-        return err_calls::missing_package(diagnostics, rest, counts, texts, c.a);
-    }
-    if code == 16 {
-        return err_calls::undefined_in_package(diagnostics, rest, counts, texts, c.a, c.b);
-    }
-    if code == 17 {
-        return err_calls::undefined_own(diagnostics, rest, counts, texts, c.a);
-    }
-    if code == 19 {
-        return err_calls::argument_count(
+    match c.code {
+        14 => err_calls::call_through_field(diagnostics, rest, counts, c.a),
+        15 => err_calls::missing_package(diagnostics, rest, counts, texts, c.a),
+        16 => err_calls::undefined_in_package(diagnostics, rest, counts, texts, c.a, c.b),
+        17 => err_calls::undefined_own(diagnostics, rest, counts, texts, c.a),
+        19 => err_calls::argument_count(
             diagnostics,
             rest,
             counts,
             texts,
             c.a,
             callee(c.d, c.e),
-            tok::wide(c.b),
-            tok::wide(c.c),
-        );
+            c.b as usize,
+            c.c as usize,
+        ),
+        _ => of_values(diagnostics, rest, counts, types, texts, c),
     }
-    of_values(diagnostics, rest, counts, types, texts, c)
 }
 
 fn of_groups(
@@ -300,9 +233,8 @@ fn of_groups(
     lists: &[u32],
     c: Case,
 ) -> Option<Counts> {
-    let code = c.code;
-    if code == 18 {
-        return err_calls::no_specialisation(
+    match c.code {
+        18 => err_calls::no_specialisation(
             diagnostics,
             rest,
             counts,
@@ -310,12 +242,12 @@ fn of_groups(
             texts,
             c.a,
             callee(c.b, c.c),
-            words_in(lists, tok::wide(c.d), tok::wide(c.e)),
+            words_in(lists, c.d as usize, c.e as usize),
             words,
-            words_in(lists, tok::wide(c.f), tok::wide(c.g)),
-        );
+            words_in(lists, c.f as usize, c.g as usize),
+        ),
+        _ => of_calls(diagnostics, rest, counts, types, texts, c),
     }
-    of_calls(diagnostics, rest, counts, types, texts, c)
 }
 
 // A case, written into the rest of the messages.
@@ -360,11 +292,11 @@ fn print_diagnostic(
     k: usize,
 ) -> io::Result<()> {
     let at = 6 * (k % 65_536);
-    let start = tok::wide(tok::word_at(diagnostics, at + 3));
-    let len = tok::wide(tok::word_at(diagnostics, at + 4));
-    let primary = tok::wide(tok::word_at(diagnostics, at + 5));
+    let start = tok::word_at(diagnostics, at + 3) as usize;
+    let len = tok::word_at(diagnostics, at + 4) as usize;
+    let primary = tok::word_at(diagnostics, at + 5) as usize;
     let head = tok::word_at(diagnostics, at);
-    if tok::kind(head) != 13 {
+    if tok::kind(head) != DIAGNOSTIC {
         return print(rt, b"no diagnostic\n");
     }
     print(rt, b"diag ")?;
@@ -435,9 +367,9 @@ fn begin(rt: &impl Print, at: usize, len: usize, n: u32) -> io::Result<()> {
 fn room(rt: &impl Print, words: usize, bytes: usize, told: usize, used: usize) -> io::Result<()> {
     let mut diagnostics = [0u32; 2000];
     let mut messages = [0u8; 70_000];
-    let last = least(words, 2000);
-    let end = least(bytes, 70_000);
-    let free = least(used, end);
+    let last = words.min(2000);
+    let end = bytes.min(70_000);
+    let free = used.min(end);
     let counts = Counts {
         diagnostics: told,
         bytes: used,
@@ -479,12 +411,12 @@ fn room_at_limits(rt: &impl Print) -> io::Result<()> {
 }
 
 fn parts(rt: &impl Print, input: &[u8]) -> io::Result<()> {
-    let script = tok::wide(little_endian(input, 0));
-    let library = tok::wide(little_endian(input, 4));
-    let types = tok::wide(little_endian(input, 8));
-    let words = tok::wide(little_endian(input, 12));
-    let lists = tok::wide(little_endian(input, 16));
-    let cases = tok::wide(little_endian(input, 20));
+    let script = little_endian(input, 0) as usize;
+    let library = little_endian(input, 4) as usize;
+    let types = little_endian(input, 8) as usize;
+    let words = little_endian(input, 12) as usize;
+    let lists = little_endian(input, 16) as usize;
+    let cases = little_endian(input, 20) as usize;
     let mut w = [0u32; 2048];
     fill(&mut w, input, 24 + script + library);
     let mut diagnostics = [0u32; 1536];

@@ -10,7 +10,7 @@ ghost use Rattle.printing.specs.Handed.{Handed};
 use rows_begin::Begun;
 use rows_part::{Part, Row};
 use std::io;
-use tok::{Texts, wide, word_at};
+use tok::{Texts, word_at};
 
 // How much of a row is printed at the most: more than any machine prints, and so little that no place in a row is too large for a number.
 const MOST: usize = 0x4000_0000_0000_0000;
@@ -81,9 +81,9 @@ fn print_part(
 
 // Beside the rows of document 01, where they are compared with the Rust's: behind a diagnostic's row its primary message.
 fn print_primary(rt: &impl Print, diagnostics: &[u32], messages: &[u8], k: u32) -> io::Result<()> {
-    let at = 6 * wide(k);
-    let from = wide(word_at(diagnostics, at + 3)) + wide(word_at(diagnostics, at + 4));
-    let size = wide(word_at(diagnostics, at + 5));
+    let at = 6 * k as usize;
+    let from = word_at(diagnostics, at + 3) as usize + word_at(diagnostics, at + 4) as usize;
+    let size = word_at(diagnostics, at + 5) as usize;
     if size == 0 {
         return Ok(());
     }
@@ -95,9 +95,9 @@ fn print_primary(rt: &impl Print, diagnostics: &[u32], messages: &[u8], k: u32) 
 // And before the last row the four counts.
 fn print_counts(rt: &impl Print, begun: Begun) -> io::Result<()> {
     print(rt, b"counts")?;
-    print_count(rt, wide(begun.words))?;
+    print_count(rt, begun.words as usize)?;
     print_count(rt, begun.types)?;
-    print_count(rt, wide(begun.count))?;
+    print_count(rt, begun.count as usize)?;
     print_count(rt, begun.bytes)?;
     print(rt, b"\n")
 }

@@ -92,7 +92,7 @@ fn obey(
     bytes: &[u8],
     c: Command,
 ) -> io::Result<()> {
-    if c.op == 4 {
+    if c.op == commands::CASE {
         let got = found(script, image, text, library, registers, words, bytes);
         return told(rt, registers, got, c);
     }

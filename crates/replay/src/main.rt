@@ -10,8 +10,7 @@ const LONGEST: usize = 131_072;
 fn next_word(rt: &impl Input) -> io::Result<usize> {
     let mut bytes = [0u8; 4];
     commands::read_full(rt, &mut bytes)?;
-    let command = commands::command_in(&bytes);
-    Ok(tok::wide(command.op))
+    Ok(commands::command_in(&bytes).op as usize)
 }
 
 // Reads a case of so many bytes, none if it has no room.

@@ -9,6 +9,9 @@ use commands::Command;
 use ending::Checked;
 use std::io;
 
+// The program's own command: what the lent buffers hold before a case.
+const LENT: u32 = 5;
+
 // The program's own registers: the first element of each lent buffer before a case, and what each further one is higher.
 const VALUE: usize = 14;
 
@@ -21,7 +24,7 @@ fn added(sum: u64, x: u32) -> u64
     requires { sum < 4294967291 }
     ensures { result < 4294967291 }
 {
-    (sum * 65_599 + tok::wide(x) as u64) % 4_294_967_291
+    (sum * 65_599 + u64::from(x)) % 4_294_967_291
 }
 
 fn sum_words(s: &[u32]) -> u64 {
@@ -82,7 +85,7 @@ fn print_answer(rt: &impl Print, checked: Checked) -> io::Result<()> {
             print_count(rt, counts.message_bytes)?;
         }
         Err(refused) => {
-            commands::print_refused(rt, tok::wide(refused.number), refused.place)?;
+            commands::print_refused(rt, refused.number as usize, refused.place)?;
         }
     }
     Ok(())
@@ -204,17 +207,17 @@ fn obey(
     registers: &mut [u32],
     c: Command,
 ) -> io::Result<()> {
-    let op = c.op;
-    if op == 4 {
-        commands::begin_line(rt, registers)?;
-        return told_case(rt, script, image, text, library, registers);
+    match c.op {
+        commands::CASE => {
+            commands::begin_line(rt, registers)?;
+            told_case(rt, script, image, text, library, registers)?;
+        }
+        LENT => {
+            commands::put(registers, VALUE, c.a);
+            commands::put(registers, STEP, c.b);
+        }
+        _ => commands::change(script, image, text, library, registers, c),
     }
-    if op == 5 {
-        commands::put(registers, VALUE, c.a);
-        commands::put(registers, STEP, c.b);
-        return Ok(());
-    }
-    commands::change(script, image, text, library, registers, c);
     Ok(())
 }
 
@@ -248,6 +251,6 @@ fn main(rt: HostRuntime) -> io::Result<()> {
         &mut text,
         &mut library,
         &mut registers,
-        tok::wide(first.a),
+        first.a as usize,
     )
 }

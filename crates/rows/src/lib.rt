@@ -11,7 +11,7 @@ ghost use Rattle.rows.specs.Lines.{slot_row, fn_line, diag_line, diag_row, end_r
 use rows_input::bytes_in;
 use rows_types::{show_arguments, show_type};
 use rows_window::{Window, put, put_decimal};
-use tok::{Texts, name_bytes, wide, word_at};
+use tok::{Texts, name_bytes, word_at};
 
 // A number, and a blank behind it.
 fn put_number(out: &mut [u8], w: Window, n: usize) -> Window
@@ -75,9 +75,9 @@ pub fn fn_row(
     ensures { let F : List ℕ = functions.now in
         Shows out.old w out.new result (fn_row texts.now types.now F at (get_or F (at + 1) 0)) }
 {
-    let i = wide(at);
+    let i = at as usize;
     let name = word_at(functions, i);
-    let n = wide(word_at(functions, i + 1));
+    let n = word_at(functions, i + 1) as usize;
     let ret = word_at(functions, i + 2 + 2 * n);
     put_fn(out, w, types, texts, functions, name, i + 2, n, ret)
 }
@@ -105,12 +105,12 @@ fn put_diag(
 pub fn diag_row(out: &mut [u8], w: Window, diagnostics: &[u32], messages: &[u8], k: u32) -> Window
     ensures { Shows out.old w out.new result (diag_row diagnostics.now messages.now (6 * k)) }
 {
-    let at = 6 * wide(k);
+    let at = 6 * k as usize;
     let code = tok::payload(word_at(diagnostics, at));
-    let start = wide(word_at(diagnostics, at + 1));
-    let len = wide(word_at(diagnostics, at + 2));
-    let from = wide(word_at(diagnostics, at + 3));
-    let size = wide(word_at(diagnostics, at + 4));
+    let start = word_at(diagnostics, at + 1) as usize;
+    let len = word_at(diagnostics, at + 2) as usize;
+    let from = word_at(diagnostics, at + 3) as usize;
+    let size = word_at(diagnostics, at + 4) as usize;
     put_diag(out, w, code, start, len, bytes_in(messages, from, size))
 }
 

@@ -1,12 +1,10 @@
 // The printing program's input (document 01, "Bench rows"): four lengths and four parts, words little-endian.
 #![tactic(auto)]
 
-ghost use Rattle.std.specs.Prelude.{◌≡◌, ◌+◌, ◌*◌, ◌^◌, ◌<◌, min, length, take, drop, get_or};
+ghost use Rattle.std.specs.Prelude.{◌≡◌, ◌+◌, ◌*◌, ◌^◌, ◌<◌, length, take, drop, get_or};
 ghost use Rattle.ptype.specs.Add.{overwrite};
 ghost use Rattle.bench_rows.specs.Bench.{word_in, words_in, bytes_in, image_start, text_start, library_start, fits, inputs_in};
 ghost use Rattle.rows_input.specs.Reading.{ByteAt, Start};
-
-use tok::wide;
 
 // Words.
 
@@ -42,19 +40,12 @@ fn words(out: &mut [u32], bytes: &[u8], at: usize, k: usize)
     }
 }
 
-// The least of two.
-fn least(a: usize, b: usize) -> usize
-    ensures { result ≡ min a b }
-{
-    if a <= b { a } else { b }
-}
-
 // The part of a slice from byte `at` on, k bytes or as many as there are.
 pub fn bytes_in<'a>(bytes: &'a [u8], at: usize, k: usize) -> &'a [u8]
     ensures { result.now ≡ bytes_in bytes.now at k }
 {
-    let start = least(at, bytes.len());
-    let end = start + least(k, bytes.len() - start);
+    let start = at.min(bytes.len());
+    let end = start + k.min(bytes.len() - start);
     &bytes[start..end]
 }
 
@@ -64,36 +55,35 @@ pub fn bytes_in<'a>(bytes: &'a [u8], at: usize, k: usize) -> &'a [u8]
 pub fn image_length(bytes: &[u8]) -> usize
     ensures { result ≡ word_in bytes.now 4 }
 {
-    wide(word(bytes, 4))
+    word(bytes, 4) as usize
 }
 
 // How many words the library has.
 pub fn library_length(bytes: &[u8]) -> usize
     ensures { result ≡ word_in bytes.now 12 }
 {
-    let words = word(bytes, 12);
-    wide(words)
+    word(bytes, 12) as usize
 }
 
 // Where the image begins: behind the lengths and the script.
 fn image_start(bytes: &[u8]) -> usize
     ensures { Start result (image_start bytes.now) (2 ^ 33) }
 {
-    16 + wide(word(bytes, 0))
+    16 + word(bytes, 0) as usize
 }
 
 // Where the library text begins.
 fn text_start(bytes: &[u8]) -> usize
     ensures { Start result (text_start bytes.now) (2 ^ 35) }
 {
-    image_start(bytes) + 4 * wide(word(bytes, 4))
+    image_start(bytes) + 4 * word(bytes, 4) as usize
 }
 
 // Where the library begins.
 fn library_start(bytes: &[u8]) -> usize
     ensures { Start result (library_start bytes.now) (2 ^ 36) }
 {
-    text_start(bytes) + wide(word(bytes, 8))
+    text_start(bytes) + word(bytes, 8) as usize
 }
 
 // Whether the lengths use up the input, which is not too long.
@@ -107,7 +97,7 @@ pub fn fits(bytes: &[u8]) -> bool
     if n > 65_536 {
         return false;
     }
-    library_start(bytes) + 4 * wide(word(bytes, 12)) == n
+    library_start(bytes) + 4 * word(bytes, 12) as usize == n
 }
 
 // The four parts.
@@ -115,25 +105,25 @@ pub fn fits(bytes: &[u8]) -> bool
 pub fn script<'a>(bytes: &'a [u8]) -> &'a [u8]
     ensures { result.now ≡ (inputs_in bytes.now).script }
 {
-    bytes_in(bytes, 16, wide(word(bytes, 0)))
+    bytes_in(bytes, 16, word(bytes, 0) as usize)
 }
 
 // Writes the image's words into the front of a buffer.
 pub fn image(out: &mut [u32], bytes: &[u8])
     ensures { out.new ≡ overwrite out.old (inputs_in bytes.now).image }
 {
-    words(out, bytes, image_start(bytes), wide(word(bytes, 4)));
+    words(out, bytes, image_start(bytes), word(bytes, 4) as usize);
 }
 
 pub fn library_text<'a>(bytes: &'a [u8]) -> &'a [u8]
     ensures { result.now ≡ (inputs_in bytes.now).library_text }
 {
-    bytes_in(bytes, text_start(bytes), wide(word(bytes, 8)))
+    bytes_in(bytes, text_start(bytes), word(bytes, 8) as usize)
 }
 
 // Writes the library's words into the front of a buffer.
 pub fn library(out: &mut [u32], bytes: &[u8])
     ensures { out.new ≡ overwrite out.old (inputs_in bytes.now).library }
 {
-    words(out, bytes, library_start(bytes), wide(word(bytes, 12)));
+    words(out, bytes, library_start(bytes), word(bytes, 12) as usize);
 }

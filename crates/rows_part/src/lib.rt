@@ -6,7 +6,7 @@ ghost use Rattle.rows_window.specs.Showing.{Shows};
 ghost use Rattle.rows_part.specs.Printing.{Answer, answer_of, row_of, diag_from, fn_from, next_of, Prints};
 
 use rows_window::Window;
-use tok::{Texts, least, wide, word_at};
+use tok::{Texts, word_at};
 
 // A row: a slot's by its number, a function's by the place of its entry, a diagnostic's by its number; the last of an answer; a refusal's with number
 // and place; that of an input that does not fit; and none, behind the last.
@@ -48,7 +48,7 @@ fn put_row(
 {
     match row {
         Row::Slot(i) => {
-            let slot = wide(i);
+            let slot = i as usize;
             let word = word_at(slots, slot);
             return rows::slot_row(out, w, types, texts, slot, word);
         }
@@ -59,10 +59,10 @@ fn put_row(
             return rows::diag_row(out, w, diagnostics, messages, k);
         }
         Row::End => {
-            return rows::end_row(out, w, wide(count));
+            return rows::end_row(out, w, count as usize);
         }
         Row::Refused(number, place) => {
-            return rows::refused_row(out, w, wide(number), place);
+            return rows::refused_row(out, w, number as usize, place);
         }
         Row::Input => {
             return rows::input_row(out, w);
@@ -77,7 +77,7 @@ fn put_row(
 fn diag_from(count: u32, k: usize) -> Row
     ensures { result ≡ diag_from count k }
 {
-    if k < wide(count) {
+    if k < count as usize {
         return Row::Diag(k as u32);
     }
     Row::End
@@ -87,7 +87,7 @@ fn diag_from(count: u32, k: usize) -> Row
 fn fn_from(words: u32, count: u32, at: usize) -> Row
     ensures { result ≡ fn_from words count at }
 {
-    if at < wide(words) {
+    if at < words as usize {
         return Row::Fn(at as u32);
     }
     diag_from(count, 0)
@@ -105,12 +105,12 @@ fn next(functions: &[u32], last: u32, words: u32, count: u32, row: Row) -> Row
             return fn_from(words, count, 0);
         }
         Row::Fn(at) => {
-            let i = wide(at);
-            let n = wide(word_at(functions, i + 1));
+            let i = at as usize;
+            let n = word_at(functions, i + 1) as usize;
             return fn_from(words, count, i + 3 + 2 * n);
         }
         Row::Diag(k) => {
-            return diag_from(count, wide(k) + 1);
+            return diag_from(count, k as usize + 1);
         }
         Row::End => {
             return Row::Done;
@@ -160,8 +160,8 @@ pub fn write_part(
         count,
         row,
     );
-    let room = least(out.len(), usize::MAX - skip);
-    let n = least(w.at, room);
+    let room = out.len().min(usize::MAX - skip);
+    let n = w.at.min(room);
     if n < room {
         return Part {
             bytes: n,

@@ -3,4 +3,4 @@ use Rattle.rows_input.proofs.Parts.{part-within}
 use Rattle.rows_input.proofs.bytes_in.Goals as goal
 
 pub returns : goal.returns
-returns c = part-within c.args.bytes.now c.args.at c.args.k c.least-start.ensures c.least.ensures
+returns c = part-within c.args.bytes.now c.args.at c.args.k c.min-start.ensures c.min.ensures

@@ -3,4 +3,4 @@ use native.Mathlib.Omega.{arith}
 use Rattle.rows_input.proofs.library_start.Goals as goal
 
 pub returns : goal.returns
-returns c = record { value = omega (arith, c.text_start.ensures.value, c.wide.ensures, c.word.ensures); small = omega (arith, c.text_start.ensures.small, c.wide.ensures) }
+returns c = record { value = omega (arith, c.text_start.ensures.value, c.word.ensures); small = omega (arith, c.text_start.ensures.small) }

@@ -1,4 +1,5 @@
 -- `rows_part::next` meets its contract, by the kinds of rows. Assumes nothing.
+use mathlib.Core.Path.{refl}
 use Rattle.rows_part.proofs.Ways.{next-slot, next-slots-end, next-fn, next_diag, next-end, next-refused, next_input, next-done}
 use Rattle.rows_part.proofs.next.Goals as goal
 
@@ -9,10 +10,10 @@ pub returns-in-Slot : goal.returns-in-Slot
 returns-in-Slot c = next-slots-end _ _ _ _ c.in-Slot.is c.if-i-last.false c.fn_from.ensures
 
 pub returns-in-Fn : goal.returns-in-Fn
-returns-in-Fn c = next-fn _ _ _ _ c.in-Fn.is c.wide-i.ensures c.word_at.ensures c.wide-n.ensures c.fn_from-in-Fn.ensures
+returns-in-Fn c = next-fn _ _ _ _ c.in-Fn.is refl c.word_at.ensures refl c.fn_from-in-Fn.ensures
 
 pub returns-in-Diag : goal.returns-in-Diag
-returns-in-Diag c = next_diag _ _ _ _ c.in-Diag.is c.wide.ensures c.diag_from.ensures
+returns-in-Diag c = next_diag _ _ _ _ c.in-Diag.is refl c.diag_from.ensures
 
 pub returns-in-End : goal.returns-in-End
 returns-in-End c = next-end _ _ _ _ c.in-End.is

@@ -5,11 +5,11 @@ use Rattle.rows_part.proofs.write_part.Goals as goal
 
 pub returns-then-n-room : goal.returns-then-n-room
 returns-then-n-room c =
-    part-ends _ _ (c.put_row-w.ensures c.args.last c.args.words) c.least-room.ensures c.least-n.ensures c.if-n-room.true c.next.ensures
+    part-ends _ _ (c.put_row-w.ensures c.args.last c.args.words) c.min-room.ensures c.min-n.ensures c.if-n-room.true c.next.ensures
 
 pub overflow_add-result : goal.overflow_add-result
-overflow_add-result c = omega (arith, c.least-room.ensures, c.least-n.ensures)
+overflow_add-result c = omega (arith, c.min-room.ensures, c.min-n.ensures)
 
 pub returns : goal.returns
 returns c =
-    part-goes _ _ (c.put_row-w.ensures c.args.last c.args.words) c.least-room.ensures c.least-n.ensures c.if-n-room.false
+    part-goes _ _ (c.put_row-w.ensures c.args.last c.args.words) c.min-room.ensures c.min-n.ensures c.if-n-room.false
