@@ -17,6 +17,7 @@ use Rattle.state.specs.Store.{held_from, held_end, extern_at}
 use Rattle.scope.specs.declared.Held as F
 use Rattle.scope.specs.declared.Held.TheVariants as H
 use Rattle.scope.specs.Found.{held_of}
+use Rattle.signatures.specs.EntryList.{Entries, entries}
 use Rattle.signatures.specs.Entries.{flag_words}
 use Rattle.signatures.specs.EntryLaws.{entries-library}
 use Rattle.selection.specs.Candidates.{group}
@@ -69,13 +70,21 @@ entries-begin words flags at = elim (dec_le at (length words)) [
       rw z refl
 ]
 
-module _ (texts : Texts) (name words : List ℕ) (at : ℕ) {k from : ℕ} (ek : k ≡ get_or words (at + 1) 0) (ef : from ≡ min at (length words) + 2) where
-  pub library-group : group texts name words (flag_words true) from k ≡ group_of texts name (package_at words at).functions
-  library-group = rw (ek, ef) (ap (group_of texts name) (entries-begin words 1 at ∙ entries-library words (get_or words (at + 1) 0) (at + 2)))
+-- those entries
+abbrev pub functions_of : List ℕ → (flagged : Bool) → (at : ℕ) → Entries
+functions_of words flagged at = entries words flagged (min at (length words) + 2) (get_or words (at + 1) 0)
 
-  pub extern-group : group texts name words (flag_words false) from k ≡ group_of texts name (extern_at words at).functions
+-- the candidates of a name among entries
+abbrev pub of_name : Texts → (name : List ℕ) → Entries → List Signature
+of_name texts name es = group texts name es.words (flag_words es.flagged) es.from es.count
+
+module _ (texts : Texts) (name words : List ℕ) (at : ℕ) {es : Entries} where
+  pub library-group : es ≡ functions_of words true at → of_name texts name es ≡ group_of texts name (package_at words at).functions
+  library-group e = rw e (ap (group_of texts name) (entries-begin words 1 at ∙ entries-library words (get_or words (at + 1) 0) (at + 2)))
+
+  pub extern-group : es ≡ functions_of words false at → of_name texts name es ≡ group_of texts name (extern_at words at).functions
   unfolding extern_at
-  extern-group = rw (ek, ef) (ap (group_of texts name) (entries-begin words 0 at))
+  extern-group e = rw e (ap (group_of texts name) (entries-begin words 0 at))
 
 -- ── Functions without slots ──
 
@@ -85,12 +94,15 @@ unfolding Every entries_from entry_at signature_at
 plain-entries words zero at = tt
 plain-entries words (suc k) at = (refl, plain-entries words k (entry_end words 0 at))
 
-module _ (texts : Texts) (name words : List ℕ) (from k : ℕ) {found : Candidates} (a : group_size (group texts name words (flag_words false) from k) ≡ size_found words found) where
+module _ (texts : Texts) (name words : List ℕ) (from k : ℕ) {es : Entries} (ee : es ≡ entries words false from k)
+    {found : Candidates} (a : group_size (of_name texts name es) ≡ size_found es.words found) where
   pub extern-plain : (at : ℕ) → found ≡ C.Slotted at → ⊥
   unfolding Every signature_at
   extern-plain at o =
-      let e : group texts name words 0 from k ≡ signature_at words at true ∷ [] = size-one _ (a ∙ ap (size_found words) o) in
-      let all : Every (λ (f : Signature). f.with_slots ≡ false) (group texts name words 0 from k) = group-every _ texts name (entries_from words 0 from k) (plain-entries words k from) in
+      let b : group_size (group texts name words 0 from k) ≡ size_found words found = rw ee at a in
+      let e : group texts name words 0 from k ≡ signature_at words at true ∷ [] = size-one _ (b ∙ ap (size_found words) o) in
+      let plain = group-every _ texts name (entries_from words 0 from k) (plain-entries words k from) in
+      let all : Every (λ (f : Signature). f.with_slots ≡ false) (group texts name words 0 from k) = plain in
       let one : Every (λ (f : Signature). f.with_slots ≡ false) (signature_at words at true ∷ []) = rw e at all in
       true≢false one.0
 
@@ -113,13 +125,14 @@ tail_long e = length-take-le (length e - 8192) (drop 8192 e) (rw length-drop (om
 module _ {texts : Texts} {image places words scratch : List ℕ} {top n at args count : ℕ} {slots types : List ℕ} {used : ℕ}
     (h : LibraryReady texts image places words scratch top n at args count slots types used) where
   -- the words from 8,192 on are room for 4,096 pairs
-  pub slotted-ready : (name : List ℕ) {k from place : ℕ} {found : Candidates} → k ≡ get_or words (at + 1) 0 → from ≡ min at (length words) + 2
-      → group_size (group texts name words (flag_words true) from k) ≡ size_found words found → found ≡ C.Slotted place
+  pub slotted-ready : (name : List ℕ) {place : ℕ} {found : Candidates} {es : Entries} → es ≡ functions_of words true at
+      → group_size (of_name texts name es) ≡ size_found es.words found → found ≡ C.Slotted place
       → SlottedReady texts image places n args count slots types used words place (take (length scratch - 8192) (drop 8192 scratch))
   unfolding Every signature_at
-  slotted-ready name {k} {from} {place} ek ef a o =
-      let e : group texts name words 1 from k ≡ signature_at words place true ∷ [] = size-one _ (a ∙ ap (size_found words) o) in
-      let g = sym (library-group texts name words at ek ef) ∙ e in
+  slotted-ready name {place} {es = es} ee a o =
+      let v : es.words ≡ words = ap (λ e. e.words) ee in
+      let e : of_name texts name es ≡ signature_at es.words place true ∷ [] = size-one _ (a ∙ ap (size_found es.words) o) in
+      let g = sym (library-group texts name words at ee) ∙ e ∙ ap (λ l. signature_at l place true ∷ []) v in
       let m : Every (MayBind texts types used) (signature_at words place true ∷ []) =
       subst (Every (MayBind texts types used)) g (group-every _ texts name (package_at words at).functions h.bind) in
       let b : SlotsReady texts types used (signature_at words place true) = m.0 refl in

@@ -26,15 +26,14 @@ use Rattle.state.specs.World.{Step, Steps}
 use Rattle.scope.specs.declared.Held as F
 use Rattle.scope.specs.declared.Held.TheVariants as H
 use Rattle.scope.specs.Found.{held_of}
-use Rattle.signatures.specs.Entries.{flag_words}
-use Rattle.selection.specs.Candidates.{group}
+use Rattle.signatures.specs.EntryList.{Entries}
 use Rattle.pkg_group.specs.declared.Candidates.{Candidates}
 use Rattle.pkg_group.specs.declared.Candidates.TheVariants as C
 use Rattle.pkg_group.specs.GroupSize.{group_size, size_found}
 use Rattle.pkg_group.specs.GroupSizeLaws.{size-one}
 use Rattle.pkg_group.specs.Groups.{InGroup}
 use Rattle.pkg_call.specs.Calls.{Low, LibraryCalls, HeldCalls}
-use Rattle.pkg_call.proofs.Ready.{library-group, extern-group}
+use Rattle.pkg_call.proofs.Ready.{functions_of, of_name, library-group, extern-group}
 use Rattle.err.specs.declared.Counts.{Counts}
 
 -- a tail of scratch that was lent and came back leaves what is before it
@@ -43,29 +42,34 @@ front-stays e rest l = record { same = take_at (take 8192 e) rest 8192 (length-t
 
 -- ── Into one package ──
 
-module _ (texts : Texts) (n slot pkg name : ℕ) (given : List Provided) (poisoned : Bool) (words : List ℕ) (at : ℕ)
-    {k from : ℕ} (ek : k ≡ get_or words (at + 1) 0) (ef : from ≡ min at (length words) + 2) (s t d m : List ℕ) (u : Used) {s' t' d' m' : List ℕ} {r : Step Answer} where
-  pub library-calls : (e : List ℕ) → InGroup texts n slot pkg name given poisoned (group texts (name_bytes texts name) words (flag_words true) from k) s t d m u s' t' d' m' r
+module _ (texts : Texts) (n slot pkg name : ℕ) (given : List Provided) (poisoned : Bool) (words : List ℕ) (at : ℕ) {es : Entries}
+    (s t d m : List ℕ) (u : Used) {s' t' d' m' : List ℕ} {r : Step Answer} where
+  pub library-calls : es ≡ functions_of words true at → (e : List ℕ)
+      → InGroup texts n slot pkg name given poisoned (of_name texts (name_bytes texts name) es) s t d m u s' t' d' m' r
       → LibraryCalls texts n slot pkg name given poisoned (package_at words at) e s t d m u e s' t' d' m' r
-  library-calls e c = record {
-    call = subst (λ fs. InGroup texts n slot pkg name given poisoned fs s t d m u s' t' d' m' r) (library-group texts (name_bytes texts name) words at ek ef) c;
-    low = record { same = refl };
-  }
+  library-calls ee e c =
+      let g = library-group texts (name_bytes texts name) words at ee in
+      record { call = subst (λ fs. InGroup texts n slot pkg name given poisoned fs s t d m u s' t' d' m' r) g c; low = record { same = refl } }
 
   -- of one function, with slots
-  pub slotted-calls : {found : Candidates} {place : ℕ} {e e' : List ℕ} → group_size (group texts (name_bytes texts name) words (flag_words true) from k) ≡ size_found words found → found ≡ C.Slotted place
-      → ((library : List Package) (void : ℕ) → Steps (check_call_args (ctx texts library void) n slot name (call_name texts (OfPackage pkg name)) (signature_at words place true) given)
-      s t d m u s' t' d' m' r)
+  pub slotted-calls : es ≡ functions_of words true at → {found : Candidates} {place : ℕ} {e e' : List ℕ}
+      → group_size (of_name texts (name_bytes texts name) es) ≡ size_found es.words found → found ≡ C.Slotted place
+      → ((library : List Package) (void : ℕ)
+      → Steps (check_call_args (ctx texts library void) n slot name (call_name texts (OfPackage pkg name)) (signature_at words place true) given) s t d m u s' t' d' m' r)
       → Low e e' → LibraryCalls texts n slot pkg name given poisoned (package_at words at) e s t d m u e' s' t' d' m' r
   unfolding in_group call_name
-  slotted-calls {place = place} a o c l =
-      let f : group texts (name_bytes texts name) words 1 from k ≡ signature_at words place true ∷ [] = size-one _ (a ∙ ap (size_found words) o) in
-      let g : group_of texts (name_bytes texts name) (package_at words at).functions ≡ signature_at words place true ∷ [] = sym (library-group texts (name_bytes texts name) words at ek ef) ∙ f in
+  slotted-calls ee {place = place} a o c l =
+      let v : es.words ≡ words = ap (λ e. e.words) ee in
+      let f : of_name texts (name_bytes texts name) es ≡ signature_at es.words place true ∷ [] = size-one _ (a ∙ ap (size_found es.words) o) in
+      let i = sym (library-group texts (name_bytes texts name) words at ee) ∙ f ∙ ap (λ w. signature_at w place true ∷ []) v in
+      let g : group_of texts (name_bytes texts name) (package_at words at).functions ≡ signature_at words place true ∷ [] = i in
       record { call = record { of = λ library void. record { step = λ rest. rw g ((c library void).step rest) } }; low = l }
 
-  pub extern-calls : InGroup texts n slot pkg name given poisoned (group texts (name_bytes texts name) words (flag_words false) from k) s t d m u s' t' d' m' r
+  pub extern-calls : es ≡ functions_of words false at → InGroup texts n slot pkg name given poisoned (of_name texts (name_bytes texts name) es) s t d m u s' t' d' m' r
       → InGroup texts n slot pkg name given poisoned (group_of texts (name_bytes texts name) (extern_at words at).functions) s t d m u s' t' d' m' r
-  extern-calls c = subst (λ fs. InGroup texts n slot pkg name given poisoned fs s t d m u s' t' d' m' r) (extern-group texts (name_bytes texts name) words at ek ef) c
+  extern-calls ee c =
+      let g = extern-group texts (name_bytes texts name) words at ee in
+      subst (λ fs. InGroup texts n slot pkg name given poisoned fs s t d m u s' t' d' m' r) g c
 
 -- ── Into the packages held ──
 

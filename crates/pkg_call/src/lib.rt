@@ -11,7 +11,9 @@ ghost use Rattle.rules.specs.Calls.{resolve_pkg_call};
 ghost use Rattle.state.specs.Context.{ctx};
 ghost use Rattle.state.specs.Store.{extern_at};
 ghost use Rattle.call_args.specs.Given.{given_from};
+ghost use Rattle.places.specs.Image.{Image};
 ghost use Rattle.state.specs.World.{More};
+ghost use Rattle.signatures.specs.EntryList.{entries};
 ghost use Rattle.visit.specs.Whole.{Lent, lent};
 ghost use Rattle.visit.specs.Within.{Visits};
 ghost use Rattle.pkg_group.specs.Groups.{InGroup};
@@ -23,27 +25,21 @@ use pkg_group::{Candidates, in_group};
 use places::{Image, Sources};
 use rules::Answer;
 use scope::Held;
+use signatures::Entries;
 use state::{Step, Used};
 use tok::Texts;
 use visit::{State, Visit};
 
-// A package: its name, how many functions it has, their entries.
-
-// How many functions the package at a place has.
-fn function_count(words: &[u32], at: usize) -> usize
-    ensures { result ≡ get_or words.now (at + 1) 0 }
+// The functions of the package at a word, which stand after its name and their count; past the end of the words there are none.
+fn functions_at<'a>(words: &'a [u32], flagged: bool, at: usize) -> Entries<'a>
+    ensures { result ≡ entries words.now flagged (min at (length words.now) + 2) (get_or words.now (at + 1) 0) }
 {
-    if at >= words.len() {
-        return 0;
+    Entries {
+        words,
+        flagged,
+        from: at.min(words.len()) + 2,
+        count: library::function_count(words, at),
     }
-    tok::word_at(words, at + 1) as usize
-}
-
-// Where their entries begin; past the end of the words there are none.
-fn first_entry(words: &[u32], at: usize) -> usize
-    ensures { result ≡ min at (length words.now) + 2 }
-{
-    at.min(words.len()) + 2
 }
 
 // A call into the library's package at word `at`. The bindings of a function with slots stand in scratch from word 8,192 on, where the walk
@@ -67,14 +63,14 @@ fn in_library(
     count: usize,
     poisoned: bool,
 ) -> Step<Answer>
-    requires { LibraryReady sources.now.texts sources.now.image.words sources.now.image.places sources.now.library scratch.old top n at args count slots.old types.old used.types }
+    requires { let i : Image = sources.now.image in
+        LibraryReady sources.now.texts i.words i.places sources.now.library scratch.old top n at args count slots.old types.old used.types }
     ensures { LibraryCalls sources.now.texts n slot pkg name (given_from sources.now.image.words args count) poisoned (package_at sources.now.library at)
         scratch.old slots.old types.old diagnostics.old messages.old used
         scratch.new slots.new types.new diagnostics.new messages.new result }
 {
-    let k = function_count(sources.library, at);
-    let from = first_entry(sources.library, at);
-    let found = pkg_group::find_candidates(&sources.texts, sources.library, true, from, k, name);
+    let entries = functions_at(sources.library, true, at);
+    let found = pkg_group::find_candidates(&sources.texts, &entries, name);
     let Candidates::Slotted(place) = found else {
         let end = top + count;
         return in_group(
@@ -90,11 +86,8 @@ fn in_library(
             slot,
             pkg,
             name,
-            sources.library,
+            &entries,
             found,
-            true,
-            from,
-            k,
             args,
             count,
             poisoned,
@@ -141,13 +134,12 @@ fn in_extern(
     poisoned: bool,
 ) -> Step<Answer>
     requires { GatheredReady texts.now image.now.words image.now.places scratch.now top n args count slots.old types.now used.types }
-    ensures { InGroup texts.now n slot pkg name (given_from image.now.words args count) poisoned (group_of texts.now (name_bytes texts.now name) (extern_at scratch.now at).functions)
-        slots.old types.now diagnostics.old messages.old used
+    ensures { InGroup texts.now n slot pkg name (given_from image.now.words args count) poisoned
+        (group_of texts.now (name_bytes texts.now name) (extern_at scratch.now at).functions) slots.old types.now diagnostics.old messages.old used
         slots.new types.now diagnostics.new messages.new result }
 {
-    let k = function_count(scratch, at);
-    let from = first_entry(scratch, at);
-    let found = pkg_group::find_candidates(texts, scratch, false, from, k, name);
+    let entries = functions_at(scratch, false, at);
+    let found = pkg_group::find_candidates(texts, &entries, name);
     let end = top + count;
     in_group(
         slots,
@@ -162,11 +154,8 @@ fn in_extern(
         slot,
         pkg,
         name,
-        scratch,
+        &entries,
         found,
-        false,
-        from,
-        k,
         args,
         count,
         poisoned,
@@ -193,7 +182,8 @@ fn in_held(
     count: usize,
     poisoned: bool,
 ) -> Step<Answer>
-    requires { HeldReady sources.now.texts sources.now.image.words sources.now.image.places sources.now.library scratch.old held packages top n args count slots.old types.old used.types }
+    requires { let i : Image = sources.now.image in
+        HeldReady sources.now.texts i.words i.places sources.now.library scratch.old held packages top n args count slots.old types.old used.types }
     ensures { HeldCalls sources.now.texts n slot pkg name (given_from sources.now.image.words args count) poisoned sources.now.library held packages
         scratch.old slots.old types.old diagnostics.old messages.old used
         scratch.new slots.new types.new diagnostics.new messages.new result }

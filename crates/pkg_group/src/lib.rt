@@ -2,8 +2,9 @@
 // The buffers are lent in one order: slots, types, diagnostics, messages; then the two texts, and the image with its places.
 #![tactic(auto)]
 
-ghost use Rattle.std.specs.Prelude.{◌≡◌, ℕ};
+ghost use Rattle.std.specs.Prelude.{◌≡◌, List};
 ghost use Rattle.tok.specs.Text.{name_bytes};
+ghost use Rattle.library.specs.Package.{Signature};
 ghost use Rattle.signatures.specs.Entries.{flag_words};
 ghost use Rattle.selection.specs.Candidates.{group};
 ghost use Rattle.call_args.specs.Given.{given_from};
@@ -13,6 +14,7 @@ ghost use Rattle.pkg_group.specs.Groups.{GroupReady, InGroup};
 use err::CallName;
 use places::Image;
 use rules::Answer;
+use signatures::Entries;
 use state::{Step, Used};
 use tok::Texts;
 
@@ -25,24 +27,15 @@ pub enum Candidates {
     Several,
 }
 
-// The candidates of a name among k entries of a package.
-pub fn find_candidates(
-    texts: &Texts,
-    words: &[u32],
-    flagged: bool,
-    from: usize,
-    k: usize,
-    name: u32,
-) -> Candidates
-    ensures { group_size (group texts.now (name_bytes texts.now name) words.now (flag_words flagged) from k) ≡ size_found words.now result }
+// The candidates of a name among the entries of a package.
+pub fn find_candidates(texts: &Texts, entries: &Entries, name: u32) -> Candidates
+    ensures { group_size (group texts.now (name_bytes texts.now name) entries.now.words (flag_words entries.now.flagged) entries.now.from entries.now.count) ≡ size_found entries.now.words result }
 {
     let wanted = tok::name_bytes(texts, name);
-    let first = signatures::find_entry(texts, words, flagged, from, k, wanted);
-    let Some(entry) = first else {
+    let Some(entry) = entries.find(texts, wanted) else {
         return Candidates::Nothing;
     };
-    let second = signatures::find_entry(texts, words, flagged, entry.next, entry.left, wanted);
-    let None = second else {
+    let None = entries.after(entry).find(texts, wanted) else {
         return Candidates::Several;
     };
     if entry.slotted {
@@ -51,7 +44,7 @@ pub fn find_candidates(
     Candidates::Plain(entry.at)
 }
 
-// A call of the candidates of a name among k entries of a package, but for one with slots, which wants room for its bindings: none is 16,
+// A call of the candidates of a name among the entries of a package, but for one with slots, which wants room for its bindings: none is 16,
 // one is checked by itself, several are selected from.
 pub fn in_group(
     slots: &mut [u32],
@@ -66,20 +59,16 @@ pub fn in_group(
     slot: u32,
     pkg: u32,
     name: u32,
-    words: &[u32],
+    entries: &Entries,
     found: Candidates,
-    flagged: bool,
-    from: usize,
-    k: usize,
     args: usize,
     count: usize,
     poisoned: bool,
 ) -> Step<Answer>
-    requires { GroupReady image.now.words image.now.places n args count slots.old provided.now words.now
-        (group texts.now (name_bytes texts.now name) words.now (flag_words flagged) from k) found }
-    ensures { InGroup texts.now n slot pkg name (given_from image.now.words args count) poisoned
-        (group texts.now (name_bytes texts.now name) words.now (flag_words flagged) from k)
-        slots.old types.now diagnostics.old messages.old used
+    requires { let fs : List Signature = group texts.now (name_bytes texts.now name) entries.now.words (flag_words entries.now.flagged) entries.now.from entries.now.count in
+        GroupReady image.now.words image.now.places n args count slots.old provided.now entries.now.words fs found }
+    ensures { let fs : List Signature = group texts.now (name_bytes texts.now name) entries.now.words (flag_words entries.now.flagged) entries.now.from entries.now.count in
+        InGroup texts.now n slot pkg name (given_from image.now.words args count) poisoned fs slots.old types.now diagnostics.old messages.old used
         slots.new types.now diagnostics.new messages.new result }
 {
     match found {
@@ -107,7 +96,7 @@ pub fn in_group(
             slot,
             name,
             CallName::OfPackage(pkg, name),
-            words,
+            entries.words,
             at,
             args,
             count,
@@ -128,10 +117,7 @@ pub fn in_group(
                 name,
                 CallName::OfPackage(pkg, name),
                 provided,
-                words,
-                flagged,
-                from,
-                k,
+                entries,
                 wanted,
                 poisoned,
             )

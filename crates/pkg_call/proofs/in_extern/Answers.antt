@@ -6,8 +6,8 @@ use Rattle.pkg_call.proofs.in_extern.Goals as goal
 
 pub in_group-requires : goal.in_group-requires
 in_group-requires c =
-    group-ready c.requires refl c.find_candidates-found.ensures (extern-plain _ _ _ _ _ c.find_candidates-found.ensures)
+    group-ready c.requires refl c.find_candidates-found.ensures (extern-plain _ _ _ _ _ c.functions_at-entries.ensures c.find_candidates-found.ensures)
 
 pub returns : goal.returns
 returns c =
-    extern-calls _ _ _ _ _ _ _ _ _ c.function_count-k.ensures c.first_entry-from.ensures _ _ _ _ _ c.in_group.ensures
+    extern-calls _ _ _ _ _ _ _ _ _ _ _ _ _ _ c.functions_at-entries.ensures c.in_group.ensures

@@ -8,17 +8,20 @@ use Rattle.pkg_call.proofs.in_library.Goals as goal
 
 pub in_group-requires : goal.in_group-requires
 in_group-requires c =
-    group-ready c.requires.ready refl c.find_candidates-found.ensures c.in_default.not-Slotted
+    let r = rw (← c.sources.view_is) at c.requires in
+    group-ready r.ready refl c.find_candidates-found.ensures c.in_default.not-Slotted
 
 pub returns-in_default : goal.returns-in_default
 returns-in_default c =
-    library-calls _ _ _ _ _ _ _ _ _ c.function_count-k.ensures c.first_entry-from.ensures _ _ _ _ _ _ c.in_group.ensures
+    rw (← c.sources.view_is) (library-calls _ _ _ _ _ _ _ _ _ _ _ _ _ _ c.functions_at-entries.ensures _ c.in_group.ensures)
 
 pub check_slotted-requires : goal.check_slotted-requires
 check_slotted-requires c =
-    slotted-ready c.requires _ c.function_count-k.ensures c.first_entry-from.ensures c.find_candidates-found.ensures c.in-Slotted.is
+    let r = rw (← c.sources.view_is) at c.requires in
+    slotted-ready r _ c.functions_at-entries.ensures c.find_candidates-found.ensures c.in-Slotted.is
 
 pub returns : goal.returns
 returns c =
-    slotted-calls _ _ _ _ _ _ _ _ _ c.function_count-k.ensures c.first_entry-from.ensures
-    _ _ _ _ _ c.find_candidates-found.ensures c.in-Slotted.is c.check_slotted.ensures (front-stays _ _ (omega (arith, c.requires.ready.long)))
+    let l = front-stays _ _ (omega (arith, c.requires.ready.long)) in
+    let e = c.functions_at-entries.ensures in
+    rw (← c.sources.view_is) (slotted-calls _ _ _ _ _ _ _ _ _ _ _ _ _ _ e c.find_candidates-found.ensures c.in-Slotted.is c.check_slotted.ensures l)

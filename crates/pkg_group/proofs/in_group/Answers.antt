@@ -1,5 +1,5 @@
 -- `pkg_group::in_group` meets its contract: no candidate (16), one, or several. Assumes nothing.
-use mathlib.Core.Path.{refl}
+use mathlib.Core.Path.{◌≡◌, refl, ap}
 use Rattle.pkg_group.proofs.Returns.{group-none, group-plain, group_several}
 use Rattle.err_text.specs.RestLaws.{told_in_whole}
 use Rattle.pkg_group.proofs.in_group.Goals as goal
@@ -10,7 +10,8 @@ returns-in-Nothing c =
 
 pub returns-in-Plain : goal.returns-in-Plain
 returns-in-Plain c =
-    group-plain _ _ _ _ _ _ _ _ _ _ _ c.requires c.in-Plain.is c.check_plain.ensures
+    let v : c.entries.inside.words.now ≡ c.args.entries.now.words = ap (λ e. e.words) c.entries.view_is in
+    group-plain _ _ _ _ _ _ _ _ _ _ _ c.requires c.in-Plain.is (rw v at c.check_plain.ensures)
 
 pub unreachable-requires : goal.unreachable-requires
 unreachable-requires c = c.requires.other _ c.in-Slotted.is
