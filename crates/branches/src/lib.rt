@@ -2,7 +2,8 @@
 // default. The buffers are lent in one order: slots, types, diagnostics, messages; then the two texts, the image, the places of its records.
 #![tactic(auto)]
 
-ghost use Rattle.std.specs.Prelude.{◌≡◌, List, ℕ, ◌+◌, ◌≤◌};
+ghost use Rattle.std.specs.Prelude.{◌≡◌, List, ℕ, ◌+◌, ◌≤◌, eqb};
+ghost use Rattle.tok.specs.Word.{kind_of};
 ghost use Rattle.library.specs.Package.{Package};
 ghost use Rattle.ast.specs.Image.{word_at};
 ghost use Rattle.places.specs.NodesAt.{NodeReady};
@@ -78,6 +79,13 @@ fn is_field(image: &Image, n: u32) -> bool
     )
 }
 
+// Whether a type's word is Unknown's.
+fn is_unknown(w: u32) -> bool
+    ensures { result ≡ eqb (kind_of w) 11 }
+{
+    matches!(TypeKind::of(w), TypeKind::Unknown)
+}
+
 // What node n has answered: poisoned it left no type in its slot, or Unknown where it read a field of that type.
 #[tactic(auto, unfolding(crate::specs::Branches::node_answer, crate::specs::Branches::answer_of))]
 fn node_answer(slots: &[u32], image: &Image, n: u32) -> Answer
@@ -89,7 +97,7 @@ fn node_answer(slots: &[u32], image: &Image, n: u32) -> Answer
     if w == 0 {
         return Answer::Poison;
     }
-    if matches!(TypeKind::of(w), TypeKind::Unknown) && is_field(image, n) {
+    if is_unknown(w) && is_field(image, n) {
         return Answer::Poison;
     }
     Answer::Known(slot)
