@@ -12,7 +12,7 @@ import sys
 
 ROOT = os.path.dirname(os.path.dirname(os.path.abspath(__file__)))
 TABLE = os.path.join(ROOT, "more-edits", "TABLE.md")
-FN = re.compile(r'^(pub )?(?:extern "C" )?fn (\w+)', re.M)
+FN = re.compile(r'^ *(pub )?(?:extern "C" )?fn (\w+)', re.M)
 CONST = re.compile(r"^(?:pub )?const (\w+)", re.M)
 SIGNATURE = re.compile(r"^( *)(?:(?:abbrev |unfoldable )?(?:pub )?([^\s:(){}|,;=]+) :(?= )|(?:pub )?(?:record|data) ([^\s:(){}]+))")
 
