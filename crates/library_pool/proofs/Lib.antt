@@ -1,1 +1,2 @@
 pub mod PoolWays
+mod GoodTypes

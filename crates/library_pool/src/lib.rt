@@ -1,12 +1,13 @@
 // The library's pool and its type words (document 01, "Words"): which are good, and reading the pool forward.
 #![tactic(auto)]
 
-ghost use Rattle.std.specs.Prelude.{◌≡◌, List, ℕ, ◌+◌, ◌*◌, ◌<◌, ◌^◌};
+ghost use Rattle.std.specs.Prelude.{◌≡◌, ◌&&◌, List, ℕ, ◌+◌, ◌*◌, ◌<◌, ◌^◌, eqb, leb, ltb, get_or};
+ghost use Rattle.tok.specs.Word.{kind_of, payload_of};
 ghost use Rattle.tok.specs.Text.{texts_of};
 ghost use Rattle.tok.specs.Name.{good_name, in_library};
 ghost use Rattle.tok.specs.Reader.{word};
 ghost use Rattle.reader.specs.Reading.{next_word, onward, gave};
-ghost use Rattle.library.specs.Pool.{pool_at, good_plain, good_wrapped, good_record, good_named, good_type, fields, good_pool_word, pairs_after, pool_from};
+ghost use Rattle.library.specs.Pool.{pool_at, good_type, fields, good_pool_word, pairs_after, pool_from};
 
 use ptype::TypeKind;
 use reader::{Fault, Place};
@@ -16,33 +17,19 @@ use reader::{Fault, Place};
 // The kind of a field count's word: no type has it.
 const COUNT: u32 = 0;
 
-// Void, Bool, Int, Double and Str have payload 0; Unknown is not allowed.
-#[tactic(auto, unfolding(library::specs::Pool::good_plain))]
-fn good_plain(w: u32) -> bool
-    ensures { result ≡ good_plain w }
-{
-    matches!(tok::kind(w), 1..=5) && tok::payload(w) == 0
-}
-
-// Option and Array refer to a type word of the pool below `own`.
-#[tactic(auto, unfolding(library::specs::Pool::good_wrapped))]
-fn good_wrapped(pool: &[u32], own: usize, w: u32) -> bool
-    ensures { (script library : List ℕ) (size : ℕ) → result ≡ good_wrapped (pool_at (texts_of script library) size pool.now) own w }
+// An Option or an Array refers to a type word of the pool below `own`; Unknown is not allowed.
+fn good_inner(pool: &[u32], own: usize, w: u32) -> bool
+    ensures { let k : ℕ = kind_of (get_or pool.now (payload_of w) 0) in result ≡ (ltb (payload_of w) own && (leb 1 k && leb k 10)) }
 {
     let inner = tok::payload(w);
-    matches!(tok::kind(w), 6..=7)
-        && inner < own
-        && matches!(tok::kind(tok::word_at(pool, inner)), 1..=10)
+    inner < own && matches!(tok::kind(tok::word_at(pool, inner)), 1..=10)
 }
 
-// Record refers to a field count of the pool, whose whole list lies below `own`.
-#[tactic(auto, unfolding(library::specs::Pool::good_record))]
-fn good_record(pool: &[u32], own: usize, w: u32) -> bool
-    ensures { (script library : List ℕ) (size : ℕ) → result ≡ good_record (pool_at (texts_of script library) size pool.now) own w }
+// A Record refers to a field count of the pool, whose whole list lies below `own`.
+fn good_list(pool: &[u32], own: usize, w: u32) -> bool
+    ensures { let c : ℕ = get_or pool.now (payload_of w) 0 in
+        result ≡ (ltb (payload_of w) own && (eqb (kind_of c) 0 && leb (payload_of w + 1 + 2 * payload_of c) own)) }
 {
-    let TypeKind::Record = TypeKind::of(w) else {
-        return false;
-    };
     let list = tok::payload(w);
     if list >= own {
         return false;
@@ -51,23 +38,19 @@ fn good_record(pool: &[u32], own: usize, w: u32) -> bool
     tok::kind(count) == COUNT && list + 1 + 2 * tok::payload(count) <= own
 }
 
-// Foreign and Slot carry a name payload.
-#[tactic(auto, unfolding(library::specs::Pool::good_named))]
-fn good_named(library: &[u8], w: u32) -> bool
-    ensures { (script types : List ℕ) (size : ℕ) → result ≡ good_named (pool_at (texts_of script library.now) size types) w }
-{
-    matches!(tok::kind(w), 9..=10) && tok::good_payload(tok::IN_LIBRARY, library, w)
-}
-
-// Whether a word is a type word that refers below `own`.
-#[tactic(auto, unfolding(library::specs::Pool::good_type))]
+// Whether a word is a type word that refers below `own`. Unknown is not allowed.
 pub fn good_type(library: &[u8], pool: &[u32], own: usize, w: u32) -> bool
     ensures { (script : List ℕ) (size : ℕ) → result ≡ good_type (pool_at (texts_of script library.now) size pool.now) own w }
 {
-    good_plain(w)
-        || good_wrapped(pool, own, w)
-        || good_record(pool, own, w)
-        || good_named(library, w)
+    match TypeKind::of(w) {
+        TypeKind::Void | TypeKind::Bool | TypeKind::Int | TypeKind::Double | TypeKind::Str => {
+            tok::payload(w) == 0
+        }
+        TypeKind::Option | TypeKind::Array => good_inner(pool, own, w),
+        TypeKind::Record => good_list(pool, own, w),
+        TypeKind::Foreign | TypeKind::Slot => tok::good_payload(tok::IN_LIBRARY, library, w),
+        _ => false,
+    }
 }
 
 // Reading.
