@@ -44,8 +44,16 @@ pub const CASES: usize = 13;
 
 // Reading commands.
 
-// The command that has a program run its case.
+// What commands do: the next fill is told, a list filled, a register set, ..
+const PATTERN: u32 = 1;
+
+const FILL: u32 = 2;
+
+const LENGTH: u32 = 3;
+// .. a case run, which is the program's, ..
 pub const CASE: u32 = 4;
+// .. and from here on elements of a list are given, the list being the command's number less this.
+const DATA: u32 = 8;
 
 #[derive(Clone, Copy)]
 pub struct Command {
@@ -289,10 +297,10 @@ pub fn change(
         ≡ lists script.new image.new text.new library.new registers.new }
 {
     match c.op {
-        1 => pattern(registers, c),
-        2 => fill(script, image, text, library, registers, c),
-        3 => put(registers, c.a as usize, c.b),
-        8.. => put_data(script, image, text, library, c.op as usize - 8, c),
+        PATTERN => pattern(registers, c),
+        FILL => fill(script, image, text, library, registers, c),
+        LENGTH => put(registers, c.a as usize, c.b),
+        DATA.. => put_data(script, image, text, library, (c.op - DATA) as usize, c),
         _ => {}
     }
 }
