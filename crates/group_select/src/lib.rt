@@ -152,8 +152,8 @@ pub fn select(
     name: &[u8],
     poisoned: bool,
 ) -> Step<Answer>
-    ensures { Selects texts.now n slot token (call_name texts.now callee) provided.now poisoned
-        (group texts.now name.now entries.now.words (flag_words entries.now.flagged) entries.now.from entries.now.count) slots.old types.now diagnostics.old messages.old used slots.new diagnostics.new messages.new result }
+    ensures { let fs : List Signature = group texts.now name.now entries.now.words (flag_words entries.now.flagged) entries.now.from entries.now.count in
+        Selects texts.now n slot token (call_name texts.now callee) provided.now poisoned fs slots.old types.now diagnostics.old messages.old used slots.new diagnostics.new messages.new result }
 {
     if poisoned {
         return selection::common_return(slots, types, texts, used, slot, entries, name);

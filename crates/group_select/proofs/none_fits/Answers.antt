@@ -14,8 +14,10 @@ returns-in_err-used c = record {
 }
 
 pub returns : goal.returns
-returns c = record {
-  of = λ f others q library void.
-      on-ok (λ _. common_return (ctx c.args.texts.now library void) c.args.slot f others)
-      (reports_step c.args.n (told_in_whole _ c.first_free-free.ensures c.no_specialisation-r.ensures)) (sym c.told.ensures ∙ c.in_ok-used.was) (c.common_return.ensures.of f others q library void _ _);
-}
+returns c =
+    let t = told_in_whole _ c.first_free-free.ensures c.no_specialisation-r.ensures in
+    record {
+      of = λ f others q library void.
+          on-ok (λ _. common_return (ctx c.args.texts.now library void) c.args.slot f others) (reports_step c.args.n t) (sym c.told.ensures ∙ c.in_ok-used.was)
+          (c.common_return.ensures.of f others q library void _ _);
+    }
