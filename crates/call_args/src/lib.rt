@@ -26,7 +26,7 @@ pub fn slot_of(image: &Image, n: u32) -> u32
     requires { NodeReady image.now.words image.now.places n }
     ensures { result ≡ slot_of (tree_of image.now.words n) }
 {
-    tok::word_at(image.words, image.node_place(n) + 1)
+    image.word_at(image.node_place(n) + 1)
 }
 
 // Each argument, in order.
@@ -51,7 +51,7 @@ fn plain_arguments(
 {
     let mut used = used;
     for i in 0..count {
-        let number = tok::word_at(image.words, args + i);
+        let number = image.word_at(args + i);
         let (_, after) = arguments::plain_argument(
             slots,
             types,

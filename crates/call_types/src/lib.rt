@@ -13,7 +13,7 @@ pub fn gather_types(provided: &mut [u32], slots: &[u32], image: &Image, args: us
     ensures { take count provided.new ≡ words_in slots.now (given_from image.now.words args count) }
 {
     for i in 0..count {
-        let number = tok::word_at(image.words, args + i);
+        let number = image.word_at(args + i);
         let slot = call_args::slot_of(image, number);
         provided[i] = tok::word_at(slots, slot as usize);
     }

@@ -20,7 +20,7 @@ ghost use Rattle.calls.specs.CallVisits.{Resolvable};
 use ast::NodeKind;
 use places::{Image, Sources};
 use rules::Answer;
-use tok::{Texts, word_at};
+use tok::Texts;
 use visit::{State, Visit};
 
 // Is the target a Field of what is no Ident? Such a call visits none of its arguments.
@@ -28,12 +28,12 @@ pub fn through_field(image: &Image, at: usize) -> bool
     requires { CallAt image.now.words image.now.places at }
     ensures { result ≡ is_through_field (callee_at image.now.words at) }
 {
-    let target = image.node_place(word_at(image.words, at + 2));
-    match NodeKind::of(word_at(image.words, target)) {
+    let target = image.node_place(image.word_at(at + 2));
+    match NodeKind::of(image.word_at(target)) {
         NodeKind::Ident => false,
         _ => {
-            let of = image.node_place(word_at(image.words, target + 2));
-            !matches!(NodeKind::of(word_at(image.words, of)), NodeKind::Ident)
+            let of = image.node_place(image.word_at(target + 2));
+            !matches!(NodeKind::of(image.word_at(of)), NodeKind::Ident)
         }
     }
 }
@@ -54,8 +54,8 @@ pub fn report_field(
         Visits (call c n slot (callee_at image.now.words at) given visits) 0 0 words st b b' result) }
 {
     let used = st.used;
-    let target = image.node_place(word_at(image.words, at + 2));
-    let name = word_at(image.words, target + 3);
+    let target = image.node_place(image.word_at(at + 2));
+    let name = image.word_at(target + 3);
     let free = err_text::first_free(messages, used.told);
     let r = err_calls::call_through_field(diagnostics, &mut messages[free..], used.told, name);
     visit::answered(st, state::told(n, used, r, Answer::Poison))
@@ -135,9 +135,9 @@ pub fn resolve(
         Visits (call_end (ctx sources.now.texts ls v) n (get_or image (at + 1) 0) (callee_at image at) (given_from image (at + 3) count) poisoned) count 0 sources.now.library st b b' result) }
 {
     let image = &sources.image;
-    let slot = word_at(image.words, at + 1);
-    let target = image.node_place(word_at(image.words, at + 2));
-    match NodeKind::of(word_at(image.words, target)) {
+    let slot = image.word_at(at + 1);
+    let target = image.node_place(image.word_at(at + 2));
+    match NodeKind::of(image.word_at(target)) {
         NodeKind::Ident => resolve_own(
             slots,
             functions,
@@ -149,14 +149,14 @@ pub fn resolve(
             st,
             n,
             slot,
-            word_at(image.words, target + 2),
+            image.word_at(target + 2),
             at + 3,
             count,
         ),
         _ => {
-            let of = image.node_place(word_at(image.words, target + 2));
-            let pkg = word_at(image.words, of + 2);
-            let name = word_at(image.words, target + 3);
+            let of = image.node_place(image.word_at(target + 2));
+            let pkg = image.word_at(of + 2);
+            let name = image.word_at(target + 3);
             pkg_call::resolve_pkg_call(
                 slots,
                 types,

@@ -2,4 +2,3 @@
 pub mod Covers
 pub mod Lists
 pub mod Ready
-pub mod Seen

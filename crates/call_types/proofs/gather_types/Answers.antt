@@ -2,7 +2,6 @@ use Prim.Native.Nat.{◌-◌}
 use mathlib.Core.Path.{refl}
 use native.Mathlib.Omega.{arith}
 use lib.ListN.{length, length-set}
-use Rattle.spans.specs.Seen.{words-seen}
 use Rattle.call_types.proofs.Turns.{none-gathered, all-gathered, more-gathered}
 use Rattle.call_args.proofs.Slots.{number-ready}
 use Rattle.call_types.proofs.gather_types.Goals as goal
@@ -14,7 +13,7 @@ pub overflow_add-args : goal.overflow_add-args
 overflow_add-args c = omega (arith, c.requires.nodes.room)
 
 pub slot_of-slot-requires : goal.slot_of-slot-requires
-slot_of-slot-requires c = number-ready c.requires.nodes (omega arith) (rw (words-seen c.image.view_is) at c.word_at-number.ensures)
+slot_of-slot-requires c = number-ready c.requires.nodes (omega arith) c.word_at-number.ensures
 
 pub offset_bounds-provided-i : goal.offset_bounds-provided-i
 offset_bounds-provided-i c = omega (arith, c.requires.room, c.loop-i.invariant.1)
@@ -24,7 +23,7 @@ bounds-provided-i c = omega (arith, c.requires.room, c.loop-i.invariant.1)
 
 pub loop-i-preserved : goal.loop-i-preserved
 loop-i-preserved c =
-    let e = rw (words-seen c.image.view_is) at c.word_at-number.ensures in
+    let e = c.word_at-number.ensures in
     let room = c.requires.room in
     (more-gathered _ _ _ _ c.loop-i.invariant.0 (omega arith) (omega (arith, room, c.loop-i.invariant.1)) e c.slot_of-slot.ensures refl c.word_at.ensures, simp length-set c.loop-i.invariant.1)
 

@@ -2,9 +2,9 @@
 use mathlib.Core.Path.{refl}
 use native.Mathlib.Omega.{arith}
 use Rattle.ast.specs.KindLaws.{node-number, node-not}
-use Rattle.spans.specs.Seen.{words-seen}
 use Rattle.calls.specs.Callees.{target-low}
 use Rattle.calls.proofs.Returns.{call-low, no_field, of_ident, of_other}
+use Rattle.calls.proofs.through_field.Goals.{in-Ident-matches, in_default-matches}
 use Rattle.calls.proofs.through_field.Goals as goal
 
 pub overflow_add-at : goal.overflow_add-at
@@ -12,25 +12,22 @@ overflow_add-at c = omega (arith, call-low c.requires)
 
 pub returns-in-Ident : goal.returns-in-Ident
 returns-in-Ident c =
-    let e = words-seen c.image.view_is in
-    no_field c.requires (rw e at c.word_at.ensures) c.node_place-target.ensures (rw e at c.word_at-2.ensures) refl (node-number _ c.in-Ident.ensures)
+    no_field c.requires c.word_at.ensures c.node_place-target.ensures c.word_at-2.ensures refl (node-number _ c.in-Ident.ensures)
 
 pub overflow_add-target : goal.overflow_add-target
 overflow_add-target c =
-    let e = words-seen c.image.view_is in
-    omega (arith, target-low c.requires (rw e at c.word_at.ensures) c.node_place-target.ensures (rw e at c.word_at-2.ensures) refl)
+    omega (arith, target-low c.requires c.word_at.ensures c.node_place-target.ensures c.word_at-2.ensures refl)
 
 pub returns-after-matches : goal.returns-after-matches
 returns-after-matches c =
-    let e = words-seen c.image.view_is in
-    let target = rw e at c.word_at.ensures in
-    let of = rw e at c.word_at-in_default.ensures in
+    let target = c.word_at.ensures in
+    let of = c.word_at-in_default.ensures in
     let no = node-not _ c.of.ensures c.in_default.not-Ident in
     elim c.match-matches.branch
     [ in-Ident-matches w ↦ rw w.matches-is
-        (of_ident c.requires target c.node_place-target.ensures (rw e at c.word_at-2.ensures) refl no of c.node_place-of.ensures (rw e at c.word_at-in_default-2.ensures) refl
+        (of_ident c.requires target c.node_place-target.ensures c.word_at-2.ensures refl no of c.node_place-of.ensures c.word_at-in_default-2.ensures refl
         (node-number _ w.in-Ident-matches.ensures))
     | in_default-matches w ↦ rw w.matches-is
-        (of_other c.requires target c.node_place-target.ensures (rw e at c.word_at-2.ensures) refl no of c.node_place-of.ensures (rw e at c.word_at-in_default-2.ensures) refl
+        (of_other c.requires target c.node_place-target.ensures c.word_at-2.ensures refl no of c.node_place-of.ensures c.word_at-in_default-2.ensures refl
         (node-not _ c.of-in_default.ensures w.in_default-matches.not-Ident))
     ]

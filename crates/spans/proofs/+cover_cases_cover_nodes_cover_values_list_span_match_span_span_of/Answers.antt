@@ -16,7 +16,6 @@ use mathlib.Core.Path.{refl}
 use Rattle.spans.specs.Ready.{case-condition, case-room, case-body}
 use Rattle.spans.proofs.Loops.{cases-all, cases-less, cases_done}
 use Rattle.ast.specs.KindLaws.{node-number, node-not}
-use Rattle.spans.specs.Seen.{words-seen}
 use Rattle.spans.proofs.+cover_cases_cover_nodes_cover_values_list_span_match_span_span_of.Goals as goal
 
 pub cover_values-loop-init : goal.cover_values-loop-init
@@ -27,17 +26,15 @@ cover_values-overflow_add-i t c = omega (arith, c.loop.invariant.ready.room, (so
 
 pub cover_values-span_of-requires : goal.cover_values-span_of-requires
 cover_values-span_of-requires t c =
-    let e = words-seen c.image.view_is in
-    let p = values-part (some-left c.loop-test.true) c.loop.invariant.ready (rw e at c.word_at-in-loop.ensures) in (omega (arith, c.decreases, p.under), p.ready)
+    let p = values-part (some-left c.loop-test.true) c.loop.invariant.ready c.word_at-in-loop.ensures in (omega (arith, c.decreases, p.under), p.ready)
 
 pub cover_values-overflow_add-i-in-loop : goal.cover_values-overflow_add-i-in-loop
 cover_values-overflow_add-i-in-loop t c = omega (arith, c.loop.invariant.ready.room, (some-left c.loop-test.true))
 
 pub cover_values-loop-preserved : goal.cover_values-loop-preserved
 cover_values-loop-preserved t c =
-    let e = words-seen c.image.view_is in
     rw one-less
-    (values-less c.loop.invariant (some-left c.loop-test.true) (rw e at c.word_at.ensures) c.token_span.ensures c.cover_spans-named.ensures (rw e at c.word_at-in-loop.ensures) c.span_of.ensures c.cover_spans-covered.ensures)
+    (values-less c.loop.invariant (some-left c.loop-test.true) c.word_at.ensures c.token_span.ensures c.cover_spans-named.ensures c.word_at-in-loop.ensures c.span_of.ensures c.cover_spans-covered.ensures)
 
 pub cover_values-returns : goal.cover_values-returns
 cover_values-returns t c = values-done c.loop.invariant (none-left c.loop-test.false)
@@ -47,8 +44,7 @@ span_of-overflow_add-at t c = omega (arith, record_room c.requires c.node_place-
 
 pub span_of-returns-in-Atom : goal.span_of-returns-in-Atom
 span_of-returns-in-Atom t c =
-    let e = words-seen c.image.view_is in
-    span-leaf c.requires c.node_place-at.ensures (rw e at c.word_at-head.ensures) refl (rw e at c.word_at.ensures) c.token_span-first.ensures
+    span-leaf c.requires c.node_place-at.ensures c.word_at-head.ensures refl c.word_at.ensures c.token_span-first.ensures
     (leaf-kind _ c.of.ensures c.in-Atom.is)
 
 pub span_of-overflow_add-at-in-Bin : goal.span_of-overflow_add-at-in-Bin
@@ -56,9 +52,8 @@ span_of-overflow_add-at-in-Bin t c = omega (arith, record_room c.requires c.node
 
 pub span_of-span_of-left-requires : goal.span_of-span_of-left-requires
 span_of-span_of-left-requires t c =
-    let e = words-seen c.image.view_is in
-    let w = words-bin c.requires c.node_place-at.ensures (rw e at c.word_at-head.ensures) refl (node-number _ c.in-Bin.ensures) in
-    let p = part-ready c.requires w.left (rw e at c.word_at-in-Bin.ensures) in
+    let w = words-bin c.requires c.node_place-at.ensures c.word_at-head.ensures refl (node-number _ c.in-Bin.ensures) in
+    let p = part-ready c.requires w.left c.word_at-in-Bin.ensures in
     (omega (arith, c.decreases, p.under), p.ready)
 
 pub span_of-overflow_add-at-in-Bin-2 : goal.span_of-overflow_add-at-in-Bin-2
@@ -66,57 +61,50 @@ span_of-overflow_add-at-in-Bin-2 t c = omega (arith, record_room c.requires c.no
 
 pub span_of-span_of-right-requires : goal.span_of-span_of-right-requires
 span_of-span_of-right-requires t c =
-    let e = words-seen c.image.view_is in
-    let w = words-bin c.requires c.node_place-at.ensures (rw e at c.word_at-head.ensures) refl (node-number _ c.in-Bin.ensures) in
-    let p = part-ready c.requires w.right (rw e at c.word_at-in-Bin-2.ensures) in
+    let w = words-bin c.requires c.node_place-at.ensures c.word_at-head.ensures refl (node-number _ c.in-Bin.ensures) in
+    let p = part-ready c.requires w.right c.word_at-in-Bin-2.ensures in
     (omega (arith, c.decreases, p.under), p.ready)
 
 pub span_of-returns-in-Bin : goal.span_of-returns-in-Bin
 span_of-returns-in-Bin t c =
-    let e = words-seen c.image.view_is in
-    span-bin c.requires c.node_place-at.ensures (rw e at c.word_at-head.ensures) refl (rw e at c.word_at.ensures) c.token_span-first.ensures (node-number _ c.in-Bin.ensures)
-    (rw e at c.word_at-in-Bin.ensures) c.span_of-left.ensures (rw e at c.word_at-in-Bin-2.ensures) c.span_of-right.ensures c.cover_spans.ensures c.cover_spans-in-Bin.ensures
+    span-bin c.requires c.node_place-at.ensures c.word_at-head.ensures refl c.word_at.ensures c.token_span-first.ensures (node-number _ c.in-Bin.ensures)
+    c.word_at-in-Bin.ensures c.span_of-left.ensures c.word_at-in-Bin-2.ensures c.span_of-right.ensures c.cover_spans.ensures c.cover_spans-in-Bin.ensures
 
 pub span_of-overflow_add-at-in-Unary : goal.span_of-overflow_add-at-in-Unary
 span_of-overflow_add-at-in-Unary t c = omega (arith, record_room c.requires c.node_place-at.ensures)
 
 pub span_of-span_of-requires : goal.span_of-span_of-requires
 span_of-span_of-requires t c =
-    let e = words-seen c.image.view_is in
-    let w = words-unary c.requires c.node_place-at.ensures (rw e at c.word_at-head.ensures) refl (node-number _ c.in-Unary.ensures) in
-    let p = part-ready c.requires w.right (rw e at c.word_at-in-Unary.ensures) in
+    let w = words-unary c.requires c.node_place-at.ensures c.word_at-head.ensures refl (node-number _ c.in-Unary.ensures) in
+    let p = part-ready c.requires w.right c.word_at-in-Unary.ensures in
     (omega (arith, c.decreases, p.under), p.ready)
 
 pub span_of-returns-in-Unary : goal.span_of-returns-in-Unary
 span_of-returns-in-Unary t c =
-    let e = words-seen c.image.view_is in
-    span-unary c.requires c.node_place-at.ensures (rw e at c.word_at-head.ensures) refl (rw e at c.word_at.ensures) c.token_span-first.ensures
-    (node-number _ c.in-Unary.ensures) (rw e at c.word_at-in-Unary.ensures) c.span_of.ensures c.cover_spans-in-Unary.ensures
+    span-unary c.requires c.node_place-at.ensures c.word_at-head.ensures refl c.word_at.ensures c.token_span-first.ensures
+    (node-number _ c.in-Unary.ensures) c.word_at-in-Unary.ensures c.span_of.ensures c.cover_spans-in-Unary.ensures
 
 pub span_of-overflow_add-at-in-Let : goal.span_of-overflow_add-at-in-Let
 span_of-overflow_add-at-in-Let t c = omega (arith, record_room c.requires c.node_place-at.ensures)
 
 pub span_of-span_of-requires-in-Let : goal.span_of-span_of-requires-in-Let
 span_of-span_of-requires-in-Let t c =
-    let e = words-seen c.image.view_is in
-    let w = words_let c.requires c.node_place-at.ensures (rw e at c.word_at-head.ensures) refl (node-number _ c.in-Let.ensures) in
-    let p = part-ready c.requires w.right (rw e at c.word_at-in-Let.ensures) in
+    let w = words_let c.requires c.node_place-at.ensures c.word_at-head.ensures refl (node-number _ c.in-Let.ensures) in
+    let p = part-ready c.requires w.right c.word_at-in-Let.ensures in
     (omega (arith, c.decreases, p.under), p.ready)
 
 pub span_of-returns-in-Let : goal.span_of-returns-in-Let
 span_of-returns-in-Let t c =
-    let e = words-seen c.image.view_is in
-    span_let c.requires c.node_place-at.ensures (rw e at c.word_at-head.ensures) refl (rw e at c.word_at.ensures) c.token_span-first.ensures (node-number _ c.in-Let.ensures)
-    (rw e at c.word_at-in-Let.ensures) c.span_of-in-Let.ensures c.cover_spans-in-Let.ensures
+    span_let c.requires c.node_place-at.ensures c.word_at-head.ensures refl c.word_at.ensures c.token_span-first.ensures (node-number _ c.in-Let.ensures)
+    c.word_at-in-Let.ensures c.span_of-in-Let.ensures c.cover_spans-in-Let.ensures
 
 pub span_of-overflow_add-at-in-Field : goal.span_of-overflow_add-at-in-Field
 span_of-overflow_add-at-in-Field t c = omega (arith, record_room c.requires c.node_place-at.ensures)
 
 pub span_of-span_of-target-requires : goal.span_of-span_of-target-requires
 span_of-span_of-target-requires t c =
-    let e = words-seen c.image.view_is in
-    let w = words-field c.requires c.node_place-at.ensures (rw e at c.word_at-head.ensures) refl (node-number _ c.in-Field.ensures) in
-    let p = part-ready c.requires w.target (rw e at c.word_at-in-Field.ensures) in
+    let w = words-field c.requires c.node_place-at.ensures c.word_at-head.ensures refl (node-number _ c.in-Field.ensures) in
+    let p = part-ready c.requires w.target c.word_at-in-Field.ensures in
     (omega (arith, c.decreases, p.under), p.ready)
 
 pub span_of-overflow_add-at-in-Field-2 : goal.span_of-overflow_add-at-in-Field-2
@@ -124,18 +112,16 @@ span_of-overflow_add-at-in-Field-2 t c = omega (arith, record_room c.requires c.
 
 pub span_of-returns-in-Field : goal.span_of-returns-in-Field
 span_of-returns-in-Field t c =
-    let e = words-seen c.image.view_is in
-    span-field c.requires c.node_place-at.ensures (rw e at c.word_at-head.ensures) refl (node-number _ c.in-Field.ensures) (rw e at c.word_at-in-Field.ensures)
-    c.span_of-target.ensures (rw e at c.word_at-in-Field-2.ensures) c.token_span.ensures c.cover_spans-in-Field.ensures
+    span-field c.requires c.node_place-at.ensures c.word_at-head.ensures refl (node-number _ c.in-Field.ensures) c.word_at-in-Field.ensures
+    c.span_of-target.ensures c.word_at-in-Field-2.ensures c.token_span.ensures c.cover_spans-in-Field.ensures
 
 pub span_of-overflow_add-at-in-Cast : goal.span_of-overflow_add-at-in-Cast
 span_of-overflow_add-at-in-Cast t c = omega (arith, record_room c.requires c.node_place-at.ensures)
 
 pub span_of-span_of-left-requires-in-Cast : goal.span_of-span_of-left-requires-in-Cast
 span_of-span_of-left-requires-in-Cast t c =
-    let e = words-seen c.image.view_is in
-    let w = words-cast c.requires c.node_place-at.ensures (rw e at c.word_at-head.ensures) refl (node-number _ c.in-Cast.ensures) in
-    let p = part-ready c.requires w.left (rw e at c.word_at-in-Cast.ensures) in
+    let w = words-cast c.requires c.node_place-at.ensures c.word_at-head.ensures refl (node-number _ c.in-Cast.ensures) in
+    let p = part-ready c.requires w.left c.word_at-in-Cast.ensures in
     (omega (arith, c.decreases, p.under), p.ready)
 
 pub span_of-overflow_add-at-in-Cast-2 : goal.span_of-overflow_add-at-in-Cast-2
@@ -143,21 +129,18 @@ span_of-overflow_add-at-in-Cast-2 t c = omega (arith, record_room c.requires c.n
 
 pub span_of-type_span-ty-requires : goal.span_of-type_span-ty-requires
 span_of-type_span-ty-requires t c =
-    let e = words-seen c.image.view_is in
     record
-    { readable = c.requires.readable; below = rw (rw e at c.word_at-in-Cast-2.ensures) (words-cast c.requires c.node_place-at.ensures (rw e at c.word_at-head.ensures) refl (node-number _ c.in-Cast.ensures)).type.under }
+    { readable = c.requires.readable; below = rw c.word_at-in-Cast-2.ensures (words-cast c.requires c.node_place-at.ensures c.word_at-head.ensures refl (node-number _ c.in-Cast.ensures)).type.under }
 
 pub span_of-returns-in-Cast : goal.span_of-returns-in-Cast
 span_of-returns-in-Cast t c =
-    let e = words-seen c.image.view_is in
-    span-cast c.requires c.node_place-at.ensures (rw e at c.word_at-head.ensures) refl (rw e at c.word_at.ensures) c.token_span-first.ensures
-    (node-number _ c.in-Cast.ensures) (rw e at c.word_at-in-Cast.ensures) c.span_of-left-in-Cast.ensures (rw e at c.word_at-in-Cast-2.ensures) c.type_span-ty.ensures
+    span-cast c.requires c.node_place-at.ensures c.word_at-head.ensures refl c.word_at.ensures c.token_span-first.ensures
+    (node-number _ c.in-Cast.ensures) c.word_at-in-Cast.ensures c.span_of-left-in-Cast.ensures c.word_at-in-Cast-2.ensures c.type_span-ty.ensures
     c.cover_spans-in-Cast.ensures c.cover_spans-in-Cast-2.ensures
 
 pub span_of-list_span-requires : goal.span_of-list_span-requires
 span_of-list_span-requires t c =
-    let e = words-seen c.image.view_is in
-    (omega (arith, c.decreases), record { ready = c.requires; place = c.node_place-at.ensures; word = (rw e at c.word_at-head.ensures); listed = listed-left _ c.of.ensures (kind-small c.requires c.node_place-at.ensures (rw e at c.word_at-head.ensures) refl) c.in_default.not-Atom c.in_default.not-Ident c.in_default.not-Bin c.in_default.not-Unary c.in_default.not-Let c.in_default.not-Field c.in_default.not-Cast })
+    (omega (arith, c.decreases), record { ready = c.requires; place = c.node_place-at.ensures; word = c.word_at-head.ensures; listed = listed-left _ c.of.ensures (kind-small c.requires c.node_place-at.ensures c.word_at-head.ensures refl) c.in_default.not-Atom c.in_default.not-Ident c.in_default.not-Bin c.in_default.not-Unary c.in_default.not-Let c.in_default.not-Field c.in_default.not-Cast })
 
 pub span_of-returns-in_default : goal.span_of-returns-in_default
 span_of-returns-in_default t c = c.list_span.ensures
@@ -170,37 +153,31 @@ list_span-overflow_add-at-in-Fn t c = omega (arith, room c.requires.ready c.requ
 
 pub list_span-overflow_mul-words : goal.list_span-overflow_mul-words
 list_span-overflow_mul-words t c =
-    let e = words-seen c.image.view_is in
     omega
-    (arith, room c.requires.ready c.requires.place c.requires.word refl c.payload-long.ensures, fn-long c.requires.ready c.requires.place c.requires.word refl c.payload-long.ensures (node-number _ c.in-Fn.ensures) (rw e at c.word_at-in-Fn.ensures))
+    (arith, room c.requires.ready c.requires.place c.requires.word refl c.payload-long.ensures, fn-long c.requires.ready c.requires.place c.requires.word refl c.payload-long.ensures (node-number _ c.in-Fn.ensures) c.word_at-in-Fn.ensures)
 
 pub list_span-overflow_add-words : goal.list_span-overflow_add-words
 list_span-overflow_add-words t c =
-    let e = words-seen c.image.view_is in
     omega
-    (arith, room c.requires.ready c.requires.place c.requires.word refl c.payload-long.ensures, fn-long c.requires.ready c.requires.place c.requires.word refl c.payload-long.ensures (node-number _ c.in-Fn.ensures) (rw e at c.word_at-in-Fn.ensures))
+    (arith, room c.requires.ready c.requires.place c.requires.word refl c.payload-long.ensures, fn-long c.requires.ready c.requires.place c.requires.word refl c.payload-long.ensures (node-number _ c.in-Fn.ensures) c.word_at-in-Fn.ensures)
 
 pub list_span-overflow_add-at-in-Fn-2 : goal.list_span-overflow_add-at-in-Fn-2
 list_span-overflow_add-at-in-Fn-2 t c =
-    let e = words-seen c.image.view_is in
     omega
-    (arith, room c.requires.ready c.requires.place c.requires.word refl c.payload-long.ensures, fn-long c.requires.ready c.requires.place c.requires.word refl c.payload-long.ensures (node-number _ c.in-Fn.ensures) (rw e at c.word_at-in-Fn.ensures))
+    (arith, room c.requires.ready c.requires.place c.requires.word refl c.payload-long.ensures, fn-long c.requires.ready c.requires.place c.requires.word refl c.payload-long.ensures (node-number _ c.in-Fn.ensures) c.word_at-in-Fn.ensures)
 
 pub list_span-overflow_sub-long : goal.list_span-overflow_sub-long
 list_span-overflow_sub-long t c =
-    let e = words-seen c.image.view_is in
-    fn-long c.requires.ready c.requires.place c.requires.word refl c.payload-long.ensures (node-number _ c.in-Fn.ensures) (rw e at c.word_at-in-Fn.ensures)
+    fn-long c.requires.ready c.requires.place c.requires.word refl c.payload-long.ensures (node-number _ c.in-Fn.ensures) c.word_at-in-Fn.ensures
 
 pub list_span-cover_nodes-requires : goal.list_span-cover_nodes-requires
 list_span-cover_nodes-requires t c =
-    let e = words-seen c.image.view_is in
-    (omega (arith, c.decreases), fn-ready c.requires.ready c.requires.place c.requires.word refl c.payload-long.ensures (node-number _ c.in-Fn.ensures) (rw e at c.word_at-in-Fn.ensures))
+    (omega (arith, c.decreases), fn-ready c.requires.ready c.requires.place c.requires.word refl c.payload-long.ensures (node-number _ c.in-Fn.ensures) c.word_at-in-Fn.ensures)
 
 pub list_span-returns-in-Fn : goal.list_span-returns-in-Fn
 list_span-returns-in-Fn t c =
-    let e = words-seen c.image.view_is in
-    span-fn c.requires.ready c.requires.place c.requires.word refl (rw e at c.word_at.ensures) c.token_span-first.ensures c.payload-long.ensures
-    (node-number _ c.in-Fn.ensures) (rw e at c.word_at-in-Fn.ensures) c.cover_nodes.ensures
+    span-fn c.requires.ready c.requires.place c.requires.word refl c.word_at.ensures c.token_span-first.ensures c.payload-long.ensures
+    (node-number _ c.in-Fn.ensures) c.word_at-in-Fn.ensures c.cover_nodes.ensures
 
 pub list_span-overflow_add-at-in-Match : goal.list_span-overflow_add-at-in-Match
 list_span-overflow_add-at-in-Match t c = omega (arith, room c.requires.ready c.requires.place c.requires.word refl c.payload-long.ensures)
@@ -216,8 +193,7 @@ list_span-overflow_add-at-in-Call t c = omega (arith, room c.requires.ready c.re
 
 pub list_span-span_of-target-requires : goal.list_span-span_of-target-requires
 list_span-span_of-target-requires t c =
-    let e = words-seen c.image.view_is in
-    let p = call-target c.requires.ready c.requires.place c.requires.word refl c.payload-long.ensures (node-number _ c.in-Call.ensures) (rw e at c.word_at-in-Call.ensures) in
+    let p = call-target c.requires.ready c.requires.place c.requires.word refl c.payload-long.ensures (node-number _ c.in-Call.ensures) c.word_at-in-Call.ensures in
     (omega (arith, c.decreases, p.under), p.ready)
 
 pub list_span-overflow_add-at-in-Call-2 : goal.list_span-overflow_add-at-in-Call-2
@@ -232,8 +208,7 @@ list_span-cover_nodes-requires-in-Call t c =
 
 pub list_span-returns-in-Call : goal.list_span-returns-in-Call
 list_span-returns-in-Call t c =
-    let e = words-seen c.image.view_is in
-    span-call c.requires.ready c.requires.place c.requires.word refl c.payload-long.ensures (node-number _ c.in-Call.ensures) (rw e at c.word_at-in-Call.ensures)
+    span-call c.requires.ready c.requires.place c.requires.word refl c.payload-long.ensures (node-number _ c.in-Call.ensures) c.word_at-in-Call.ensures
     c.span_of-target.ensures c.cover_nodes-in-Call.ensures
 
 pub list_span-overflow_add-at-in-Import : goal.list_span-overflow_add-at-in-Import
@@ -249,9 +224,8 @@ list_span-cover_tokens-requires t c =
 
 pub list_span-returns-in-Import : goal.list_span-returns-in-Import
 list_span-returns-in-Import t c =
-    let e = words-seen c.image.view_is in
-    span_import c.requires.ready c.requires.place c.requires.word refl (rw e at c.word_at.ensures) c.token_span-first.ensures c.payload-long.ensures
-    (node-number _ c.in-Import.ensures) (rw e at c.cover_tokens.ensures)
+    span_import c.requires.ready c.requires.place c.requires.word refl c.word_at.ensures c.token_span-first.ensures c.payload-long.ensures
+    (node-number _ c.in-Import.ensures) c.cover_tokens.ensures
 
 pub list_span-overflow_add-at-in-Extern : goal.list_span-overflow_add-at-in-Extern
 list_span-overflow_add-at-in-Extern t c = omega (arith, room c.requires.ready c.requires.place c.requires.word refl c.payload-long.ensures)
@@ -264,14 +238,12 @@ list_span-overflow_add-at-in-Extern-3 t c = omega (arith, room c.requires.ready 
 
 pub list_span-cover_externs-requires : goal.list_span-cover_externs-requires
 list_span-cover_externs-requires t c =
-    let e = words-seen c.image.view_is in
-    extern-ready c.requires.ready c.requires.place c.requires.word refl c.payload-long.ensures (node-number _ c.in-Extern.ensures) (rw e at c.word_at-in-Extern-2.ensures)
+    extern-ready c.requires.ready c.requires.place c.requires.word refl c.payload-long.ensures (node-number _ c.in-Extern.ensures) c.word_at-in-Extern-2.ensures
 
 pub list_span-returns-in-Extern : goal.list_span-returns-in-Extern
 list_span-returns-in-Extern t c =
-    let e = words-seen c.image.view_is in
-    span-extern c.requires.ready c.requires.place c.requires.word refl (rw e at c.word_at.ensures) c.token_span-first.ensures (node-number _ c.in-Extern.ensures)
-    (rw e at c.word_at-in-Extern.ensures) c.token_span.ensures c.cover_spans-named.ensures (rw e at c.word_at-in-Extern-2.ensures) c.cover_externs.ensures
+    span-extern c.requires.ready c.requires.place c.requires.word refl c.word_at.ensures c.token_span-first.ensures (node-number _ c.in-Extern.ensures)
+    c.word_at-in-Extern.ensures c.token_span.ensures c.cover_spans-named.ensures c.word_at-in-Extern-2.ensures c.cover_externs.ensures
 
 pub list_span-overflow_add-at-in-Record : goal.list_span-overflow_add-at-in-Record
 list_span-overflow_add-at-in-Record t c = omega (arith, room c.requires.ready c.requires.place c.requires.word refl c.payload-long.ensures)
@@ -285,8 +257,7 @@ list_span-cover_values-requires t c =
 
 pub list_span-returns-in-Record : goal.list_span-returns-in-Record
 list_span-returns-in-Record t c =
-    let e = words-seen c.image.view_is in
-    span_record c.requires.ready c.requires.place c.requires.word refl (rw e at c.word_at.ensures) c.token_span-first.ensures c.payload-long.ensures
+    span_record c.requires.ready c.requires.place c.requires.word refl c.word_at.ensures c.token_span-first.ensures c.payload-long.ensures
     (node-number _ c.in-Record.ensures) c.cover_values.ensures
 
 pub list_span-overflow_add-at-in_default : goal.list_span-overflow_add-at-in_default
@@ -305,8 +276,7 @@ list_span-cover_nodes-requires-in_default t c =
 pub list_span-returns-in_default : goal.list_span-returns-in_default
 list_span-returns-in_default t c =
     let q = array-left _ c.of.ensures c.requires.listed c.in_default.not-Fn c.in_default.not-Match c.in_default.not-Call c.in_default.not-Import c.in_default.not-Extern c.in_default.not-Record in
-    let e = words-seen c.image.view_is in
-    span-array c.requires.ready c.requires.place c.requires.word refl (rw e at c.word_at.ensures) c.token_span-first.ensures c.payload-long.ensures q
+    span-array c.requires.ready c.requires.place c.requires.word refl c.word_at.ensures c.token_span-first.ensures c.payload-long.ensures q
     c.cover_nodes-in_default.ensures
 
 pub cover_nodes-loop-init : goal.cover_nodes-loop-init
@@ -314,16 +284,14 @@ cover_nodes-loop-init t c = rw sub-zero (nodes-all c.requires)
 
 pub cover_nodes-span_of-requires : goal.cover_nodes-span_of-requires
 cover_nodes-span_of-requires t c =
-    let e = words-seen c.image.view_is in
-    let p = nodes-part (some-left c.loop-test.true) c.loop.invariant.ready (rw e at c.word_at.ensures) in (omega (arith, c.decreases, p.under), p.ready)
+    let p = nodes-part (some-left c.loop-test.true) c.loop.invariant.ready c.word_at.ensures in (omega (arith, c.decreases, p.under), p.ready)
 
 pub cover_nodes-overflow_add-i : goal.cover_nodes-overflow_add-i
 cover_nodes-overflow_add-i t c = omega (arith, c.loop.invariant.ready.room)
 
 pub cover_nodes-loop-preserved : goal.cover_nodes-loop-preserved
 cover_nodes-loop-preserved t c =
-    let e = words-seen c.image.view_is in
-    rw one-less (nodes-less c.loop.invariant (some-left c.loop-test.true) (rw e at c.word_at.ensures) c.span_of.ensures c.cover_spans-covered.ensures)
+    rw one-less (nodes-less c.loop.invariant (some-left c.loop-test.true) c.word_at.ensures c.span_of.ensures c.cover_spans-covered.ensures)
 
 pub cover_nodes-returns : goal.cover_nodes-returns
 cover_nodes-returns t c = nodes-done c.loop.invariant (none-left c.loop-test.false)
@@ -336,30 +304,29 @@ pub match_span-overflow_add-at-2 : goal.match_span-overflow_add-at-2
 match_span-overflow_add-at-2 t c = omega (arith, match-long c.requires)
 
 pub match_span-cases_end-default-requires : goal.match_span-cases_end-default-requires
-match_span-cases_end-default-requires t c = cases-ready c.requires (rw (words-seen c.image.view_is) at c.word_at-count.ensures)
+match_span-cases_end-default-requires t c = cases-ready c.requires c.word_at-count.ensures
 
 pub match_span-overflow_add-at-3 : goal.match_span-overflow_add-at-3
 match_span-overflow_add-at-3 t c = omega (arith, match-long c.requires)
 
 pub match_span-cover_cases-cases-requires : goal.match_span-cover_cases-cases-requires
-match_span-cover_cases-cases-requires t c = (omega (arith, c.decreases), cases-ready c.requires (rw (words-seen c.image.view_is) at c.word_at-count.ensures))
+match_span-cover_cases-cases-requires t c = (omega (arith, c.decreases), cases-ready c.requires c.word_at-count.ensures)
 
 pub match_span-overflow_add-default : goal.match_span-overflow_add-default
-match_span-overflow_add-default t c = omega (arith, default_end c.requires (rw (words-seen c.image.view_is) at c.word_at-count.ensures) c.cases_end-default.ensures, match-room c.requires)
+match_span-overflow_add-default t c = omega (arith, default_end c.requires c.word_at-count.ensures c.cases_end-default.ensures, match-room c.requires)
 
 pub match_span-overflow_add-default-2 : goal.match_span-overflow_add-default-2
-match_span-overflow_add-default-2 t c = omega (arith, default_end c.requires (rw (words-seen c.image.view_is) at c.word_at-count.ensures) c.cases_end-default.ensures, match-room c.requires)
+match_span-overflow_add-default-2 t c = omega (arith, default_end c.requires c.word_at-count.ensures c.cases_end-default.ensures, match-room c.requires)
 
 pub match_span-overflow_sub-end : goal.match_span-overflow_sub-end
-match_span-overflow_sub-end t c = default_end c.requires (rw (words-seen c.image.view_is) at c.word_at-count.ensures) c.cases_end-default.ensures
+match_span-overflow_sub-end t c = default_end c.requires c.word_at-count.ensures c.cases_end-default.ensures
 
 pub match_span-cover_nodes-requires : goal.match_span-cover_nodes-requires
-match_span-cover_nodes-requires t c = (omega (arith, c.decreases), default_ready c.requires (rw (words-seen c.image.view_is) at c.word_at-count.ensures) c.cases_end-default.ensures)
+match_span-cover_nodes-requires t c = (omega (arith, c.decreases), default_ready c.requires c.word_at-count.ensures c.cases_end-default.ensures)
 
 pub match_span-returns : goal.match_span-returns
 match_span-returns t c =
-    let e = words-seen c.image.view_is in
-    span-match c.requires (rw e at c.word_at-count.ensures) c.cases_end-default.ensures (rw e at c.word_at.ensures) c.token_span-first.ensures c.cover_cases-cases.ensures
+    span-match c.requires c.word_at-count.ensures c.cases_end-default.ensures c.word_at.ensures c.token_span-first.ensures c.cover_cases-cases.ensures
     c.cover_nodes.ensures
 
 pub cover_cases-loop-init : goal.cover_cases-loop-init
@@ -373,28 +340,25 @@ cover_cases-overflow_add-i-in-loop t c = omega (arith, case-room (some-left c.lo
 
 pub cover_cases-span_of-requires : goal.cover_cases-span_of-requires
 cover_cases-span_of-requires t c =
-    let e = words-seen c.image.view_is in
-    let p = case-condition (some-left c.loop-test.true) c.loop.invariant.ready (rw e at c.word_at-in-loop.ensures) in (omega (arith, c.decreases, p.under), p.ready)
+    let p = case-condition (some-left c.loop-test.true) c.loop.invariant.ready c.word_at-in-loop.ensures in (omega (arith, c.decreases, p.under), p.ready)
 
 pub cover_cases-overflow_add-i-in-loop-2 : goal.cover_cases-overflow_add-i-in-loop-2
 cover_cases-overflow_add-i-in-loop-2 t c = omega (arith, case-room (some-left c.loop-test.true) c.loop.invariant.ready refl)
 
 pub cover_cases-cover_nodes-covered-requires : goal.cover_cases-cover_nodes-covered-requires
 cover_cases-cover_nodes-covered-requires t c =
-    let e = words-seen c.image.view_is in
-    (omega (arith, c.decreases), case-body (some-left c.loop-test.true) c.loop.invariant.ready (rw e at c.word_at-count.ensures))
+    (omega (arith, c.decreases), case-body (some-left c.loop-test.true) c.loop.invariant.ready c.word_at-count.ensures)
 
 pub cover_cases-overflow_add-i-in-loop-3 : goal.cover_cases-overflow_add-i-in-loop-3
 cover_cases-overflow_add-i-in-loop-3 t c = omega (arith, case-room (some-left c.loop-test.true) c.loop.invariant.ready refl)
 
 pub cover_cases-overflow_add-i-in-loop-4 : goal.cover_cases-overflow_add-i-in-loop-4
-cover_cases-overflow_add-i-in-loop-4 t c = omega (arith, case-room (some-left c.loop-test.true) c.loop.invariant.ready (rw (words-seen c.image.view_is) at c.word_at-count.ensures))
+cover_cases-overflow_add-i-in-loop-4 t c = omega (arith, case-room (some-left c.loop-test.true) c.loop.invariant.ready c.word_at-count.ensures)
 
 pub cover_cases-loop-preserved : goal.cover_cases-loop-preserved
 cover_cases-loop-preserved t c =
-    let e = words-seen c.image.view_is in
     rw one-less
-    (cases-less c.loop.invariant (some-left c.loop-test.true) (rw e at c.word_at-count.ensures) (rw e at c.word_at.ensures) c.token_span.ensures c.cover_spans-begun.ensures (rw e at c.word_at-in-loop.ensures) c.span_of.ensures c.cover_spans-tested.ensures c.cover_nodes-covered.ensures)
+    (cases-less c.loop.invariant (some-left c.loop-test.true) c.word_at-count.ensures c.word_at.ensures c.token_span.ensures c.cover_spans-begun.ensures c.word_at-in-loop.ensures c.span_of.ensures c.cover_spans-tested.ensures c.cover_nodes-covered.ensures)
 
 pub cover_cases-returns : goal.cover_cases-returns
 cover_cases-returns t c = cases_done c.loop.invariant (none-left c.loop-test.false)

@@ -4,7 +4,6 @@ use Rattle.spans.specs.Ready.{case-room}
 use native.Mathlib.Nat.{sub-zero}
 use Rattle.spans.proofs.Loops.{some-left, none-left, one-less}
 use Rattle.spans.proofs.Loops.{end-all, end-less, end-done}
-use Rattle.spans.specs.Seen.{words-seen}
 use Rattle.spans.proofs.cases_end.Goals as goal
 
 pub loop-init : goal.loop-init
@@ -17,10 +16,10 @@ pub overflow_add-i-in-loop : goal.overflow_add-i-in-loop
 overflow_add-i-in-loop c = omega (arith, case-room (some-left c.loop-test.true) c.loop.invariant.ready refl)
 
 pub overflow_add-i-in-loop-2 : goal.overflow_add-i-in-loop-2
-overflow_add-i-in-loop-2 c = omega (arith, case-room (some-left c.loop-test.true) c.loop.invariant.ready (rw (words-seen c.image.view_is) at c.word_at.ensures))
+overflow_add-i-in-loop-2 c = omega (arith, case-room (some-left c.loop-test.true) c.loop.invariant.ready c.word_at.ensures)
 
 pub loop-preserved : goal.loop-preserved
-loop-preserved c = rw one-less (end-less c.loop.invariant (some-left c.loop-test.true) (rw (words-seen c.image.view_is) at c.word_at.ensures))
+loop-preserved c = rw one-less (end-less c.loop.invariant (some-left c.loop-test.true) c.word_at.ensures)
 
 pub returns : goal.returns
 returns c = end-done c.loop.invariant (none-left c.loop-test.false)

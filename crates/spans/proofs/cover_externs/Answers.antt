@@ -4,7 +4,6 @@ use Rattle.spans.specs.Ready.{extern-room, extern-args, extern-ret}
 use native.Mathlib.Nat.{sub-zero}
 use Rattle.spans.proofs.Loops.{some-left, none-left, one-less}
 use Rattle.spans.proofs.Loops.{externs_all, externs_less, externs_done}
-use Rattle.spans.specs.Seen.{words-seen}
 use Rattle.spans.proofs.cover_externs.Goals as goal
 
 pub loop-init : goal.loop-init
@@ -17,28 +16,27 @@ pub overflow_add-i-in-loop : goal.overflow_add-i-in-loop
 overflow_add-i-in-loop c = omega (arith, extern-room (some-left c.loop-test.true) c.loop.invariant.ready refl)
 
 pub cover_args-args-requires : goal.cover_args-args-requires
-cover_args-args-requires c = extern-args (some-left c.loop-test.true) c.loop.invariant.ready (rw (words-seen c.image.view_is) at c.word_at-count.ensures)
+cover_args-args-requires c = extern-args (some-left c.loop-test.true) c.loop.invariant.ready c.word_at-count.ensures
 
 pub overflow_add-i-in-loop-2 : goal.overflow_add-i-in-loop-2
 overflow_add-i-in-loop-2 c = omega (arith, extern-room (some-left c.loop-test.true) c.loop.invariant.ready refl)
 
 pub type_span-requires : goal.type_span-requires
-type_span-requires c = extern-ret (some-left c.loop-test.true) c.loop.invariant.ready (rw (words-seen c.image.view_is) at c.word_at-in-loop.ensures)
+type_span-requires c = extern-ret (some-left c.loop-test.true) c.loop.invariant.ready c.word_at-in-loop.ensures
 
 pub overflow_add-i-in-loop-3 : goal.overflow_add-i-in-loop-3
 overflow_add-i-in-loop-3 c = omega (arith, extern-room (some-left c.loop-test.true) c.loop.invariant.ready refl)
 
 pub overflow_mul-i : goal.overflow_mul-i
-overflow_mul-i c = omega (arith, extern-room (some-left c.loop-test.true) c.loop.invariant.ready (rw (words-seen c.image.view_is) at c.word_at-count.ensures))
+overflow_mul-i c = omega (arith, extern-room (some-left c.loop-test.true) c.loop.invariant.ready c.word_at-count.ensures)
 
 pub overflow_add-i-in-loop-4 : goal.overflow_add-i-in-loop-4
-overflow_add-i-in-loop-4 c = omega (arith, extern-room (some-left c.loop-test.true) c.loop.invariant.ready (rw (words-seen c.image.view_is) at c.word_at-count.ensures))
+overflow_add-i-in-loop-4 c = omega (arith, extern-room (some-left c.loop-test.true) c.loop.invariant.ready c.word_at-count.ensures)
 
 pub loop-preserved : goal.loop-preserved
 loop-preserved c =
-    let e = words-seen c.image.view_is in
     rw one-less
-    (externs_less c.loop.invariant (some-left c.loop-test.true) (rw e at c.word_at-count.ensures) (rw e at c.word_at.ensures) c.token_span.ensures c.cover_spans-named.ensures c.cover_args-args.ensures (rw e at c.word_at-in-loop.ensures) c.type_span.ensures c.cover_spans-covered.ensures)
+    (externs_less c.loop.invariant (some-left c.loop-test.true) c.word_at-count.ensures c.word_at.ensures c.token_span.ensures c.cover_spans-named.ensures c.cover_args-args.ensures c.word_at-in-loop.ensures c.type_span.ensures c.cover_spans-covered.ensures)
 
 pub returns : goal.returns
 returns c = externs_done c.loop.invariant (none-left c.loop-test.false)

@@ -4,4 +4,4 @@ use Rattle.spans.proofs.Loops.{TokensLeft}
 use Rattle.spans.proofs.cover_tokens.Given as goal
 
 abbrev pub invariant-loop : goal.invariant-loop
-invariant-loop l = TokensLeft l.image l.initial.covered l.at l.k l.covered l.i (l.k - l.counter)
+invariant-loop l = TokensLeft l.image.words l.initial.covered l.at l.k l.covered l.i (l.k - l.counter)
