@@ -2,13 +2,13 @@
 use Rattle.std.specs.Prelude.{Option, Some, None}
 use Prim.Native.Nat.{ℕ, zero, suc, ◌+◌, ◌-◌, ◌≤◌, ◌<◌}
 use mathlib.Core.Path.{◌≡◌, refl, sym, ap, ap₂, ◌∙◌}
-use mathlib.Core.Bool.{Bool, true, false}
+use mathlib.Core.Bool.{Bool}
 use mathlib.Core.List.{List, [], ◌∷◌, ◌++◌, map}
 use native.Mathlib.Numerals.{add-one}
 use native.Mathlib.Omega.{arith}
 use lib.ListN.{length, get_or, take, drop, length-drop, drop_of_length-le}
 use lib.Seq.{get_or-drop, take_all}
-use Rattle.tok.specs.Text.{Texts, text, name_bytes, same_bytes}
+use Rattle.tok.specs.Text.{Texts, text}
 use Rattle.ptype.specs.Ty.{Ty}
 use Rattle.ptype.specs.Words.{ty_of, fields_from}
 use Rattle.display.specs.declared.Writer.{Writer}
@@ -16,8 +16,8 @@ use Rattle.display.specs.Joined.{joined, sig, separated}
 use Rattle.display.specs.JoinedLaws.{joined_after, joined-start, joined-turn, joined_end}
 use Rattle.display.specs.Signature.{arg_types, args_of}
 use Rattle.display.specs.WritingLaws.{Owes}
-use Rattle.library.specs.Package.{Signature, params_from, group_of}
-use Rattle.state.specs.Signatures.{signature_at, entry_at, entry_end, entries_from}
+use Rattle.library.specs.Package.{Signature, params_from}
+use Rattle.state.specs.Signatures.{signature_at}
 use Rattle.signatures.specs.declared.Entry.{Entry}
 use Rattle.signatures.specs.EntryList.{Entries, entries}
 use Rattle.signatures.specs.Entries.{flag_words, Finds}

@@ -3,7 +3,7 @@
 // are asked for, so that no place of theirs is kept.
 #![tactic(auto)]
 
-ghost use Rattle.std.specs.Prelude.{◌≡◌, Bool, List, map, ℕ};
+ghost use Rattle.std.specs.Prelude.{Bool, List, map, ℕ};
 ghost use Rattle.tok.specs.Text.{text};
 ghost use Rattle.ptype.specs.Ty.{Ty};
 ghost use Rattle.ptype.specs.Words.{ty_of};

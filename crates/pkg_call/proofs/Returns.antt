@@ -1,11 +1,11 @@
 -- A call of a package's function, one law for each way out of the code. Assumes nothing.
 use Rattle.std.specs.Prelude.{Option as Found}
-use Prim.Native.Nat.{ℕ, ◌+◌, ◌≤◌, min}
+use Prim.Native.Nat.{ℕ, ◌≤◌}
 use mathlib.Core.Path.{◌≡◌, refl, sym, ap, subst, ◌∙◌}
 use mathlib.Core.Bool.{Bool, true, false}
 use mathlib.Core.Option.{some}
 use mathlib.Core.List.{List, [], ◌∷◌, ◌++◌}
-use lib.ListN.{length, get_or, take}
+use lib.ListN.{length, take}
 use lib.Seq.{length-take-le, take_at}
 use Rattle.tok.specs.Text.{Texts, name_bytes}
 use Rattle.err.specs.declared.CallName.TheVariants.{OfPackage}

@@ -13,14 +13,14 @@ use Rattle.tok.specs.Text.{Texts}
 use Rattle.tok.specs.Step.{when}
 use Rattle.ptype.specs.Ty.{Ty, same_ty}
 use Rattle.ptype.specs.Words.{ty_of}
-use Rattle.library.specs.Package.{Param, param, Signature, group_of}
+use Rattle.library.specs.Package.{Param, param, Signature}
 use Rattle.rules.specs.declared.Answer.{Answer}
 use Rattle.rules.specs.declared.Answer.TheVariants.{Poison}
 use Rattle.rules.specs.Steps.{tree, set_known}
 use Rattle.rules.specs.Calls.{overload_matches, common_return}
 use Rattle.state.specs.declared.Used.{Used}
 use Rattle.state.specs.Context.{ctx}
-use Rattle.state.specs.Signatures.{signature_at, entries_from}
+use Rattle.state.specs.Signatures.{signature_at}
 use Rattle.state.specs.World.{world, Step, stepped, Steps}
 use Rattle.signatures.specs.declared.Entry.{Entry}
 use Rattle.signatures.specs.EntryList.{Entries, entries}
