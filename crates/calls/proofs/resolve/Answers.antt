@@ -13,14 +13,19 @@ overflow_add-target c =
     omega (arith, target_room c.requires (rw e at c.word_at-slot.ensures) (rw e at c.word_at.ensures) (rw p at c.node_place-target.ensures) (rw e at c.word_at-2.ensures) refl)
 
 pub resolve_own-requires : goal.resolve_own-requires
-resolve_own-requires c = rw c.sources.view_is (own-asked c.requires)
+resolve_own-requires c =
+    let e = ap (λ s. s.image.words) c.sources.view_is in
+    let p = ap (λ s. s.image.places) c.sources.view_is in
+    rw (e, p) (own-asked c.requires)
 
 pub returns-in-Ident : goal.returns-in-Ident
 returns-in-Ident c =
     let e = ap (λ s. s.image.words) c.sources.view_is in
     let p = ap (λ s. s.image.places) c.sources.view_is in
+    let t = ap (λ s. s.texts) c.sources.view_is in
+    let own = rw (t, e) at c.resolve_own.ensures in
     own-resolved c.requires (rw e at c.word_at-slot.ensures) (rw e at c.word_at.ensures) (rw p at c.node_place-target.ensures) (rw e at c.word_at-2.ensures) refl
-    (node-number _ c.in-Ident.ensures) c.args.poisoned (rw e at c.word_at-in-Ident.ensures) (λ ls v. rw c.sources.view_is at (c.resolve_own.ensures ls v _ _ no_more))
+    (node-number _ c.in-Ident.ensures) c.args.poisoned (rw e at c.word_at-in-Ident.ensures) (λ ls v. own ls v _ _ no_more)
 
 pub overflow_add-target-in_default : goal.overflow_add-target-in_default
 overflow_add-target-in_default c =

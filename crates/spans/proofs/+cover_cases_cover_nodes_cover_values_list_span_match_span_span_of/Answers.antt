@@ -33,8 +33,9 @@ cover_values-overflow_add-i-in-loop t c = omega (arith, c.loop.invariant.ready.r
 
 pub cover_values-loop-preserved : goal.cover_values-loop-preserved
 cover_values-loop-preserved t c =
+    let left = some-left c.loop-test.true in
     rw one-less
-    (values-less c.loop.invariant (some-left c.loop-test.true) c.word_at.ensures c.token_span.ensures c.cover_spans-named.ensures c.word_at-in-loop.ensures c.span_of.ensures c.cover_spans-covered.ensures)
+    (values-less c.loop.invariant left c.word_at.ensures c.token_span.ensures c.cover_spans-named.ensures c.word_at-in-loop.ensures c.span_of.ensures c.cover_spans-covered.ensures)
 
 pub cover_values-returns : goal.cover_values-returns
 cover_values-returns t c = values-done c.loop.invariant (none-left c.loop-test.false)
@@ -140,7 +141,10 @@ span_of-returns-in-Cast t c =
 
 pub span_of-list_span-requires : goal.span_of-list_span-requires
 span_of-list_span-requires t c =
-    (omega (arith, c.decreases), record { ready = c.requires; place = c.node_place-at.ensures; word = c.word_at-head.ensures; listed = listed-left _ c.of.ensures (kind-small c.requires c.node_place-at.ensures c.word_at-head.ensures refl) c.in_default.not-Atom c.in_default.not-Ident c.in_default.not-Bin c.in_default.not-Unary c.in_default.not-Let c.in_default.not-Field c.in_default.not-Cast })
+    let small = kind-small c.requires c.node_place-at.ensures c.word_at-head.ensures refl in
+    let n = c.in_default in
+    let listed = listed-left _ c.of.ensures small n.not-Atom n.not-Ident n.not-Bin n.not-Unary n.not-Let n.not-Field n.not-Cast in
+    (omega (arith, c.decreases), record { ready = c.requires; place = c.node_place-at.ensures; word = c.word_at-head.ensures; listed = listed })
 
 pub span_of-returns-in_default : goal.span_of-returns-in_default
 span_of-returns-in_default t c = c.list_span.ensures
@@ -153,18 +157,18 @@ list_span-overflow_add-at-in-Fn t c = omega (arith, room c.requires.ready c.requ
 
 pub list_span-overflow_mul-words : goal.list_span-overflow_mul-words
 list_span-overflow_mul-words t c =
-    omega
-    (arith, room c.requires.ready c.requires.place c.requires.word refl c.payload-long.ensures, fn-long c.requires.ready c.requires.place c.requires.word refl c.payload-long.ensures (node-number _ c.in-Fn.ensures) c.word_at-in-Fn.ensures)
+    let long = fn-long c.requires.ready c.requires.place c.requires.word refl c.payload-long.ensures (node-number _ c.in-Fn.ensures) c.word_at-in-Fn.ensures in
+    omega (arith, room c.requires.ready c.requires.place c.requires.word refl c.payload-long.ensures, long)
 
 pub list_span-overflow_add-words : goal.list_span-overflow_add-words
 list_span-overflow_add-words t c =
-    omega
-    (arith, room c.requires.ready c.requires.place c.requires.word refl c.payload-long.ensures, fn-long c.requires.ready c.requires.place c.requires.word refl c.payload-long.ensures (node-number _ c.in-Fn.ensures) c.word_at-in-Fn.ensures)
+    let long = fn-long c.requires.ready c.requires.place c.requires.word refl c.payload-long.ensures (node-number _ c.in-Fn.ensures) c.word_at-in-Fn.ensures in
+    omega (arith, room c.requires.ready c.requires.place c.requires.word refl c.payload-long.ensures, long)
 
 pub list_span-overflow_add-at-in-Fn-2 : goal.list_span-overflow_add-at-in-Fn-2
 list_span-overflow_add-at-in-Fn-2 t c =
-    omega
-    (arith, room c.requires.ready c.requires.place c.requires.word refl c.payload-long.ensures, fn-long c.requires.ready c.requires.place c.requires.word refl c.payload-long.ensures (node-number _ c.in-Fn.ensures) c.word_at-in-Fn.ensures)
+    let long = fn-long c.requires.ready c.requires.place c.requires.word refl c.payload-long.ensures (node-number _ c.in-Fn.ensures) c.word_at-in-Fn.ensures in
+    omega (arith, room c.requires.ready c.requires.place c.requires.word refl c.payload-long.ensures, long)
 
 pub list_span-overflow_sub-long : goal.list_span-overflow_sub-long
 list_span-overflow_sub-long t c =
@@ -219,8 +223,8 @@ list_span-overflow_sub-long-in-Import t c = import_long c.requires.ready c.requi
 
 pub list_span-cover_tokens-requires : goal.list_span-cover_tokens-requires
 list_span-cover_tokens-requires t c =
-    omega
-    (arith, room c.requires.ready c.requires.place c.requires.word refl c.payload-long.ensures, import_long c.requires.ready c.requires.place c.requires.word refl c.payload-long.ensures (node-number _ c.in-Import.ensures))
+    let long = import_long c.requires.ready c.requires.place c.requires.word refl c.payload-long.ensures (node-number _ c.in-Import.ensures) in
+    omega (arith, room c.requires.ready c.requires.place c.requires.word refl c.payload-long.ensures, long)
 
 pub list_span-returns-in-Import : goal.list_span-returns-in-Import
 list_span-returns-in-Import t c =
@@ -357,8 +361,11 @@ cover_cases-overflow_add-i-in-loop-4 t c = omega (arith, case-room (some-left c.
 
 pub cover_cases-loop-preserved : goal.cover_cases-loop-preserved
 cover_cases-loop-preserved t c =
+    let left = some-left c.loop-test.true in
+    let tested = c.cover_spans-tested.ensures in
+    let body = c.cover_nodes-covered.ensures in
     rw one-less
-    (cases-less c.loop.invariant (some-left c.loop-test.true) c.word_at-count.ensures c.word_at.ensures c.token_span.ensures c.cover_spans-begun.ensures c.word_at-in-loop.ensures c.span_of.ensures c.cover_spans-tested.ensures c.cover_nodes-covered.ensures)
+    (cases-less c.loop.invariant left c.word_at-count.ensures c.word_at.ensures c.token_span.ensures c.cover_spans-begun.ensures c.word_at-in-loop.ensures c.span_of.ensures tested body)
 
 pub cover_cases-returns : goal.cover_cases-returns
 cover_cases-returns t c = cases_done c.loop.invariant (none-left c.loop-test.false)

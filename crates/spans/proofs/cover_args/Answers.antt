@@ -19,8 +19,9 @@ overflow_add-i-in-loop c = omega (arith, c.loop.invariant.ready.room, (some-left
 
 pub loop-preserved : goal.loop-preserved
 loop-preserved c =
+    let left = some-left c.loop-test.true in
     rw one-less
-    (args-less c.loop.invariant (some-left c.loop-test.true) c.word_at.ensures c.token_span.ensures c.cover_spans-named.ensures c.word_at-in-loop.ensures c.type_span.ensures c.cover_spans-covered.ensures)
+    (args-less c.loop.invariant left c.word_at.ensures c.token_span.ensures c.cover_spans-named.ensures c.word_at-in-loop.ensures c.type_span.ensures c.cover_spans-covered.ensures)
 
 pub returns : goal.returns
 returns c = args-done c.loop.invariant (none-left c.loop-test.false)

@@ -35,8 +35,11 @@ overflow_add-i-in-loop-4 c = omega (arith, extern-room (some-left c.loop-test.tr
 
 pub loop-preserved : goal.loop-preserved
 loop-preserved c =
+    let left = some-left c.loop-test.true in
+    let args = c.cover_args-args.ensures in
+    let ret = c.type_span.ensures in
     rw one-less
-    (externs_less c.loop.invariant (some-left c.loop-test.true) c.word_at-count.ensures c.word_at.ensures c.token_span.ensures c.cover_spans-named.ensures c.cover_args-args.ensures c.word_at-in-loop.ensures c.type_span.ensures c.cover_spans-covered.ensures)
+    (externs_less c.loop.invariant left c.word_at-count.ensures c.word_at.ensures c.token_span.ensures c.cover_spans-named.ensures args c.word_at-in-loop.ensures ret c.cover_spans-covered.ensures)
 
 pub returns : goal.returns
 returns c = externs_done c.loop.invariant (none-left c.loop-test.false)
