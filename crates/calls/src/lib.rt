@@ -155,8 +155,6 @@ pub fn resolve(
         ),
         _ => {
             let of = image.node_place(image.word_at(target + 2));
-            let pkg = image.word_at(of + 2);
-            let name = image.word_at(target + 3);
             pkg_call::resolve_pkg_call(
                 slots,
                 types,
@@ -167,8 +165,8 @@ pub fn resolve(
                 st,
                 n,
                 slot,
-                pkg,
-                name,
+                image.word_at(of + 2),
+                image.word_at(target + 3),
                 at + 3,
                 count,
                 poisoned,

@@ -6,12 +6,14 @@ use Rattle.call_args.proofs.check_plain.Goals as goal
 
 pub returns-in_err-used : goal.returns-in_err-used
 returns-in_err-used c =
-    miscounted-full _ _ _ _ _ _ _ _ _ _ _ _ _ _ _ c.argument_count-required.ensures c.return_type-ret.ensures c.if-count-required.true (told_in_whole _ c.first_free-free.ensures c.argument_count-reported.ensures)
+    miscounted-full _ _ _ _ _ _ _ _ _ _ _ _ _ _ _
+    c.argument_count-required.ensures c.return_type-ret.ensures c.if-count-required.true (told_in_whole _ c.first_free-free.ensures c.argument_count-reported.ensures)
     c.told.ensures c.in_err-used.was c.from_residual.ensures.1
 
 pub returns-then-count-required : goal.returns-then-count-required
 returns-then-count-required c =
-    miscounted _ _ _ _ _ _ _ _ _ _ _ _ _ _ _ c.argument_count-required.ensures c.return_type-ret.ensures c.if-count-required.true (told_in_whole _ c.first_free-free.ensures c.argument_count-reported.ensures)
+    miscounted _ _ _ _ _ _ _ _ _ _ _ _ _ _ _
+    c.argument_count-required.ensures c.return_type-ret.ensures c.if-count-required.true (told_in_whole _ c.first_free-free.ensures c.argument_count-reported.ensures)
     c.told.ensures c.in_ok-used.was c.set_known.ensures
 
 pub plain_arguments-requires : goal.plain_arguments-requires
@@ -19,7 +21,8 @@ plain_arguments-requires c = record { nodes = c.requires; counts = λ f. c.if-co
 
 pub returns-in_err-used-2 : goal.returns-in_err-used-2
 returns-in_err-used-2 c =
-    counted-stops _ _ _ _ _ _ _ _ _ _ _ _ _ _ _ c.argument_count-required.ensures c.return_type-ret.ensures c.if-count-required.false c.plain_arguments.ensures c.in_err-used-2.was c.from_residual-in_err-used-2.ensures.1
+    counted-stops _ _ _ _ _ _ _ _ _ _ _ _ _ _ _
+    c.argument_count-required.ensures c.return_type-ret.ensures c.if-count-required.false c.plain_arguments.ensures c.in_err-used-2.was c.from_residual-in_err-used-2.ensures.1
 
 pub returns : goal.returns
 returns c =

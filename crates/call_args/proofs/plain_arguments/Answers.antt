@@ -29,7 +29,7 @@ pub loop-i-preserved : goal.loop-i-preserved
 loop-i-preserved c =
     let one = c.plain_argument in (
       more-done _ _ _ _ _ _ _ _ _ _ _ _ c.loop-i.invariant.0
-    (c.requires.counts false) (omega arith) c.word_at-number.ensures (c.argument_name.ensures false) (c.argument_type.ensures false)
+          (c.requires.counts false) (omega arith) c.word_at-number.ensures (c.argument_name.ensures false) (c.argument_type.ensures false)
           c.slot_of.ensures c.span_of.ensures one.ensures c.in_ok-after.was,
       one.auto.diagnostics ∙ c.loop-i.invariant.1,
       one.auto.messages ∙ c.loop-i.invariant.2,

@@ -43,8 +43,11 @@ pub overflow_add-of : goal.overflow_add-of
 overflow_add-of c =
     let e = ap (λ s. s.image.words) c.sources.view_is in
     let p = ap (λ s. s.image.places) c.sources.view_is in
-    omega (arith, inner_room c.requires (rw e at c.word_at-slot.ensures) (rw e at c.word_at.ensures) (rw p at c.node_place-target.ensures) (rw e at c.word_at-2.ensures) refl
-    (node-not _ c.of.ensures c.in_default.not-Ident) (rw e at c.word_at-in_default.ensures) (rw p at c.node_place-of.ensures))
+    omega (
+      arith,
+      inner_room c.requires (rw e at c.word_at-slot.ensures) (rw e at c.word_at.ensures) (rw p at c.node_place-target.ensures) (rw e at c.word_at-2.ensures) refl
+          (node-not _ c.of.ensures c.in_default.not-Ident) (rw e at c.word_at-in_default.ensures) (rw p at c.node_place-of.ensures),
+    )
 
 pub resolve_pkg_call-requires : goal.resolve_pkg_call-requires
 resolve_pkg_call-requires c = package_asked c.requires
@@ -55,4 +58,4 @@ returns-in_default c =
     let p = ap (λ s. s.image.places) c.sources.view_is in
     package_resolved c.requires (rw e at c.word_at-slot.ensures) (rw e at c.word_at.ensures) (rw p at c.node_place-target.ensures) (rw e at c.word_at-2.ensures) refl
     (node-not _ c.of.ensures c.in_default.not-Ident) (rw e at c.word_at-in_default.ensures) (rw p at c.node_place-of.ensures)
-    c.args.poisoned (rw e at c.word_at-pkg.ensures) (rw e at c.word_at-name.ensures) (λ ls v. c.resolve_pkg_call.ensures ls v _ no_more)
+    c.args.poisoned (rw e at c.word_at-in_default-2.ensures) (rw e at c.word_at-in_default-3.ensures) (λ ls v. c.resolve_pkg_call.ensures ls v _ no_more)

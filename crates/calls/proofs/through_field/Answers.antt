@@ -23,11 +23,11 @@ returns-after-matches c =
     let target = c.word_at.ensures in
     let of = c.word_at-in_default.ensures in
     let no = node-not _ c.of.ensures c.in_default.not-Ident in
-    elim c.match-matches.branch
-    [ in-Ident-matches w ↦ rw w.matches-is
-        (of_ident c.requires target c.node_place-target.ensures c.word_at-2.ensures refl no of c.node_place-of.ensures c.word_at-in_default-2.ensures refl
-        (node-number _ w.in-Ident-matches.ensures))
-    | in_default-matches w ↦ rw w.matches-is
-        (of_other c.requires target c.node_place-target.ensures c.word_at-2.ensures refl no of c.node_place-of.ensures c.word_at-in_default-2.ensures refl
-        (node-not _ c.of-in_default.ensures w.in_default-matches.not-Ident))
+    elim c.match-matches.branch [
+      | in-Ident-matches w ↦ rw w.matches-is
+          (of_ident c.requires target c.node_place-target.ensures c.word_at-2.ensures refl no of c.node_place-of.ensures c.word_at-in_default-2.ensures refl
+          (node-number _ w.in-Ident-matches.ensures))
+      | in_default-matches w ↦ rw w.matches-is
+          (of_other c.requires target c.node_place-target.ensures c.word_at-2.ensures refl no of c.node_place-of.ensures c.word_at-in_default-2.ensures refl
+          (node-not _ c.of-in_default.ensures w.in_default-matches.not-Ident))
     ]
