@@ -1,6 +1,7 @@
 -- `leaves::leaf` meets its contract: one law for each kind. The facts of the calls are of the fields of `sources`, what is asked for of its value. Assumes nothing.
 use Rattle.std.proofs.Common.{refl, ap}
 use native.Mathlib.Omega.{arith}
+use Rattle.ast.specs.Image.{slot_count}
 use Rattle.ast.specs.KindLaws.{node-number, node-not}
 use Rattle.places.specs.NodesAt.{record_room, length-there}
 use Rattle.visit.specs.Plain.{steps-visits}
@@ -67,10 +68,11 @@ returns-in-Import c =
     let r = rw (← c.sources.view_is) at c.requires in
     let t = ap (λ s. s.texts) c.sources-inside.view_is in
     let l = ap (λ s. s.library.now) c.sources-inside.view_is in
+    let m = ap (λ s. s.image.words) c.sources-inside.view_is in
     rw (← c.sources.view_is)
     (rw (← t, ← l)
     (λ f o. import_visited _ _ r.node c.node_place-at.ensures c.word_at-head.ensures refl (node-number _ c.in-Import.ensures) c.word_at-slot.ensures c.word_at-first.ensures c.payload.ensures
-    (c.import_node.ensures _ _ _ o)))
+    (rw m at (c.import_node.ensures (slot_count c.sources.inside.image.words) f c.args.types.now o))))
 
 pub overflow_add-at-in_default : goal.overflow_add-at-in_default
 overflow_add-at-in_default c =

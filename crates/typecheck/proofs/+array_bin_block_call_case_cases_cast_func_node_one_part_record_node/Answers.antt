@@ -20,37 +20,57 @@ use Rattle.ast.specs.KindLaws.{node-number}
 use Rattle.walk_laws.specs.Dispatch.{to-leaf, to_rule, to_one, a-kind}
 use Rattle.typecheck.proofs.+array_bin_block_call_case_cases_cast_func_node_one_part_record_node.Goals as goal
 
--- ── A node, by its kind ──
+-- ── A node, by its kind: the facts of the calls are of the fields of `sources`, what is asked for of its value ──
 
 pub node-leaf-requires : goal.node-leaf-requires
-node-leaf-requires t c = to-leaf c.node_place.ensures c.word_at.ensures c.requires c.of.ensures c.in-Atom.is
+node-leaf-requires t c =
+    let r = rw (← c.sources.view_is) at c.requires in
+    rw (← c.sources.view_is) (to-leaf c.node_place.ensures c.word_at.ensures r c.of.ensures c.in-Atom.is)
 
 pub node-bin-requires : goal.node-bin-requires
-node-bin-requires t c = (omega (arith, c.decreases), to_rule c.node_place.ensures c.word_at.ensures c.requires (node-number _ c.in-Bin.ensures))
+node-bin-requires t c =
+    let r = rw (← c.sources.view_is) at c.requires in
+    (omega (arith, c.decreases), rw (← c.sources.view_is) (to_rule c.node_place.ensures c.word_at.ensures r (node-number _ c.in-Bin.ensures)))
 
 pub node-cast-requires : goal.node-cast-requires
-node-cast-requires t c = (omega (arith, c.decreases), to_rule c.node_place.ensures c.word_at.ensures c.requires (node-number _ c.in-Cast.ensures))
-
-pub node-one-requires : goal.node-one-requires
-node-one-requires t c = (omega (arith, c.decreases), to_one c.node_place.ensures c.word_at.ensures c.requires c.of.ensures c.in-Unary.is)
+node-cast-requires t c =
+    let r = rw (← c.sources.view_is) at c.requires in
+    (omega (arith, c.decreases), rw (← c.sources.view_is) (to_rule c.node_place.ensures c.word_at.ensures r (node-number _ c.in-Cast.ensures)))
 
 pub node-func-requires : goal.node-func-requires
-node-func-requires t c = (omega (arith, c.decreases), to_rule c.node_place.ensures c.word_at.ensures c.requires (node-number _ c.in-Fn.ensures))
+node-func-requires t c =
+    let r = rw (← c.sources.view_is) at c.requires in
+    (omega (arith, c.decreases), rw (← c.sources.view_is) (to_rule c.node_place.ensures c.word_at.ensures r (node-number _ c.in-Fn.ensures)))
 
 pub node-cases-requires : goal.node-cases-requires
-node-cases-requires t c = (omega (arith, c.decreases), to_rule c.node_place.ensures c.word_at.ensures c.requires (node-number _ c.in-Match.ensures))
+node-cases-requires t c =
+    let r = rw (← c.sources.view_is) at c.requires in
+    (omega (arith, c.decreases), rw (← c.sources.view_is) (to_rule c.node_place.ensures c.word_at.ensures r (node-number _ c.in-Match.ensures)))
 
 pub node-call-requires : goal.node-call-requires
-node-call-requires t c = (omega (arith, c.decreases), to_rule c.node_place.ensures c.word_at.ensures c.requires (node-number _ c.in-Call.ensures))
+node-call-requires t c =
+    let r = rw (← c.sources.view_is) at c.requires in
+    (omega (arith, c.decreases), rw (← c.sources.view_is) (to_rule c.node_place.ensures c.word_at.ensures r (node-number _ c.in-Call.ensures)))
 
 pub node-record_node-requires : goal.node-record_node-requires
-node-record_node-requires t c = (omega (arith, c.decreases), to_rule c.node_place.ensures c.word_at.ensures c.requires (node-number _ c.in-Record.ensures))
+node-record_node-requires t c =
+    let r = rw (← c.sources.view_is) at c.requires in
+    (omega (arith, c.decreases), rw (← c.sources.view_is) (to_rule c.node_place.ensures c.word_at.ensures r (node-number _ c.in-Record.ensures)))
 
 pub node-array-requires : goal.node-array-requires
-node-array-requires t c = (omega (arith, c.decreases), to_rule c.node_place.ensures c.word_at.ensures c.requires (node-number _ c.in-Array.ensures))
+node-array-requires t c =
+    let r = rw (← c.sources.view_is) at c.requires in
+    (omega (arith, c.decreases), rw (← c.sources.view_is) (to_rule c.node_place.ensures c.word_at.ensures r (node-number _ c.in-Array.ensures)))
+
+pub node-one-requires : goal.node-one-requires
+node-one-requires t c =
+    let r = rw (← c.sources.view_is) at c.requires in
+    (omega (arith, c.decreases), rw (← c.sources.view_is) (to_one c.node_place.ensures c.word_at.ensures r c.of.ensures c.in-Unary.is))
 
 pub node-unreachable-requires : goal.node-unreachable-requires
-node-unreachable-requires t c = a-kind c.node_place.ensures c.word_at.ensures c.requires c.of.ensures c.in-None.is
+node-unreachable-requires t c =
+    let r = rw (← c.sources.view_is) at c.requires in
+    a-kind c.node_place.ensures c.word_at.ensures r c.of.ensures c.in-None.is
 
 pub node-returns-in-Atom : goal.node-returns-in-Atom
 node-returns-in-Atom t c = c.leaf.ensures _ no_more
