@@ -6,7 +6,7 @@ use Rattle.std.proofs.Math.Option.{none, some}
 use Rattle.std.proofs.Common.{sym, ap, ◌∙◌}
 use borrow.Author.Tests.{le-leb}
 use Rattle.tok.specs.Text.{Texts, name_bytes}
-use Rattle.tok.specs.Step.{return, when}
+use Rattle.tok.specs.Step.{when}
 use Rattle.tok.specs.declared.Span.{Span}
 use Rattle.ptype.specs.Ty.{contains_slot}
 use Rattle.ptype.specs.Words.{ty_of}
