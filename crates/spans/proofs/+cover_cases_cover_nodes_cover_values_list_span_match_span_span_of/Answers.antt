@@ -15,7 +15,7 @@ use Rattle.spans.proofs.Returns.{span-match}
 use mathlib.Core.Path.{refl}
 use Rattle.spans.specs.Ready.{case-condition, case-room, case-body}
 use Rattle.spans.proofs.Loops.{cases-all, cases-less, cases_done}
-use Rattle.ast.specs.KindLaws.{node-number, node-not}
+use Rattle.ast.specs.KindLaws.{node-number}
 use Rattle.spans.proofs.+cover_cases_cover_nodes_cover_values_list_span_match_span_span_of.Goals as goal
 
 pub cover_values-loop-init : goal.cover_values-loop-init
