@@ -18,7 +18,7 @@ ghost use Rattle.calls.specs.Callees.{callee_at, is_through_field, call_end, Cal
 ghost use Rattle.calls.specs.CallVisits.{Resolvable};
 
 use ast::NodeKind;
-use places::{Image, Sources};
+use places::Image;
 use rules::Answer;
 use tok::Texts;
 use visit::{State, Visit};
@@ -119,7 +119,9 @@ pub fn resolve(
     diagnostics: &mut [u32],
     messages: &mut [u8],
     scratch: &mut [u32],
-    sources: &Sources,
+    texts: &Texts,
+    image: &Image,
+    library: &[u32],
     at: usize,
     count: usize,
     st: State,
@@ -127,14 +129,14 @@ pub fn resolve(
     poisoned: bool,
 ) -> Visit<Answer>
     requires { let b : Lent = lent slots.old functions.now types.old diagnostics.old messages.old scratch.old no_more in
-        Resolvable sources.now.texts sources.now.image.words sources.now.image.places sources.now.library n at count st b }
+        Resolvable texts.now image.now.words image.now.places library.now n at count st b }
     ensures { let b : Lent = lent slots.old functions.now types.old diagnostics.old messages.old scratch.old no_more in
         ((ls : List Package) (v : ℕ) →
         let b' : Lent = lent slots.new functions.now types.new diagnostics.new messages.new scratch.new no_more in
-        let image : List ℕ = sources.now.image.words in
-        Visits (call_end (ctx sources.now.texts ls v) n (get_or image (at + 1) 0) (callee_at image at) (given_from image (at + 3) count) poisoned) count 0 sources.now.library st b b' result) }
+        let image : List ℕ = image.now.words in
+        Visits (call_end (ctx texts.now ls v) n (get_or image (at + 1) 0) (callee_at image at) (given_from image (at + 3) count) poisoned) count 0 library.now st b b' result) }
 {
-    let image = &sources.image;
+    let image = image;
     let slot = image.word_at(at + 1);
     let target = image.node_place(image.word_at(at + 2));
     match NodeKind::of(image.word_at(target)) {
@@ -144,7 +146,7 @@ pub fn resolve(
             &types[..],
             diagnostics,
             messages,
-            &sources.texts,
+            texts,
             image,
             st,
             n,
@@ -161,7 +163,9 @@ pub fn resolve(
                 diagnostics,
                 messages,
                 scratch,
-                sources,
+                texts,
+                image,
+                library,
                 st,
                 n,
                 slot,

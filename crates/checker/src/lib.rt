@@ -17,7 +17,7 @@ ghost use Rattle.walking.specs.Visited.{ListVisit, ListVisited};
 ghost use Rattle.ending.specs.Ended.{ended_of, checked_of, EndsAs, WalkEnds};
 
 use ending::Checked;
-use places::{Image, Sources};
+use places::Image;
 use refuse::Inputs;
 use rules::Answer;
 use tok::Texts;
@@ -47,16 +47,13 @@ fn visit_roots(
     places::record_places(&mut places, inputs.image);
     let nodes = tok::word_at(inputs.image, 0);
     let roots = tok::word_at(inputs.image, 2) as usize;
-    let sources = Sources {
-        texts: Texts {
-            script: inputs.script,
-            library: inputs.library_text,
-        },
-        library: inputs.library,
-        image: Image {
-            words: inputs.image,
-            places: &places[..],
-        },
+    let texts = Texts {
+        script: inputs.script,
+        library: inputs.library_text,
+    };
+    let image = Image {
+        words: inputs.image,
+        places: &places[..],
     };
     typecheck::nodes(
         slots,
@@ -65,7 +62,9 @@ fn visit_roots(
         diagnostics,
         messages,
         scratch,
-        &sources,
+        &texts,
+        &image,
+        inputs.library,
         st,
         nodes,
         4,

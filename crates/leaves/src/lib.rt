@@ -9,9 +9,9 @@ ghost use Rattle.walking.specs.Visited.{NodeVisited};
 ghost use Rattle.leaves.specs.Leaves.{LeafReady};
 
 use ast::NodeKind;
-use places::Sources;
+use places::Image;
 use rules::Answer;
-use tok::payload;
+use tok::{Texts, payload};
 use visit::{State, Visit};
 
 // The word of a type with nothing inside and no name.
@@ -29,24 +29,26 @@ pub fn leaf(
     diagnostics: &mut [u32],
     messages: &mut [u8],
     scratch: &mut [u32],
-    sources: &Sources,
+    texts: &Texts,
+    image: &Image,
+    library: &[u32],
     st: State,
     n: u32,
 ) -> Visit<Answer>
-    requires { LeafReady sources.now.texts sources.now.image.words sources.now.image.places sources.now.library n st scratch.old }
+    requires { LeafReady texts.now image.now.words image.now.places library.now n st scratch.old }
     ensures { ((f : List ℕ) (o : More) →
         let b : Lent = lent slots.old f types.old diagnostics.old messages.old scratch.old o in
         let b' : Lent = lent slots.new f types.new diagnostics.new messages.new scratch.new o in
-        NodeVisited sources.now.texts sources.now.image.words sources.now.library n st b b' result) }
+        NodeVisited texts.now image.now.words library.now n st b b' result) }
 {
-    let at = sources.image.node_place(n);
-    let head = sources.image.word_at(at);
-    let slot = sources.image.word_at(at + 1);
-    let first = sources.image.word_at(at + 2);
+    let at = image.node_place(n);
+    let head = image.word_at(at);
+    let slot = image.word_at(at + 1);
+    let first = image.word_at(at + 2);
     match NodeKind::of(head) {
         NodeKind::Atom => {
             let used = st.used;
-            let w = plain_word(sources.image.word_at(at + 3));
+            let w = plain_word(image.word_at(at + 3));
             visit::answered(st, operators::set_known(slots, used, slot, w))
         }
         NodeKind::Ident => names::ident(
@@ -54,7 +56,7 @@ pub fn leaf(
             diagnostics,
             messages,
             &scratch[..],
-            &sources.texts,
+            texts,
             st,
             n,
             slot,
@@ -65,9 +67,9 @@ pub fn leaf(
             diagnostics,
             messages,
             scratch,
-            &sources.texts,
-            sources.library,
-            sources.image.words,
+            texts,
+            library,
+            image.words,
             st,
             n,
             slot,
@@ -80,14 +82,14 @@ pub fn leaf(
             slots,
             types,
             scratch,
-            &sources.image,
+            image,
             st,
             n,
             slot,
-            sources.image.word_at(at + 3),
+            image.word_at(at + 3),
             at + 5,
             at + payload(head),
-            sources.image.word_at(at + 4),
+            image.word_at(at + 4),
         ),
     }
 }

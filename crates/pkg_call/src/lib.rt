@@ -22,7 +22,7 @@ ghost use Rattle.pkg_call.specs.Calls.{LibraryCalls, HeldCalls};
 
 use err::CallName;
 use pkg_group::{Candidates, in_group};
-use places::{Image, Sources};
+use places::Image;
 use rules::Answer;
 use scope::Held;
 use signatures::Entries;
@@ -51,7 +51,9 @@ fn in_library(
     diagnostics: &mut [u32],
     messages: &mut [u8],
     scratch: &mut [u32],
-    sources: &Sources,
+    texts: &Texts,
+    image: &Image,
+    library: &[u32],
     used: Used,
     top: usize,
     n: u32,
@@ -63,14 +65,14 @@ fn in_library(
     count: usize,
     poisoned: bool,
 ) -> Step<Answer>
-    requires { let i : Image = sources.now.image in
-        LibraryReady sources.now.texts i.words i.places sources.now.library scratch.old top n at args count slots.old types.old used.types }
-    ensures { LibraryCalls sources.now.texts n slot pkg name (given_from sources.now.image.words args count) poisoned (package_at sources.now.library at)
+    requires { let i : Image = image.now in
+        LibraryReady texts.now i.words i.places library.now scratch.old top n at args count slots.old types.old used.types }
+    ensures { LibraryCalls texts.now n slot pkg name (given_from image.now.words args count) poisoned (package_at library.now at)
         scratch.old slots.old types.old diagnostics.old messages.old used
         scratch.new slots.new types.new diagnostics.new messages.new result }
 {
-    let entries = functions_at(sources.library, true, at);
-    let found = pkg_group::find_candidates(&sources.texts, &entries, name);
+    let entries = functions_at(library, true, at);
+    let found = pkg_group::find_candidates(texts, &entries, name);
     let Candidates::Slotted(place) = found else {
         let end = top + count;
         return in_group(
@@ -79,8 +81,8 @@ fn in_library(
             diagnostics,
             messages,
             &scratch[top..end],
-            &sources.texts,
-            &sources.image,
+            texts,
+            image,
             used,
             n,
             slot,
@@ -99,14 +101,14 @@ fn in_library(
         diagnostics,
         messages,
         &mut scratch[8192..],
-        &sources.texts,
-        &sources.image,
+        texts,
+        image,
         used,
         n,
         slot,
         name,
         CallName::OfPackage(pkg, name),
-        sources.library,
+        library,
         place,
         args,
         count,
@@ -169,7 +171,9 @@ fn in_held(
     diagnostics: &mut [u32],
     messages: &mut [u8],
     scratch: &mut [u32],
-    sources: &Sources,
+    texts: &Texts,
+    image: &Image,
+    library: &[u32],
     used: Used,
     held: usize,
     packages: usize,
@@ -182,20 +186,13 @@ fn in_held(
     count: usize,
     poisoned: bool,
 ) -> Step<Answer>
-    requires { let i : Image = sources.now.image in
-        HeldReady sources.now.texts i.words i.places sources.now.library scratch.old held packages top n args count slots.old types.old used.types }
-    ensures { HeldCalls sources.now.texts n slot pkg name (given_from sources.now.image.words args count) poisoned sources.now.library held packages
+    requires { let i : Image = image.now in
+        HeldReady texts.now i.words i.places library.now scratch.old held packages top n args count slots.old types.old used.types }
+    ensures { HeldCalls texts.now n slot pkg name (given_from image.now.words args count) poisoned library.now held packages
         scratch.old slots.old types.old diagnostics.old messages.old used
         scratch.new slots.new types.new diagnostics.new messages.new result }
 {
-    let found = scope::find_held(
-        &sources.texts,
-        sources.library,
-        &scratch[..],
-        held,
-        packages,
-        pkg,
-    );
+    let found = scope::find_held(texts, library, &scratch[..], held, packages, pkg);
     match found {
         Held::Library(at) => in_library(
             slots,
@@ -203,7 +200,9 @@ fn in_held(
             diagnostics,
             messages,
             scratch,
-            sources,
+            texts,
+            image,
+            library,
             used,
             top,
             n,
@@ -221,8 +220,8 @@ fn in_held(
             diagnostics,
             messages,
             &scratch[..],
-            &sources.texts,
-            &sources.image,
+            texts,
+            image,
             used,
             top,
             n,
@@ -240,7 +239,7 @@ fn in_held(
                 diagnostics,
                 &mut messages[free..],
                 used.told,
-                &sources.texts,
+                texts,
                 pkg,
             );
             state::told(n, used, r, Answer::Poison)
@@ -256,7 +255,9 @@ pub fn resolve_pkg_call(
     diagnostics: &mut [u32],
     messages: &mut [u8],
     scratch: &mut [u32],
-    sources: &Sources,
+    texts: &Texts,
+    image: &Image,
+    library: &[u32],
     st: State,
     n: u32,
     slot: u32,
@@ -266,28 +267,24 @@ pub fn resolve_pkg_call(
     count: usize,
     poisoned: bool,
 ) -> Visit<Answer>
-    requires { PkgReady sources.now.texts sources.now.image.words sources.now.image.places sources.now.library st scratch.old n args count slots.old types.old }
+    requires { PkgReady texts.now image.now.words image.now.places library.now st scratch.old n args count slots.old types.old }
     ensures { ((ls : List Package) (v : ℕ) (f : List ℕ) (o : More) →
         let b : Lent = lent slots.old f types.old diagnostics.old messages.old scratch.old o in
         let b' : Lent = lent slots.new f types.new diagnostics.new messages.new scratch.new o in
-        Visits (resolve_pkg_call (ctx sources.now.texts ls v) n slot pkg name (given_from sources.now.image.words args count) poisoned) count 0 sources.now.library st b b' result) }
+        Visits (resolve_pkg_call (ctx texts.now ls v) n slot pkg name (given_from image.now.words args count) poisoned) count 0 library.now st b b' result) }
 {
     let top = 2 * (st.base + st.depth);
     let end = top + count;
-    call_types::gather_types(
-        &mut scratch[top..end],
-        &slots[..],
-        &sources.image,
-        args,
-        count,
-    );
+    call_types::gather_types(&mut scratch[top..end], &slots[..], image, args, count);
     let step = in_held(
         slots,
         types,
         diagnostics,
         messages,
         scratch,
-        sources,
+        texts,
+        image,
+        library,
         st.used,
         st.held,
         st.packages,

@@ -4,12 +4,11 @@
 
 ghost use Rattle.std.specs.Prelude.{◌≡◌, ◌+◌, ◌-◌, ◌*◌, ◌/◌, ◌<◌, ◌^◌, get_or, set};
 ghost use Rattle.tok.specs.Word.{payload_of};
-ghost use Rattle.places.specs.Image.{Image, image_of, Sources, sources_of};
+ghost use Rattle.places.specs.Image.{Image, image_of};
 ghost use Rattle.places.specs.Places.{clipped, place_after, Filled, most_in, levels_inside, levels_at, fill_levels, places_in};
 
 use ast::ExprKind;
 use std::marker::Model;
-use tok::Texts;
 
 // An image, with the places of its records.
 #[derive(Drop)]
@@ -22,20 +21,6 @@ impl<'a> Model for Image<'a> {
     ghost Value = { Image };
 
     ghost view = { λ i. image_of i.words.now i.places.now };
-}
-
-// What the walk reads, and never writes: the two texts, the library's words, the image.
-#[derive(Drop)]
-pub struct Sources<'a> {
-    pub texts: Texts<'a>,
-    pub library: &'a [u32],
-    pub image: Image<'a>,
-}
-
-impl<'a> Model for Sources<'a> {
-    ghost Value = { Sources };
-
-    ghost view = { λ i. sources_of i.texts i.library.now i.image };
 }
 
 // The index of type 0's place.

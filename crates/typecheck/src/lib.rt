@@ -11,9 +11,9 @@ ghost use Rattle.walking.specs.Kinds.{OneOperand, Is};
 ghost use Rattle.walking.specs.Visited.{ClassVisit, ListVisit, CaseVisit, NodeVisited, ListVisited, CaseVisited};
 
 use ast::NodeKind;
-use places::Sources;
+use places::Image;
 use rules::Answer;
-use tok::payload;
+use tok::{Texts, payload};
 use visit::{State, Visit};
 
 // Typechecker::node: a node, by its kind.
@@ -25,24 +25,28 @@ pub fn node(
     diagnostics: &mut [u32],
     messages: &mut [u8],
     scratch: &mut [u32],
-    sources: &Sources,
+    texts: &Texts,
+    image: &Image,
+    library: &[u32],
     st: State,
     n: u32,
 ) -> Visit<Answer>
     requires { let b : Lent = lent slots.old functions.old types.old diagnostics.old messages.old scratch.old no_more in
-        NodeVisit sources.now.texts sources.now.image.words sources.now.image.places sources.now.library n st b }
+        NodeVisit texts.now image.now.words image.now.places library.now n st b }
     ensures { let b : Lent = lent slots.old functions.old types.old diagnostics.old messages.old scratch.old no_more in
         let b' : Lent = lent slots.new functions.new types.new diagnostics.new messages.new scratch.new no_more in
-        NodeVisited sources.now.texts sources.now.image.words sources.now.library n st b b' result }
+        NodeVisited texts.now image.now.words library.now n st b b' result }
 {
-    match NodeKind::of(sources.image.word_at(sources.image.node_place(n))) {
+    match NodeKind::of(image.word_at(image.node_place(n))) {
         NodeKind::Atom | NodeKind::Ident | NodeKind::Import | NodeKind::Extern => leaves::leaf(
             slots,
             types,
             diagnostics,
             messages,
             scratch,
-            sources,
+            texts,
+            image,
+            library,
             st,
             n,
         ),
@@ -53,7 +57,9 @@ pub fn node(
             diagnostics,
             messages,
             scratch,
-            sources,
+            texts,
+            image,
+            library,
             st,
             n,
         ),
@@ -64,7 +70,9 @@ pub fn node(
             diagnostics,
             messages,
             scratch,
-            sources,
+            texts,
+            image,
+            library,
             st,
             n,
         ),
@@ -75,7 +83,9 @@ pub fn node(
             diagnostics,
             messages,
             scratch,
-            sources,
+            texts,
+            image,
+            library,
             st,
             n,
         ),
@@ -86,7 +96,9 @@ pub fn node(
             diagnostics,
             messages,
             scratch,
-            sources,
+            texts,
+            image,
+            library,
             st,
             n,
         ),
@@ -97,7 +109,9 @@ pub fn node(
             diagnostics,
             messages,
             scratch,
-            sources,
+            texts,
+            image,
+            library,
             st,
             n,
         ),
@@ -108,7 +122,9 @@ pub fn node(
             diagnostics,
             messages,
             scratch,
-            sources,
+            texts,
+            image,
+            library,
             st,
             n,
         ),
@@ -119,7 +135,9 @@ pub fn node(
             diagnostics,
             messages,
             scratch,
-            sources,
+            texts,
+            image,
+            library,
             st,
             n,
         ),
@@ -130,7 +148,9 @@ pub fn node(
             diagnostics,
             messages,
             scratch,
-            sources,
+            texts,
+            image,
+            library,
             st,
             n,
         ),
@@ -148,15 +168,17 @@ fn part(
     diagnostics: &mut [u32],
     messages: &mut [u8],
     scratch: &mut [u32],
-    sources: &Sources,
+    texts: &Texts,
+    image: &Image,
+    library: &[u32],
     st: State,
     n: u32,
 ) -> Visit<Answer>
     requires { let b : Lent = lent slots.old functions.old types.old diagnostics.old messages.old scratch.old no_more in
-        NodeVisit sources.now.texts sources.now.image.words sources.now.image.places sources.now.library n st b }
+        NodeVisit texts.now image.now.words image.now.places library.now n st b }
     ensures { let b : Lent = lent slots.old functions.old types.old diagnostics.old messages.old scratch.old no_more in
         let b' : Lent = lent slots.new functions.new types.new diagnostics.new messages.new scratch.new no_more in
-        NodeVisited sources.now.texts sources.now.image.words sources.now.library n st b b' result }
+        NodeVisited texts.now image.now.words library.now n st b b' result }
 {
     node(
         slots,
@@ -165,7 +187,9 @@ fn part(
         diagnostics,
         messages,
         scratch,
-        sources,
+        texts,
+        image,
+        library,
         st,
         n,
     )
@@ -180,17 +204,19 @@ fn bin(
     diagnostics: &mut [u32],
     messages: &mut [u8],
     scratch: &mut [u32],
-    sources: &Sources,
+    texts: &Texts,
+    image: &Image,
+    library: &[u32],
     st: State,
     n: u32,
 ) -> Visit<Answer>
     requires { let b : Lent = lent slots.old functions.old types.old diagnostics.old messages.old scratch.old no_more in
-        ClassVisit (Is 2) sources.now.texts sources.now.image.words sources.now.image.places sources.now.library n st b }
+        ClassVisit (Is 2) texts.now image.now.words image.now.places library.now n st b }
     ensures { let b : Lent = lent slots.old functions.old types.old diagnostics.old messages.old scratch.old no_more in
         let b' : Lent = lent slots.new functions.new types.new diagnostics.new messages.new scratch.new no_more in
-        NodeVisited sources.now.texts sources.now.image.words sources.now.library n st b b' result }
+        NodeVisited texts.now image.now.words library.now n st b b' result }
 {
-    let at = sources.image.node_place(n);
+    let at = image.node_place(n);
     let (l, between) = part(
         slots,
         functions,
@@ -198,9 +224,11 @@ fn bin(
         diagnostics,
         messages,
         scratch,
-        sources,
+        texts,
+        image,
+        library,
         st,
-        sources.image.word_at(at + 4),
+        image.word_at(at + 4),
     )?;
     let (r, end) = part(
         slots,
@@ -209,17 +237,19 @@ fn bin(
         diagnostics,
         messages,
         scratch,
-        sources,
+        texts,
+        image,
+        library,
         between,
-        sources.image.word_at(at + 5),
+        image.word_at(at + 5),
     )?;
     operands::bin_end(
         slots,
         &types[..],
         diagnostics,
         messages,
-        &sources.texts,
-        &sources.image,
+        texts,
+        image,
         at,
         end,
         n,
@@ -237,18 +267,20 @@ fn one(
     diagnostics: &mut [u32],
     messages: &mut [u8],
     scratch: &mut [u32],
-    sources: &Sources,
+    texts: &Texts,
+    image: &Image,
+    library: &[u32],
     st: State,
     n: u32,
 ) -> Visit<Answer>
     requires { let b : Lent = lent slots.old functions.old types.old diagnostics.old messages.old scratch.old no_more in
-        ClassVisit OneOperand sources.now.texts sources.now.image.words sources.now.image.places sources.now.library n st b }
+        ClassVisit OneOperand texts.now image.now.words image.now.places library.now n st b }
     ensures { let b : Lent = lent slots.old functions.old types.old diagnostics.old messages.old scratch.old no_more in
         let b' : Lent = lent slots.new functions.new types.new diagnostics.new messages.new scratch.new no_more in
-        NodeVisited sources.now.texts sources.now.image.words sources.now.library n st b b' result }
+        NodeVisited texts.now image.now.words library.now n st b b' result }
 {
-    let at = sources.image.node_place(n);
-    let value = operands::operand_of(&sources.image, at);
+    let at = image.node_place(n);
+    let value = operands::operand_of(image, at);
     let (a, end) = part(
         slots,
         functions,
@@ -256,7 +288,9 @@ fn one(
         diagnostics,
         messages,
         scratch,
-        sources,
+        texts,
+        image,
+        library,
         st,
         value,
     )?;
@@ -266,8 +300,8 @@ fn one(
         diagnostics,
         messages,
         scratch,
-        &sources.texts,
-        &sources.image,
+        texts,
+        image,
         at,
         end,
         n,
@@ -284,18 +318,20 @@ fn cast(
     diagnostics: &mut [u32],
     messages: &mut [u8],
     scratch: &mut [u32],
-    sources: &Sources,
+    texts: &Texts,
+    image: &Image,
+    library: &[u32],
     st: State,
     n: u32,
 ) -> Visit<Answer>
     requires { let b : Lent = lent slots.old functions.old types.old diagnostics.old messages.old scratch.old no_more in
-        ClassVisit (Is 9) sources.now.texts sources.now.image.words sources.now.image.places sources.now.library n st b }
+        ClassVisit (Is 9) texts.now image.now.words image.now.places library.now n st b }
     ensures { let b : Lent = lent slots.old functions.old types.old diagnostics.old messages.old scratch.old no_more in
         let b' : Lent = lent slots.new functions.new types.new diagnostics.new messages.new scratch.new no_more in
-        NodeVisited sources.now.texts sources.now.image.words sources.now.library n st b b' result }
+        NodeVisited texts.now image.now.words library.now n st b b' result }
 {
-    let at = sources.image.node_place(n);
-    let (to, begun) = operands::cast_begin(types, &sources.image, at, st, n)?;
+    let at = image.node_place(n);
+    let (to, begun) = operands::cast_begin(types, image, at, st, n)?;
     let (a, end) = part(
         slots,
         functions,
@@ -303,17 +339,19 @@ fn cast(
         diagnostics,
         messages,
         scratch,
-        sources,
+        texts,
+        image,
+        library,
         begun,
-        sources.image.word_at(at + 3),
+        image.word_at(at + 3),
     )?;
     operands::cast_end(
         slots,
         &types[..],
         diagnostics,
         messages,
-        &sources.texts,
-        &sources.image,
+        texts,
+        image,
         at,
         end,
         n,
@@ -331,19 +369,21 @@ pub fn nodes(
     diagnostics: &mut [u32],
     messages: &mut [u8],
     scratch: &mut [u32],
-    sources: &Sources,
+    texts: &Texts,
+    image: &Image,
+    library: &[u32],
     st: State,
     owner: u32,
     at: usize,
     k: usize,
 ) -> Visit<Answer>
     requires { let b : Lent = lent slots.old functions.old types.old diagnostics.old messages.old scratch.old no_more in
-        ListVisit sources.now.texts sources.now.image.words sources.now.image.places sources.now.library owner at k st b }
+        ListVisit texts.now image.now.words image.now.places library.now owner at k st b }
     ensures { let b : Lent = lent slots.old functions.old types.old diagnostics.old messages.old scratch.old no_more in
         let b' : Lent = lent slots.new functions.new types.new diagnostics.new messages.new scratch.new no_more in
-        ListVisited sources.now.texts sources.now.image.words sources.now.library at k st b b' result }
+        ListVisited texts.now image.now.words library.now at k st b b' result }
 {
-    let mut answer = Answer::Known(sources.image.word_at(3));
+    let mut answer = Answer::Known(image.word_at(3));
     let mut here = st;
     let mut place = at;
     for _ in 0..k {
@@ -354,9 +394,11 @@ pub fn nodes(
             diagnostics,
             messages,
             scratch,
-            sources,
+            texts,
+            image,
+            library,
             here,
-            sources.image.word_at(place),
+            image.word_at(place),
         )?;
         answer = a;
         here = next;
@@ -374,19 +416,21 @@ fn block(
     diagnostics: &mut [u32],
     messages: &mut [u8],
     scratch: &mut [u32],
-    sources: &Sources,
+    texts: &Texts,
+    image: &Image,
+    library: &[u32],
     st: State,
     owner: u32,
     at: usize,
     k: usize,
 ) -> Visit<Answer>
     requires { let b : Lent = lent slots.old functions.old types.old diagnostics.old messages.old scratch.old no_more in
-        ListVisit sources.now.texts sources.now.image.words sources.now.image.places sources.now.library owner at k st b }
+        ListVisit texts.now image.now.words image.now.places library.now owner at k st b }
     ensures { let b : Lent = lent slots.old functions.old types.old diagnostics.old messages.old scratch.old no_more in
         let b' : Lent = lent slots.new functions.new types.new diagnostics.new messages.new scratch.new no_more in
-        ListVisited sources.now.texts sources.now.image.words sources.now.library at k st b b' result }
+        ListVisited texts.now image.now.words library.now at k st b b' result }
 {
-    let mut answer = Answer::Known(sources.image.word_at(3));
+    let mut answer = Answer::Known(image.word_at(3));
     let mut here = st;
     let mut place = at;
     for _ in 0..k {
@@ -397,9 +441,11 @@ fn block(
             diagnostics,
             messages,
             scratch,
-            sources,
+            texts,
+            image,
+            library,
             here,
-            sources.image.word_at(place),
+            image.word_at(place),
         )?;
         answer = a;
         here = next;
@@ -417,18 +463,20 @@ fn func(
     diagnostics: &mut [u32],
     messages: &mut [u8],
     scratch: &mut [u32],
-    sources: &Sources,
+    texts: &Texts,
+    image: &Image,
+    library: &[u32],
     st: State,
     n: u32,
 ) -> Visit<Answer>
     requires { let b : Lent = lent slots.old functions.old types.old diagnostics.old messages.old scratch.old no_more in
-        ClassVisit (Is 5) sources.now.texts sources.now.image.words sources.now.image.places sources.now.library n st b }
+        ClassVisit (Is 5) texts.now image.now.words image.now.places library.now n st b }
     ensures { let b : Lent = lent slots.old functions.old types.old diagnostics.old messages.old scratch.old no_more in
         let b' : Lent = lent slots.new functions.new types.new diagnostics.new messages.new scratch.new no_more in
-        NodeVisited sources.now.texts sources.now.image.words sources.now.library n st b b' result }
+        NodeVisited texts.now image.now.words library.now n st b b' result }
 {
-    let at = sources.image.node_place(n);
-    let count = sources.image.word_at(at + 4) as usize;
+    let at = image.node_place(n);
+    let count = image.word_at(at + 4) as usize;
     let (begun, inner) = bodies::begin(
         slots,
         functions,
@@ -436,8 +484,8 @@ fn func(
         diagnostics,
         messages,
         scratch,
-        &sources.texts,
-        &sources.image,
+        texts,
+        image,
         at,
         st,
         n,
@@ -445,7 +493,7 @@ fn func(
     let Some(ret) = begun else {
         return Ok((Answer::Poison, inner));
     };
-    let long = payload(sources.image.word_at(at));
+    let long = payload(image.word_at(at));
     let (computed, inside) = block(
         slots,
         functions,
@@ -453,7 +501,9 @@ fn func(
         diagnostics,
         messages,
         scratch,
-        sources,
+        texts,
+        image,
+        library,
         inner,
         n,
         at + 5 + 2 * count,
@@ -464,8 +514,8 @@ fn func(
         &types[..],
         diagnostics,
         messages,
-        &sources.texts,
-        &sources.image,
+        texts,
+        image,
         at,
         inside,
         st,
@@ -484,16 +534,18 @@ fn case(
     diagnostics: &mut [u32],
     messages: &mut [u8],
     scratch: &mut [u32],
-    sources: &Sources,
+    texts: &Texts,
+    image: &Image,
+    library: &[u32],
     st: State,
     n: u32,
     at: usize,
 ) -> Visit<Answer>
     requires { let b : Lent = lent slots.old functions.old types.old diagnostics.old messages.old scratch.old no_more in
-        CaseVisit sources.now.texts sources.now.image.words sources.now.image.places sources.now.library n at st b }
+        CaseVisit texts.now image.now.words image.now.places library.now n at st b }
     ensures { let b : Lent = lent slots.old functions.old types.old diagnostics.old messages.old scratch.old no_more in
         let b' : Lent = lent slots.new functions.new types.new diagnostics.new messages.new scratch.new no_more in
-        CaseVisited sources.now.texts sources.now.image.words sources.now.library n at st b b' result }
+        CaseVisited texts.now image.now.words library.now n at st b b' result }
 {
     let (a, tested) = part(
         slots,
@@ -502,26 +554,28 @@ fn case(
         diagnostics,
         messages,
         scratch,
-        sources,
+        texts,
+        image,
+        library,
         st,
-        sources.image.word_at(at + 1),
+        image.word_at(at + 1),
     )?;
     let (_, begun) = branches::condition(
         &slots[..],
         &types[..],
         diagnostics,
         messages,
-        &sources.texts,
-        &sources.image,
+        texts,
+        image,
         at,
         tested,
         n,
         a,
     )?;
-    let mut answer = Answer::Known(sources.image.word_at(3));
+    let mut answer = Answer::Known(image.word_at(3));
     let mut here = begun;
     let mut place = at + 3;
-    let left = sources.image.word_at(at + 2) as usize;
+    let left = image.word_at(at + 2) as usize;
     for _ in 0..left {
         let (a, next) = part(
             slots,
@@ -530,9 +584,11 @@ fn case(
             diagnostics,
             messages,
             scratch,
-            sources,
+            texts,
+            image,
+            library,
             here,
-            sources.image.word_at(place),
+            image.word_at(place),
         )?;
         answer = a;
         here = next;
@@ -550,18 +606,20 @@ fn cases(
     diagnostics: &mut [u32],
     messages: &mut [u8],
     scratch: &mut [u32],
-    sources: &Sources,
+    texts: &Texts,
+    image: &Image,
+    library: &[u32],
     st: State,
     n: u32,
 ) -> Visit<Answer>
     requires { let b : Lent = lent slots.old functions.old types.old diagnostics.old messages.old scratch.old no_more in
-        ClassVisit (Is 6) sources.now.texts sources.now.image.words sources.now.image.places sources.now.library n st b }
+        ClassVisit (Is 6) texts.now image.now.words image.now.places library.now n st b }
     ensures { let b : Lent = lent slots.old functions.old types.old diagnostics.old messages.old scratch.old no_more in
         let b' : Lent = lent slots.new functions.new types.new diagnostics.new messages.new scratch.new no_more in
-        NodeVisited sources.now.texts sources.now.image.words sources.now.library n st b b' result }
+        NodeVisited texts.now image.now.words library.now n st b b' result }
 {
-    let at = sources.image.node_place(n);
-    let count = sources.image.word_at(at + 2) as usize;
+    let at = image.node_place(n);
+    let count = image.word_at(at + 2) as usize;
     let mut here = st;
     let mut place = at + 3;
     for _ in 0..count {
@@ -572,17 +630,19 @@ fn cases(
             diagnostics,
             messages,
             scratch,
-            sources,
+            texts,
+            image,
+            library,
             here,
             n,
             place,
         )?;
         here = next;
-        place = branches::case_end(&sources.image, place);
+        place = branches::case_end(image, place);
     }
     let next = place + 1;
-    let left = at + payload(sources.image.word_at(at)) - next;
-    let mut default = Answer::Known(sources.image.word_at(3));
+    let left = at + payload(image.word_at(at)) - next;
+    let mut default = Answer::Known(image.word_at(3));
     let mut end = here;
     for i in 0..left {
         let (a, on) = part(
@@ -592,9 +652,11 @@ fn cases(
             diagnostics,
             messages,
             scratch,
-            sources,
+            texts,
+            image,
+            library,
             end,
-            sources.image.word_at(next + i),
+            image.word_at(next + i),
         )?;
         default = a;
         end = on;
@@ -604,8 +666,8 @@ fn cases(
         &types[..],
         diagnostics,
         messages,
-        &sources.texts,
-        &sources.image,
+        texts,
+        image,
         at,
         visiting::left(end, here),
         n,
@@ -622,21 +684,23 @@ fn call(
     diagnostics: &mut [u32],
     messages: &mut [u8],
     scratch: &mut [u32],
-    sources: &Sources,
+    texts: &Texts,
+    image: &Image,
+    library: &[u32],
     st: State,
     n: u32,
 ) -> Visit<Answer>
     requires { let b : Lent = lent slots.old functions.old types.old diagnostics.old messages.old scratch.old no_more in
-        ClassVisit (Is 7) sources.now.texts sources.now.image.words sources.now.image.places sources.now.library n st b }
+        ClassVisit (Is 7) texts.now image.now.words image.now.places library.now n st b }
     ensures { let b : Lent = lent slots.old functions.old types.old diagnostics.old messages.old scratch.old no_more in
         let b' : Lent = lent slots.new functions.new types.new diagnostics.new messages.new scratch.new no_more in
-        NodeVisited sources.now.texts sources.now.image.words sources.now.library n st b b' result }
+        NodeVisited texts.now image.now.words library.now n st b b' result }
 {
-    let at = sources.image.node_place(n);
-    if calls::through_field(&sources.image, at) {
-        return calls::report_field(diagnostics, messages, &sources.image, at, st, n);
+    let at = image.node_place(n);
+    if calls::through_field(image, at) {
+        return calls::report_field(diagnostics, messages, image, at, st, n);
     }
-    let count = payload(sources.image.word_at(at)) - 3;
+    let count = payload(image.word_at(at)) - 3;
     let mut poisoned = false;
     let mut here = st;
     for i in 0..count {
@@ -647,9 +711,11 @@ fn call(
             diagnostics,
             messages,
             scratch,
-            sources,
+            texts,
+            image,
+            library,
             here,
-            sources.image.word_at(at + 3 + i),
+            image.word_at(at + 3 + i),
         )?;
         poisoned = calls::or_poison(poisoned, a);
         here = next;
@@ -661,7 +727,9 @@ fn call(
         diagnostics,
         messages,
         scratch,
-        sources,
+        texts,
+        image,
+        library,
         at,
         count,
         here,
@@ -679,18 +747,20 @@ fn record_node(
     diagnostics: &mut [u32],
     messages: &mut [u8],
     scratch: &mut [u32],
-    sources: &Sources,
+    texts: &Texts,
+    image: &Image,
+    library: &[u32],
     st: State,
     n: u32,
 ) -> Visit<Answer>
     requires { let b : Lent = lent slots.old functions.old types.old diagnostics.old messages.old scratch.old no_more in
-        ClassVisit (Is 12) sources.now.texts sources.now.image.words sources.now.image.places sources.now.library n st b }
+        ClassVisit (Is 12) texts.now image.now.words image.now.places library.now n st b }
     ensures { let b : Lent = lent slots.old functions.old types.old diagnostics.old messages.old scratch.old no_more in
         let b' : Lent = lent slots.new functions.new types.new diagnostics.new messages.new scratch.new no_more in
-        NodeVisited sources.now.texts sources.now.image.words sources.now.library n st b b' result }
+        NodeVisited texts.now image.now.words library.now n st b b' result }
 {
-    let at = sources.image.node_place(n);
-    let count = (payload(sources.image.word_at(at)) - 3) / 2;
+    let at = image.node_place(n);
+    let count = (payload(image.word_at(at)) - 3) / 2;
     let mut here = st;
     for i in 0..count {
         let (_, next) = part(
@@ -700,13 +770,15 @@ fn record_node(
             diagnostics,
             messages,
             scratch,
-            sources,
+            texts,
+            image,
+            library,
             here,
-            sources.image.word_at(at + 4 + 2 * i),
+            image.word_at(at + 4 + 2 * i),
         )?;
         here = next;
     }
-    fields::make(slots, types, &sources.image, at, count, here, n)
+    fields::make(slots, types, image, at, count, here, n)
 }
 
 // Node::Array: the members are compared with the first, each when it is visited; one that differs ends the visits.
@@ -718,20 +790,22 @@ fn array(
     diagnostics: &mut [u32],
     messages: &mut [u8],
     scratch: &mut [u32],
-    sources: &Sources,
+    texts: &Texts,
+    image: &Image,
+    library: &[u32],
     st: State,
     n: u32,
 ) -> Visit<Answer>
     requires { let b : Lent = lent slots.old functions.old types.old diagnostics.old messages.old scratch.old no_more in
-        ClassVisit (Is 13) sources.now.texts sources.now.image.words sources.now.image.places sources.now.library n st b }
+        ClassVisit (Is 13) texts.now image.now.words image.now.places library.now n st b }
     ensures { let b : Lent = lent slots.old functions.old types.old diagnostics.old messages.old scratch.old no_more in
         let b' : Lent = lent slots.new functions.new types.new diagnostics.new messages.new scratch.new no_more in
-        NodeVisited sources.now.texts sources.now.image.words sources.now.library n st b b' result }
+        NodeVisited texts.now image.now.words library.now n st b b' result }
 {
-    let at = sources.image.node_place(n);
-    let count = payload(sources.image.word_at(at)) - 3;
+    let at = image.node_place(n);
+    let count = payload(image.word_at(at)) - 3;
     if count == 0 {
-        return members::empty(diagnostics, messages, &sources.image, at, st, n);
+        return members::empty(diagnostics, messages, image, at, st, n);
     }
     let (first, begun) = part(
         slots,
@@ -740,14 +814,16 @@ fn array(
         diagnostics,
         messages,
         scratch,
-        sources,
+        texts,
+        image,
+        library,
         st,
-        sources.image.word_at(at + 3),
+        image.word_at(at + 3),
     )?;
     let mut poisoned = false;
     let mut here = begun;
     for i in 1..count {
-        let member = sources.image.word_at(at + 3 + i);
+        let member = image.word_at(at + 3 + i);
         let (a, next) = part(
             slots,
             functions,
@@ -755,7 +831,9 @@ fn array(
             diagnostics,
             messages,
             scratch,
-            sources,
+            texts,
+            image,
+            library,
             here,
             member,
         )?;
@@ -764,8 +842,8 @@ fn array(
             &types[..],
             diagnostics,
             messages,
-            &sources.texts,
-            &sources.image,
+            texts,
+            image,
             next,
             n,
             member,
@@ -779,5 +857,5 @@ fn array(
         poisoned = p;
         here = on;
     }
-    members::end(slots, types, &sources.image, at, here, n, first, poisoned)
+    members::end(slots, types, image, at, here, n, first, poisoned)
 }

@@ -1,4 +1,4 @@
--- `leaves::leaf` meets its contract: one law for each kind. The facts of the calls are of the fields of `sources`, what is asked for of its value. Assumes nothing.
+-- `leaves::leaf` meets its contract: one law for each kind. An Import is lent the image's words alone. Assumes nothing.
 use Rattle.std.proofs.Common.{refl, ap}
 use native.Mathlib.Omega.{arith}
 use Rattle.ast.specs.Image.{slot_count}
@@ -10,28 +10,27 @@ use Rattle.leaves.proofs.leaf.Goals as goal
 
 pub overflow_add-at : goal.overflow_add-at
 overflow_add-at c =
-    let r = rw (← c.sources.view_is) at c.requires in
+    let r = c.requires in
     omega (arith, record_room r.node c.node_place-at.ensures)
 
 pub overflow_add-at-2 : goal.overflow_add-at-2
 overflow_add-at-2 c =
-    let r = rw (← c.sources.view_is) at c.requires in
+    let r = c.requires in
     omega (arith, record_room r.node c.node_place-at.ensures)
 
 pub overflow_add-at-in-Atom : goal.overflow_add-at-in-Atom
 overflow_add-at-in-Atom c =
-    let r = rw (← c.sources.view_is) at c.requires in
+    let r = c.requires in
     omega (arith, record_room r.node c.node_place-at.ensures)
 
 pub plain_word-w-requires : goal.plain_word-w-requires
 plain_word-w-requires c =
-    let r = rw (← c.sources.view_is) at c.requires in
+    let r = c.requires in
     atom-kind r c.node_place-at.ensures c.word_at-head.ensures refl refl (node-number _ c.in-Atom.ensures) c.word_at.ensures
 
 pub returns-in-Atom : goal.returns-in-Atom
 returns-in-Atom c =
-    let r = rw (← c.sources.view_is) at c.requires in
-    rw (← c.sources.view_is)
+    let r = c.requires in
     (λ f o. atom-visited _ _ r.node c.node_place-at.ensures c.word_at-head.ensures refl (node-number _ c.in-Atom.ensures) c.word_at-slot.ensures c.word_at.ensures c.plain_word-w.ensures
     (rw c.answered.ensures (steps-visits (c.set_known.ensures _ _ _) _ _ _ o)))
 
@@ -40,63 +39,54 @@ ident-requires c = few-names c.requires
 
 pub returns-in-Ident : goal.returns-in-Ident
 returns-in-Ident c =
-    let r = rw (← c.sources.view_is) at c.requires in
-    let t = ap (λ s. s.texts) c.sources-inside.view_is in
-    rw (← c.sources.view_is)
-    (rw (← t)
-    (λ f o. ident-visited _ _ r.node c.node_place-at.ensures c.word_at-head.ensures refl (node-number _ c.in-Ident.ensures) c.word_at-slot.ensures c.word_at-first.ensures (c.ident.ensures _ _ _ _ _ o)))
+    let r = c.requires in
+    ((λ f o. ident-visited _ _ r.node c.node_place-at.ensures c.word_at-head.ensures refl (node-number _ c.in-Ident.ensures) c.word_at-slot.ensures c.word_at-first.ensures (c.ident.ensures _ _ _ _ _ o)))
 
 pub overflow_add-at-in-Import : goal.overflow_add-at-in-Import
 overflow_add-at-in-Import c =
-    let r = rw (← c.sources.view_is) at c.requires in
+    let r = c.requires in
     omega (arith, record_room r.node c.node_place-at.ensures)
 
 pub overflow_sub-payload : goal.overflow_sub-payload
 overflow_sub-payload c =
-    let r = rw (← c.sources.view_is) at c.requires in
+    let r = c.requires in
     import_long r c.node_place-at.ensures c.word_at-head.ensures refl c.payload.ensures (node-number _ c.in-Import.ensures)
 
 pub import_node-requires : goal.import_node-requires
 import_node-requires c =
-    let r = rw (← c.sources.view_is) at c.requires in
-    let t = ap (λ s. s.texts) c.sources-inside.view_is in
-    let l = ap (λ s. s.library.now) c.sources-inside.view_is in
-    rw (t, l) (import_ready r c.node_place-at.ensures c.word_at-head.ensures refl c.payload.ensures (node-number _ c.in-Import.ensures))
+    let r = c.requires in
+    (import_ready r c.node_place-at.ensures c.word_at-head.ensures refl c.payload.ensures (node-number _ c.in-Import.ensures))
 
 pub returns-in-Import : goal.returns-in-Import
 returns-in-Import c =
-    let r = rw (← c.sources.view_is) at c.requires in
-    let t = ap (λ s. s.texts) c.sources-inside.view_is in
-    let l = ap (λ s. s.library.now) c.sources-inside.view_is in
-    let m = ap (λ s. s.image.words) c.sources-inside.view_is in
-    rw (← c.sources.view_is)
-    (rw (← t, ← l)
-    (λ f o. import_visited _ _ r.node c.node_place-at.ensures c.word_at-head.ensures refl (node-number _ c.in-Import.ensures) c.word_at-slot.ensures c.word_at-first.ensures c.payload.ensures
-    (rw m at (c.import_node.ensures (slot_count c.sources.inside.image.words) f c.args.types.now o))))
+    let r = c.requires in
+    let m = ap (λ i. i.words) c.image.view_is in
+    λ f o. import_visited _ _ r.node c.node_place-at.ensures c.word_at-head.ensures refl (node-number _ c.in-Import.ensures) c.word_at-slot.ensures c.word_at-first.ensures c.payload.ensures
+    (rw m at (c.import_node.ensures (slot_count c.image.inside.words.now) f c.args.types.now o))
 
 pub overflow_add-at-in_default : goal.overflow_add-at-in_default
 overflow_add-at-in_default c =
-    let r = rw (← c.sources.view_is) at c.requires in
+    let r = c.requires in
     omega (arith, record_room r.node c.node_place-at.ensures)
 
 pub overflow_add-at-in_default-2 : goal.overflow_add-at-in_default-2
 overflow_add-at-in_default-2 c =
-    let r = rw (← c.sources.view_is) at c.requires in
+    let r = c.requires in
     omega (arith, record_room r.node c.node_place-at.ensures)
 
 pub overflow_add-at-in_default-3 : goal.overflow_add-at-in_default-3
 overflow_add-at-in_default-3 c =
-    let r = rw (← c.sources.view_is) at c.requires in
+    let r = c.requires in
     omega (arith, record_room r.node c.node_place-at.ensures, length-there r.node c.node_place-at.ensures c.word_at-head.ensures refl c.payload-in_default.ensures)
 
 pub overflow_add-at-in_default-4 : goal.overflow_add-at-in_default-4
 overflow_add-at-in_default-4 c =
-    let r = rw (← c.sources.view_is) at c.requires in
+    let r = c.requires in
     omega (arith, record_room r.node c.node_place-at.ensures)
 
 pub extern_package-requires : goal.extern_package-requires
 extern_package-requires c =
-    let r = rw (← c.sources.view_is) at c.requires in
+    let r = c.requires in
     let a = node-not _ c.of.ensures c.in_default.not-Atom in
     let i = node-not _ c.of.ensures c.in_default.not-Ident in
     let m = node-not _ c.of.ensures c.in_default.not-Import in
@@ -105,10 +95,9 @@ extern_package-requires c =
 
 pub returns-in_default : goal.returns-in_default
 returns-in_default c =
-    let r = rw (← c.sources.view_is) at c.requires in
+    let r = c.requires in
     let a = node-not _ c.of.ensures c.in_default.not-Atom in
     let i = node-not _ c.of.ensures c.in_default.not-Ident in
     let m = node-not _ c.of.ensures c.in_default.not-Import in
     let e = kind-extern r c.node_place-at.ensures c.word_at-head.ensures refl refl a i m in
-    rw (← c.sources.view_is)
     (λ f o. extern-visited _ _ r.node c.node_place-at.ensures c.word_at-head.ensures refl e c.word_at-slot.ensures c.word_at-in_default.ensures c.word_at-in_default-2.ensures (c.extern_package.ensures _ _ _ _ _ _ _ o))

@@ -9,19 +9,19 @@ find_held-found-requires c = held-near c.requires
 
 pub in_library-requires : goal.in_library-requires
 in_library-requires c =
-    let r = rw (← c.sources.view_is) at c.requires in
-    rw (← c.sources.view_is) (library-ready r _ _ c.find_held-found.ensures c.in-Library.is)
+    let r = c.requires in
+    (library-ready r _ _ c.find_held-found.ensures c.in-Library.is)
 
 pub returns-in-Library : goal.returns-in-Library
 returns-in-Library c =
-    let l = rw (← c.sources.view_is) at c.in_library.ensures in
-    rw (← c.sources.view_is) (library-held _ _ _ _ _ _ _ _ _ _ _ _ _ _ _ _ _ c.find_held-found.ensures c.in-Library.is l)
+    let l = c.in_library.ensures in
+    (library-held _ _ _ _ _ _ _ _ _ _ _ _ _ _ _ _ _ c.find_held-found.ensures c.in-Library.is l)
 
 pub returns-in-Extern : goal.returns-in-Extern
 returns-in-Extern c =
-    rw (← c.sources.view_is) (extern-held _ _ _ _ _ _ _ _ _ _ _ _ _ _ _ _ _ c.find_held-found.ensures c.in-Extern.is c.in_extern.ensures)
+    (extern-held _ _ _ _ _ _ _ _ _ _ _ _ _ _ _ _ _ c.find_held-found.ensures c.in-Extern.is c.in_extern.ensures)
 
 pub returns-in-Nothing : goal.returns-in-Nothing
 returns-in-Nothing c =
     let t = told_in_whole _ c.first_free-free.ensures c.missing_package-r.ensures in
-    rw (← c.sources.view_is) (no_package _ _ _ _ _ _ _ _ _ _ _ _ _ _ _ _ _ c.find_held-found.ensures c.in-Nothing.is t c.told.ensures)
+    (no_package _ _ _ _ _ _ _ _ _ _ _ _ _ _ _ _ _ c.find_held-found.ensures c.in-Nothing.is t c.told.ensures)

@@ -20,56 +20,56 @@ use Rattle.ast.specs.KindLaws.{node-number}
 use Rattle.walk_laws.specs.Dispatch.{to-leaf, to_rule, to_one, a-kind}
 use Rattle.typecheck.proofs.+array_bin_block_call_case_cases_cast_func_node_one_part_record_node.Goals as goal
 
--- ── A node, by its kind: the facts of the calls are of the fields of `sources`, what is asked for of its value ──
+-- ── A node, by its kind ──
 
 pub node-leaf-requires : goal.node-leaf-requires
 node-leaf-requires t c =
-    let r = rw (← c.sources.view_is) at c.requires in
-    rw (← c.sources.view_is) (to-leaf c.node_place.ensures c.word_at.ensures r c.of.ensures c.in-Atom.is)
+    let r = c.requires in
+    (to-leaf c.node_place.ensures c.word_at.ensures r c.of.ensures c.in-Atom.is)
 
 pub node-bin-requires : goal.node-bin-requires
 node-bin-requires t c =
-    let r = rw (← c.sources.view_is) at c.requires in
-    (omega (arith, c.decreases), rw (← c.sources.view_is) (to_rule c.node_place.ensures c.word_at.ensures r (node-number _ c.in-Bin.ensures)))
+    let r = c.requires in
+    (omega (arith, c.decreases), (to_rule c.node_place.ensures c.word_at.ensures r (node-number _ c.in-Bin.ensures)))
 
 pub node-cast-requires : goal.node-cast-requires
 node-cast-requires t c =
-    let r = rw (← c.sources.view_is) at c.requires in
-    (omega (arith, c.decreases), rw (← c.sources.view_is) (to_rule c.node_place.ensures c.word_at.ensures r (node-number _ c.in-Cast.ensures)))
+    let r = c.requires in
+    (omega (arith, c.decreases), (to_rule c.node_place.ensures c.word_at.ensures r (node-number _ c.in-Cast.ensures)))
 
 pub node-func-requires : goal.node-func-requires
 node-func-requires t c =
-    let r = rw (← c.sources.view_is) at c.requires in
-    (omega (arith, c.decreases), rw (← c.sources.view_is) (to_rule c.node_place.ensures c.word_at.ensures r (node-number _ c.in-Fn.ensures)))
+    let r = c.requires in
+    (omega (arith, c.decreases), (to_rule c.node_place.ensures c.word_at.ensures r (node-number _ c.in-Fn.ensures)))
 
 pub node-cases-requires : goal.node-cases-requires
 node-cases-requires t c =
-    let r = rw (← c.sources.view_is) at c.requires in
-    (omega (arith, c.decreases), rw (← c.sources.view_is) (to_rule c.node_place.ensures c.word_at.ensures r (node-number _ c.in-Match.ensures)))
+    let r = c.requires in
+    (omega (arith, c.decreases), (to_rule c.node_place.ensures c.word_at.ensures r (node-number _ c.in-Match.ensures)))
 
 pub node-call-requires : goal.node-call-requires
 node-call-requires t c =
-    let r = rw (← c.sources.view_is) at c.requires in
-    (omega (arith, c.decreases), rw (← c.sources.view_is) (to_rule c.node_place.ensures c.word_at.ensures r (node-number _ c.in-Call.ensures)))
+    let r = c.requires in
+    (omega (arith, c.decreases), (to_rule c.node_place.ensures c.word_at.ensures r (node-number _ c.in-Call.ensures)))
 
 pub node-record_node-requires : goal.node-record_node-requires
 node-record_node-requires t c =
-    let r = rw (← c.sources.view_is) at c.requires in
-    (omega (arith, c.decreases), rw (← c.sources.view_is) (to_rule c.node_place.ensures c.word_at.ensures r (node-number _ c.in-Record.ensures)))
+    let r = c.requires in
+    (omega (arith, c.decreases), (to_rule c.node_place.ensures c.word_at.ensures r (node-number _ c.in-Record.ensures)))
 
 pub node-array-requires : goal.node-array-requires
 node-array-requires t c =
-    let r = rw (← c.sources.view_is) at c.requires in
-    (omega (arith, c.decreases), rw (← c.sources.view_is) (to_rule c.node_place.ensures c.word_at.ensures r (node-number _ c.in-Array.ensures)))
+    let r = c.requires in
+    (omega (arith, c.decreases), (to_rule c.node_place.ensures c.word_at.ensures r (node-number _ c.in-Array.ensures)))
 
 pub node-one-requires : goal.node-one-requires
 node-one-requires t c =
-    let r = rw (← c.sources.view_is) at c.requires in
-    (omega (arith, c.decreases), rw (← c.sources.view_is) (to_one c.node_place.ensures c.word_at.ensures r c.of.ensures c.in-Unary.is))
+    let r = c.requires in
+    (omega (arith, c.decreases), (to_one c.node_place.ensures c.word_at.ensures r c.of.ensures c.in-Unary.is))
 
 pub node-unreachable-requires : goal.node-unreachable-requires
 node-unreachable-requires t c =
-    let r = rw (← c.sources.view_is) at c.requires in
+    let r = c.requires in
     a-kind c.node_place.ensures c.word_at.ensures r c.of.ensures c.in-None.is
 
 pub node-returns-in-Atom : goal.node-returns-in-Atom
@@ -347,7 +347,7 @@ pub record_node-loop-i-preserved : goal.record_node-loop-i-preserved
 record_node-loop-i-preserved t c = Record.turn-next c.loop-i.invariant (omega arith) c.word_at-in-loop-i.ensures c.in_ok-next.ensures
 
 pub record_node-returns : goal.record_node-returns
-record_node-returns t c = Record.record_made c.loop-i.invariant (omega arith) (c.make.ensures c.args.sources.now.texts _ _ _ _ _ no_more)
+record_node-returns t c = Record.record_made c.loop-i.invariant (omega arith) (c.make.ensures c.args.texts.now _ _ _ _ _ no_more)
 
 -- ── Node::Array ──
 
@@ -413,4 +413,4 @@ pub array-returns : goal.array-returns
 array-returns t c =
     Array.array-ended
     (c.loop-i.invariant.on _ _ (Array.first-passed c.requires c.node_place-at.ensures c.word_at.ensures c.payload-count.ensures c.if-count-eq0.false c.word_at-2.ensures c.in_ok-first.ensures))
-    (Array.none_left_lem (omega arith)) (c.end.ensures c.args.sources.now.texts _ _ _ _ _ _ _ no_more)
+    (Array.none_left_lem (omega arith)) (c.end.ensures c.args.texts.now _ _ _ _ _ _ _ no_more)

@@ -7,5 +7,5 @@ use Rattle.walk_laws.specs.Lists.{Turn}
 use Rattle.typecheck.proofs.nodes.Given as goal
 
 abbrev pub invariant-loop : goal.invariant-loop
-invariant-loop l = Turn l.sources.texts l.sources.image.words l.sources.image.places l.sources.library l.owner l.at l.k l.initial.here (lent l.initial.slots l.initial.functions l.initial.types l.initial.diagnostics l.initial.messages l.initial.scratch no_more)
+invariant-loop l = Turn l.texts l.image.words l.image.places l.library l.owner l.at l.k l.initial.here (lent l.initial.slots l.initial.functions l.initial.types l.initial.diagnostics l.initial.messages l.initial.scratch no_more)
     l.place (l.k - l.counter) l.answer l.here (lent l.slots l.functions l.types l.diagnostics l.messages l.scratch no_more)
