@@ -140,8 +140,8 @@ pub record Listing (words before order : List ℕ) (n i : ℕ) : Type 0 where
   pub long : length order ≡ length before
   pub few : n + 2 ≤ i
   pub most : i ≤ 8193
-  pub all : (p : ℕ) → 2 ≤ p → p < i → kind_of (get_or words p 0) ≡ 10 → Listed order n p
-  pub only : (p : ℕ) → Listed order n p → kind_of (get_or words p 0) ≡ 10
+  pub all : 8192 ≤ length before → (p : ℕ) → 2 ≤ p → p < i → kind_of (get_or words p 0) ≡ 10 → Listed order n p
+  pub only : 8192 ≤ length before → (p : ℕ) → Listed order n p → kind_of (get_or words p 0) ≡ 10
 
 -- the slots listed are sorted in front of what lies behind
 pub slots-named : {t : Texts} {words b c : List ℕ} (rest : List ℕ) {n : ℕ} {r : Bool} → SlotsListed words b n → n ≤ length b

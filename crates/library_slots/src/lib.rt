@@ -317,8 +317,8 @@ pub fn return_stands(
 }
 
 // The places of the slots in a library, from the pool on, and how many there are.
-fn slot_places(words: &[u32], order: &mut [u16; 8192]) -> usize
-    ensures { SlotsListed words.now order.new result }
+fn slot_places(words: &[u32], order: &mut [u16]) -> usize
+    ensures { 8192 ≤ length order.old → SlotsListed words.now order.new result }
 {
     let mut n = 0;
     for i in 2..words.len().min(8193) {
@@ -336,14 +336,14 @@ pub fn named_slots(
     words: &[u32],
     pool: &[u32],
     sums: &[u16],
-    order: &mut [u16; 8192],
+    order: &mut [u16],
 ) -> usize
-    ensures { (0 < result → SlotsNamed texts.now words.now order.new result) }
+    ensures { (8192 ≤ length order.old → 0 < result → SlotsNamed texts.now words.now order.new result) }
 {
     if sum_at(sums, pool.len()) == 0 {
         return 0;
     }
-    let n = slot_places(words, order);
+    let n = slot_places(words, order).min(order.len());
     if name_order::group_names(texts, words, &mut order[..n]) {
         n
     } else {

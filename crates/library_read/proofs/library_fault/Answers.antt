@@ -50,8 +50,8 @@ returns-in_err-at-5 c =
     let there =
     pool-at _ _ _ begun _ _ c.next_word-size.ensures refl _ c.in_ok-at-2.ensures
     _ _ c.next_word-count.ensures refl _ c.in_ok-at-3.ensures _ c.pool-pool.ensures _ read in
-    let few = slots_few c.named_slots-n.ensures in
-    let named = slots_cut c.named_slots-n.ensures (omega (arith, c.named_slots-n.array_long)) in
+    let few = slots_few (c.named_slots-n.ensures (omega arith)) in
+    let named = slots_cut (c.named_slots-n.ensures (omega arith)) (omega (arith, few, c.named_slots-n.auto.order)) in
     rw (p.1, p.2)
     (packages_stop _ _ _ begun _ _ c.next_word-size.ensures refl _ c.in_ok-at-2.ensures
     _ _ c.next_word-count.ensures refl _ c.in_ok-at-3.ensures _ c.pool-pool.ensures _ read
@@ -68,8 +68,8 @@ returns-in_err-ends c =
     let there =
     pool-at _ _ _ begun _ _ c.next_word-size.ensures refl _ c.in_ok-at-2.ensures
     _ _ c.next_word-count.ensures refl _ c.in_ok-at-3.ensures _ c.pool-pool.ensures _ read in
-    let few = slots_few c.named_slots-n.ensures in
-    let named = slots_cut c.named_slots-n.ensures (omega (arith, c.named_slots-n.array_long)) in
+    let few = slots_few (c.named_slots-n.ensures (omega arith)) in
+    let named = slots_cut (c.named_slots-n.ensures (omega arith)) (omega (arith, few, c.named_slots-n.auto.order)) in
     rw (p.1, p.2)
     (library-is _ _ _ begun _ _ c.next_word-size.ensures refl _ c.in_ok-at-2.ensures
     _ _ c.next_word-count.ensures refl _ c.in_ok-at-3.ensures _ c.pool-pool.ensures _ read
@@ -85,8 +85,8 @@ returns c =
     let there =
     pool-at _ _ _ begun _ _ c.next_word-size.ensures refl _ c.in_ok-at-2.ensures
     _ _ c.next_word-count.ensures refl _ c.in_ok-at-3.ensures _ c.pool-pool.ensures _ read in
-    let few = slots_few c.named_slots-n.ensures in
-    let named = slots_cut c.named_slots-n.ensures (omega (arith, c.named_slots-n.array_long)) in
+    let few = slots_few (c.named_slots-n.ensures (omega arith)) in
+    let named = slots_cut (c.named_slots-n.ensures (omega arith)) (omega (arith, few, c.named_slots-n.auto.order)) in
     library-is _ _ _ begun _ _ c.next_word-size.ensures refl _ c.in_ok-at-2.ensures
     _ _ c.next_word-count.ensures refl _ c.in_ok-at-3.ensures _ c.pool-pool.ensures _ read
     _ _ (c.in_ok-at-5.ensures ready (record { there = there; named = named })) _ c.in_ok-ends.ensures
@@ -96,8 +96,8 @@ slice_bounds-named_slots-end c = sums_long _ _ c.slot_sums.ensures
 
 pub slice_bounds-order-end : goal.slice_bounds-order-end
 slice_bounds-order-end c =
-    let few = slots_few c.named_slots-n.ensures in
-    let within : c.named_slots-n.result ≤ length c.named_slots-n.new.order = omega (arith, c.named_slots-n.array_long) in
+    let few = slots_few (c.named_slots-n.ensures (omega arith)) in
+    let within : c.named_slots-n.result ≤ length c.named_slots-n.new.order = omega (arith, few, c.named_slots-n.auto.order) in
     omega (arith, length-take-le c.named_slots-n.result c.named_slots-n.new.order within)
 
 pub slice_bounds-packages-end : goal.slice_bounds-packages-end
