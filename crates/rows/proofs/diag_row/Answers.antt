@@ -7,6 +7,6 @@ use Rattle.rows.proofs.diag_row.Goals as goal
 pub returns : goal.returns
 returns c =
     let read =
-    diag_read _ _ refl c.word_at.ensures c.payload-code.ensures c.word_at-2.ensures refl c.word_at-3.ensures refl c.word_at-4.ensures refl
-    c.word_at-5.ensures refl c.bytes_in.ensures in
+    diag_read _ _ refl c.word_at.ensures c.payload-code.ensures c.word_at-start.ensures refl c.word_at-len.ensures refl c.word_at-from.ensures refl
+    c.word_at-size.ensures refl c.bytes_in.ensures in
     shows_as read c.put_diag.ensures
