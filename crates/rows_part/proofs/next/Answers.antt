@@ -10,7 +10,7 @@ pub returns-in-Slot : goal.returns-in-Slot
 returns-in-Slot c = next-slots-end _ _ _ _ c.in-Slot.is c.if-i-last.false c.fn_from.ensures
 
 pub returns-in-Fn : goal.returns-in-Fn
-returns-in-Fn c = next-fn _ _ _ _ c.in-Fn.is refl c.word_at.ensures refl c.fn_from-in-Fn.ensures
+returns-in-Fn c = next-fn _ _ _ _ c.in-Fn.is refl c.word_at-n.ensures refl c.fn_from-in-Fn.ensures
 
 pub returns-in-Diag : goal.returns-in-Diag
 returns-in-Diag c = next_diag _ _ _ _ c.in-Diag.is refl c.diag_from.ensures
