@@ -4,7 +4,6 @@ use mathlib.Core.Path.{◌≡◌, ap, ◌∙◌}
 use mathlib.Core.List.{List, []}
 use native.Mathlib.Omega.{arith}
 use lib.ListN.{length, get_or, drop}
-use lib.Dec.{ltb}
 use borrow.Author.Tests.{lt-ltb, le-ltb}
 use Rattle.ptype.specs.Add.{write}
 use Rattle.display.specs.WriteLaws.{length-write}
@@ -14,7 +13,6 @@ use Rattle.rows_window.specs.Showing.{Shows}
 use Rattle.rows.specs.Lines.{slot_row, diag_row, end_row, refused_row, input_row}
 use Rattle.rows_part.specs.declared.Row.{Row}
 use Rattle.rows_part.specs.declared.Row.TheVariants.{Slot, Fn, Diag, End, Refused, Input, Done}
-use Rattle.rows_part.specs.declared.Part.{Part}
 use Rattle.rows_part.specs.Printing.{Answer, row_of, diag_from, fn_from, next_of, next_in, part_of, room_at, Prints}
 
 -- ---- `put_row`
