@@ -7,4 +7,6 @@ use Rattle.rows.proofs.put_fn.Goals as goal
 
 pub returns : goal.returns
 unfolding text
-returns c = shows_as (fn_pieces _ _ _ _ _ _ _ c.name_bytes.ensures) (c.put.ensures and_then c.put-2.ensures and_then c.put-3.ensures and_then c.show_arguments.ensures and_then c.show_type.ensures and_then c.put-4.ensures)
+returns c =
+    let pieces = c.put.ensures and_then c.put-2.ensures and_then c.put-3.ensures and_then c.show_arguments.ensures and_then c.show_type.ensures and_then c.put-4.ensures in
+    shows_as (fn_pieces _ _ _ _ _ _ _ c.name_bytes.ensures) pieces
