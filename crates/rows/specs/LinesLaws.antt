@@ -1,8 +1,8 @@
 -- Laws of rows: the pieces in which each is written. Assumes nothing.
 use Prim.Native.Nat.{ℕ, zero, suc, ◌+◌, ◌*◌}
-use Rattle.std.specs.Prelude.{◌≡◌, List, [], ◌∷◌, ◌++◌, get_or}
+use Rattle.std.specs.Prelude.{◌≡◌, List, [], ◌++◌, get_or}
 use Rattle.std.proofs.Math.Path.{refl}
-use Rattle.std.proofs.Common.{sym, ap, ◌∙◌, append-nil, append_assoc, ne_eqb}
+use Rattle.std.proofs.Common.{append-nil, append_assoc, ne_eqb}
 use Rattle.tok.specs.Text.{Texts, text, name_bytes}
 use Rattle.ptype.specs.Words.{fields_from, ty_of}
 use Rattle.ptype.specs.Show.{gap, show, show_fields, decimal}

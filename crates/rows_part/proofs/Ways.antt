@@ -4,8 +4,8 @@ use mathlib.Core.Path.{◌≡◌, ap, ◌∙◌}
 use mathlib.Core.List.{List, []}
 use native.Mathlib.Omega.{arith}
 use lib.ListN.{length, get_or, drop}
-use lib.Dec.{ltb}
 use borrow.Author.Tests.{lt-ltb, le-ltb}
+use Rattle.ptype.specs.Add.{write}
 use Rattle.display.specs.WriteLaws.{length-write}
 use Rattle.rules.specs.Rows.{fn_row}
 use Rattle.rows_window.specs.declared.Window.{Window}
@@ -13,7 +13,6 @@ use Rattle.rows_window.specs.Showing.{Shows}
 use Rattle.rows.specs.Lines.{slot_row, diag_row, end_row, refused_row, input_row}
 use Rattle.rows_part.specs.declared.Row.{Row}
 use Rattle.rows_part.specs.declared.Row.TheVariants.{Slot, Fn, Diag, End, Refused, Input, Done}
-use Rattle.rows_part.specs.declared.Part.{Part}
 use Rattle.rows_part.specs.Printing.{Answer, row_of, diag_from, fn_from, next_of, next_in, part_of, room_at, Prints}
 
 -- ---- `put_row`
@@ -99,27 +98,34 @@ module _ (f : List ℕ) (last words count : ℕ) {r : Row} where
   next-done e = rw e
 
 -- ---- `write_part`
-module _ (a : Answer) (r : Row) {skip : ℕ} {o o' : List ℕ} {w : Window} (p : Shows o (record { skip = skip; at = 0 }) o' w (row_of a r)) where
-  many-bytes : w.at ≡ min (length (row_of a r) - skip) (length o)
-  many-bytes = omega (arith, p.place)
+-- the buffer o became o', lent to the window w, which is w' now
+module _
+    (a : Answer) (r : Row) {skip : ℕ} {o o' : List ℕ} {w w' : Window} (p : Shows w w' (row_of a r))
+    (eo : w.buffer.now ≡ o) (es : w.skip ≡ skip) (ea : w.at ≡ 0) (eb : o' ≡ w'.buffer.now)
+  where
+    bytes_are : o' ≡ write o 0 (drop skip (row_of a r))
+    bytes_are = eb ∙ p.bytes ∙ rw (eo, es, ea)
 
-  as_long : length o' ≡ length o
-  as_long = ap length p.bytes ∙ length-write o 0 (drop skip (row_of a r))
+    many-bytes : w'.at ≡ min (length (row_of a r) - skip) (length o)
+    many-bytes = let l = ap length eo in omega (arith, p.place, es, ea)
 
-  module _ {room n : ℕ} (er : room ≡ min (length o') (2 ^ 64 - 1 - skip)) (en : n ≡ min w.at room) where
-    room-is : room ≡ room_at skip (length o)
-    unfolding room_at
-    room-is = er ∙ rw as_long
+    as_long : length o' ≡ length o
+    as_long = ap length bytes_are ∙ length-write o 0 (drop skip (row_of a r))
 
-    bytes-are : n ≡ min (length (row_of a r) - skip) room
-    bytes-are = omega (arith, er, en, many-bytes, as_long)
+    module _ {room n : ℕ} (er : room ≡ min (length w'.buffer.now) (2 ^ 64 - 1 - skip)) (en : n ≡ min w'.at room) where
+      room-is : room ≡ room_at skip (length o)
+      unfolding room_at
+      room-is = er ∙ rw (← eb, as_long)
 
-    -- the row ends in the buffer
-    pub part-ends : {x : Row} → n < room → x ≡ next_in a r → Prints a r skip o o' (record { bytes = n; row = x; skip = 0 })
-    unfolding part_of
-    part-ends h e = record { buffer = p.bytes; answer = rw (← room-is, ← bytes-are, lt-ltb n room h, e) }
+      part-is : n ≡ min (length (row_of a r) - skip) room
+      part-is = let l = ap length eb in omega (arith, er, en, many-bytes, as_long)
 
-    -- it does not
-    pub part-goes : room ≤ n → Prints a r skip o o' (record { bytes = n; row = r; skip = skip + n })
-    unfolding part_of
-    part-goes h = record { buffer = p.bytes; answer = rw (← room-is, ← bytes-are, le-ltb n room h) }
+      -- the row ends in the buffer
+      pub part-ends : {x : Row} → n < room → x ≡ next_in a r → Prints a r skip o o' (record { bytes = n; row = x; skip = 0 })
+      unfolding part_of
+      part-ends h e = record { buffer = bytes_are; answer = rw (← room-is, ← part-is, lt-ltb n room h, e) }
+
+      -- it does not
+      pub part-goes : room ≤ n → Prints a r skip o o' (record { bytes = n; row = r; skip = skip + n })
+      unfolding part_of
+      part-goes h = record { buffer = bytes_are; answer = rw (← room-is, ← part-is, le-ltb n room h) }

@@ -31,8 +31,7 @@ pub struct Part {
 
 // The bytes of a row, through a window.
 fn put_row(
-    out: &mut [u8],
-    w: Window,
+    w: &mut Window,
     texts: &Texts,
     slots: &[u32],
     types: &[u32],
@@ -41,8 +40,8 @@ fn put_row(
     messages: &[u8],
     count: u32,
     row: Row,
-) -> Window
-    ensures { (last words : ℕ) → Shows out.old w out.new result
+)
+    ensures { (last words : ℕ) → Shows w.old w.new
         (row_of (answer_of texts.now slots.now types.now functions.now
         diagnostics.now messages.now last words count) row) }
 {
@@ -50,25 +49,25 @@ fn put_row(
         Row::Slot(i) => {
             let slot = i as usize;
             let word = word_at(slots, slot);
-            return rows::slot_row(out, w, types, texts, slot, word);
+            rows::slot_row(w, types, texts, slot, word);
         }
         Row::Fn(at) => {
-            return rows::fn_row(out, w, types, texts, functions, at);
+            rows::fn_row(w, types, texts, functions, at);
         }
         Row::Diag(k) => {
-            return rows::diag_row(out, w, diagnostics, messages, k);
+            rows::diag_row(w, diagnostics, messages, k);
         }
         Row::End => {
-            return rows::end_row(out, w, count as usize);
+            rows::end_row(w, count as usize);
         }
         Row::Refused(number, place) => {
-            return rows::refused_row(out, w, number as usize, place);
+            rows::refused_row(w, number as usize, place);
         }
         Row::Input => {
-            return rows::input_row(out, w);
+            rows::input_row(w);
         }
         Row::Done => {
-            return rows_window::put(out, w, b"");
+            w.put(b"");
         }
     }
 }
@@ -148,9 +147,13 @@ pub fn write_part(
         diagnostics.now messages.now last words count)
         row skip out.old out.new result }
 {
-    let w = put_row(
-        out,
-        Window { skip, at: 0 },
+    let mut w = Window {
+        buffer: out,
+        skip,
+        at: 0,
+    };
+    put_row(
+        &mut w,
         texts,
         slots,
         types,
@@ -160,7 +163,7 @@ pub fn write_part(
         count,
         row,
     );
-    let room = out.len().min(usize::MAX - skip);
+    let room = w.buffer.len().min(usize::MAX - skip);
     let n = w.at.min(room);
     if n < room {
         return Part {

@@ -31,8 +31,8 @@ use Rattle.display.specs.Joined.{separated}
 use Rattle.rows_types.specs.Behind.{behind_of}
 
 -- a writer leaves the buffer as long as it was
-pub shows_length : {o o' : List ℕ} {w r : Window} {s : List ℕ} → Shows o w o' r s → length o' ≡ length o
-shows_length {o} {o'} {w} {r} {s} p = ap length p.bytes ∙ length-write o w.at (drop w.skip s)
+pub shows_length : {w w' : Window} {s : List ℕ} → Shows w w' s → length w'.buffer.now ≡ length w.buffer.now
+shows_length {w} {w'} {s} p = ap length p.bytes ∙ length-write w.buffer.now w.at (drop w.skip s)
 
 -- ---- types
 -- x is the kind that was found of the word, and o the text before the fields

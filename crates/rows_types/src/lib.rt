@@ -14,20 +14,20 @@ ghost use Rattle.rows_types.specs.Behind.{behind_of};
 
 use display::Writer;
 use ptype::TypeKind;
-use rows_window::{Window, is_full, put};
+use rows_window::Window;
 use tok::Texts;
 
 // "type depth 32": one level more tells a type that is deeper.
 const LEVELS: usize = 33;
 
 // A blank beside other fields: none where there are none.
-fn put_gap(out: &mut [u8], w: Window, count: usize) -> Window
-    ensures { Shows out.old w out.new result (separated count (text " ")) }
+fn put_gap(w: &mut Window, count: usize)
+    ensures { Shows w.old w.new (separated count (text " ")) }
 {
     if count == 0 {
-        put(out, w, b"")
+        w.put(b"");
     } else {
-        put(out, w, b" ")
+        w.put(b" ");
     }
 }
 
@@ -35,51 +35,45 @@ fn put_gap(out: &mut [u8], w: Window, count: usize) -> Window
 const LONGEST: usize = 264;
 
 // A type that has no type inside.
-fn put_leaf(out: &mut [u8], w: Window, types: &[u32], texts: &Texts, word: u32) -> Window
+fn put_leaf(w: &mut Window, types: &[u32], texts: &Texts, word: u32)
     requires { Leaf (kind_of word) }
-    ensures { Shows out.old w out.new result (show (ty_of texts.now types.now word)) }
+    ensures { Shows w.old w.new (show (ty_of texts.now types.now word)) }
 {
     let mut leaf = [0u8; LONGEST];
     let mut writer = Writer::new(&mut leaf);
     let Ok(()) = display::show_type(&mut writer, types, texts, word) else {
-        return w;
+        return;
     };
     let end = writer.at;
-    put(out, w, &leaf[..end])
+    w.put(&leaf[..end]);
 }
 
 // A type, unfolded `depth` levels deep.
 #[cycle(show_fields_show_within)]
-fn show_within(
-    out: &mut [u8],
-    w: Window,
-    types: &[u32],
-    texts: &Texts,
-    word: u32,
-    depth: usize,
-) -> Window
-    ensures { Shows out.old w out.new result (show (unfolded texts.now types.now depth word)) }
+fn show_within(w: &mut Window, types: &[u32], texts: &Texts, word: u32, depth: usize)
+    ensures { Shows w.old w.new (show (unfolded texts.now types.now depth word)) }
 {
-    if is_full(out, w) {
-        return w;
+    if w.is_full() {
+        return;
     }
     if depth == 0 {
-        return put(out, w, b"unknown");
+        w.put(b"unknown");
+        return;
     }
     let kind = TypeKind::of(word);
     match kind {
         TypeKind::Option | TypeKind::Array => {
-            let a = put(out, w, display::opening(kind));
-            let b = show_within(out, a, types, texts, ptype::inner(types, word), depth - 1);
-            put(out, b, b">")
+            w.put(display::opening(kind));
+            show_within(w, types, texts, ptype::inner(types, word), depth - 1);
+            w.put(b">");
         }
         TypeKind::Record => {
-            let a = put(out, w, display::opening(kind));
+            w.put(display::opening(kind));
             let i = tok::payload(word) + 1;
             let n = ptype::field_count(types, word);
-            show_fields(out, a, types, texts, types, i, n, depth - 1, b">")
+            show_fields(w, types, texts, types, i, n, depth - 1, b">");
         }
-        _ => put_leaf(out, w, types, texts, word),
+        _ => put_leaf(w, types, texts, word),
     }
 }
 
@@ -93,8 +87,7 @@ fn behind(words: &[u32], i: usize) -> usize
 // n fields, or arguments, whose names and types stand in `words` from the index i on, and what comes after them.
 #[cycle(show_fields_show_within)]
 fn show_fields(
-    out: &mut [u8],
-    w: Window,
+    w: &mut Window,
     types: &[u32],
     texts: &Texts,
     words: &[u32],
@@ -102,42 +95,40 @@ fn show_fields(
     n: usize,
     depth: usize,
     after: &[u8],
-) -> Window
+)
     ensures { let F : Fields = fields_from (unfolded texts.now types.now depth) texts.now words.now i n in
-        Shows out.old w out.new result (show_fields F ++ after.now) }
+        Shows w.old w.new (show_fields F ++ after.now) }
 {
-    let mut w = w;
     let mut i = i;
     for left in (0..n).rev() {
-        w = put(out, w, ptype::field_name(words, texts, i));
-        w = put(out, w, b": ");
-        w = show_within(out, w, types, texts, ptype::field_type(words, i), depth);
-        w = put_gap(out, w, left);
+        w.put(ptype::field_name(words, texts, i));
+        w.put(b": ");
+        show_within(w, types, texts, ptype::field_type(words, i), depth);
+        put_gap(w, left);
         i = behind(words, i);
     }
-    put(out, w, after)
+    w.put(after);
 }
 
 // A type as `Display` shows it.
-pub fn show_type(out: &mut [u8], w: Window, types: &[u32], texts: &Texts, word: u32) -> Window
-    ensures { Shows out.old w out.new result (show (ty_of texts.now types.now word)) }
+pub fn show_type(w: &mut Window, types: &[u32], texts: &Texts, word: u32)
+    ensures { Shows w.old w.new (show (ty_of texts.now types.now word)) }
 {
-    show_within(out, w, types, texts, word, LEVELS)
+    show_within(w, types, texts, word, LEVELS);
 }
 
 // n arguments as `Display` shows them, whose names and types stand in `words` from the index i on, and what comes after them.
 pub fn show_arguments(
-    out: &mut [u8],
-    w: Window,
+    w: &mut Window,
     types: &[u32],
     texts: &Texts,
     words: &[u32],
     i: usize,
     n: usize,
     after: &[u8],
-) -> Window
+)
     ensures { let F : Fields = fields_from (ty_of texts.now types.now) texts.now words.now i n in
-        Shows out.old w out.new result (show_fields F ++ after.now) }
+        Shows w.old w.new (show_fields F ++ after.now) }
 {
-    show_fields(out, w, types, texts, words, i, n, LEVELS, after)
+    show_fields(w, types, texts, words, i, n, LEVELS, after);
 }

@@ -30,14 +30,17 @@ drop-least (suc k) (x ∷ s) {m} e =
 
 -- `put`
 pub put_shows :
-    {o o' back : List ℕ} {w : Window} {r : Result ⊤ Full} (s : List ℕ) {m at : ℕ} → m ≡ min w.skip (length s) → (r, (o', at)) ≡ written o w.at (take (length s - m) (drop m s)) →
-    back ≡ o' → Shows o w back (record { skip = w.skip - m; at = at }) s
-put_shows {o} {o'} {back} {w} {r} s {m} {at} e p f =
+    {w w' : Window} {o' : List ℕ} {r : Result ⊤ Full} (s : List ℕ) {m : ℕ} → m ≡ min w.skip (length s) →
+    (r, (o', w'.at)) ≡ written w.buffer.now w.at (take (length s - m) (drop m s)) → w'.buffer.now ≡ o' → w'.buffer.ghost_name ≡ w.buffer.ghost_name → w'.skip ≡ w.skip - m →
+    Shows w w' s
+put_shows {w} {w'} {o'} {r} s {m} e p f g i =
+    let o : List ℕ = w.buffer.now in
     let l : length (drop m s) ≡ length s - m = length-drop m s in
     let rest : take (length s - m) (drop m s) ≡ drop m s = take_all (length s - m) (drop m s) (omega arith) in
-    let q : (r, (o', at)) ≡ written o w.at (drop m s) = rw rest at p in
+    let q : (r, (o', w'.at)) ≡ written o w.at (drop m s) = rw rest at p in
     let k : length s - m ≡ length s - w.skip = omega arith in
     record {
+      buffer = g;
       bytes = f ∙ ap (λ z. z.1.0) q ∙ written_buffer o w.at (drop m s) ∙ rw (drop-least w.skip s e);
       skips = omega arith;
       place = ap (λ z. z.1.1) q ∙ written_place o w.at (drop m s) ∙ rw (l, k);
@@ -61,11 +64,11 @@ decimal-room o {i = i} {p = p} n s e h k =
     omega (arith, digits-short 10 n, ap length s.0)
 
 -- `is_full`
-module _ (o : List ℕ) (w : Window) where
-  pub full-by-room : w.skip ≡ 0 → leb (length o) w.at ≡ is_full o w
+module _ (w : Window) where
+  pub full-by-room : w.skip ≡ 0 → leb (length w.buffer.now) w.at ≡ is_full w
   unfolding is_full
   full-by-room e = rw (eq-eqb w.skip 0 e)
 
-  pub passing : (w.skip ≡ 0 → ⊥) → eqb w.skip 0 ≡ is_full o w
+  pub passing : (w.skip ≡ 0 → ⊥) → eqb w.skip 0 ≡ is_full w
   unfolding is_full
   passing n = rw (ne_eqb w.skip 0 n)

@@ -43,33 +43,35 @@ place-both k a o s t {m} {n} e f =
 
 -- The law of writers: a text written after another is both, one after the other. As `◌++◌` is, it is read from the left.
 infixl 65 ◌and_then◌
-pub ◌and_then◌ : {o o₁ o₂ : List ℕ} {w r₁ r₂ : Window} {s t : List ℕ} → Shows o w o₁ r₁ s → Shows o₁ r₁ o₂ r₂ t → Shows o w o₂ r₂ (s ++ t)
-◌and_then◌ {o} {o₁} {o₂} {w} {r₁} {r₂} {s} {t} p q =
-    let l : length o₁ ≡ length o = ap length p.bytes ∙ length-write o w.at (drop w.skip s) in
+pub ◌and_then◌ : {w w₁ w₂ : Window} {s t : List ℕ} → Shows w w₁ s → Shows w₁ w₂ t → Shows w w₂ (s ++ t)
+◌and_then◌ {w} {w₁} {w₂} {s} {t} p q =
+    let o : List ℕ = w.buffer.now in
+    let l : length w₁.buffer.now ≡ length o = ap length p.bytes ∙ length-write o w.at (drop w.skip s) in
     let d : length (drop w.skip s) ≡ length s - w.skip = length-drop w.skip s in
     record {
+      buffer = q.buffer ∙ p.buffer;
       bytes =
           q.bytes
           ∙ rw (p.bytes, p.skips, drop-both w.skip s t)
-          (write-both o w.at r₁.at (drop w.skip s) (drop (w.skip - length s) t) (rw d p.place));
+          (write-both o w.at w₁.at (drop w.skip s) (drop (w.skip - length s) t) (rw d p.place));
       skips = q.skips ∙ rw (p.skips, length-append s t) (sym (sub-add-eq w.skip (length s) (length t)));
       place = rw (length-append s t) (place-both w.skip w.at (length o) (length s) (length t) p.place (rw (p.skips, l) at q.place));
     }
 
 -- the same text in other words
-pub shows_as : {o o' : List ℕ} {w r : Window} {s t : List ℕ} → s ≡ t → Shows o w o' r t → Shows o w o' r s
+pub shows_as : {w w' : Window} {s t : List ℕ} → s ≡ t → Shows w w' t → Shows w w' s
 shows_as e p = rw e p
 
 -- where the window is full every text leaves all as it is
-pub shows_full : (o : List ℕ) (w : Window) (s : List ℕ) → is_full o w ≡ true → Shows o w o w s
+pub shows_full : (w : Window) (s : List ℕ) → is_full w ≡ true → Shows w w s
 unfolding is_full
-shows_full o w s h = go (eqb w.skip 0) refl
+shows_full w s h = go (eqb w.skip 0) refl
   where
-    go : (b : Bool) → eqb w.skip 0 ≡ b → Shows o w o w s
+    go : (b : Bool) → eqb w.skip 0 ≡ b → Shows w w s
     go true e =
         let z : w.skip ≡ 0 = eqb-true w.skip 0 e in
-        let l : length o ≤ w.at = leb-true (length o) w.at (rw e at h) in
-        record { bytes = sym (write-past o w.at (drop w.skip s) l); skips = omega arith; place = omega arith }
+        let l : length w.buffer.now ≤ w.at = leb-true (length w.buffer.now) w.at (rw e at h) in
+        record { buffer = refl; bytes = sym (write-past w.buffer.now w.at (drop w.skip s) l); skips = omega arith; place = omega arith }
     go false e = absurd (true≢false (sym (rw e at h)))
 
 -- ---- pieces that were written into a buffer of their own
@@ -106,20 +108,18 @@ module _ (o s : List ℕ) {o' : List ℕ} {i n : ℕ} {r : Result ⊤ Full} {x :
   front-length {b} e = let g = front-end e in rw (length-take n b) (omega arith)
 
   -- so it is the piece that is lent from there
-  pub shows_front : {q q' : List ℕ} {w v : Window} {b : List ℕ} → b ≡ o' → Shows q w q' v (take n b) → Shows q w q' v s
+  pub shows_front : {w w' : Window} {b : List ℕ} → b ≡ o' → Shows w w' (take n b) → Shows w w' s
   shows_front e h = shows_as (sym front_wrote) (rw e at h)
 
 -- ---- loops
--- Of the text s₀, begun in the buffer o₀ at the window w₀, the text s is still to be written, in the buffer o at w: whoever writes s has written s₀.
-pub record Owes (o₀ : List ℕ) (w₀ : Window) (s₀ : List ℕ) (o : List ℕ) (w : Window) (s : List ℕ) : Type 0 where
-  pub ends : {o' : List ℕ} {r : Window} → Shows o w o' r s → Shows o₀ w₀ o' r s₀
+-- Of the text s, begun at the window w, the text s' is still to be written, at w': whoever writes s' has written s.
+pub record Owes (w : Window) (s : List ℕ) (w' : Window) (s' : List ℕ) : Type 0 where
+  pub ends : {r : Window} → Shows w' r s' → Shows w r s
 
 -- before the first turn
-pub owes-all : {o : List ℕ} {w : Window} {s₀ s : List ℕ} → s₀ ≡ s → Owes o w s₀ o w s
+pub owes-all : {w : Window} {s s' : List ℕ} → s ≡ s' → Owes w s w s'
 owes-all e = record { ends = λ p. shows_as e p }
 
 -- one turn writes the front t of what is owed
-pub owes-less :
-    {o₀ o o₁ : List ℕ} {w₀ w r₁ : Window} {s₀ s t u : List ℕ} →
-    Owes o₀ w₀ s₀ o w s → s ≡ t ++ u → Shows o w o₁ r₁ t → Owes o₀ w₀ s₀ o₁ r₁ u
+pub owes-less : {w w' r : Window} {s s' t u : List ℕ} → Owes w s w' s' → s' ≡ t ++ u → Shows w' r t → Owes w s r u
 owes-less p e q = record { ends = λ r. p.ends (shows_as e (q and_then r)) }

@@ -7,4 +7,4 @@ use Rattle.rows.proofs.end_row.Goals as goal
 
 pub returns : goal.returns
 unfolding text
-returns c = shows_as (end_pieces _) (c.put-a.ensures and_then c.put_decimal-b.ensures and_then c.put.ensures)
+returns c = shows_as (end_pieces _) (c.put.ensures and_then c.put_decimal.ensures and_then c.put-2.ensures)

@@ -7,4 +7,6 @@ use Rattle.rows.proofs.put_diag.Goals as goal
 
 pub returns : goal.returns
 unfolding text
-returns c = shows_as (diag_pieces _ _ _ _) (c.put-a.ensures and_then c.put_number-b.ensures and_then c.put_number-c.ensures and_then c.put_number-d.ensures and_then c.put-e.ensures and_then c.put.ensures)
+returns c =
+    let pieces = c.put.ensures and_then c.put_number.ensures and_then c.put_number-2.ensures and_then c.put_number-3.ensures and_then c.put-2.ensures and_then c.put-3.ensures in
+    shows_as (diag_pieces _ _ _ _) pieces

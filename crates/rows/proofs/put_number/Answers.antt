@@ -5,4 +5,4 @@ use Rattle.rows.proofs.put_number.Goals as goal
 
 pub returns : goal.returns
 unfolding text
-returns c = (c.put_decimal-a.ensures and_then c.put.ensures)
+returns c = (c.put_decimal.ensures and_then c.put.ensures)

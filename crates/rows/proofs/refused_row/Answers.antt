@@ -7,4 +7,4 @@ use Rattle.rows.proofs.refused_row.Goals as goal
 
 pub returns : goal.returns
 unfolding text
-returns c = shows_as (refused_pieces _ _) (c.put-a.ensures and_then c.put_number-b.ensures and_then c.put_decimal-c.ensures and_then c.put.ensures)
+returns c = shows_as (refused_pieces _ _) (c.put.ensures and_then c.put_number.ensures and_then c.put_decimal.ensures and_then c.put-2.ensures)

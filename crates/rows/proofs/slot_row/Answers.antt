@@ -11,4 +11,4 @@ returns-then-word-eq0 c = shows_as (slot-none _ _ _ _ c.if-word-eq0.true) c.put.
 
 pub returns : goal.returns
 unfolding text
-returns c = shows_as (slot_pieces _ _ _ _ c.if-word-eq0.false) (c.put-a.ensures and_then c.put_number-b.ensures and_then c.show_type-c.ensures and_then c.put-2.ensures)
+returns c = shows_as (slot_pieces _ _ _ _ c.if-word-eq0.false) (c.put-2.ensures and_then c.put_number.ensures and_then c.show_type.ensures and_then c.put-3.ensures)

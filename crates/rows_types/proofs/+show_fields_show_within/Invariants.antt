@@ -6,8 +6,6 @@ use Rattle.ptype.specs.Words.{fields_from, unfolded}
 use Rattle.ptype.specs.Ty.{Fields}
 use Rattle.tok.specs.Text.{Texts}
 use mathlib.Core.List.{◌++◌}
-use mathlib.Core.Path.{◌≡◌}
-use lib.ListN.{length}
 use Prim.Native.Nat.{ℕ, ◌+◌, ◌*◌}
 use Rattle.rows_types.proofs.+show_fields_show_within.Given as goal
 
@@ -20,4 +18,4 @@ decreases-show_within l = 2 * l.depth
 abbrev pub invariant-show_fields-loop-left : goal.invariant-show_fields-loop-left
 invariant-show_fields-loop-left l = let T : Texts = l.texts in
     let F : ℕ → ℕ → Fields = fields_from (unfolded T l.types l.depth) T l.words in
-    Owes l.initial.out l.initial.w (show_fields (F l.i-2 l.n) ++ l.after) l.out l.w (show_fields (F l.i l.left) ++ l.after) × (length l.out ≡ length l.initial.out)
+    Owes l.initial.w (show_fields (F l.i-2 l.n) ++ l.after) l.w (show_fields (F l.i l.left) ++ l.after)
