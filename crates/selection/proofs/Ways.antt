@@ -108,18 +108,38 @@ module _ (U : ℕ → Ty) (words : List ℕ) (at : ℕ) (provided : List ℕ) wh
     pub all_alike : length provided ≤ i → (f : Bool) → overload_matches (param_types U (signature_at words at f).params) (map U provided) ≡ true
     all_alike l f = alike_all U (a f) l
 
--- ── The first that fits: it is looked for among `gs`, of which one is looked at ──
+-- ── The first that fits ──
 
-module _ (U : ℕ → Ty) (provided words : List ℕ) (at : ℕ) (slotted : Bool) (fs : List Signature) {gs rest : List Signature}
-    (h : position_of U (map U provided) fs ≡ position_of U (map U provided) gs) (e : gs ≡ signature_at words at slotted ∷ rest) {lent : List ℕ} (el : lent ≡ words)
-    {q : Bool} (eq : (f : Bool) → overload_matches (param_types U (signature_at lent at f).params) (map U provided) ≡ q) where
-  pub position-goes : position_of U (map U provided) fs ≡ elim q [ true ↦ some (signature_at words at slotted) | false ↦ position_of U (map U provided) rest ]
+-- it is among the entries that are left
+pub record Ahead (U : ℕ → Ty) (texts : Texts) (name provided : List ℕ) (es left : Entries) : Type 0 where
+  pub words : left.words ≡ es.words
+  pub rest : position_of U (map U provided) (group texts name es.words (flag_words es.flagged) es.from es.count)
+      ≡ position_of U (map U provided) (group texts name left.words (flag_words left.flagged) left.from left.count)
+
+module _ (U : ℕ → Ty) (texts : Texts) (name provided : List ℕ) (es left : Entries) (a : Ahead U texts name provided es left) {r : Found Entry}
+    (h : Finds texts name left.words (flag_words left.flagged) left.from left.count r) where
+  pub position-none : r ≡ None → position_of U (map U provided) (group texts name es.words (flag_words es.flagged) es.from es.count) ≡ none
   unfolding position_of
-  position-goes = h ∙ rw (e, ← eq slotted, el) refl
+  position-none e = a.rest ∙ ap (position_of U (map U provided)) (over-is texts name left.words (flag_words left.flagged) h e)
 
-pub position-none : (U : ℕ → Ty) (provided : List Ty) (fs : List Signature) {gs : List Signature} → position_of U provided fs ≡ position_of U provided gs → gs ≡ [] → position_of U provided fs ≡ none
-unfolding position_of
-position-none U provided fs h e = h ∙ ap (position_of U provided) e
+  module _ {x : Entry} (e : r ≡ Some x) {lent : List ℕ} (el : lent ≡ es.words) where
+    pub position-goes : {q : Bool} → ((f : Bool) → overload_matches (param_types U (signature_at lent x.at f).params) (map U provided) ≡ q)
+        → position_of U (map U provided) (group texts name es.words (flag_words es.flagged) es.from es.count)
+        ≡ elim q [
+          | true ↦ some (signature_at es.words x.at x.slotted)
+          | false ↦ position_of U (map U provided) (group texts name es.words (flag_words left.flagged) x.next x.left)
+        ]
+    unfolding position_of
+    position-goes eq = a.rest ∙ rw (one-is texts name left.words (flag_words left.flagged) h e, ← eq x.slotted, el, a.words) refl
+
+    pub position-past : {later : Entries} → later ≡ entries left.words left.flagged x.next x.left
+        → ((f : Bool) → overload_matches (param_types U (signature_at lent x.at f).params) (map U provided) ≡ false) → Ahead U texts name provided es later
+    position-past l differs =
+        let m = rw a.words at l in
+        record {
+          words = ap (λ z. z.words) m;
+          rest = position-goes differs ∙ sym (ap (λ z. position_of U (map U provided) (group texts name z.words (flag_words z.flagged) z.from z.count)) m);
+        }
 
 -- ── What all return: it is owed of `gs`, of which one is looked at ──
 

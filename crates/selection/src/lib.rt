@@ -25,9 +25,14 @@ pub fn position(
         position_of U (map U provided.now) (group texts.now name.now entries.now.words (flag_words entries.now.flagged) entries.now.from entries.now.count)
         ≡ position_in entries.now.words result }
 {
-    let mut found = entries.find(texts, name);
-    'candidates: while let Some(entry) = found {
-        found = entries.after(entry).find(texts, name);
+    let mut left = Entries {
+        words: entries.words,
+        flagged: entries.flagged,
+        from: entries.from,
+        count: entries.count,
+    };
+    'candidates: while let Some(entry) = left.find(texts, name) {
+        left = left.after(entry);
         if signatures::argument_count(entries.words, entry.at) != provided.len() {
             continue 'candidates;
         }
