@@ -49,9 +49,6 @@ module _ (texts : Texts) (name : List ℕ) (es : Entries) {found : Found Entry} 
       let i = rw el at h.is in
       ap (found_of texts name es) e ∙ ap (λ fs. signature_at es.words x.at x.slotted ∷ fs) i
 
-  pub found-fewer : length (found_of texts name es r) < length (found_of texts name es found)
-  found-fewer = rw found-next (omega arith)
-
 -- ── The types of one candidate ──
 
 lengths_differ : (ts us : List Ty) → (length ts ≡ length us → ⊥) → overload_matches ts us ≡ false
@@ -93,46 +90,56 @@ module _ (U : ℕ → Ty) {ps : List Param} {provided : List ℕ} {i : ℕ} (a :
 -- ── Whether one candidate fits ──
 
 module _ (U : ℕ → Ty) (words : List ℕ) (at : ℕ) (provided : List ℕ) where
-  module _ {n : ℕ} (en : (f : Bool) → n ≡ length (signature_at words at f).params) where
-    pub count-differs : (n ≡ length provided → ⊥) → (f : Bool) → false ≡ overload_matches (param_types U (signature_at words at f).params) (map U provided)
-    count-differs d f =
-        sym
-        (lengths_differ (param_types U (signature_at words at f).params) (map U provided)
-        (λ z. d (en f ∙ sym (length-map (signature_at words at f).params (λ p. U p.type)) ∙ z ∙ length-map provided U)))
-
-    pub alike-begin : n ≡ length provided → (f : Bool) → Alike U (signature_at words at f).params provided 0
-    alike-begin z f = record { long = sym (en f) ∙ z; so = refl }
+  pub count-differs : {n : ℕ} → ((f : Bool) → n ≡ length (signature_at words at f).params) → (n ≡ length provided → ⊥)
+      → (f : Bool) → overload_matches (param_types U (signature_at words at f).params) (map U provided) ≡ false
+  count-differs en d f =
+      lengths_differ (param_types U (signature_at words at f).params) (map U provided)
+      (λ z. d (en f ∙ sym (length-map (signature_at words at f).params (λ p. U p.type)) ∙ z ∙ length-map provided U))
 
   module _ {i : ℕ} (a : (f : Bool) → Alike U (signature_at words at f).params provided i) where
-    pub type-differs : i < length provided → {w v : ℕ} {q : Bool} → ((f : Bool) → w ≡ (get_or (signature_at words at f).params i (param 0 0)).type) → v ≡ get_or provided i 0
-        → q ≡ same_ty (U w) (U v) → q ≡ false → (f : Bool) → false ≡ overload_matches (param_types U (signature_at words at f).params) (map U provided)
-    type-differs l ew ev eq n f = sym (alike-not U (a f) l (ew f) ev eq n)
+    module _ (l : i < length provided) {w v : ℕ} {q : Bool} (ew : (f : Bool) → w ≡ (get_or (signature_at words at f).params i (param 0 0)).type)
+        (ev : v ≡ get_or provided i 0) (eq : q ≡ same_ty (U w) (U v)) where
+      pub type-differs : q ≡ false → (f : Bool) → overload_matches (param_types U (signature_at words at f).params) (map U provided) ≡ false
+      type-differs n f = alike-not U (a f) l (ew f) ev eq n
 
-    pub alike_next : i < length provided → {w v : ℕ} {q : Bool} → ((f : Bool) → w ≡ (get_or (signature_at words at f).params i (param 0 0)).type) → v ≡ get_or provided i 0
-        → q ≡ same_ty (U w) (U v) → q ≡ true → (f : Bool) → Alike U (signature_at words at f).params provided (i + 1)
-    alike_next l ew ev eq y f = alike-more U (a f) l (ew f) ev eq y
+      pub alike_next : q ≡ true → (f : Bool) → Alike U (signature_at words at f).params provided (i + 1)
+      alike_next y f = alike-more U (a f) l (ew f) ev eq y
 
-    pub all_alike : length provided ≤ i → (f : Bool) → true ≡ overload_matches (param_types U (signature_at words at f).params) (map U provided)
-    all_alike l f = sym (alike_all U (a f) l)
+    pub all_alike : length provided ≤ i → (f : Bool) → overload_matches (param_types U (signature_at words at f).params) (map U provided) ≡ true
+    all_alike l f = alike_all U (a f) l
 
--- ── The first that fits: it is looked for among `gs`, of which one is looked at ──
+-- ── The first that fits ──
 
-module _ (U : ℕ → Ty) (provided words : List ℕ) (at : ℕ) (slotted : Bool) (fs : List Signature) {gs rest : List Signature}
-    (h : position_of U (map U provided) fs ≡ position_of U (map U provided) gs) (e : gs ≡ signature_at words at slotted ∷ rest) {lent : List ℕ} (el : lent ≡ words)
-    {q : Bool} (eq : (f : Bool) → q ≡ overload_matches (param_types U (signature_at lent at f).params) (map U provided)) where
-  splits : position_of U (map U provided) fs ≡ elim q [ true ↦ some (signature_at words at slotted) | false ↦ position_of U (map U provided) rest ]
+-- it is among the entries that are left
+pub record Ahead (U : ℕ → Ty) (texts : Texts) (name provided : List ℕ) (es left : Entries) : Type 0 where
+  pub words : left.words ≡ es.words
+  pub rest : position_of U (map U provided) (group texts name es.words (flag_words es.flagged) es.from es.count)
+      ≡ position_of U (map U provided) (group texts name left.words (flag_words left.flagged) left.from left.count)
+
+module _ (U : ℕ → Ty) (texts : Texts) (name provided : List ℕ) (es left : Entries) (a : Ahead U texts name provided es left) {r : Found Entry}
+    (h : Finds texts name left.words (flag_words left.flagged) left.from left.count r) where
+  pub position-none : r ≡ None → position_of U (map U provided) (group texts name es.words (flag_words es.flagged) es.from es.count) ≡ none
   unfolding position_of
-  splits = h ∙ rw (e, eq slotted, el) refl
+  position-none e = a.rest ∙ ap (position_of U (map U provided)) (over-is texts name left.words (flag_words left.flagged) h e)
 
-  pub position_at : q ≡ true → position_of U (map U provided) fs ≡ some (signature_at words at slotted)
-  position_at y = splits ∙ rw y refl
+  module _ {x : Entry} (e : r ≡ Some x) {lent : List ℕ} (el : lent ≡ es.words) where
+    pub position-goes : {q : Bool} → ((f : Bool) → overload_matches (param_types U (signature_at lent x.at f).params) (map U provided) ≡ q)
+        → position_of U (map U provided) (group texts name es.words (flag_words es.flagged) es.from es.count)
+        ≡ elim q [
+          | true ↦ some (signature_at es.words x.at x.slotted)
+          | false ↦ position_of U (map U provided) (group texts name es.words (flag_words left.flagged) x.next x.left)
+        ]
+    unfolding position_of
+    position-goes eq = a.rest ∙ rw (one-is texts name left.words (flag_words left.flagged) h e, ← eq x.slotted, el, a.words) refl
 
-  pub position-past : q ≡ false → position_of U (map U provided) fs ≡ position_of U (map U provided) rest
-  position-past n = splits ∙ rw n refl
-
-pub position-none : (U : ℕ → Ty) (provided : List Ty) (fs : List Signature) {gs : List Signature} → position_of U provided fs ≡ position_of U provided gs → gs ≡ [] → position_of U provided fs ≡ none
-unfolding position_of
-position-none U provided fs h e = h ∙ ap (position_of U provided) e
+    pub position-past : {later : Entries} → later ≡ entries left.words left.flagged x.next x.left
+        → ((f : Bool) → overload_matches (param_types U (signature_at lent x.at f).params) (map U provided) ≡ false) → Ahead U texts name provided es later
+    position-past l differs =
+        let m = rw a.words at l in
+        record {
+          words = ap (λ z. z.words) m;
+          rest = position-goes differs ∙ sym (ap (λ z. position_of U (map U provided) (group texts name z.words (flag_words z.flagged) z.from z.count)) m);
+        }
 
 -- ── What all return: it is owed of `gs`, of which one is looked at ──
 

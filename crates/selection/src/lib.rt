@@ -2,35 +2,16 @@
 // equal, else diagnostic 18 and what all candidates return. The candidates are those of some entries that have a name.
 #![tactic(auto)]
 
-ghost use Rattle.std.specs.Prelude.{◌≡◌, Bool, map, ℕ};
+ghost use Rattle.std.specs.Prelude.{◌≡◌, map, ℕ};
 ghost use Rattle.ptype.specs.Ty.{Ty};
 ghost use Rattle.ptype.specs.Words.{ty_of};
-ghost use Rattle.rules.specs.Calls.{overload_matches};
-ghost use Rattle.state.specs.Signatures.{signature_at};
 ghost use Rattle.signatures.specs.Entries.{flag_words};
-ghost use Rattle.selection.specs.Candidates.{group, param_types, position_of, all_return_of, position_in, CommonReturn};
+ghost use Rattle.selection.specs.Candidates.{group, position_of, all_return_of, position_in, CommonReturn};
 
 use rules::Answer;
 use signatures::{Entries, Entry};
 use state::{Step, Used};
 use tok::Texts;
-
-// Whether every argument type of the signature at a word is equal to the provided one, counts alike.
-fn fits(types: &[u32], texts: &Texts, words: &[u32], at: usize, provided: &[u32]) -> bool
-    ensures { let U : ℕ → Ty = ty_of texts.now types.now in
-        ((f : Bool) → result ≡ overload_matches (param_types U (signature_at words.now at f).params) (map U provided.now)) }
-{
-    if signatures::argument_count(words, at) != provided.len() {
-        return false;
-    }
-    for i in 0..provided.len() {
-        let expected = signatures::argument_type(words, at, i);
-        if !ptype::same_type(types, texts, expected, tok::word_at(provided, i)) {
-            return false;
-        }
-    }
-    true
-}
 
 // The first candidate whose every argument type is equal to the provided one, counts alike.
 pub fn position(
@@ -44,12 +25,24 @@ pub fn position(
         position_of U (map U provided.now) (group texts.now name.now entries.now.words (flag_words entries.now.flagged) entries.now.from entries.now.count)
         ≡ position_in entries.now.words result }
 {
-    let mut found = entries.find(texts, name);
-    while let Some(entry) = found {
-        if fits(types, texts, entries.words, entry.at, provided) {
-            return Some(entry);
+    let mut left = Entries {
+        words: entries.words,
+        flagged: entries.flagged,
+        from: entries.from,
+        count: entries.count,
+    };
+    'candidates: while let Some(entry) = left.find(texts, name) {
+        left = left.after(entry);
+        if signatures::argument_count(entries.words, entry.at) != provided.len() {
+            continue 'candidates;
         }
-        found = entries.after(entry).find(texts, name);
+        for i in 0..provided.len() {
+            let expected = signatures::argument_type(entries.words, entry.at, i);
+            if !ptype::same_type(types, texts, expected, tok::word_at(provided, i)) {
+                continue 'candidates;
+            }
+        }
+        return Some(entry);
     }
     None
 }

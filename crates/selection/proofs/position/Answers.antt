@@ -1,15 +1,24 @@
 use Rattle.std.proofs.Common.{ap}
-use Rattle.selection.proofs.Ways.{found_of, found-next, position_at, position-past, position-none}
+use Rattle.selection.proofs.Ways.{count-differs, type-differs, alike_next, all_alike, position-goes, position-past, position-none}
 use Rattle.selection.proofs.position.Goals as goal
 
-pub returns-then-fits : goal.returns-then-fits
-returns-then-fits c =
-    position_at _ _ _ _ _ _ c.loop-found.invariant (ap (found_of c.args.texts.now c.args.name.now c.args.entries.now) c.in-Some.is) (ap (λ e. e.words) c.entries.view_is) c.fits.ensures c.if-fits.true
+pub candidates-preserved-then-argument_count-provided : goal.candidates-preserved-then-argument_count-provided
+candidates-preserved-then-argument_count-provided c =
+    let differs = count-differs _ _ _ _ c.argument_count.ensures c.if-argument_count-provided.true in
+    position-past _ _ _ _ _ _ c.candidates.invariant c.find.ensures c.in-Some.is (ap (λ e. e.words) c.entries.view_is) c.after-left.ensures differs
 
-pub loop-found-preserved : goal.loop-found-preserved
-loop-found-preserved c =
-    let n = found-next _ _ c.args.entries.now c.in-Some.is c.after.ensures c.find-found-in-Some.ensures in
-    position-past _ _ _ _ _ _ c.loop-found.invariant n (ap (λ e. e.words) c.entries.view_is) c.fits.ensures c.if-fits.false
+pub candidates-preserved : goal.candidates-preserved
+candidates-preserved c =
+    let differs = type-differs _ _ _ _ c.loop-i.invariant c.loop-i-test.true c.argument_type-expected.ensures c.word_at.ensures c.same_type.ensures c.if-not-same_type.true in
+    position-past _ _ _ _ _ _ c.candidates.invariant c.find.ensures c.in-Some.is (ap (λ e. e.words) c.entries.view_is) c.after-left.ensures differs
+
+pub loop-i-preserved : goal.loop-i-preserved
+loop-i-preserved c = alike_next _ _ _ _ c.loop-i.invariant c.loop-i-test.true c.argument_type-expected.ensures c.word_at.ensures c.same_type.ensures c.if-not-same_type.false
+
+pub returns-in-Some : goal.returns-in-Some
+returns-in-Some c =
+    let fits = all_alike _ _ _ _ c.loop-i.invariant c.loop-i-test.false in
+    position-goes _ _ _ _ _ _ c.candidates.invariant c.find.ensures c.in-Some.is (ap (λ e. e.words) c.entries.view_is) fits
 
 pub returns : goal.returns
-returns c = position-none _ _ _ c.loop-found.invariant (ap (found_of c.args.texts.now c.args.name.now c.args.entries.now) c.in_default.is)
+returns c = position-none _ _ _ _ _ _ c.candidates.invariant c.find.ensures c.in_default.is
