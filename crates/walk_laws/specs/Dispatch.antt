@@ -26,20 +26,20 @@ module _ {T : Texts} {image places words : List ℕ} {n at h : ℕ} {st : State}
   module _ {x : NodeKind} (ex : x ≡ kind_of_node (kind_of h)) where
     -- Unary, Let, Field
     pub to_one : (x ≡ node.Unary) ⊎ ((x ≡ node.Let) ⊎ (x ≡ node.Field)) → ClassVisit OneOperand T image places words n st b
+    unfolding has_one
     to_one k = record { visit = v; kind = rw (← there) (one k) }
       where
         one : (x ≡ node.Unary) ⊎ ((x ≡ node.Let) ⊎ (x ≡ node.Field)) → OneOperand (kind_of h)
-        unfolding has_one
         one (inl p) = rw (node-number (kind_of h) (sym p ∙ ex)) refl
         one (inr (inl p)) = rw (node-number (kind_of h) (sym p ∙ ex)) refl
         one (inr (inr p)) = rw (node-number (kind_of h) (sym p ∙ ex)) refl
 
     -- Atom, Ident, Import, Extern
     pub to-leaf : (x ≡ node.Atom) ⊎ ((x ≡ node.Ident) ⊎ ((x ≡ node.Import) ⊎ (x ≡ node.Extern))) → LeafReady T image places words n st b.scratch
+    unfolding is_leaf
     to-leaf k = record { node = node-ready v; kind = rw (← there) (leaf k); free = v.ready.free; library = v.ready.given.library }
       where
         leaf : (x ≡ node.Atom) ⊎ ((x ≡ node.Ident) ⊎ ((x ≡ node.Import) ⊎ (x ≡ node.Extern))) → Leaf (kind_of h)
-        unfolding is_leaf
         leaf (inl p) = rw (node-number (kind_of h) (sym p ∙ ex)) refl
         leaf (inr (inl p)) = rw (node-number (kind_of h) (sym p ∙ ex)) refl
         leaf (inr (inr (inl p))) = rw (node-number (kind_of h) (sym p ∙ ex)) refl
