@@ -3,7 +3,6 @@ use mathlib.Core.Path.{◌≡◌, ◌∙◌}
 use mathlib.Core.List.{List}
 use Prim.Native.Nat.{ℕ}
 use lib.ListN.{replicate}
-use Rattle.tok.specs.Text.{texts_of}
 use Rattle.places.specs.Places.{places_in, no_places, places_of}
 use Rattle.checker.proofs.Walks.{roots-counted, roots-visited}
 use Rattle.checker.proofs.visit_roots.Goals as goal
@@ -13,12 +12,11 @@ zeros-filled : (image : List ℕ) {places : List ℕ} → places ≡ places_in i
 unfolding places_of no_places
 zeros-filled image e = e
 
--- src/lib.rt:148:5
 pub nodes-requires : goal.nodes-requires
 nodes-requires c =
-    roots-counted c.requires (zeros-filled c.args.inputs.now.image c.record_places.ensures) c.word_at-nodes.ensures c.word_at.ensures
+    let r = rw (← c.inputs.view_is) at c.requires in
+    roots-counted r (zeros-filled _ c.record_places.ensures) c.word_at-nodes.ensures c.word_at-roots.ensures
 
--- src/lib.rt:123:1
 pub returns : goal.returns
 returns c =
-    roots-visited (texts_of c.args.inputs.now.script c.args.inputs.now.library_text) c.args.inputs.now.image c.word_at.ensures c.nodes.ensures
+    rw (← c.inputs.view_is) (roots-visited _ _ c.word_at-roots.ensures c.nodes.ensures)
