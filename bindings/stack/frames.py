@@ -15,8 +15,8 @@ from collections import namedtuple
 # that would do, the first here is taken. A ring that goes through none is an error.
 LEVELS = "types are followed 33 levels deep, and stop at the 34th"
 RINGS = [(name, most, why) for names, most, why in (
-    ("typecheck::node typecheck::part typecheck::func typecheck::cases typecheck::case typecheck::sequence typecheck::call typecheck::array "
-     "typecheck::record_node typecheck::listed typecheck::operand typecheck::bin typecheck::one typecheck::cast", 64, "node depth"),
+    ("typecheck::node typecheck::part typecheck::func typecheck::cases typecheck::case typecheck::call typecheck::array "
+     "typecheck::record_node typecheck::bin typecheck::one typecheck::cast", 64, "node depth"),
     ("spans::span_of", 1, "a level of a part's span stands in place of a level of the walk, which takes more"),
     ("ptype::same_type_within ptype::stands_in ptype::depth_within ptype::room_after ptype::same_fields ptype::stands_among ptype::deepest_of "
      "ptype::room_after_fields ptype::contains ptype::depth_of display::show_within display::show_fields slots::bind_within", 34, LEVELS),
