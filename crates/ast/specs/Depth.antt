@@ -1,5 +1,5 @@
 -- Refusal 5: "depth 65", the place "smallest such node". "node depth 64 (a leaf is 1)". Definitions.
-use Rattle.std.specs.Prelude.{ℕ, zero, suc, ◌+◌, max, true, false, List, [], ◌∷◌, ◌++◌, get_or, ltb}
+use Rattle.std.specs.Prelude.{ℕ, ◌+◌, max, true, false, List, [], ◌∷◌, ◌++◌, get_or, ltb}
 use Rattle.std.proofs.Math.Option.{Option, none, some}
 use Rattle.ast.specs.Outline.{Outline}
 

@@ -1,10 +1,10 @@
 -- The image's rules and limits: refusal 3 and its place (document 01, "Words", "Answers that end the check"). Definitions.
-use Rattle.std.specs.Prelude.{ℕ, zero, suc, ◌*◌, List, [], length, leb, ltb}
+use Rattle.std.specs.Prelude.{ℕ, ◌*◌, List, [], length, leb, ltb}
 use Rattle.std.proofs.Math.Option.{Option}
 use Rattle.tok.specs.Text.{Texts}
-use Rattle.tok.specs.Step.{Result, next, ◌>>=◌, ◌>>◌, return}
+use Rattle.tok.specs.Step.{Result, ◌>>=◌, return}
 use Rattle.tok.specs.Reader.{Cursor, Read, owing, below, many, ends, start, fault_of, most_bytes, unless_long}
-use Rattle.ast.specs.Outline.{Outline, Counts}
+use Rattle.ast.specs.Outline.{Outline}
 use Rattle.ast.specs.Nodes.{nodes}
 use Rattle.ast.specs.TypeRecords.{type_expressions}
 

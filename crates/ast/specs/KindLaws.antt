@@ -1,7 +1,8 @@
 -- What a kind says of its number. Laws, which callers of `NodeKind::of` and `ExprKind::of` cite. Assumes nothing.
-use Rattle.std.specs.Prelude.{ℕ, zero, suc, ◌+◌, ◌≤◌, ◌≡◌, refl}
-use Rattle.std.proofs.Common.{sym, ◌∙◌, arith}
+use Rattle.std.specs.Prelude.{ℕ, ◌≤◌, ◌≡◌, refl}
+use Rattle.std.proofs.Common.{rules, sym, ◌∙◌}
 use Rattle.std.proofs.lemmas.List.{get_or_past}
+use Rattle.facts.specs.Lists.{EachAt, each_at}
 use Rattle.ast.specs.declared.NodeKind.{NodeKind}
 use Rattle.ast.specs.declared.NodeKind.TheVariants as node
 use Rattle.ast.specs.declared.ExprKind.{ExprKind}
@@ -26,22 +27,8 @@ NodeNumber node.Array k = k ≡ 13
 NodeNumber node.None k = 14 ≤ k
 
 at_node : (k : ℕ) → NodeNumber (kind_of_node k) k
-unfolding kind_of_node kinds_of_nodes
-at_node zero = refl
-at_node (suc zero) = refl
-at_node (suc (suc zero)) = refl
-at_node (suc (suc (suc zero))) = refl
-at_node (suc (suc (suc (suc zero)))) = refl
-at_node (suc (suc (suc (suc (suc zero))))) = refl
-at_node (suc (suc (suc (suc (suc (suc zero)))))) = refl
-at_node (suc (suc (suc (suc (suc (suc (suc zero))))))) = refl
-at_node (suc (suc (suc (suc (suc (suc (suc (suc zero)))))))) = refl
-at_node (suc (suc (suc (suc (suc (suc (suc (suc (suc zero))))))))) = refl
-at_node (suc (suc (suc (suc (suc (suc (suc (suc (suc (suc zero)))))))))) = refl
-at_node (suc (suc (suc (suc (suc (suc (suc (suc (suc (suc (suc zero))))))))))) = refl
-at_node (suc (suc (suc (suc (suc (suc (suc (suc (suc (suc (suc (suc zero)))))))))))) = refl
-at_node (suc (suc (suc (suc (suc (suc (suc (suc (suc (suc (suc (suc (suc zero))))))))))))) = refl
-at_node (suc (suc (suc (suc (suc (suc (suc (suc (suc (suc (suc (suc (suc (suc k)))))))))))))) = omega arith
+unfolding kind_of_node kinds_of_nodes EachAt
+at_node = each_at NodeNumber kinds_of_nodes node.None (search rules) (λ k h. h)
 
 -- the kind x was found of the number k
 pub node-number : {x : NodeKind} (k : ℕ) → x ≡ kind_of_node k → NodeNumber x k
@@ -78,13 +65,8 @@ ExprNumber expr.Record k = k ≡ 4
 ExprNumber expr.None k = 5 ≤ k
 
 at_expr : (k : ℕ) → ExprNumber (kind_of_expr k) k
-unfolding kind_of_expr kinds_of_exprs
-at_expr zero = refl
-at_expr (suc zero) = refl
-at_expr (suc (suc zero)) = refl
-at_expr (suc (suc (suc zero))) = refl
-at_expr (suc (suc (suc (suc zero)))) = refl
-at_expr (suc (suc (suc (suc (suc k))))) = omega arith
+unfolding kind_of_expr kinds_of_exprs EachAt
+at_expr = each_at ExprNumber kinds_of_exprs expr.None (search rules) (λ k h. h)
 
 pub expr-number : {x : ExprKind} (k : ℕ) → x ≡ kind_of_expr k → ExprNumber x k
 expr-number k e = rw e (at_expr k)

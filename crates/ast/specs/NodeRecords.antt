@@ -2,9 +2,9 @@
 -- Each reads the words after the slot. Counts inside a record are held against its length, at the count word.
 use Rattle.std.specs.Prelude.{ℕ, zero, suc, ◌+◌, ◌*◌, ◌-◌, ◌/◌, Bool, ◌&&◌, ◌||◌, List, [], ◌∷◌, ◌++◌, get_or, leb, ltb, eqb}
 use Rattle.utf8.specs.Rfc3629.{range}
-use Rattle.tok.specs.Step.{next, ◌>>=◌, ◌>>◌, return}
+use Rattle.tok.specs.Step.{◌>>=◌, return}
 use Rattle.tok.specs.Reader.{Read, word, below, many}
-use Rattle.ast.specs.Outline.{Outline, Counts, Here, outline, owns, token, name, part, parts, type_part, typed_names}
+use Rattle.ast.specs.Outline.{Outline, Here, outline, owns, token, name, part, parts, type_part, typed_names}
 
 -- 0 Atom: token, type kind 2 to 5
 unfoldable pub atom : Here → Read Outline

@@ -1,7 +1,7 @@
 -- Node records: which lengths each kind may have, and the nodes one after the other (document 01, "Words"). Definitions.
 use Rattle.std.specs.Prelude.{ℕ, zero, suc, ◌+◌, ◌-◌, ◌%◌, Bool, false, ◌&&◌, List, [], ◌∷◌, ◌++◌, get_or, leb, eqb}
 use Rattle.tok.specs.Word.{kind_of, payload_of}
-use Rattle.tok.specs.Step.{next, ◌>>=◌, ◌>>◌, return}
+use Rattle.tok.specs.Step.{◌>>=◌, return}
 use Rattle.tok.specs.Reader.{Read, owing, below}
 use Rattle.ast.specs.Outline.{Outline, Counts, Here, owns}
 use Rattle.ast.specs.NodeRecords.{atom, ident, bin, unary, binding, fn, match, call, field, cast, imports, extern, record_node, array}

@@ -1,7 +1,7 @@
 -- What the reader of an image knows and notes (document 01, "Words"). Definitions.
 use Rattle.std.specs.Prelude.{ℕ, List}
 use Rattle.tok.specs.Name.{good_name, in_script}
-use Rattle.tok.specs.Step.{next, ◌>>=◌, ◌>>◌, return}
+use Rattle.tok.specs.Step.{◌>>=◌}
 use Rattle.tok.specs.Reader.{Read, word, below, many}
 
 -- What refusals 4 to 6 ask of a node: its kind, its slot, how many arguments it has if it is an Fn (else 0), and the

@@ -1,5 +1,5 @@
 -- Refusal 6: "slots below V + 1, or functions below the sum of 3 + 2 × arguments over all Fn nodes", place 0. Definitions.
-use Rattle.std.specs.Prelude.{ℕ, zero, suc, ◌+◌, ◌*◌, ◌||◌, cond, List, [], ◌∷◌, ltb, eqb}
+use Rattle.std.specs.Prelude.{ℕ, ◌+◌, ◌*◌, ◌||◌, cond, List, [], ◌∷◌, ltb, eqb}
 use Rattle.std.proofs.Math.Option.{Option, none, some}
 use Rattle.ast.specs.Outline.{Outline}
 

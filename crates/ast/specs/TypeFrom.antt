@@ -3,7 +3,7 @@
 use Rattle.std.specs.Prelude.{ℕ, List, [], ◌∷◌}
 use Rattle.tok.specs.Word.{payload_of, word_of}
 use Rattle.tok.specs.Text.{Texts}
-use Rattle.tok.specs.Step.{Step, Refusal, next, ◌>>=◌, ◌>>◌, return}
+use Rattle.tok.specs.Step.{Step, Refusal, ◌>>=◌, return}
 use Rattle.ptype.specs.Add.{Buffer, add_wrap, add_record}
 use Rattle.ast.specs.TypeExpr.{TypeExpr, TypeFields, AtomType, ForeignType, OptionType, ArrayType, RecordType, no_type, type_field}
 

@@ -1,9 +1,9 @@
 -- The five kinds of type record (document 01, "Words"): "0 Atom (token, kind 1 to 5), 1 Foreign (token), 2 Option,
 -- 3 Array (inner), 4 Record (token, pairs)". Definitions.
-use Rattle.std.specs.Prelude.{ℕ, zero, suc, ◌+◌, ◌*◌, ◌-◌, ◌/◌, ◌%◌, Bool, false, ◌&&◌, List, [], ◌∷◌, get_or, leb, eqb}
+use Rattle.std.specs.Prelude.{ℕ, zero, suc, ◌+◌, ◌-◌, ◌/◌, ◌%◌, Bool, false, ◌&&◌, List, [], ◌∷◌, get_or, leb, eqb}
 use Rattle.utf8.specs.Rfc3629.{range}
 use Rattle.tok.specs.Word.{kind_of, payload_of}
-use Rattle.tok.specs.Step.{next, ◌>>=◌, ◌>>◌, return}
+use Rattle.tok.specs.Step.{◌>>=◌, return}
 use Rattle.tok.specs.Reader.{Read, word, owing, below, many}
 use Rattle.ast.specs.Outline.{Counts, token, name}
 

@@ -1,3 +1,3 @@
--- Facts on truth values, numbers and lists that the kit's library does not have. Laws alone: nothing here is a definition.
+-- Facts on truth values, numbers and lists that the kit's library does not have: laws, and a definition that states one of them.
 pub mod Tests
 pub mod Lists

@@ -33,7 +33,7 @@ fn good_token(script: &[u8], w: u32) -> bool
     if w / 0x200_0000 % 8 != 0 {
         return false;
     }
-    if w / 0x100_0000 % 2 != tok::IN_SCRIPT {
+    if w / 0x100_0000 % 2 != 0 {
         return false;
     }
     let span = tok::token_span(w);

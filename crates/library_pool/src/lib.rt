@@ -48,7 +48,7 @@ pub fn good_type(library: &[u8], pool: &[u32], own: usize, w: u32) -> bool
         }
         TypeKind::Option | TypeKind::Array => good_inner(pool, own, w),
         TypeKind::Record => good_list(pool, own, w),
-        TypeKind::Foreign | TypeKind::Slot => tok::good_payload(tok::IN_LIBRARY, library, w),
+        TypeKind::Foreign | TypeKind::Slot => tok::good_payload(tok::Source::Library, library, w),
         _ => false,
     }
 }
@@ -61,7 +61,11 @@ pub fn name(library: &[u8], words: &[u32], from: Place) -> Result<Place, Fault>
     ensures { onward words.now from (word (good_name in_library library.now)) ≡ gave words.now (next_word words.now from) result }
 {
     let w = reader::next_word(words, from);
-    reader::word(words, from, tok::good_name(tok::IN_LIBRARY, library, w))
+    reader::word(
+        words,
+        from,
+        tok::good_name(tok::Source::Library, library, w),
+    )
 }
 
 // A type word that refers below `own`.

@@ -53,7 +53,7 @@ fn good_group(texts: &Texts, words: &[u32], from: usize, k: usize, kept: bool, g
     ensures { ((size : ℕ) (types : List ℕ) → (kept ≡ true → any_function (λ f. same_group texts.now group f && f.sig.with_slots) (functions_from words.now from k) ≡ false)
         → result ≡ good_group (pool_at texts.now size types) (functions_from words.now from k) group) }
 {
-    tok::good_name(tok::IN_LIBRARY, texts.library, group)
+    tok::good_name(tok::Source::Library, texts.library, group)
         && (kept || !group_slotted(texts, words, from, k, group))
 }
 

@@ -1,12 +1,11 @@
 -- What `depth_within` and `deepest_of` return and leave marked: one law for each way out of the code. Assumes nothing.
 use Prim.Native.Nat.{ℕ, suc, ◌+◌, ◌-◌, ◌≤◌, ◌<◌, min, max}
 use mathlib.Core.Path.{◌≡◌, refl, sym, ap, ap₂, ◌∙◌}
-use mathlib.Core.Bool.{Bool, true, false, cond}
+use mathlib.Core.Bool.{true, false, cond}
 use mathlib.Core.List.{List}
 use native.Mathlib.Omega.{arith}
-use lib.Dec.{leb, eqb}
-use lib.ListN.{length, get_or, set}
-use lib.Seq.{set_out}
+use lib.Dec.{eqb}
+use lib.ListN.{get_or, set}
 use borrow.Author.Tests.{lt-ltb, le-ltb, le-leb, lt-leb, eq-eqb, ne_eqb}
 use Rattle.tok.specs.Word.{kind_of, payload_of}
 use Rattle.ptype.specs.Words.{inner_word, field_count}
@@ -62,13 +61,6 @@ module _ (go : ℕ → List ℕ → Gauged) (types : List ℕ) (f w : ℕ) (know
 
     pub list-cut : f < most → gauge_list go types f w known ≡ gauged most known'
     list-cut h = ends ∙ rw (lt-leb most f h) refl
-
-    pub list-past : length known' ≤ at → gauge_list go types f w known ≡ gauged most known'
-    list-past h = ends ∙ ap (gauged most) (by (leb most f))
-      where
-        by : (b : Bool) → cond b (set known' at (most + 1)) known' ≡ known'
-        by true = set_out known' at (most + 1) h
-        by false = refl
 
 -- the loop: at first, and after one field more
 pub fields-first : (go : ℕ → List ℕ → Gauged) (types : List ℕ) (w : ℕ) (known : List ℕ) {at n : ℕ} → at ≡ payload_of w + 1 → n ≡ field_count types w

@@ -5,6 +5,7 @@ use Rattle.std.proofs.Math.Decide.{ℕ_discrete, dec_lt}
 use Rattle.std.specs.Prelude.{◌≡◌, Bool, false, List, get_or, set, length, replicate}
 use Rattle.std.proofs.Math.Path.{refl}
 use Rattle.std.proofs.Common.{sym, ap, ◌∙◌, true≢false, get_or-set_same, get_or-set_other}
+use Rattle.std.proofs.lemmas.List.{set_past}
 use borrow.Author.Tests.{ne_eqb}
 use Rattle.facts.specs.Tests.{neither}
 use Rattle.tok.specs.Word.{kind_of, payload_of}
@@ -131,6 +132,11 @@ free_more {found} {t} {types} {free} w f {at} h ea l e = record { each = λ p n.
     by p n (yes z) =
         let o : get_or (set free at (f + 1)) p 0 - 1 ≡ f = rw (z, get_or-set_same free at (f + 1) 0 l) (omega arith) in
         rw (o, z, ea) (sym e)
+
+-- and is, where there are so many marks;
+pub free_set : {found : Fields → Bool} {t : Texts} {types free : List ℕ} (w f : ℕ) {at : ℕ} → Free found t types free → at ≡ payload_of w
+    → false ≡ found (fields_of (unfolded t types f) t types w) → Free found t types (set free at (f + 1))
+free_set {free = free} w f {at} h ea e = elim (dec_lt at (length free)) [ yes l ↦ free_more w f h ea l e | no l ↦ rw (set_past free at (f + 1) (omega arith)) h ]
 
 -- and nothing is at first.
 pub none_free : (found : Fields → Bool) (t : Texts) (types : List ℕ) (n : ℕ) → Free found t types (replicate n 0)

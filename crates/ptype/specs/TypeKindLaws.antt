@@ -1,6 +1,10 @@
 -- What a kind says of its number. Laws, which callers of `TypeKind::of` cite. Assumes nothing.
-use Rattle.std.specs.Prelude.{ℕ, zero, suc, ◌≡◌, refl, ◌⊎◌, true, false}
-use Rattle.std.proofs.Common.{sym, ◌∙◌, ne_eqb, inl, inr}
+use Rattle.std.specs.Prelude.{ℕ, ◌≡◌, refl, ◌⊎◌, true, false, ◌&&◌, leb}
+use Rattle.std.proofs.Common.{rules, sym, ◌∙◌, ne_eqb, inl, inr}
+use Rattle.std.proofs.lemmas.List.{get_or_past}
+use Rattle.std.proofs.lemmas.Bool.{lt-leb}
+use Rattle.facts.specs.Tests.{and-false}
+use Rattle.facts.specs.Lists.{EachAt, each_at}
 use Rattle.ptype.specs.Kinds.{wraps, names}
 use Rattle.ptype.specs.declared.TypeKind.{TypeKind}
 use Rattle.ptype.specs.declared.TypeKind.TheVariants as type
@@ -21,20 +25,10 @@ TypeNumber type.Slot k = k ≡ 10
 TypeNumber type.Unknown k = k ≡ 11
 
 at_type : (k : ℕ) → TypeNumber (kind_of_type k) k
-unfolding kind_of_type kinds_of_types
-at_type zero = refl
-at_type (suc zero) = refl
-at_type (suc (suc zero)) = refl
-at_type (suc (suc (suc zero))) = refl
-at_type (suc (suc (suc (suc zero)))) = refl
-at_type (suc (suc (suc (suc (suc zero))))) = refl
-at_type (suc (suc (suc (suc (suc (suc zero)))))) = refl
-at_type (suc (suc (suc (suc (suc (suc (suc zero))))))) = refl
-at_type (suc (suc (suc (suc (suc (suc (suc (suc zero)))))))) = refl
-at_type (suc (suc (suc (suc (suc (suc (suc (suc (suc zero))))))))) = refl
-at_type (suc (suc (suc (suc (suc (suc (suc (suc (suc (suc zero)))))))))) = refl
-at_type (suc (suc (suc (suc (suc (suc (suc (suc (suc (suc (suc zero))))))))))) = refl
-at_type (suc (suc (suc (suc (suc (suc (suc (suc (suc (suc (suc (suc k)))))))))))) = refl
+unfolding kind_of_type kinds_of_types EachAt
+at_type =
+    each_at TypeNumber kinds_of_types type.None (search rules)
+    (λ k. get_or_past kinds_of_types k type.None)
 
 -- the kind x was found of the number k
 pub type-number : {x : TypeKind} (k : ℕ) → x ≡ kind_of_type k → TypeNumber x k
@@ -89,3 +83,19 @@ type-flat k e n m = rw (ne_eqb k 6 (type-not k e n), ne_eqb k 7 (type-not k e m)
 
 pub type-nameless : {x : TypeKind} (k : ℕ) → x ≡ kind_of_type k → (x ≡ type.Foreign → ⊥) → (x ≡ type.Slot → ⊥) → names k ≡ false
 type-nameless k e n m = rw (ne_eqb k 9 (type-not k e n), ne_eqb k 10 (type-not k e m)) refl
+
+-- and whether it is one at all
+none_at : (k : ℕ) → (kind_of_type k ≡ type.None) → false ≡ (leb 1 k && leb k 11)
+unfolding kind_of_type kinds_of_types EachAt
+none_at =
+    each_at (λ x k. x ≡ type.None → false ≡ (leb 1 k && leb k 11)) kinds_of_types type.None (search rules) (λ k h e. rw (lt-leb k 11 h, and-false) refl)
+
+some_at : (k : ℕ) → (kind_of_type k ≡ type.None → ⊥) → true ≡ (leb 1 k && leb k 11)
+unfolding kind_of_type kinds_of_types EachAt
+some_at = each_at (λ x k. (x ≡ type.None → ⊥) → true ≡ (leb 1 k && leb k 11)) kinds_of_types type.None (search rules) (λ k h n. absurd (n refl))
+
+pub type_none : {x : TypeKind} (k : ℕ) → x ≡ kind_of_type k → x ≡ type.None → false ≡ (leb 1 k && leb k 11)
+type_none k e p = none_at k (sym e ∙ p)
+
+pub type_some : {x : TypeKind} (k : ℕ) → x ≡ kind_of_type k → (x ≡ type.None → ⊥) → true ≡ (leb 1 k && leb k 11)
+type_some k e n = some_at k (λ p. n (e ∙ p))

@@ -9,7 +9,7 @@ ghost use Rattle.ptype.specs.Marks.{Free};
 ghost use Rattle.ptype.specs.Slots.{Binding, binding, bound_to, is_some, all_bound, bind_one, bind_slots, bind_fields, has_bound_slot, any_bound_slot};
 ghost use Rattle.slots.specs.Bindings.{bindings_of, found_of, Binds};
 
-use ptype::{MARKS, TypeKind, field_count, field_type, inner, same_type};
+use ptype::{MOST_WORDS, TypeKind, field_count, field_type, inner, same_type};
 use tok::{Texts, kind, payload, same_name, word_at};
 
 // The bindings of slots: pairs of words, a slot's and its type's, in a lent part of scratch, and how many of them there are. The newest is the last.
@@ -197,7 +197,7 @@ pub fn has_bound_slot_within(
     if ptype::is_small(types, w) {
         bound_slot_in(bindings, types, texts, w, depth, &mut [])
     } else {
-        bound_slot_in(bindings, types, texts, w, depth, &mut [0; MARKS])
+        bound_slot_in(bindings, types, texts, w, depth, &mut [0; MOST_WORDS])
     }
 }
 

@@ -5,6 +5,7 @@ pub mod Text
 pub mod Part
 pub mod Token
 pub mod Name
+pub mod Source
 pub mod Span
 pub mod Step
 pub mod Reader

@@ -1,45 +1,76 @@
 // Words, names and tokens in the script text and the library text, and spans (lex/tok.rs, diagnostic.rs, ast.rs).
 #![tactic(auto)]
 
-ghost use Rattle.std.specs.Prelude.{◌≡◌, not, ◌<◌, ◌≤◌, length, get_or};
+ghost use Rattle.std.specs.Prelude.{◌≡◌, not, ◌<◌, ◌≤◌, ◌^◌, length, get_or, set};
 ghost use Rattle.tok.specs.LittleEndian.{little_endian, ByteAt};
-ghost use Rattle.tok.specs.Word.{kind_of, payload_of, name_length, name_start, name_bit};
+ghost use Rattle.tok.specs.Word.{kind_of, payload_of, name_length, name_start, name_bit, word_of};
 ghost use Rattle.tok.specs.Text.{Texts, texts_of, bytes_in, name_bytes, same_bytes, same_name};
 ghost use Rattle.tok.specs.Part.{part_of, differs_in, next_part};
 ghost use Rattle.tok.specs.Token.{token_bytes};
 ghost use Rattle.tok.specs.Name.{good_payload, good_name};
+ghost use Rattle.tok.specs.Source.{bit_of};
 ghost use Rattle.tok.specs.Span.{token_span, end_of, cover};
 
 use std::marker::Model;
 
 // Words.
 
-// The kind of a word: its top 4 bits.
+// The word of kind 1 with no payload: a kind is the top 4 bits of its word.
+pub const KIND: u32 = 0x1000_0000;
+
+// The kind of a word.
 pub fn kind(w: u32) -> u32
     ensures { result ≡ kind_of w }
 {
-    w / 0x1000_0000
+    w / KIND
 }
 
 // The payload of a word: its low 28 bits.
 pub fn payload(w: u32) -> usize
     ensures { result ≡ payload_of w }
 {
-    (w % 0x1000_0000) as usize
+    (w % KIND) as usize
+}
+
+// The word of a kind and a payload.
+#[inline]
+pub fn word_of(kind: u32, payload: usize) -> u32
+    requires { (kind < 16) × (payload < 2 ^ 28) }
+    ensures { result ≡ word_of kind payload }
+{
+    kind * KIND + payload as u32
+}
+
+// The item at an index, and another past the end.
+#[inline]
+pub fn item_at<T: Copy>(items: &[T], i: usize, none: T) -> T
+    ensures { result ≡ get_or items.now i none }
+{
+    items.get(i).copied().unwrap_or(none)
+}
+
+// Puts an item at an index, and nothing past the end.
+#[inline]
+pub fn set_item<T: Copy>(items: &mut [T], i: usize, item: T)
+    ensures { items.new ≡ set items.old i item }
+{
+    if i < items.len() {
+        items[i] = item;
+    }
 }
 
 // The word at an index, and 0 past the end.
 pub fn word_at(words: &[u32], i: usize) -> u32
     ensures { result ≡ get_or words.now i 0 }
 {
-    words.get(i).copied().unwrap_or(0)
+    item_at(words, i, 0)
 }
 
 // The byte at an index, and 0 past the end.
 pub fn byte_at(bytes: &[u8], i: usize) -> u32
     ensures { ByteAt bytes.now i result }
 {
-    u32::from(bytes.get(i).copied().unwrap_or(0))
+    u32::from(item_at(bytes, i, 0))
 }
 
 // The little-endian word at a byte, with zeros past the end.
@@ -70,11 +101,21 @@ impl<'a> Model for Texts<'a> {
     ghost view = { λ t. texts_of t.script.now t.library.now };
 }
 
-// Bit 24 of a name in an image.
-pub const IN_SCRIPT: u32 = 0;
+// Which of the two holds a name: the script text those of an image, the library text those of a library.
+#[derive(Clone, Copy)]
+pub enum Source {
+    Script,
+    Library,
+}
 
-// Bit 24 of a name in a library.
-pub const IN_LIBRARY: u32 = 1;
+impl Source {
+    // Bit 24 of such a name.
+    fn bit(self) -> u32
+        ensures { result ≡ bit_of self }
+    {
+        self as u32
+    }
+}
 
 // The length of a name or token: bits 0 to 7.
 fn name_length(w: u32) -> usize
@@ -90,11 +131,15 @@ fn name_start(w: u32) -> usize
     (w / 0x100 % 0x1_0000) as usize
 }
 
-// Whether it lies in the library text: bit 24.
-fn name_bit(w: u32) -> u32
-    ensures { result ≡ name_bit w }
+// Which text holds it: bit 24.
+fn held_in(w: u32) -> Source
+    ensures { bit_of result ≡ name_bit w }
 {
-    w / 0x100_0000 % 2
+    if w / 0x100_0000 % 2 == 0 {
+        Source::Script
+    } else {
+        Source::Library
+    }
 }
 
 // The part of a text that a name or token word stands for, as far as the text goes.
@@ -119,10 +164,9 @@ pub fn token_bytes<'a>(script: &'a [u8], token: u32) -> &'a [u8]
 pub fn name_bytes<'a>(texts: &Texts<'a>, w: u32) -> &'a [u8]
     ensures { result.now ≡ name_bytes texts.now w }
 {
-    let text = if name_bit(w) == IN_LIBRARY {
-        texts.library
-    } else {
-        texts.script
+    let text = match held_in(w) {
+        Source::Script => texts.script,
+        Source::Library => texts.library,
     };
     bytes_in(text, w)
 }
@@ -251,23 +295,23 @@ pub fn next_part(part: usize) -> usize
 // The kind of a name's word, and of a token's.
 pub const NAME: u32 = 12;
 
-// Whether a word carries the payload of a name that lies in a text and is well formed, with bit 24 as told.
+// Whether a word carries the payload of a name that lies in a text and is well formed, with bit 24 as for that text.
 #[tactic(auto, unfolding(crate::specs::Name::good_payload, crate::specs::Name::lies_in, crate::specs::Name::reads_well))]
-pub fn good_payload(bit: u32, text: &[u8], w: u32) -> bool
-    ensures { result ≡ good_payload bit text.now w }
+pub fn good_payload(source: Source, text: &[u8], w: u32) -> bool
+    ensures { result ≡ good_payload (bit_of source) text.now w }
 {
     w / 0x200_0000 % 8 == 0
-        && name_bit(w) == bit
+        && held_in(w).bit() == source.bit()
         && name_start(w) + name_length(w) <= text.len()
         && utf8::well_formed(bytes_in(text, w))
 }
 
 // Whether a word is such a name or token.
 #[tactic(auto, unfolding(crate::specs::Name::good_name))]
-pub fn good_name(bit: u32, text: &[u8], w: u32) -> bool
-    ensures { result ≡ good_name bit text.now w }
+pub fn good_name(source: Source, text: &[u8], w: u32) -> bool
+    ensures { result ≡ good_name (bit_of source) text.now w }
 {
-    kind(w) == NAME && good_payload(bit, text, w)
+    kind(w) == NAME && good_payload(source, text, w)
 }
 
 // Spans.

@@ -10,8 +10,8 @@ returns-then-kind-ne-NAME c = token-kind _ _ (λ e. c.if-kind-ne-NAME.true (c.ki
 pub returns-then-w-ne0 : goal.returns-then-w-ne0
 returns-then-w-ne0 c = token-rest _ _ (sym c.kind.ensures ∙ c.if-kind-ne-NAME.false) c.if-w-ne0.true
 
-pub returns-then-w-ne-IN_SCRIPT : goal.returns-then-w-ne-IN_SCRIPT
-returns-then-w-ne-IN_SCRIPT c = token-home _ _ (sym c.kind.ensures ∙ c.if-kind-ne-NAME.false) c.if-w-ne-IN_SCRIPT.true
+pub returns-then-w-ne0-2 : goal.returns-then-w-ne0-2
+returns-then-w-ne0-2 c = token-home _ _ (sym c.kind.ensures ∙ c.if-kind-ne-NAME.false) c.if-w-ne0-2.true
 
 pub overflow_add-span : goal.overflow_add-span
 overflow_add-span c = omega (arith, span-low c.args.w c.token_span-span.ensures)
@@ -23,5 +23,5 @@ returns-then-span-script c =
 pub returns : goal.returns
 returns c =
     c.well_formed-2.ensures
-    ∙ token-reads _ _ (sym c.kind.ensures ∙ c.if-kind-ne-NAME.false) c.if-w-ne0.false c.if-w-ne-IN_SCRIPT.false c.token_span-span.ensures
+    ∙ token-reads _ _ (sym c.kind.ensures ∙ c.if-kind-ne-NAME.false) c.if-w-ne0.false c.if-w-ne0-2.false c.token_span-span.ensures
     c.if-span-script.false c.token_bytes.ensures

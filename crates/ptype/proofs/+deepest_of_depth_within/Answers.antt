@@ -1,11 +1,11 @@
-use mathlib.Core.Path.{refl, ◌∙◌}
+use mathlib.Core.Path.{refl, sym, ap, ◌∙◌}
+use Rattle.ptype.specs.Gauge.{gauged}
 use native.Mathlib.Omega.{arith}
-use Rattle.ptype.proofs.GaugeReturns.{gauge-none, gauge-wrap, gauge_record, gauge-flat, list_hit, list-noted, list-cut, list-past, fields-first, fields-next}
+use Rattle.ptype.proofs.GaugeReturns.{gauge-none, gauge-wrap, gauge_record, gauge-flat, list_hit, list-noted, list-cut, fields-first, fields-next}
 use Rattle.ptype.proofs.GaugeLaws.{gauge-counts, list_counts}
 use borrow.Author.Rules.{rules}
 use Rattle.ptype.specs.TypeKindLaws.{type-number, type-not, type-wraps, type-flat}
 use Prim.Native.Nat.{◌-◌}
-use Rattle.ptype.proofs.+deepest_of_depth_within.Goals.{deepest_of-else-at-known-via-else-at-known, deepest_of-else-at-known-via-then-at-known+else-most-levels}
 use Rattle.ptype.proofs.+deepest_of_depth_within.Goals as goal
 
 pub deepest_of-returns-then-mark-gt0 : goal.deepest_of-returns-then-mark-gt0
@@ -24,12 +24,11 @@ deepest_of-loop-k-preserved t c = (
 pub deepest_of-returns-then-most-levels : goal.deepest_of-returns-then-most-levels
 deepest_of-returns-then-most-levels t c =
     list-noted _ _ _ _ _ c.payload-at.ensures c.mark_at-mark.ensures (omega arith) _ _ _ _ c.loop-k.invariant.0 (omega arith) c.if-most-levels.true
+    ∙ ap (gauged _) (sym c.set_item.ensures)
 
-pub deepest_of-returns-else-at-known : goal.deepest_of-returns-else-at-known
-deepest_of-returns-else-at-known t c = elim c.else-at-known.branch [
-  | deepest_of-else-at-known-via-else-at-known w ↦ list-past _ _ _ _ _ c.payload-at.ensures c.mark_at-mark.ensures (omega arith) _ _ _ _ c.loop-k.invariant.0 (omega arith) w.if-at-known.false
-  | deepest_of-else-at-known-via-then-at-known+else-most-levels w ↦ list-cut _ _ _ _ _ c.payload-at.ensures c.mark_at-mark.ensures (omega arith) _ _ _ _ c.loop-k.invariant.0 (omega arith) w.if-most-levels.false
-]
+pub deepest_of-returns-else-most-levels : goal.deepest_of-returns-else-most-levels
+deepest_of-returns-else-most-levels t c =
+    list-cut _ _ _ _ _ c.payload-at.ensures c.mark_at-mark.ensures (omega arith) _ _ _ _ c.loop-k.invariant.0 (omega arith) c.if-most-levels.false
 
 pub depth_within-returns-then-levels-eq0 : goal.depth_within-returns-then-levels-eq0
 depth_within-returns-then-levels-eq0 t c = gauge-none _ _ _ c.if-levels-eq0.true

@@ -1,7 +1,7 @@
 use mathlib.Core.Path.{refl, ◌∙◌}
 use native.Mathlib.Omega.{arith}
 use Rattle.ptype.specs.TypeKindLaws.{type-number, type-not, type-wraps, type-flat}
-use Rattle.ptype.proofs.MarkLaws.{free-hit, free_more}
+use Rattle.ptype.proofs.MarkLaws.{free-hit, free_set}
 use Rattle.ptype.proofs.StandsReturns.{below-is, below-not, stands-wrap, stands_record, stands_here, among-all, among_none, among_first, among-rest}
 use borrow.Author.Rules.{rules}
 use Rattle.ptype.proofs.+stands_among_stands_in.Goals as goal
@@ -30,15 +30,11 @@ stands_among-loop-i-preserved t c = (
   c.stands_in.auto.free ∙ c.loop-i.invariant.2,
 )
 
-pub stands_among-returns-then-at-free : goal.stands_among-returns-then-at-free
-stands_among-returns-then-at-free t c = (
+pub stands_among-returns : goal.stands_among-returns
+stands_among-returns t c = (
   (λ x. among_none x _ _ _ _ (c.loop-i.invariant.0 x) (omega arith)),
-  λ x. free_more c.args.w _ (c.loop-i.invariant.1 x) c.payload-at.ensures
-      c.if-at-free.true (among_none x _ _ _ _ (c.loop-i.invariant.0 x) (omega arith)),
+  λ x. rw c.set_item.ensures (free_set c.args.w _ (c.loop-i.invariant.1 x) c.payload-at.ensures (among_none x _ _ _ _ (c.loop-i.invariant.0 x) (omega arith))),
 )
-
-pub stands_among-returns-else-at-free : goal.stands_among-returns-else-at-free
-stands_among-returns-else-at-free t c = ((λ x. among_none x _ _ _ _ (c.loop-i.invariant.0 x) (omega arith)), c.loop-i.invariant.1)
 
 pub stands_in-stands_in-requires : goal.stands_in-stands_in-requires
 stands_in-stands_in-requires t c = (search rules, (omega arith, c.requires.1))
