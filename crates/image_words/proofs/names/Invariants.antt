@@ -6,4 +6,4 @@ use Rattle.image_words.proofs.Lists.{Rest}
 use Rattle.image_words.proofs.names.Given as goal
 
 abbrev pub invariant-loop : goal.invariant-loop
-invariant-loop l = Rest l.words l.initial.to l.n (word (good_name in_script l.script)) l.to (l.n - l.counter)
+invariant-loop l = Rest l.initial.to l.n (word (good_name in_script l.script)) l.to (l.n - l.counter)

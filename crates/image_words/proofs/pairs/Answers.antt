@@ -5,19 +5,19 @@ use Rattle.image_words.specs.LeadLaws.{leads_word, leads_then, leads_stops}
 use Rattle.image_words.proofs.Lists.{rest_none, rest_one, rest_stops}
 use Rattle.image_words.proofs.pairs.Goals as goal
 
-pub returns-in_err-at : goal.returns-in_err-at
-returns-in_err-at c =
+pub returns-in_err-token : goal.returns-in_err-token
+returns-in_err-token c =
     let p = err_from_is_err_and c.from_residual.result c.from_residual.ensures.1 in
-    rw (p.1, p.2) (sym c.loop.invariant ∙ rest_stops _ _ _ _ _ (omega arith) (leads_stops _ _ _ _ (leads_word _ _ _ _ c.in_err-at.ensures)))
+    rw (p.1, p.2) (sym c.loop.invariant.0 ∙ rest_stops _ _ _ _ (omega arith) (leads_stops _ _ _ (leads_word _ _ _ c.in_err-token.ensures.0)), tt)
 
 pub returns-in_err-to : goal.returns-in_err-to
 returns-in_err-to c =
     let p = err_from_is_err_and c.from_residual-in_err-to.result c.from_residual-in_err-to.ensures.1 in
-    rw (p.1, p.2) (sym c.loop.invariant ∙ rest_stops _ _ _ _ _ (omega arith) (leads_then _ _ _ _ _ (leads_word _ _ _ _ c.in_ok-at.ensures) (λ _. leads_word _ _ _ _ c.in_err-to.ensures)))
+    rw (p.1, p.2) (sym c.loop.invariant.0 ∙ rest_stops _ _ _ _ (omega arith) (leads_then _ _ _ _ (leads_word _ _ _ c.in_ok-token.ensures.0) (λ _. leads_word _ _ _ c.in_err-to.ensures.0)), tt)
 
 pub loop-preserved : goal.loop-preserved
 loop-preserved c =
-    rest_one _ _ _ _ _ _ (omega arith) (leads_then _ _ _ _ _ (leads_word _ _ _ _ c.in_ok-at.ensures) (λ _. leads_word _ _ _ _ c.in_ok-to.ensures)) ∙ c.loop.invariant
+    (rest_one _ _ _ _ _ (omega arith) (leads_then _ _ _ _ (leads_word _ _ _ c.in_ok-token.ensures.0) (λ _. leads_word _ _ _ c.in_ok-to.ensures.0)) ∙ c.loop.invariant.0, c.in_ok-to.ensures.1 ∙ c.in_ok-token.ensures.1 ∙ c.loop.invariant.1)
 
 pub returns : goal.returns
-returns c = sym c.loop.invariant ∙ rest_none _ _ _ _ (omega arith)
+returns c = (sym c.loop.invariant.0 ∙ rest_none _ _ _ (omega arith), c.loop.invariant.1)

@@ -5,4 +5,4 @@ use Rattle.image_words.proofs.Lists.{Rest}
 use Rattle.image_words.proofs.pairs.Given as goal
 
 abbrev pub invariant-loop : goal.invariant-loop
-invariant-loop l = Rest l.words l.initial.to l.n (pair_rule l.script l.most) l.to (l.n - l.counter)
+invariant-loop l = Rest l.initial.to l.n (pair_rule l.script l.most) l.to (l.n - l.counter)
