@@ -32,6 +32,7 @@ pub fn token<'a>(script: &[u8], from: Reader<'a>) -> Result<Reader<'a>, Fault>
 }
 
 // n numbers below `most`.
+#[tactic(auto, unfolding(reader::specs::Reading::gave, crate::specs::Leads::unanswered), using(crate::proofs::Lists::many_ways))]
 pub fn numbers(from: Reader, n: usize, most: usize) -> Result<Reader, Fault>
     ensures { Leads from.entry (many n (below most)) result }
 {
@@ -43,6 +44,7 @@ pub fn numbers(from: Reader, n: usize, most: usize) -> Result<Reader, Fault>
 }
 
 // n pairs of a name and a number below `most`.
+#[tactic(auto, unfolding(reader::specs::Reading::gave, crate::specs::Leads::unanswered), using(crate::proofs::Lists::many_ways))]
 pub fn pairs<'a>(
     script: &[u8],
     from: Reader<'a>,
@@ -59,6 +61,7 @@ pub fn pairs<'a>(
 }
 
 // n names.
+#[tactic(auto, unfolding(reader::specs::Reading::gave, crate::specs::Leads::unanswered), using(crate::proofs::Lists::many_ways))]
 pub fn names<'a>(script: &[u8], from: Reader<'a>, n: usize) -> Result<Reader<'a>, Fault>
     ensures { Leads from.entry (many n (word (good_name in_script script.now))) result }
 {
