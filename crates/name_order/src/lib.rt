@@ -57,11 +57,18 @@ fn entry_at(order: &[u16], i: usize) -> u16
     order.get(i).copied().unwrap_or(0)
 }
 
+// The place that an entry keeps.
+pub fn place_of(entry: u16) -> usize
+    ensures { result ≡ place_in entry }
+{
+    (entry / 2) as usize
+}
+
 // The place of rank i.
 pub fn place_at(order: &[u16], i: usize) -> usize
     ensures { result ≡ place_in (get_or order.now i 0) }
 {
-    (entry_at(order, i) / 2) as usize
+    place_of(entry_at(order, i))
 }
 
 // The word of rank i.
