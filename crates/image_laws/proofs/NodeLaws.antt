@@ -13,7 +13,7 @@ use Rattle.ast.specs.Image.{word_at, record_kind, record_length}
 use Rattle.ast.specs.Outline.{Outline, Counts, Here}
 use Rattle.ast.specs.NodeRecords.{atom, ident, bin, unary, binding, fn, match, call, field, cast, imports, extern, record_node, array}
 use Rattle.ast.specs.Nodes.{node_kinds, node_kind, good_node_head, node}
-use Rattle.image_laws.specs.Gives.{Gives, gives_then, gives-show, gives-word}
+use Rattle.reader.specs.Reads.{Reads, reads_then, reads-show, reads_word}
 use Rattle.image_laws.specs.OutlineAt.{parts_by_kind, parts_at, arguments_at, outline_from, bin_parts, unary_parts, let_parts, fn_parts, match_parts, call_parts, field_parts, cast_parts, record_parts, array_parts}
 use Rattle.image_laws.specs.RecordWords.{Under, AtomWords, IdentWords, BinWords, UnaryWords, LetWords, FnWords, MatchWords, CallReads, FieldWords, CastWords, ImportWords, ExternWords, RecordWords, ArrayWords}
 use Rattle.image_laws.proofs.RecordLaws.{under, Rest, atom-gives, ident-gives, bin_gives, unary-gives, let_gives, field-gives, cast-gives}
@@ -29,7 +29,7 @@ pub record NodeWords (c : Counts) (image : List ℕ) (at : ℕ) : Type 0 where
 module _ (c : Counts) (before : List Outline) (image : List ℕ) (n at : ℕ) where
   -- what reading the record gives: its outline, up to its end
   abbrev pub NodeGives : Type 0 → Type 0
-  NodeGives Shown = (least : ℕ) → Gives image (outline_from image at) (at + record_length image at) Shown (node c before n (standing image at least))
+  NodeGives Shown = (least : ℕ) → Reads image (outline_from image at) (at + record_length image at) Shown (node c before n (standing image at least))
 
   -- the head and the slot, then the kind's own rule
   node_by : {Shown : Type 0} (rule : Here → Read Outline) (arguments : ℕ) (parts : List ℕ)
@@ -38,9 +38,9 @@ module _ (c : Counts) (before : List Outline) (image : List ℕ) (n at : ℕ) wh
       → NodeGives (Under c.slots image (at + 1) × Shown)
   unfolding node
   node_by rule arguments parts p q r rest least =
-      gives_then _ (gives-word good_node_head _ image at least)
-      λ l₁ w₁ g. gives_then _ (under c.slots image at 1 l₁)
-      λ l₂ w₂ s. gives-show (λ _ k. (s, k)) (rw (p, q, r) (rest g l₂))
+      reads_then _ (reads_word good_node_head _ image at least)
+      λ l₁ w₁ g. reads_then _ (under c.slots image at 1 l₁)
+      λ l₂ w₂ s. reads-show (λ _ k. (s, k)) (rw (p, q, r) (rest g l₂))
 
   pub atom-node : record_kind image at ≡ 0 → NodeGives (Under c.slots image (at + 1) × AtomWords c image n at)
   unfolding good_node_head node_kind node_kinds parts_at parts_by_kind arguments_at
@@ -117,22 +117,22 @@ module _ (c : Counts) (before : List Outline) (image : List ℕ) (n at : ℕ) wh
   -- of any kind: one that has no row of the table is refused
   by_kind : (k : ℕ) → record_kind image at ≡ k → NodeGives (NodeWords c image at)
   unfolding good_node_head node_kind node_kinds node
-  by_kind zero e least = gives-show (λ _ w. record { kind = omega arith; slot = w.0; long = let l = w.1.long in omega arith }) (atom-node e least)
-  by_kind (suc zero) e least = gives-show (λ _ w. record { kind = omega arith; slot = w.0; long = let l = w.1.long in omega arith }) (ident-node e least)
-  by_kind (suc (suc zero)) e least = gives-show (λ _ w. record { kind = omega arith; slot = w.0; long = let l = w.1.long in omega arith }) (bin-node e least)
-  by_kind (suc (suc (suc zero))) e least = gives-show (λ _ w. record { kind = omega arith; slot = w.0; long = let l = w.1.long in omega arith }) (unary-node e least)
-  by_kind (suc (suc (suc (suc zero)))) e least = gives-show (λ _ w. record { kind = omega arith; slot = w.0; long = let l = w.1.long in omega arith }) (let_node e least)
-  by_kind (suc (suc (suc (suc (suc zero))))) e least = gives-show (λ _ w. record { kind = omega arith; slot = w.0; long = let l = w.1.long in omega arith }) (fn-node e least)
-  by_kind (suc (suc (suc (suc (suc (suc zero)))))) e least = gives-show (λ _ w. record { kind = omega arith; slot = w.0; long = let l = w.1.long in omega arith }) (match-node e least)
-  by_kind (suc (suc (suc (suc (suc (suc (suc zero))))))) e least = gives-show (λ _ w. record { kind = omega arith; slot = w.0; long = let l = w.1.long in omega arith }) (call-node e least)
-  by_kind (suc (suc (suc (suc (suc (suc (suc (suc zero)))))))) e least = gives-show (λ _ w. record { kind = omega arith; slot = w.0; long = let l = w.1.long in omega arith }) (field-node e least)
-  by_kind (suc (suc (suc (suc (suc (suc (suc (suc (suc zero))))))))) e least = gives-show (λ _ w. record { kind = omega arith; slot = w.0; long = let l = w.1.long in omega arith }) (cast-node e least)
-  by_kind (suc (suc (suc (suc (suc (suc (suc (suc (suc (suc zero)))))))))) e least = gives-show (λ _ w. record { kind = omega arith; slot = w.0; long = let l = w.1.long in omega arith }) (import_node e least)
-  by_kind (suc (suc (suc (suc (suc (suc (suc (suc (suc (suc (suc zero))))))))))) e least = gives-show (λ _ w. record { kind = omega arith; slot = w.0; long = let l = w.1.long in omega arith }) (extern-node e least)
-  by_kind (suc (suc (suc (suc (suc (suc (suc (suc (suc (suc (suc (suc zero)))))))))))) e least = gives-show (λ _ w. record { kind = omega arith; slot = w.0; long = let l = w.1.long in omega arith }) (record_node_lem e least)
-  by_kind (suc (suc (suc (suc (suc (suc (suc (suc (suc (suc (suc (suc (suc zero))))))))))))) e least = gives-show (λ _ w. record { kind = omega arith; slot = w.0; long = let l = w.1.long in omega arith }) (array-node e least)
+  by_kind zero e least = reads-show (λ _ w. record { kind = omega arith; slot = w.0; long = let l = w.1.long in omega arith }) (atom-node e least)
+  by_kind (suc zero) e least = reads-show (λ _ w. record { kind = omega arith; slot = w.0; long = let l = w.1.long in omega arith }) (ident-node e least)
+  by_kind (suc (suc zero)) e least = reads-show (λ _ w. record { kind = omega arith; slot = w.0; long = let l = w.1.long in omega arith }) (bin-node e least)
+  by_kind (suc (suc (suc zero))) e least = reads-show (λ _ w. record { kind = omega arith; slot = w.0; long = let l = w.1.long in omega arith }) (unary-node e least)
+  by_kind (suc (suc (suc (suc zero)))) e least = reads-show (λ _ w. record { kind = omega arith; slot = w.0; long = let l = w.1.long in omega arith }) (let_node e least)
+  by_kind (suc (suc (suc (suc (suc zero))))) e least = reads-show (λ _ w. record { kind = omega arith; slot = w.0; long = let l = w.1.long in omega arith }) (fn-node e least)
+  by_kind (suc (suc (suc (suc (suc (suc zero)))))) e least = reads-show (λ _ w. record { kind = omega arith; slot = w.0; long = let l = w.1.long in omega arith }) (match-node e least)
+  by_kind (suc (suc (suc (suc (suc (suc (suc zero))))))) e least = reads-show (λ _ w. record { kind = omega arith; slot = w.0; long = let l = w.1.long in omega arith }) (call-node e least)
+  by_kind (suc (suc (suc (suc (suc (suc (suc (suc zero)))))))) e least = reads-show (λ _ w. record { kind = omega arith; slot = w.0; long = let l = w.1.long in omega arith }) (field-node e least)
+  by_kind (suc (suc (suc (suc (suc (suc (suc (suc (suc zero))))))))) e least = reads-show (λ _ w. record { kind = omega arith; slot = w.0; long = let l = w.1.long in omega arith }) (cast-node e least)
+  by_kind (suc (suc (suc (suc (suc (suc (suc (suc (suc (suc zero)))))))))) e least = reads-show (λ _ w. record { kind = omega arith; slot = w.0; long = let l = w.1.long in omega arith }) (import_node e least)
+  by_kind (suc (suc (suc (suc (suc (suc (suc (suc (suc (suc (suc zero))))))))))) e least = reads-show (λ _ w. record { kind = omega arith; slot = w.0; long = let l = w.1.long in omega arith }) (extern-node e least)
+  by_kind (suc (suc (suc (suc (suc (suc (suc (suc (suc (suc (suc (suc zero)))))))))))) e least = reads-show (λ _ w. record { kind = omega arith; slot = w.0; long = let l = w.1.long in omega arith }) (record_node_lem e least)
+  by_kind (suc (suc (suc (suc (suc (suc (suc (suc (suc (suc (suc (suc (suc zero))))))))))))) e least = reads-show (λ _ w. record { kind = omega arith; slot = w.0; long = let l = w.1.long in omega arith }) (array-node e least)
   by_kind (suc (suc (suc (suc (suc (suc (suc (suc (suc (suc (suc (suc (suc (suc k)))))))))))))) e least =
-      gives_then _ (gives-word good_node_head _ image at least) λ l₁ w₁ g. absurd (false≢true (rw (e, good_node_head) at g))
+      reads_then _ (reads_word good_node_head _ image at least) λ l₁ w₁ g. absurd (false≢true (rw (e, good_node_head) at g))
 
   pub any_node : NodeGives (NodeWords c image at)
   any_node = by_kind (record_kind image at) refl

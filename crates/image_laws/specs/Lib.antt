@@ -1,5 +1,4 @@
 -- What reading an image has shown where it accepts: the outlines by place, and each kind's words.
-pub mod Gives
 pub mod OutlineAt
 pub mod Many
 pub mod RecordWords

@@ -5,8 +5,7 @@ use Rattle.std.proofs.Common.{le_of_suc-le-suc, not-suc-le-zero, arith}
 use Rattle.std.proofs.Math.Nat.{mul-suc, mul-zero}
 use Rattle.tok.specs.Reader.{Read, many}
 use Rattle.reader.specs.Reading.{standing}
-use Rattle.reader.specs.Reads.{Within}
-use Rattle.image_laws.specs.Gives.{Gives, gives, gives_then, gives_to}
+use Rattle.reader.specs.Reads.{Within, Reads, reads, reads_then, reads_to}
 
 -- what holds at k places, each `step` after the one before
 pub record Each (P : ℕ → Type 0) (step at k : ℕ) : Type 0 where
@@ -31,13 +30,13 @@ answers_from f step at zero = []
 answers_from f step at (suc k) = f at ∷ answers_from f step (at + step) k
 
 module _ {A : Type 0} (words : List ℕ) (m : Read A) (f : ℕ → A) (step : ℕ) (P : ℕ → Type 0)
-    (one : (at least : ℕ) → Gives words (f at) (at + step) (P at) (m (standing words at least))) where
+    (one : (at least : ℕ) → Reads words (f at) (at + step) (P at) (m (standing words at least))) where
   pub gives-many : (k at least : ℕ) → Within words at
-      → Gives words (answers_from f step at k) (at + step * k) (Each P step at k) (many k m (standing words at least))
+      → Reads words (answers_from f step at k) (at + step * k) (Each P step at k) (many k m (standing words at least))
   unfolding many answers_from
   gives-many zero at least w =
-      gives_to (at + step * 0) (λ _. rw mul-zero (omega arith)) (gives least w (each_none P step at))
+      reads_to (at + step * 0) (λ _. rw mul-zero (omega arith)) (reads least w (each_none P step at))
   gives-many (suc k) at least w =
-      gives_then _ (one at least)
-      λ l w' p. gives_then _ (gives-many k (at + step) l w')
-      λ l'' w'' ps. gives_to (at + step * suc k) (λ _. rw mul-suc (omega arith)) (gives l'' w'' (each_more P step at k p ps))
+      reads_then _ (one at least)
+      λ l w' p. reads_then _ (gives-many k (at + step) l w')
+      λ l'' w'' ps. reads_to (at + step * suc k) (λ _. rw mul-suc (omega arith)) (reads l'' w'' (each_more P step at k p ps))

@@ -1,4 +1,3 @@
--- What the contracts of readers of records cite: how the code goes on by a rule, and which words are tokens.
+-- What the contracts of readers of records cite: how the code goes on by a rule.
 pub mod Leads
 pub mod LeadLaws
-pub mod Token

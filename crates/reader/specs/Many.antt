@@ -5,9 +5,8 @@ use Rattle.std.proofs.Math.Path.{refl}
 use Rattle.std.proofs.Common.{ap, ◌∙◌, le_of_suc-le-suc, not-suc-le-zero}
 use Rattle.tok.specs.Step.{Result, ok, refused, next, ◌>>=◌, return}
 use Rattle.tok.specs.Reader.{Cursor, Read, many}
-use Rattle.reader.specs.declared.Place.{Place}
 use Rattle.reader.specs.declared.Fault.{Fault}
-use Rattle.reader.specs.Reading.{standing, onward, gave}
+use Rattle.reader.specs.Reading.{Reader, standing, onward, gave}
 use Rattle.reader.specs.Laws.{onward_then, onward_stops}
 
 module _ {A : Type 0} (m : Read A) where
@@ -53,13 +52,13 @@ module _ {A : Type 0} (m : Read A) where
 
   -- ── As the code's loop reads them ──
 
-  module _ (words : List ℕ) (from mid : Place) (i : ℕ) (xs : List A) (so_far : onward words from (many i m) ≡ gave words xs (Ok mid)) (a : A) where
-    pub many_more : (to : Place) → onward words mid m ≡ gave words a (Ok to) → onward words from (many (suc i) m) ≡ gave words (xs ++ (a ∷ [])) (Ok to)
+  module _ (from mid : Reader) (i : ℕ) (xs : List A) (so_far : onward from (many i m) ≡ gave xs (Ok mid)) (a : A) where
+    pub many_more : (to : Reader) → onward mid m ≡ gave a (Ok to) → onward from (many (suc i) m) ≡ gave (xs ++ (a ∷ [])) (Ok to)
     unfolding gave
-    many_more to e = many-suc i (standing words from.at from.least) ∙ onward_then words from (many i m) one_more xs mid so_far ∙ onward_then words mid m (λ b. return (xs ++ (b ∷ []))) a to e
+    many_more to e = many-suc i (standing from.words from.at from.least) ∙ onward_then from (many i m) one_more xs mid so_far ∙ onward_then mid m (λ b. return (xs ++ (b ∷ []))) a to e
 
-    pub many_faulted : (fault : Fault) (n : ℕ) (bs : List A) → i < n → onward words mid m ≡ gave words a (Err fault) → onward words from (many n m) ≡ gave words bs (Err fault)
+    pub many_faulted : (fault : Fault) (n : ℕ) (bs : List A) → i < n → onward mid m ≡ gave a (Err fault) → onward from (many n m) ≡ gave bs (Err fault)
     unfolding gave
     many_faulted fault n bs l e =
-        many-stops (suc i) n l fault.0 (standing words from.at from.least)
-        (many-suc i (standing words from.at from.least) ∙ onward_then words from (many i m) one_more xs mid so_far ∙ onward_stops words mid m (λ b. return (xs ++ (b ∷ []))) a fault [] e)
+        many-stops (suc i) n l fault.0 (standing from.words from.at from.least)
+        (many-suc i (standing from.words from.at from.least) ∙ onward_then from (many i m) one_more xs mid so_far ∙ onward_stops mid m (λ b. return (xs ++ (b ∷ []))) a fault [] e)

@@ -3,13 +3,22 @@
 
 ghost use Rattle.std.specs.Prelude.{◌≡◌, ◌&&◌, ◌+◌, length, leb, ltb};
 ghost use Rattle.tok.specs.Reader.{most_words, owing, word, below, ends};
-ghost use Rattle.reader.specs.Reading.{beginning, next_word, onward, gave};
+ghost use Rattle.reader.specs.Reading.{Reader, reading, beginning, next_word, Comes};
 
-// Where a reading stands: before word `at` of a list that has `least` words at least.
-#[derive(Clone, Copy)]
-pub struct Place {
+use std::marker::Model;
+
+// A reading of a list of words: it stands before word `at`, and the list has `least` words at least.
+#[derive(Drop)]
+pub struct Reader<'a> {
+    pub words: &'a [u32],
     pub at: usize,
     pub least: usize,
+}
+
+impl<'a> Model for Reader<'a> {
+    ghost Value = { Reader };
+
+    ghost view = { λ r. reading r.words.now r.at r.least };
 }
 
 // The place of the first fault: in a list the word that offends, or the list's length.
@@ -23,21 +32,18 @@ const MOST_WORDS: usize = 8192;
 const MOST_BYTES: usize = 65536;
 
 // Before the first word, with the fewest words that the whole can have; or a fault at place 0 where the text is over its limit.
-pub fn begin(text: &[u8], least: usize) -> Result<Place, Fault>
-    ensures { result ≡ beginning (length text.now) least }
+pub fn begin<'a>(text: &[u8], words: &'a [u32], least: usize) -> Result<Reader<'a>, Fault>
+    ensures { result ≡ beginning (length text.now) words.now least }
 {
     if text.len() > MOST_BYTES {
         Err(Fault(0))
     } else {
-        Ok(Place { at: 0, least })
+        Ok(Reader {
+            words,
+            at: 0,
+            least,
+        })
     }
-}
-
-// The word before which a reading stands, and 0 past the end.
-pub fn next_word(words: &[u32], from: Place) -> u32
-    ensures { result ≡ next_word words.now from }
-{
-    tok::word_at(words, from.at)
 }
 
 // Whether a word at `at` that its rule calls good, and that owes more words, lies with all of them within 8,192.
@@ -47,42 +53,53 @@ fn admits(at: usize, least: usize, good: bool, owes: usize) -> bool
     at < MOST_WORDS && good && least.saturating_add(owes) <= MOST_WORDS
 }
 
-// One word that owes more after it: a count or a length. `good`: whether its field's rule holds of it.
-pub fn owing(words: &[u32], from: Place, good: bool, owes: usize) -> Result<Place, Fault>
-    ensures { onward words.now from (owing (λ _. good) (λ _. owes)) ≡ gave words.now (next_word words.now from) result }
-{
-    if from.at < words.len() && admits(from.at, from.least, good, owes) {
-        Ok(Place {
-            at: from.at + 1,
-            least: from.least + owes,
-        })
-    } else {
-        Err(Fault(from.at))
+impl<'a> Reader<'a> {
+    // The word before which a reading stands, and 0 past the end.
+    pub fn next_word(&self) -> u32
+        ensures { result ≡ next_word self.now }
+    {
+        tok::word_at(self.words, self.at)
     }
-}
 
-// One word that owes none.
-pub fn word(words: &[u32], from: Place, good: bool) -> Result<Place, Fault>
-    ensures { onward words.now from (word (λ _. good)) ≡ gave words.now (next_word words.now from) result }
-{
-    owing(words, from, good, 0)
-}
-
-// One word below a number.
-#[tactic(auto, using(crate::specs::Laws::by_rule))]
-pub fn below(words: &[u32], from: Place, n: usize) -> Result<Place, Fault>
-    ensures { onward words.now from (below n) ≡ gave words.now (next_word words.now from) result }
-{
-    word(words, from, (next_word(words, from) as usize) < n)
-}
-
-// No word is left.
-#[tactic(auto, using(crate::specs::Laws::ends_left, crate::specs::Laws::ends_here))]
-pub fn ends(words: &[u32], from: Place) -> Result<Place, Fault>
-    ensures { onward words.now from ends ≡ gave words.now tt result }
-{
-    if from.at < words.len() {
-        return Err(Fault(from.at));
+    // One word that owes more after it: a count or a length. `good`: whether its field's rule holds of it.
+    pub fn owing(self, good: bool, owes: usize) -> Result<Self, Fault>
+        ensures { Comes self.entry (owing (λ _. good) (λ _. owes)) (next_word self.entry) result }
+    {
+        if self.at < self.words.len() && admits(self.at, self.least, good, owes) {
+            Ok(Reader {
+                at: self.at + 1,
+                least: self.least + owes,
+                ..self
+            })
+        } else {
+            Err(Fault(self.at))
+        }
     }
-    Ok(from)
+
+    // One word that owes none.
+    pub fn word(self, good: bool) -> Result<Self, Fault>
+        ensures { Comes self.entry (word (λ _. good)) (next_word self.entry) result }
+    {
+        self.owing(good, 0)
+    }
+
+    // One word below a number.
+    #[tactic(auto, using(crate::specs::Laws::by_rule))]
+    pub fn below(self, n: usize) -> Result<Self, Fault>
+        ensures { Comes self.entry (below n) (next_word self.entry) result }
+    {
+        let good = (self.next_word() as usize) < n;
+        self.word(good)
+    }
+
+    // No word is left.
+    #[tactic(auto, using(crate::specs::Laws::ends_left, crate::specs::Laws::ends_here))]
+    pub fn ends(self) -> Result<Self, Fault>
+        ensures { Comes self.entry ends tt result }
+    {
+        if self.at < self.words.len() {
+            return Err(Fault(self.at));
+        }
+        Ok(self)
+    }
 }
