@@ -18,9 +18,9 @@ use Rattle.display.specs.Signature.{arg_types, args_of}
 use Rattle.display.specs.WritingLaws.{Owes}
 use Rattle.library.specs.Package.{Signature, params_from}
 use Rattle.state.specs.Signatures.{signature_at}
-use Rattle.signatures.specs.declared.Entry.{Entry}
-use Rattle.signatures.specs.EntryList.{Entries, entries}
-use Rattle.signatures.specs.Entries.{flag_words, Finds}
+use Rattle.library.specs.declared.Entry.{Entry}
+use Rattle.library.specs.EntryList.{Entries, entries}
+use Rattle.library.specs.Entries.{flag_words, Finds}
 use Rattle.selection.specs.Candidates.{group, param_types}
 use Rattle.selection.proofs.Ways.{found_of}
 use Rattle.group_select.specs.Selects.{candidate_types}

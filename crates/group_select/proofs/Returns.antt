@@ -16,7 +16,7 @@ use Rattle.state.specs.declared.Used.{Used}
 use Rattle.state.specs.Context.{ctx}
 use Rattle.state.specs.Signatures.{signature_at}
 use Rattle.state.specs.World.{world, Step, Steps}
-use Rattle.signatures.specs.declared.Entry.{Entry}
+use Rattle.library.specs.declared.Entry.{Entry}
 use Rattle.selection.specs.Candidates.{position_of, position_in, CommonReturn}
 use Rattle.selection.proofs.Read.{provided-are, candidates-are, position-is}
 use Rattle.group_select.specs.Selects.{NoneFits, Selects}

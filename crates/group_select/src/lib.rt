@@ -13,7 +13,7 @@ ghost use Rattle.library.specs.Package.{Signature};
 ghost use Rattle.err.specs.Message.{call_name, no_specialisation};
 ghost use Rattle.err_text.specs.Rest.{ReportsIn};
 ghost use Rattle.state.specs.Signatures.{signature_at};
-ghost use Rattle.signatures.specs.Entries.{flag_words};
+ghost use Rattle.library.specs.Entries.{flag_words};
 ghost use Rattle.selection.specs.Candidates.{group, param_types};
 ghost use Rattle.group_select.specs.Selects.{candidate_types, NoneFits, Selects};
 

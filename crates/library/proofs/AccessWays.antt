@@ -83,12 +83,6 @@ module _ (t : Texts) (name words : List ℕ) (at : ℕ) where
   unfolding find_package packages_from
   package_first k ew eb er = rw (er, eb, ew) refl
 
-  function-first : {w : ℕ} {b : List ℕ} {r : Bool} (k : ℕ) → w ≡ get_or words at 0 → b ≡ name_bytes t w → r ≡ same_bytes name b
-      → group_of t name (functions_from words at (suc k))
-      ≡ elim r [ true ↦ (function_at words at).sig ∷ group_of t name (functions_from words (function_end words at) k) | false ↦ group_of t name (functions_from words (function_end words at) k) ]
-  unfolding group_of functions_from function_at
-  function-first k ew eb er = rw (er, eb, ew) refl
-
 -- the loop over packages
 module _ (t : Texts) (name words : List ℕ) where
   pub packages-begin : {at left : ℕ} → at ≡ min (2 + get_or words 0 0) (length words) → left ≡ get_or words 1 0
@@ -115,38 +109,6 @@ module _ (t : Texts) (name words : List ℕ) where
     package_none l =
         let s : left ≡ 0 = omega arith in
         h ∙ ap (λ n. find_package t name (packages_from words at n)) s
-
--- the loop over functions
-module _ (t : Texts) (name words : List ℕ) (from k : ℕ) where
-  pub group-begin : {at : ℕ} → at ≡ min from (length words) → group_of t name (functions_from words from k) ≡ group_of t name (functions_from words at k)
-  group-begin e = rw e (ap (group_of t name) (sym (functions-held words k from)))
-
-  module _ (at left : ℕ) (h : group_of t name (functions_from words from k) ≡ group_of t name (functions_from words at left)) where
-    module _ {w : ℕ} {b : List ℕ} {r : Bool} {at' : ℕ} (l : 0 < left) (ew : w ≡ get_or words at 0) (eb : b ≡ name_bytes t w) (er : r ≡ same_bytes name b)
-        (e : at' ≡ min (function_end words at) (length words)) where
-      rest : group_of t name (functions_from words (function_end words at) (left - 1)) ≡ group_of t name (functions_from words at' (left - 1))
-      rest = rw e (ap (group_of t name) (sym (functions-held words (left - 1) (function_end words at))))
-
-      first : group_of t name (functions_from words from k)
-          ≡ elim r [
-            | true ↦ (function_at words at).sig ∷ group_of t name (functions_from words (function_end words at) (left - 1))
-            | false ↦ group_of t name (functions_from words (function_end words at) (left - 1))
-          ]
-      first =
-          let s : left ≡ suc (left - 1) = omega arith in
-          h ∙ ap (λ n. group_of t name (functions_from words at n)) s ∙ function-first t name words at (left - 1) ew eb er
-
-      pub group-found : r ≡ true → group_of t name (functions_from words from k) ≡ (function_at words at).sig ∷ group_of t name (functions_from words at' (left - 1))
-      group-found y = first ∙ rw (y, rest) refl
-
-      pub group-past : r ≡ false → group_of t name (functions_from words from k) ≡ group_of t name (functions_from words at' (left - 1))
-      group-past n = first ∙ rw (n, rest) refl
-
-    pub group-none : left ≤ 0 → group_of t name (functions_from words from k) ≡ []
-    unfolding group_of functions_from
-    group-none l =
-        let s : left ≡ 0 = omega arith in
-        h ∙ ap (λ n. group_of t name (functions_from words at n)) s
 
 -- ── The parts of a signature ──
 

@@ -1,1 +1,2 @@
 pub mod AccessWays
+pub mod EntryWays

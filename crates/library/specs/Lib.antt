@@ -6,6 +6,9 @@ pub mod Slots
 pub mod PackageRecords
 pub mod LibraryFault
 pub mod Access
+pub mod Signatures
+pub mod EntryList
+pub mod Entries
 -- Laws of what reading has shown: type words, the pool, its trees, the packages, the library as a whole.
 pub mod TypeWords
 pub mod PoolRead
@@ -13,7 +16,8 @@ pub mod PoolTrees
 pub mod Each
 pub mod PackagesRead
 pub mod Accepted
--- Laws of places past the end, of a library that is lengthened, and of its types then.
+-- Laws of entries, of places past the end, of a library that is lengthened, and of its types then.
+pub mod EntryLaws
 pub mod Past
 pub mod Longer
 pub mod PoolTypes

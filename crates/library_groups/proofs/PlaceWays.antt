@@ -8,6 +8,9 @@ use native.Mathlib.Decide.{dec_lt, ℕ_discrete}
 use native.Mathlib.Numerals.{add-one}
 use lib.ListN.{length, get_or, set, take, length-set}
 use lib.Seq.{get_or-set_same, get_or-set_other}
+use Rattle.std.specs.Prelude.{Some, None}
+use Rattle.std.specs.List.{slice_get}
+use Rattle.std.proofs.lemmas.Option.{slice_get-get_or, slice_get_within, get_or_from_slice_get}
 use Rattle.std.proofs.Common.{get_or-take, length-take-le}
 use Rattle.library.specs.Package.{function_end, functions_end}
 use Rattle.name_order.specs.Order.{place_in}
@@ -78,23 +81,33 @@ listed_cut {words} {from} {order} {n} h = record {
 
 -- ── The end of those listed ──
 
-pub end_none : (words : List ℕ) (from n : ℕ) → n ≡ 0 → ListedEnd words from n from
-end_none words from n e = record { only = λ k l. absurd (omega (arith, ends-first words from k)) }
+pub end_none : (words : List ℕ) (from : ℕ) (order : List ℕ) → None ≡ slice_get order (length order - 1) → ListedEnd words from (length order) from
+end_none words from order e = elim (dec_lt 0 (length order)) [
+  | yes l ↦ cc (e, slice_get-get_or order (length order - 1) 0 (omega arith))
+  | no l ↦ record { only = λ k m. absurd (omega (arith, ends-first words from k)) }
+]
 
-pub end-last : (words : List ℕ) (from n : ℕ) (order : List ℕ) → (n ≡ 0 → ⊥) → FunctionsListed words from order n → {p r : ℕ} → p ≡ place_in (get_or order (n - 1) 0)
-    → r ≡ min (function_end words p) (length words) → ListedEnd words from n r
-end-last words from n order d h {p} {r} ep er = record { only = λ k l. by k l (dec_lt k n) }
+pub end-last : (words : List ℕ) (from : ℕ) (order : List ℕ) (last : ℕ) → Some last ≡ slice_get order (length order - 1)
+    → FunctionsListed words from order (length order) → {p r : ℕ} → p ≡ place_in last → r ≡ min (function_end words p) (length words)
+    → ListedEnd words from (length order) r
+end-last words from order last e h {p} {r} ep er = record { only = λ k l. by k l (dec_lt k (length order)) }
   where
-    all : function_end words p ≡ functions_end words from n
-    all =
-        let s : suc (n - 1) ≡ n = omega arith in
-        ap (function_end words) (ep ∙ h.ranks (n - 1) (omega arith)) ∙ sym (functions_end-suc words (n - 1) from) ∙ ap (functions_end words from) s
+    some : length order - 1 < length order
+    some = slice_get_within order (length order - 1) last (sym e)
 
-    by : (k : ℕ) → functions_end words from k < r → Dec (k < n) → k < n
+    there : get_or order (length order - 1) 0 ≡ last
+    there = get_or_from_slice_get order (length order - 1) last 0 (sym e)
+
+    all : function_end words p ≡ functions_end words from (length order)
+    all =
+        let s : suc (length order - 1) ≡ length order = omega (arith, some) in
+        ap (function_end words) (ep ∙ ap place_in (sym there) ∙ h.ranks (length order - 1) some) ∙ sym (functions_end-suc words (length order - 1) from) ∙ ap (functions_end words from) s
+
+    by : (k : ℕ) → functions_end words from k < r → Dec (k < length order) → k < length order
     by k l (yes m) = m
-    by k l (no m) = elim (ℕ_discrete n k) [
-      | yes e ↦ absurd (omega (arith, all, ap (functions_end words from) e))
-      | no q ↦ absurd (omega (arith, all, ends_rise words from k n (omega arith)))
+    by k l (no m) = elim (ℕ_discrete (length order) k) [
+      | yes q ↦ absurd (omega (arith, all, ap (functions_end words from) q))
+      | no q ↦ absurd (omega (arith, all, ends_rise words from k (length order) (omega arith)))
     ]
 
 -- ── Slots ──

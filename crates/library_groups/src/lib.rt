@@ -30,18 +30,18 @@ fn function_places(words: &[u32], from: usize, count: usize, order: &mut [u16]) 
 fn listed_end(words: &[u32], from: usize, order: &[u16]) -> usize
     ensures { FunctionsListed words.now from order.now (length order.now) → ListedEnd words.now from (length order.now) result }
 {
-    if order.is_empty() {
+    let Some(last) = order.last() else {
         return from;
-    }
-    library::function_end(words, name_order::place_at(order, order.len() - 1))
+    };
+    library::function_end(words, name_order::place_of(*last))
 }
 
 // Whether none of them has slots.
 fn none_slotted(words: &[u32], order: &[u16]) -> bool
     ensures { NoneSlotted words.now order.now (length order.now) result }
 {
-    for i in 0..order.len() {
-        if library::with_slots(words, name_order::place_at(order, i)) {
+    for entry in order {
+        if library::with_slots(words, name_order::place_of(*entry)) {
             return false;
         }
     }
@@ -53,8 +53,8 @@ fn lowest(group: &[u16]) -> usize
     ensures { Lowest group.now 0 (length group.now) result }
 {
     let mut low = name_order::place_at(group, 0);
-    for i in 0..group.len() {
-        low = low.min(name_order::place_at(group, i));
+    for entry in group {
+        low = low.min(name_order::place_of(*entry));
     }
     low
 }
@@ -75,8 +75,8 @@ fn fault_in(words: &[u32], group: &[u16], low: usize, most: usize) -> usize
     ensures { FaultsFrom words.now group.now 0 (length group.now) low most result }
 {
     let mut best = most;
-    for i in 0..group.len() {
-        best = fault_at(words, low, name_order::place_at(group, i), best);
+    for entry in group {
+        best = fault_at(words, low, name_order::place_of(*entry), best);
     }
     best
 }

@@ -2,7 +2,7 @@
 use Prim.Native.Nat.{ℕ, zero, suc, ◌+◌, ◌*◌, ◌-◌, ◌≤◌, ◌<◌}
 use mathlib.Core.Path.{◌≡◌, refl, sym, ap, ◌∙◌}
 use mathlib.Core.Bool.{Bool, true, false, cond}
-use mathlib.Core.List.{List, [], ◌∷◌}
+use mathlib.Core.List.{List, [], ◌∷◌, ◌++◌}
 use native.Mathlib.Omega.{arith}
 use native.Mathlib.Numerals.{add-one, add-two}
 use native.Mathlib.Decide.{dec_lt}
@@ -76,34 +76,34 @@ spread-done types before marks n i h l =
 
 -- ── Pairs ──
 
-pub types-next : (pairs : List ℕ) (i : ℕ) → i + 1 < length pairs → types_in (drop i pairs) ≡ get_or pairs (i + 1) 0 ∷ types_in (drop (i + 2) pairs)
+-- a pair comes off, and its second word is its type
+pub types-next : (left pair rest : List ℕ) → left ≡ pair ++ rest → length pair ≡ 2 → types_in left ≡ get_or pair 1 0 ∷ types_in rest
 unfolding types_in
-types-next pairs i l = rw (drop-cons pairs i 0 (omega arith), drop-cons pairs (suc i) 0 (omega arith), add-one i, add-two i) refl
+types-next left [] rest e l = absurd (omega arith)
+types-next left (n ∷ []) rest e l = absurd (omega arith)
+types-next left (n ∷ t ∷ []) rest e l = rw e refl
+types-next left (n ∷ t ∷ x ∷ xs) rest e l = absurd (omega arith)
 
-pub types-end : (pairs : List ℕ) (i : ℕ) → length pairs ≤ i + 1 → types_in (drop i pairs) ≡ []
+pub types-end : (left : List ℕ) → length left < 2 → types_in left ≡ []
 unfolding types_in
-types-end pairs i l = elim (dec_lt i (length pairs)) [
-  | yes h ↦ rw (drop-cons pairs i 0 h, drop_of_length-le pairs {i = suc i} (omega arith)) refl
-  | no h ↦ rw (drop_of_length-le pairs {i = i} (omega arith)) refl
-]
+types-end [] l = refl
+types-end (n ∷ []) l = refl
+types-end (n ∷ t ∷ xs) l = absurd (omega arith)
 
--- The loop over the pairs: those from index i on are left.
-pub record TypesToMark (types before marks pairs : List ℕ) (i : ℕ) : Type 0 where
-  pub within : i ≤ length pairs + 1
+-- The loop over the pairs: those of `left` are left.
+pub record TypesToMark (types before marks pairs left : List ℕ) : Type 0 where
   pub long : length marks ≡ length before
-  pub rest : mark_all types (types_in pairs) before ≡ mark_all types (types_in (drop i pairs)) marks
+  pub rest : mark_all types (types_in pairs) before ≡ mark_all types (types_in left) marks
 
-module _ {types before pairs : List ℕ} where
-  module _ {marks : List ℕ} {i : ℕ} (h : TypesToMark types before marks pairs i) where
-    pub types_more : {w i' : ℕ} {marks' : List ℕ} → i + 1 < length pairs → i' ≡ i + 2 → w ≡ get_or pairs (i + 1) 0 → marks' ≡ mark_inside types w marks
-        → TypesToMark types before marks' pairs i'
-    unfolding mark_all
-    types_more l f ew e = record {
-      within = omega arith;
-      long = ap length e ∙ length-mark_inside types _ marks ∙ h.long;
-      rest = h.rest ∙ ap (λ ts. mark_all types ts marks) (types-next pairs i l) ∙ rw (e, ew, f) refl;
-    }
+module _ {types before pairs marks left : List ℕ} (h : TypesToMark types before marks pairs left) where
+  pub types_more : (pair rest : List ℕ) {marks' : List ℕ} → left ≡ pair ++ rest → length pair ≡ 2 → marks' ≡ mark_inside types (get_or pair 1 0) marks
+      → TypesToMark types before marks' pairs rest
+  unfolding mark_all
+  types_more pair rest e l f = record {
+    long = ap length f ∙ length-mark_inside types _ marks ∙ h.long;
+    rest = h.rest ∙ ap (λ ts. mark_all types ts marks) (types-next left pair rest e l) ∙ rw f refl;
+  }
 
-    pub types-done : length pairs ≤ i + 1 → marks ≡ mark_all types (types_in pairs) before
-    unfolding mark_all
-    types-done l = sym (h.rest ∙ rw (types-end pairs i l) refl)
+  pub types-done : length left < 2 → marks ≡ mark_all types (types_in pairs) before
+  unfolding mark_all
+  types-done l = sym (h.rest ∙ rw (types-end left l) refl)

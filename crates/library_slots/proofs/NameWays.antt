@@ -2,7 +2,7 @@
 use Prim.Native.Nat.{ℕ, suc, ◌+◌, ◌-◌, ◌≤◌, ◌<◌}
 use mathlib.Core.Path.{◌≡◌, refl, sym, ap, ap₂, ◌∙◌}
 use mathlib.Core.Bool.{Bool, true, false, not, ◌&&◌, ◌||◌, or-true, and-false}
-use mathlib.Core.List.{List}
+use mathlib.Core.List.{List, ◌++◌}
 use native.Mathlib.Omega.{arith}
 use lib.ListN.{length, get_or, drop}
 use lib.Dec.{eqb}
@@ -17,22 +17,20 @@ use Rattle.library_slots.proofs.MarkWays.{types-next, types-end}
 
 -- ── Among the types of pairs ──
 
--- none before index i is the slot
-module _ (t : Texts) (name pairs : List ℕ) (i : ℕ) (h : any_slot_of t name (types_in pairs) ≡ any_slot_of t name (types_in (drop i pairs))) where
-  any_next : i + 1 < length pairs → any_slot_of t name (types_in (drop i pairs)) ≡ (is_slot t name (get_or pairs (i + 1) 0) || any_slot_of t name (types_in (drop (i + 2) pairs)))
+-- none before those that are left is the slot
+module _ (t : Texts) (name pairs left : List ℕ) (h : any_slot_of t name (types_in pairs) ≡ any_slot_of t name (types_in left)) where
+  module _ (pair rest : List ℕ) (e : left ≡ pair ++ rest) (l : length pair ≡ 2) {r : Bool} (er : r ≡ is_slot t name (get_or pair 1 0)) where
+    pub types-found : r ≡ true → true ≡ any_slot_of t name (types_in pairs)
+    unfolding any_slot_of
+    types-found y = sym (h ∙ ap (any_slot_of t name) (types-next left pair rest e l) ∙ rw (sym er ∙ y) refl)
+
+    pub types-past : r ≡ false → any_slot_of t name (types_in pairs) ≡ any_slot_of t name (types_in rest)
+    unfolding any_slot_of
+    types-past n = h ∙ ap (any_slot_of t name) (types-next left pair rest e l) ∙ rw (sym er ∙ n) refl
+
+  pub types-none : length left < 2 → false ≡ any_slot_of t name (types_in pairs)
   unfolding any_slot_of
-  any_next l = ap (any_slot_of t name) (types-next pairs i l)
-
-  pub types-found : {r : Bool} → i + 1 < length pairs → r ≡ is_slot t name (get_or pairs (i + 1) 0) → r ≡ true → true ≡ any_slot_of t name (types_in pairs)
-  types-found l e y = sym (h ∙ any_next l ∙ rw (sym e ∙ y) refl)
-
-  pub types-past : {r : Bool} {i' : ℕ} → i + 1 < length pairs → i' ≡ i + 2 → r ≡ is_slot t name (get_or pairs (i + 1) 0) → r ≡ false
-      → any_slot_of t name (types_in pairs) ≡ any_slot_of t name (types_in (drop i' pairs))
-  types-past l f e n = h ∙ any_next l ∙ rw (sym e ∙ n, f) refl
-
-  pub types-none : length pairs ≤ i + 1 → false ≡ any_slot_of t name (types_in pairs)
-  unfolding any_slot_of
-  types-none l = sym (h ∙ ap (any_slot_of t name) (types-end pairs i l))
+  types-none l = sym (h ∙ ap (any_slot_of t name) (types-end left l))
 
 -- ── Among marks ──
 

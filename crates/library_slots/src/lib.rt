@@ -124,8 +124,8 @@ fn spread(pool: &[u32], marks: &mut [u8])
 fn mark_types(pool: &[u32], pairs: &[u32], marks: &mut [u8])
     ensures { marks.new ≡ mark_all pool.now (types_in pairs.now) marks.old }
 {
-    for i in 0..pairs.len() / 2 {
-        mark_inside(pool, pairs[2 * i + 1], marks);
+    for pair in pairs.chunks_exact(2) {
+        mark_inside(pool, pair[1], marks);
     }
 }
 
@@ -143,8 +143,8 @@ fn is_slot(texts: &Texts, named: u32, w: u32) -> bool
 fn among_types(texts: &Texts, pairs: &[u32], named: u32) -> bool
     ensures { result ≡ any_slot_of texts.now (name_bytes texts.now named) (types_in pairs.now) }
 {
-    for i in 0..pairs.len() / 2 {
-        if is_slot(texts, named, pairs[2 * i + 1]) {
+    for pair in pairs.chunks_exact(2) {
+        if is_slot(texts, named, pair[1]) {
             return true;
         }
     }
@@ -251,8 +251,8 @@ fn any_reached(
 ) -> bool
     ensures { Told (reached returned size marks.now first end) group.now 0 (length group.now) result }
 {
-    for i in 0..group.len() {
-        let p = name_order::place_at(group, i);
+    for entry in group {
+        let p = name_order::place_of(*entry);
         if reached(returned, size, marks, first, end, p) {
             return true;
         }

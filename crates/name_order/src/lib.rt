@@ -12,41 +12,14 @@ use tok::Texts;
 
 // Names.
 
-// Whether the first `end` bytes of two strings are equal. Every byte is looked at: with no way out of the loop the compiler compares many at once.
-fn same_first(a: &[u8], b: &[u8], end: usize) -> bool
-    requires { (end ≤ length a.now) × (end ≤ length b.now) }
-    ensures { result ≡ true → (j : ℕ) → j < end → get_or a.now j 0 ≡ get_or b.now j 0 }
-{
-    let mut same = true;
-    for i in 0..end {
-        if a[i] != b[i] {
-            same = false;
-        }
-    }
-    same
-}
-
-// Whether a byte string comes before another: by the first byte that differs, else the shorter one.
-fn bytes_before(a: &[u8], b: &[u8]) -> bool
-    ensures { result ≡ bytes_before a.now b.now }
-{
-    let end = a.len().min(b.len());
-    if same_first(a, b, end) {
-        return a.len() < b.len();
-    }
-    for i in 0..end {
-        if a[i] != b[i] {
-            return a[i] < b[i];
-        }
-    }
-    a.len() < b.len()
-}
-
-// Whether the name of a word comes before that of another.
+// Whether the name of a word comes before that of another: by the first byte that differs, else the shorter one.
 fn name_before(texts: &Texts, a: u32, b: u32) -> bool
     ensures { result ≡ bytes_before (name_bytes texts.now a) (name_bytes texts.now b) }
 {
-    a != b && bytes_before(tok::name_bytes(texts, a), tok::name_bytes(texts, b))
+    a != b
+        && tok::name_bytes(texts, a)
+            .cmp(tok::name_bytes(texts, b))
+            .is_lt()
 }
 
 // Places in a row.
@@ -57,11 +30,18 @@ fn entry_at(order: &[u16], i: usize) -> u16
     order.get(i).copied().unwrap_or(0)
 }
 
+// The place that an entry keeps.
+pub fn place_of(entry: u16) -> usize
+    ensures { result ≡ place_in entry }
+{
+    (entry / 2) as usize
+}
+
 // The place of rank i.
 pub fn place_at(order: &[u16], i: usize) -> usize
     ensures { result ≡ place_in (get_or order.now i 0) }
 {
-    (entry_at(order, i) / 2) as usize
+    place_of(entry_at(order, i))
 }
 
 // The word of rank i.

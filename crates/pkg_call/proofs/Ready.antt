@@ -17,9 +17,9 @@ use Rattle.state.specs.Store.{held_from, held_end, extern_at}
 use Rattle.scope.specs.declared.Held as F
 use Rattle.scope.specs.declared.Held.TheVariants as H
 use Rattle.scope.specs.Found.{held_of}
-use Rattle.signatures.specs.EntryList.{Entries, entries}
-use Rattle.signatures.specs.Entries.{flag_words}
-use Rattle.signatures.specs.EntryLaws.{entries-library}
+use Rattle.library.specs.EntryList.{Entries, entries}
+use Rattle.library.specs.Entries.{flag_words}
+use Rattle.library.specs.EntryLaws.{entries-library}
 use Rattle.selection.specs.Candidates.{group}
 use Rattle.slotted_call.specs.Bindable.{SlottedReady}
 use Rattle.visit.specs.StoreLaws.{reach-end}

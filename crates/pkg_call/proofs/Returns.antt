@@ -26,7 +26,7 @@ use Rattle.state.specs.World.{Step, Steps}
 use Rattle.scope.specs.declared.Held as F
 use Rattle.scope.specs.declared.Held.TheVariants as H
 use Rattle.scope.specs.Found.{held_of}
-use Rattle.signatures.specs.EntryList.{Entries}
+use Rattle.library.specs.EntryList.{Entries}
 use Rattle.pkg_group.specs.declared.Candidates.{Candidates}
 use Rattle.pkg_group.specs.declared.Candidates.TheVariants as C
 use Rattle.pkg_group.specs.GroupSize.{group_size, size_found}

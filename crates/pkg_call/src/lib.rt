@@ -13,7 +13,7 @@ ghost use Rattle.state.specs.Store.{extern_at};
 ghost use Rattle.call_args.specs.Given.{given_from};
 ghost use Rattle.places.specs.Image.{Image};
 ghost use Rattle.state.specs.World.{More};
-ghost use Rattle.signatures.specs.EntryList.{entries};
+ghost use Rattle.library.specs.EntryList.{entries};
 ghost use Rattle.visit.specs.Whole.{Lent, lent};
 ghost use Rattle.visit.specs.Within.{Visits};
 ghost use Rattle.pkg_group.specs.Groups.{InGroup};

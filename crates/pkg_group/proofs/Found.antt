@@ -7,9 +7,9 @@ use mathlib.Core.List.{List, ◌∷◌}
 use Rattle.tok.specs.Text.{Texts}
 use Rattle.library.specs.Package.{Signature}
 use Rattle.state.specs.Signatures.{signature_at}
-use Rattle.signatures.specs.declared.Entry.{Entry}
-use Rattle.signatures.specs.EntryList.{Entries, entries}
-use Rattle.signatures.specs.Entries.{flag_words, Finds}
+use Rattle.library.specs.declared.Entry.{Entry}
+use Rattle.library.specs.EntryList.{Entries, entries}
+use Rattle.library.specs.Entries.{flag_words, Finds}
 use Rattle.selection.specs.Candidates.{group}
 use Rattle.selection.proofs.Ways.{found_of, found-next, over-is}
 use Rattle.pkg_group.specs.declared.Candidates.TheVariants as C

@@ -5,7 +5,7 @@
 ghost use Rattle.std.specs.Prelude.{◌≡◌, List};
 ghost use Rattle.tok.specs.Text.{name_bytes};
 ghost use Rattle.library.specs.Package.{Signature};
-ghost use Rattle.signatures.specs.Entries.{flag_words};
+ghost use Rattle.library.specs.Entries.{flag_words};
 ghost use Rattle.selection.specs.Candidates.{group};
 ghost use Rattle.call_args.specs.Given.{given_from};
 ghost use Rattle.pkg_group.specs.GroupSize.{group_size, size_found};

@@ -22,9 +22,9 @@ use Rattle.state.specs.declared.Used.{Used}
 use Rattle.state.specs.Context.{ctx}
 use Rattle.state.specs.Signatures.{signature_at}
 use Rattle.state.specs.World.{world, Step, stepped, Steps}
-use Rattle.signatures.specs.declared.Entry.{Entry}
-use Rattle.signatures.specs.EntryList.{Entries, entries}
-use Rattle.signatures.specs.Entries.{flag_words, entries_of, Finds}
+use Rattle.library.specs.declared.Entry.{Entry}
+use Rattle.library.specs.EntryList.{Entries, entries}
+use Rattle.library.specs.Entries.{flag_words, entries_of, Finds}
 use Rattle.selection.specs.Candidates.{group, param_types, position_of, all_return_of, CommonReturn}
 use Rattle.selection.proofs.Read.{returns-are}
 

@@ -10,7 +10,7 @@ use Rattle.state.specs.declared.Used.{Used}
 use Rattle.state.specs.Context.{ctx}
 use Rattle.state.specs.Signatures.{signature_at, entries_from}
 use Rattle.state.specs.World.{Step, Steps}
-use Rattle.signatures.specs.declared.Entry.{Entry}
+use Rattle.library.specs.declared.Entry.{Entry}
 
 -- the candidates: the entries of a name
 abbrev pub group : Texts → (name words : List ℕ) → (flags from k : ℕ) → List Signature

@@ -5,7 +5,7 @@
 ghost use Rattle.std.specs.Prelude.{◌≡◌, map, ℕ};
 ghost use Rattle.ptype.specs.Ty.{Ty};
 ghost use Rattle.ptype.specs.Words.{ty_of};
-ghost use Rattle.signatures.specs.Entries.{flag_words};
+ghost use Rattle.library.specs.Entries.{flag_words};
 ghost use Rattle.selection.specs.Candidates.{group, position_of, all_return_of, position_in, CommonReturn};
 
 use rules::Answer;

@@ -3,5 +3,5 @@
 use Rattle.library_groups.specs.Kept.{FaultsFrom}
 use Rattle.library_groups.proofs.fault_in.Given as goal
 
-abbrev pub invariant-loop-i : goal.invariant-loop-i
-invariant-loop-i l = FaultsFrom l.words l.group 0 l.i l.low l.most l.best
+abbrev pub invariant-loop-entry : goal.invariant-loop-entry
+invariant-loop-entry l = FaultsFrom l.words l.group 0 l.entry-index l.low l.most l.best

@@ -3,5 +3,5 @@
 use Rattle.library_groups.specs.Kept.{Lowest}
 use Rattle.library_groups.proofs.lowest.Given as goal
 
-abbrev pub invariant-loop-i : goal.invariant-loop-i
-invariant-loop-i l = Lowest l.group 0 l.i l.low
+abbrev pub invariant-loop-entry : goal.invariant-loop-entry
+invariant-loop-entry l = Lowest l.group 0 l.entry-index l.low

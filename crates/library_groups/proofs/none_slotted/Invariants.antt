@@ -8,5 +8,5 @@ use Rattle.name_order.specs.Order.{place_in}
 use Rattle.library_groups.specs.Kept.{slotted}
 use Rattle.library_groups.proofs.none_slotted.Given as goal
 
-abbrev pub invariant-loop-i : goal.invariant-loop-i
-invariant-loop-i l = (j : ℕ) → j < l.i → slotted l.words (place_in (get_or l.order j 0)) ≡ false
+abbrev pub invariant-loop-entry : goal.invariant-loop-entry
+invariant-loop-entry l = (j : ℕ) → j < l.entry-index → slotted l.words (place_in (get_or l.order j 0)) ≡ false

@@ -1,11 +1,11 @@
--- `library_slots::among_types` meets its contract. The loop's invariant: no type before index i is the slot. Assumes nothing.
-use Prim.Native.Nat.{◌*◌, ◌≤◌}
+-- `library_slots::among_types` meets its contract. The loop's invariant: no type before those that are left is the slot. Assumes nothing.
 use mathlib.Core.Path.{◌≡◌}
-use lib.ListN.{length, drop}
-use Rattle.tok.specs.Text.{Texts, texts_of, name_bytes}
+use Rattle.std.specs.Slice.Iter.{chunks_exact_size, chunks_exact_rest}
+use Rattle.tok.specs.Text.{Texts, name_bytes}
 use Rattle.library.specs.SlotMarks.{any_slot_of, types_in}
 use Rattle.library_slots.proofs.among_types.Given as goal
 
-abbrev pub invariant-loop-i : goal.invariant-loop-i
-invariant-loop-i l = let t : Texts = l.texts in
-    (2 * l.i ≤ length l.pairs) × (any_slot_of t (name_bytes t l.named) (types_in l.pairs) ≡ any_slot_of t (name_bytes t l.named) (types_in (drop (2 * l.i) l.pairs)))
+abbrev pub invariant-loop-pair : goal.invariant-loop-pair
+invariant-loop-pair l = let t : Texts = l.texts in
+    (chunks_exact_size l.pair-iterator ≡ 2)
+    × (any_slot_of t (name_bytes t l.named) (types_in l.pairs) ≡ any_slot_of t (name_bytes t l.named) (types_in (chunks_exact_rest l.pair-iterator)))

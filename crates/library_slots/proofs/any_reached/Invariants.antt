@@ -8,5 +8,5 @@ use Rattle.name_order.specs.Order.{place_in}
 use Rattle.library_slots.specs.Named.{reached}
 use Rattle.library_slots.proofs.any_reached.Given as goal
 
-abbrev pub invariant-loop-i : goal.invariant-loop-i
-invariant-loop-i l = (j : ℕ) → j < l.i → reached l.returned l.size l.marks l.first l.end (place_in (get_or l.group j 0)) ≡ false
+abbrev pub invariant-loop-entry : goal.invariant-loop-entry
+invariant-loop-entry l = (j : ℕ) → j < l.entry-index → reached l.returned l.size l.marks l.first l.end (place_in (get_or l.group j 0)) ≡ false

@@ -1,8 +1,9 @@
 -- `library_slots::mark_types` meets its contract. The loop's invariant, `TypesToMark`: what is left to mark gives the whole.
 -- Assumes nothing.
-use Rattle.std.proofs.Common.{◌*◌}
+use mathlib.Core.Path.{◌≡◌}
+use Rattle.std.specs.Slice.Iter.{chunks_exact_size, chunks_exact_rest}
 use Rattle.library_slots.proofs.MarkWays.{TypesToMark}
 use Rattle.library_slots.proofs.mark_types.Given as goal
 
-abbrev pub invariant-loop-i : goal.invariant-loop-i
-invariant-loop-i l = TypesToMark l.pool l.initial.marks l.marks l.pairs (2 * l.i)
+abbrev pub invariant-loop-pair : goal.invariant-loop-pair
+invariant-loop-pair l = (chunks_exact_size l.pair-iterator ≡ 2) × TypesToMark l.pool l.initial.marks l.marks l.pairs (chunks_exact_rest l.pair-iterator)

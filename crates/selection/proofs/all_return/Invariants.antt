@@ -1,7 +1,7 @@
 -- `selection::all_return` meets its contract. The loop's invariant: the answer is that of the candidates from the one found on; the measure is how
 -- many they are. Assumes nothing.
 use Rattle.std.proofs.Common.{◌≡◌, length}
-use Rattle.signatures.specs.Entries.{flag_words}
+use Rattle.library.specs.Entries.{flag_words}
 use Rattle.ptype.specs.Words.{ty_of}
 use Rattle.selection.specs.Candidates.{group, all_return_of}
 use Rattle.selection.proofs.Ways.{found_of}

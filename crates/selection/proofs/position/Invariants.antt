@@ -1,7 +1,7 @@
 -- `selection::position` meets its contract. The outer loop's invariant: the first that fits is among the entries that are left; its measure
 -- is how many candidates they hold. The inner loop's: the types so far are equal. Assumes nothing.
 use Rattle.std.proofs.Common.{Bool, length}
-use Rattle.signatures.specs.Entries.{flag_words}
+use Rattle.library.specs.Entries.{flag_words}
 use Rattle.state.specs.Signatures.{signature_at}
 use Rattle.ptype.specs.Words.{ty_of}
 use Rattle.selection.specs.Candidates.{group}

@@ -7,7 +7,7 @@ use Rattle.std.proofs.Common.{ap, ◌∙◌, arith}
 use Rattle.std.proofs.Math.Decide.{dec_le}
 use Rattle.std.proofs.Math.ListN.{get_or, get_or-eq_default}
 use Rattle.library.specs.Package.{params_from, function_at, function_end, functions_from}
-use Rattle.state.specs.Signatures.{signature_at, entry_at, entry_end, entries_from}
+use Rattle.library.specs.Signatures.{signature_at, entry_at, entry_end, entries_from}
 
 -- ── With one flag, entries are the library's functions ──
 

@@ -1,4 +1,4 @@
--- Access to signatures as the code has it, one law for each way out. Assumes nothing.
+-- Finding entries as the code does it, one law for each way out. Assumes nothing.
 use Rattle.std.specs.Prelude.{Some, None}
 use Prim.Native.Nat.{ℕ, suc, ◌+◌, ◌-◌, ◌≤◌, ◌<◌, min}
 use mathlib.Core.Path.{◌≡◌, refl, sym, ap, ◌∙◌}
@@ -9,9 +9,9 @@ use native.Mathlib.Nat.{le_refl}
 use lib.ListN.{length, get_or}
 use Rattle.tok.specs.Text.{Texts, name_bytes, same_bytes}
 use Rattle.library.specs.Package.{Signature, group_of}
-use Rattle.state.specs.Signatures.{signature_at, slotted, entry_at, entry_end, entries_from}
-use Rattle.signatures.specs.Entries.{flag_words, Finds}
-use Rattle.signatures.specs.EntryLaws.{entries-held}
+use Rattle.library.specs.Signatures.{signature_at, slotted, entry_at, entry_end, entries_from}
+use Rattle.library.specs.Entries.{flag_words, Finds}
+use Rattle.library.specs.EntryLaws.{entries-held}
 
 -- ── Finding ──
 

@@ -2,8 +2,8 @@
 use Rattle.std.specs.Prelude.{ℕ, ◌+◌, ◌-◌, ◌≤◌, ◌≡◌, Bool, true, false, List, [], ◌∷◌, length, Option, Some, None}
 use Rattle.tok.specs.Text.{Texts}
 use Rattle.library.specs.Package.{Signature, group_of}
-use Rattle.state.specs.Signatures.{signature_at, entries_from}
-use Rattle.signatures.specs.declared.Entry.{Entry}
+use Rattle.library.specs.Signatures.{signature_at, entries_from}
+use Rattle.library.specs.declared.Entry.{Entry}
 
 -- how many words stand between an entry's name and its argument count: "its group name, a flag (1 has slots, 0 not), argument count" in the
 -- library, "name, argument count" elsewhere

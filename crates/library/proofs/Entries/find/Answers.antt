@@ -1,6 +1,6 @@
 use Rattle.std.proofs.Common.{get_or, refl, ap, ◌∙◌}
-use Rattle.signatures.proofs.Ways.{group-begin, group-found, group-past, group-none}
-use Rattle.signatures.proofs.Entries.find.Goals as goal
+use Rattle.library.proofs.EntryWays.{group-begin, group-found, group-past, group-none}
+use Rattle.library.proofs.Entries.find.Goals as goal
 
 pub loop-left-init : goal.loop-left-init
 loop-left-init c = rw (← c.self.view_is) (group-begin _ _ _ _ _ _ c.min-at.ensures)

@@ -1,6 +1,0 @@
--- `signatures::Entries::find` meets its contract. The loop's invariant: the group is looked for among the entries that are left. Assumes nothing.
-use Rattle.signatures.proofs.Ways.{Left}
-use Rattle.signatures.proofs.Entries.find.Given as goal
-
-abbrev pub invariant-loop-left : goal.invariant-loop-left
-invariant-loop-left l = Left l.texts l.name l.self.words l.self.flagged l.self.from l.self.count l.at l.left

@@ -1,4 +1,0 @@
--- What the contracts of the crate cite, and laws of entries.
-pub mod Entries
-pub mod EntryList
-pub mod EntryLaws
