@@ -62,9 +62,9 @@ pub record Before (image places : List ℕ) (owner : ℕ) (l₀ : List ℕ) (use
   pub deep : 32 < most_levels (type_fields_from (type_of image) image here left)
   pub long : length l ≡ length l₀
 
-pub before-all : {image places : List ℕ} {owner : ℕ} (l : List ℕ) (used : ℕ) {at fields : ℕ} → FieldsReady image places owner at fields
-    → 32 < most_levels (type_fields_from (type_of image) image at fields) → Before image places owner l used at fields l used at fields
-before-all l used r d = record { goes = λ T n. goes-all _; ready = r; deep = d; long = refl }
+pub before-all : {image places : List ℕ} {owner : ℕ} (l : List ℕ) (used : ℕ) {at fields here left : ℕ} → here ≡ at → left ≡ fields → FieldsReady image places owner at fields
+    → 32 < most_levels (type_fields_from (type_of image) image at fields) → Before image places owner l used at fields l used here left
+before-all l used eh el r d = rw (eh, el) record { goes = λ T n. goes-all _; ready = r; deep = d; long = refl }
 
 module _ {image places : List ℕ} {owner : ℕ} {l₀ : List ℕ} {used at fields : ℕ} {l : List ℕ} {u here left : ℕ} (h : Before image places owner l₀ used at fields l u here left) where
   -- the steps of the Record
@@ -82,13 +82,17 @@ module _ {image places : List ℕ} {owner : ℕ} {l₀ : List ℕ} {used at fiel
     levels-are = levels-there part-ready.ready f
 
     first-is : (T : Texts) (n : ℕ) → fields_from_exprs T n (type_fields_from (type_of image) image here left) (buffer l u)
-        ≡ next (type_from T n (type_of image x) (buffer l u)) (λ new s. next (fields_from_exprs T n (type_fields_from (type_of image) image (here + 2) (left - 1)) s) (λ others. return (get_or image here 0 ∷ new ∷ others)))
+        ≡ next (type_from T n (type_of image x) (buffer l u))
+        (λ new s. next (fields_from_exprs T n (type_fields_from (type_of image) image (here + 2) (left - 1)) s) (λ others. return (get_or image here 0 ∷ new ∷ others)))
     unfolding fields_from_exprs
     first-is T n = rw (fields-first (type_of image) image here d, ← ex)
 
     -- this one is too deep: what it meets is what the Record meets
     pub before-deep : 32 < levels → Onward image places owner whole (Ok (x, u)) l
-    before-deep e = record { is = λ T n. meets T n (type_from T n (type_of image x) (buffer l u)) refl; part = λ p v z. let y : ◌≡◌ {A = ℕ × ℕ} (x, u) (p, v) = cc in rw (ap (λ q. q.0) y) at part-ready }
+    before-deep e = record {
+      is = λ T n. meets T n (type_from T n (type_of image x) (buffer l u)) refl;
+      part = λ p v z. let y : ◌≡◌ {A = ℕ × ℕ} (x, u) (p, v) = cc in rw (ap (λ q. q.0) y) at part-ready;
+    }
       where
         meets : (T : Texts) (n : ℕ) (r : Result Buffer Refusal ℕ) → type_from T n (type_of image x) (buffer l u) ≡ r → whole T n ≡ type_from T n (type_of image x) (buffer l u)
         meets T n (ok w b) z = absurd (deep-refused T n (type_of image x) (buffer l u) w b (atoms image places x part-ready.ready) (omega (arith, levels-are)) z)
@@ -98,8 +102,9 @@ module _ {image places : List ℕ} {owner : ℕ} {l₀ : List ℕ} {used at fiel
       pub before-stop : {y : AddError} → a ≡ Err y → Onward image places owner whole (Err y) l₁
       before-stop o = record { is = λ T n. rw ((h.goes T n).is, first-is T n, g T n, o); part = λ p v z. let y : ◌≡◌ {A = ℕ} 0 1 = cc in absurd (omega arith) }
 
-      pub before-next : {p : ℕ × ℕ} → a ≡ Ok p → length l₁ ≡ length l → Before image places owner l₀ used at fields l₁ p.1 (here + 2) (left - 1)
-      before-next p k = record {
+      pub before-next : {p : ℕ × ℕ} {here' left' : ℕ} → here' ≡ here + 2 → left' ≡ left - 1 → a ≡ Ok p → length l₁ ≡ length l
+          → Before image places owner l₀ used at fields l₁ p.1 here' left'
+      before-next eh el p k = rw (eh, el) record {
         goes = λ T n. goes-next (type_of image) image T n here l u (h.goes T n) d ex a l₁ (g T n) p;
         ready = rest-ready h.ready d;
         deep = omega (arith, h.deep, most-first (type_of image) image here left d ex, levels-are);
@@ -141,7 +146,10 @@ module _ {image places : List ℕ} {t at : ℕ} (r : TypeReady image places t) (
 
     -- an Option or an Array meets what is inside it meets
     pub part-inner : Onward image places t from (Ok (i, used)) l
-    part-inner = record { is = λ T n. meets T n (type_from T n (type_of image i) (buffer l used)) refl (ℕ_discrete k 2); part = λ p v z. let y : ◌≡◌ {A = ℕ × ℕ} (i, used) (p, v) = cc in rw (ap (λ q. q.0) y) at part-inside }
+    part-inner = record {
+      is = λ T n. meets T n (type_from T n (type_of image i) (buffer l used)) refl (ℕ_discrete k 2);
+      part = λ p v z. let y : ◌≡◌ {A = ℕ × ℕ} (i, used) (p, v) = cc in rw (ap (λ q. q.0) y) at part-inside;
+    }
       where
         meets : (T : Texts) (n : ℕ) (x : Result Buffer Refusal ℕ) → type_from T n (type_of image i) (buffer l used) ≡ x → Dec (k ≡ 2) → from T n ≡ type_from T n (type_of image i) (buffer l used)
         meets T n (ok w b) z c =

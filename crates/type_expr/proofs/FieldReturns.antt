@@ -1,7 +1,7 @@
 -- Each return of `fields_from_exprs`, over variables for what the calls gave: by the fields that are left; and the pairs that are set. By
 -- unfolding the definitions, the laws of a Record added in parts, and that of sizes. Assumes nothing.
 use Rattle.std.specs.Prelude.{Ok, Err}
-use mathlib.Core.Path.{◌≡◌, refl, ◌∙◌}
+use mathlib.Core.Path.{◌≡◌, refl, sym, ◌∙◌}
 use mathlib.Core.List.{List, [], ◌∷◌}
 use Prim.Native.Nat.{ℕ, zero, suc, ◌+◌, ◌-◌, ◌*◌, ◌≤◌}
 use native.Mathlib.Omega.{arith}
@@ -15,10 +15,14 @@ use Rattle.add.specs.Answer.{Added, result_of}
 use Rattle.add.specs.Parts.{opened, paired, record_from}
 use Rattle.add.specs.StepLaws.{next-ok}
 use Rattle.add.specs.WriteLaws.{write_nil, write-append}
-use Rattle.ast.specs.TypeExpr.{TypeExpr, TypeFields, type_fields_from}
+use Rattle.ast.specs.TypeExpr.{TypeExpr, TypeFields, type_of, type_fields_from}
 use Rattle.ast.specs.TypeFrom.{type_from, fields_from_exprs}
+use Rattle.places.specs.Levels.{levels_of, most_levels}
+use Rattle.type_expr.specs.LevelLaws.{most-first}
+use Rattle.type_expr.specs.Ready.{PartReady, FieldsReady}
+use Rattle.type_expr.specs.TypesAt.{first-ready, rest-ready}
 use Rattle.type_expr.specs.Sizes.{size_of, sizes_of, word_before, pairs_after}
-use Rattle.type_expr.specs.SizeLaws.{opened-room, size-fields, fields-none, fields-first}
+use Rattle.type_expr.specs.SizeLaws.{opened-room, size-fields, fields-none, fields-first, sizes_none, sizes_first}
 
 -- In the loop: the steps of all fields are those of the fields that are left, with pairs put before theirs.
 pub record Goes (whole rest : Result Buffer Refusal (List ℕ)) : Type 0 where
@@ -96,15 +100,98 @@ module _ (go : ℕ → TypeExpr) (image : List ℕ) (T : Texts) (n : ℕ) where
             let place : payload_of p.0 + 1 + 2 * 0 ≡ payload_of p.0 + 1 = omega arith in
             rw (after_is, o, e, h₂, hq, place)
 
--- Pairs set one after the other.
-module _ (go : ℕ → TypeExpr) (image l : List ℕ) (here end to : ℕ) {left : ℕ} where
-  pub pairs_end : left ≡ 0 → write l to (pairs_after end (type_fields_from go image here left)) ≡ l
-  unfolding pairs_after
-  pairs_end z = rw (fields-none go image here z) (write_nil l to)
+-- ── Where the loops stand: `left` fields from word `here` on are left of `fields` from word `at` on ──
 
-  pub pairs_next : {x name w size : ℕ} {l' : List ℕ} → (left ≡ 0 → ⊥) → x ≡ get_or image (here + 1) 0 → name ≡ get_or image here 0 → size ≡ size_of (go x)
-      → w ≡ word_before (end + size) (go x) → l' ≡ write l to (name ∷ w ∷ [])
-      → write l to (pairs_after end (type_fields_from go image here left)) ≡ write l' (to + 2) (pairs_after (end + size) (type_fields_from go image (here + 2) (left - 1)))
+-- the fields of an image's type
+abbrev fields_at : (image : List ℕ) → (at left : ℕ) → TypeFields
+fields_at image at left = type_fields_from (type_of image) image at left
+
+-- the types of those before are added, and u words are used
+pub record Building (image places : List ℕ) (owner : ℕ) (l₀ : List ℕ) (used at fields : ℕ) (l : List ℕ) (u here left : ℕ) : Type 0 where
+  pub goes : (T : Texts) (n : ℕ) → Goes (steps (type_of image) image T n at fields (buffer l₀ used)) (steps (type_of image) image T n here left (buffer l u))
+  pub ready : FieldsReady image places owner here left
+  pub long : length l ≡ length l₀
+  pub most : most_levels (fields_at image here left) ≤ most_levels (fields_at image at fields)
+
+pub building_all : {image places : List ℕ} {owner : ℕ} (l : List ℕ) (used : ℕ) {at fields here left : ℕ} → here ≡ at → left ≡ fields → FieldsReady image places owner at fields
+    → Building image places owner l used at fields l used here left
+building_all l used eh el r = rw (eh, el) record { goes = λ T n. goes-all _; ready = r; long = refl; most = omega arith }
+
+module _ {image places : List ℕ} {owner : ℕ} {l₀ : List ℕ} {used at fields : ℕ} {l : List ℕ} {u here left : ℕ} (h : Building image places owner l₀ used at fields l u here left)
+    (d : left ≡ 0 → ⊥) {x : ℕ} (ex : x ≡ get_or image (here + 1) 0) where
+  pub building_part : PartReady image places owner x
+  building_part = first-ready h.ready d ex
+
+  pub building_levels : levels_of (type_of image x) ≤ most_levels (fields_at image at fields)
+  building_levels = omega (arith, h.most, most-first (type_of image) image here left d ex)
+
+  module _ (a : Added) (l₁ : List ℕ) (g : (T : Texts) (n : ℕ) → type_from T n (type_of image x) (buffer l u) ≡ result_of n a l₁) where
+    pub building_stop : {e : AddError} → a ≡ Err e → (T : Texts) (n : ℕ) → record_from n fields 0 (steps (type_of image) image T n at fields) (buffer l₀ used) ≡ result_of n (Err e) l₁
+    building_stop o T n = goes-stop (type_of image) image T n here l u (h.goes T n) d ex a l₁ (g T n) at fields used l₀ refl o
+
+    pub building_next : {p : ℕ × ℕ} {here' left' : ℕ} → here' ≡ here + 2 → left' ≡ left - 1 → a ≡ Ok p → length l₁ ≡ length l
+        → Building image places owner l₀ used at fields l₁ p.1 here' left'
+    building_next eh el e k = rw (eh, el) record {
+      goes = λ T n. goes-next (type_of image) image T n here l u (h.goes T n) d ex a l₁ (g T n) e;
+      ready = rest-ready h.ready d;
+      long = k ∙ h.long;
+      most = omega (arith, h.most, most-first (type_of image) image here left d ex);
+    }
+
+-- the sizes of those before are summed
+pub record Summing (image places : List ℕ) (owner at fields sum here left : ℕ) : Type 0 where
+  pub ready : FieldsReady image places owner here left
+  pub is : sizes_of (fields_at image at fields) ≡ sum + sizes_of (fields_at image here left)
+
+pub summing_all : {image places : List ℕ} {owner at fields here left : ℕ} → here ≡ at → left ≡ fields → FieldsReady image places owner at fields
+    → Summing image places owner at fields 0 here left
+summing_all eh el r = rw (eh, el) record { ready = r; is = omega arith }
+
+module _ {image places : List ℕ} {owner at fields sum here left : ℕ} (h : Summing image places owner at fields sum here left) where
+  pub summing_end : left ≡ 0 → sum ≡ sizes_of (fields_at image at fields)
+  summing_end z = omega (arith, h.is, sizes_none (type_of image) image here left z)
+
+  module _ (d : left ≡ 0 → ⊥) {x : ℕ} (ex : x ≡ get_or image (here + 1) 0) where
+    pub summing_part : PartReady image places owner x
+    summing_part = first-ready h.ready d ex
+
+    pub summing_most : sum + size_of (type_of image x) ≤ sizes_of (fields_at image at fields)
+    summing_most = omega (arith, h.is, sizes_first (type_of image) image here left d ex)
+
+    pub summing_next : {size here' left' : ℕ} → here' ≡ here + 2 → left' ≡ left - 1 → size ≡ size_of (type_of image x) → Summing image places owner at fields (sum + size) here' left'
+    summing_next eh el e = rw (eh, el) record { ready = rest-ready h.ready d; is = omega (arith, h.is, e, sizes_first (type_of image) image here left d ex) }
+
+-- the pairs of those before are set: all that are written are those of the fields that are left, written from `to` on over what was set
+pub record Writing (image places : List ℕ) (owner : ℕ) (l₀ : List ℕ) (used at fields place : ℕ) (l : List ℕ) (end here left to : ℕ) : Type 0 where
+  pub ready : FieldsReady image places owner here left
+  pub fits : end + sizes_of (fields_at image here left) ≤ 8192
+  pub is : write l₀ place (pairs_after used (fields_at image at fields)) ≡ write l to (pairs_after end (fields_at image here left))
+
+pub writing_all : {image places : List ℕ} {owner : ℕ} (l : List ℕ) {used at fields place here left to : ℕ} → here ≡ at → left ≡ fields → to ≡ place → FieldsReady image places owner at fields
+    → used + sizes_of (fields_at image at fields) ≤ 8192 → Writing image places owner l used at fields place l used here left to
+writing_all l eh el et r f = rw (eh, el, et) record { ready = r; fits = f; is = refl }
+
+module _ {image places : List ℕ} {owner : ℕ} {l₀ : List ℕ} {used at fields place : ℕ} {l : List ℕ} {end here left to : ℕ}
+    (h : Writing image places owner l₀ used at fields place l end here left to) where
+  pub writing_end : left ≡ 0 → l ≡ write l₀ place (pairs_after used (fields_at image at fields))
   unfolding pairs_after
-  pairs_next {x} {name} {w} {size} d ex en es ew e =
-      rw (fields-first go image here d, ← ex, ← en, ← es, ← ew, e) (write-append l to (name ∷ w ∷ []) (pairs_after (end + size) (type_fields_from go image (here + 2) (left - 1))))
+  writing_end z = sym (h.is ∙ rw (fields-none (type_of image) image here z) (write_nil l to))
+
+  module _ (d : left ≡ 0 → ⊥) {x : ℕ} (ex : x ≡ get_or image (here + 1) 0) where
+    pub writing_part : PartReady image places owner x
+    writing_part = first-ready h.ready d ex
+
+    pub writing_fits : end + size_of (type_of image x) ≤ 8192
+    writing_fits = omega (arith, h.fits, sizes_first (type_of image) image here left d ex)
+
+    pub writing_next : {size w name here' left' to' : ℕ} {l' : List ℕ} → here' ≡ here + 2 → left' ≡ left - 1 → to' ≡ to + 2 → size ≡ size_of (type_of image x)
+        → w ≡ word_before (end + size) (type_of image x) → name ≡ get_or image here 0 → l' ≡ write l to (name ∷ w ∷ [])
+        → Writing image places owner l₀ used at fields place l' (end + size) here' left' to'
+    unfolding pairs_after
+    writing_next {size} {w} {name} eh el et es ew en e =
+        let rest = pairs_after (end + size) (fields_at image (here + 2) (left - 1)) in
+        rw (eh, el, et) record {
+          ready = rest-ready h.ready d;
+          fits = omega (arith, h.fits, es, sizes_first (type_of image) image here left d ex);
+          is = h.is ∙ rw (fields-first (type_of image) image here d, ← ex, ← en, ← es, ← ew, e) (write-append l to (name ∷ w ∷ []) rest);
+        }

@@ -1,4 +1,3 @@
 mod Returns
 mod FieldReturns
 mod DeepReturns
-mod Left

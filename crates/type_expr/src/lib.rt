@@ -98,14 +98,12 @@ fn deep_field(
         Onward image.now.words image.now.places owner whole result types.new }
 {
     let mut u = used;
-    let mut here = at;
-    for _ in 0..fields {
-        let t = image.word_at(here + 1);
+    for i in 0..fields {
+        let t = image.word_at(at + 2 * i + 1);
         if image.type_levels(t) > 32 {
             return Ok((t, u));
         }
         (_, u) = build(types, u, image, t)?;
-        here += 2;
     }
     // not reached: one of the fields has more than 32 levels
     Err(AddError::TooDeep)
@@ -154,10 +152,8 @@ fn fields_from_exprs(
         ((T : Texts) (n : ℕ) → record_from n fields 0 (fields_from_exprs T n fs) (buffer types.old used) ≡ result_of n result types.new) }
 {
     let mut u = used;
-    let mut here = at;
-    for _ in 0..fields {
-        (_, u) = build(types, u, image, image.word_at(here + 1))?;
-        here += 2;
+    for i in 0..fields {
+        (_, u) = build(types, u, image, image.word_at(at + 2 * i + 1))?;
     }
     let (new, end) = add::open_record(types, u, fields)?;
     set_pairs(types, used, image, owner, at, fields, payload(new) + 1);
@@ -180,14 +176,12 @@ fn set_pairs(
         types.new ≡ write types.old place (pairs_after used fs) }
 {
     let mut end = used;
-    let mut here = at;
-    let mut to = place;
-    for _ in 0..fields {
+    for i in 0..fields {
+        let here = at + 2 * i;
         let t = image.word_at(here + 1);
         end += type_size(image, t);
-        add::set_pair(types, to, image.word_at(here), type_word(image, end, t));
-        here += 2;
-        to += 2;
+        let new = type_word(image, end, t);
+        add::set_pair(types, place + 2 * i, image.word_at(here), new);
     }
 }
 
@@ -236,10 +230,8 @@ fn sizes(image: &Image, owner: u32, at: usize, fields: usize) -> usize
     ensures { result ≡ sizes_of (type_fields_from (type_of image.now.words) image.now.words at fields) }
 {
     let mut sum: usize = 0;
-    let mut here = at;
-    for _ in 0..fields {
-        sum += type_size(image, image.word_at(here + 1));
-        here += 2;
+    for i in 0..fields {
+        sum += type_size(image, image.word_at(at + 2 * i + 1));
     }
     sum
 }

@@ -1,19 +1,14 @@
-use Prim.Native.Nat.{◌-◌}
-use native.Mathlib.Nat.{sub-zero}
-use Rattle.type_expr.proofs.Left.{one-less}
 use Rattle.std.proofs.lemmas.Result.{err_from_is_err_and}
 use mathlib.Core.Path.{refl}
 use mathlib.Core.List.{[]}
 use native.Mathlib.Omega.{arith}
 use borrow.Author.Rules.{rules}
 use Rattle.tok.specs.Text.{texts_of}
-use Rattle.ast.specs.TypeExpr.{type_of}
 use Rattle.ast.specs.KindLaws.{expr-number, expr-not}
-use Rattle.type_expr.specs.TypesAt.{words-there, two-words, atom-kind, kind-array, option-ready, array-ready, fields-ready, first-ready, rest-ready}
-use Rattle.type_expr.specs.LevelLaws.{most-first}
+use Rattle.type_expr.specs.TypesAt.{words-there, two-words, atom-kind, kind-array, option-ready, array-ready, fields-ready}
 use Rattle.type_expr.proofs.DeepReturns.{levels_record, levels-option, levels-array}
 use Rattle.type_expr.proofs.Returns.{from-atom, from-foreign, record_refused, record_closed, option-stop, option-put, array-stop, array-put}
-use Rattle.type_expr.proofs.FieldReturns.{goes-all, goes-next, goes-stop, open_stop, open_room, open_put}
+use Rattle.type_expr.proofs.FieldReturns.{building_all, building_part, building_levels, building_stop, building_next, open_stop, open_room, open_put}
 use Rattle.type_expr.proofs.+build_fields_from_exprs.Goals as goal
 
 pub build-overflow_add-at : goal.build-overflow_add-at
@@ -105,43 +100,36 @@ build-returns-in_ok-inner-in_default t c =
     λ T n. array-put c.requires.0 c.type_place-at.ensures c.word_at-head.ensures refl T n _ _ c.word_at-in_default.ensures c.build-in_default.result c.build-in_default.new.types
     (c.build-in_default.ensures T n) q c.in_ok-inner-in_default.was (c.add_array.ensures.result T n)
 
-pub fields_from_exprs-loop-init : goal.fields_from_exprs-loop-init
-fields_from_exprs-loop-init t c = rw sub-zero (((λ T n. goes-all _), (c.requires.0, (refl, omega arith))))
+pub fields_from_exprs-loop-i-init : goal.fields_from_exprs-loop-i-init
+fields_from_exprs-loop-i-init t c = building_all _ _ (omega arith) (omega arith) c.requires.0
 
 pub fields_from_exprs-build-requires : goal.fields_from_exprs-build-requires
 fields_from_exprs-build-requires t c =
-    let v = c.loop in
-    let I = c.args.image.now.words in
-    let p = first-ready v.invariant.1.0 (λ z. omega arith) c.word_at.ensures in
-    let l = most-first (type_of I) I v.here (c.args.fields - v.counter) (λ z. omega arith) c.word_at.ensures in
-    (omega (arith, c.decreases, v.invariant.1.1.1, l), (p.ready, omega (arith, c.requires.1, v.invariant.1.1.1, l)))
+    let v = c.loop-i.invariant in
+    let l = building_levels v (λ z. omega arith) c.word_at.ensures in
+    (omega (arith, c.decreases, l), ((building_part v (λ z. omega arith) c.word_at.ensures).ready, omega (arith, c.requires.1, l)))
 
 pub fields_from_exprs-returns-in_err-u : goal.fields_from_exprs-returns-in_err-u
 fields_from_exprs-returns-in_err-u t c =
     let p = err_from_is_err_and c.from_residual.result c.from_residual.ensures.1 in
-    rw (p.1, p.2)
-    (λ T n. goes-stop _ _ T n _ _ _ (c.loop.invariant.0 T n) (λ z. omega arith) c.word_at.ensures c.build.result c.build.new.types (c.build.ensures T n) _ _ _ _ refl
-    c.in_err-u.was)
+    rw (p.1, p.2) (building_stop c.loop-i.invariant (λ z. omega arith) c.word_at.ensures c.build.result c.build.new.types (λ T n. c.build.ensures T n) c.in_err-u.was)
 
-pub fields_from_exprs-loop-preserved : goal.fields_from_exprs-loop-preserved
-fields_from_exprs-loop-preserved t c = rw one-less (let v = c.loop in
-    let I = c.args.image.now.words in
-    let l = most-first (type_of I) I v.here (c.args.fields - v.counter) (λ z. omega arith) c.word_at.ensures in (
-      (λ T n. goes-next _ _ T n _ _ _ (v.invariant.0 T n) (λ z. omega arith) c.word_at.ensures c.build.result c.build.new.types (c.build.ensures T n) c.in_ok-u.was),
-      (rest-ready v.invariant.1.0 (λ z. omega arith), (search rules, omega (arith, v.invariant.1.1.1, l))),
-    ))
+pub fields_from_exprs-loop-i-preserved : goal.fields_from_exprs-loop-i-preserved
+fields_from_exprs-loop-i-preserved t c =
+    let next = building_next c.loop-i.invariant (λ z. omega arith) c.word_at.ensures c.build.result c.build.new.types (λ T n. c.build.ensures T n) in
+    next (omega arith) (omega arith) c.in_ok-u.was (search rules)
 
 pub fields_from_exprs-returns-in_err-new : goal.fields_from_exprs-returns-in_err-new
 fields_from_exprs-returns-in_err-new t c =
     let p = err_from_is_err_and c.from_residual-in_err-new.result c.from_residual-in_err-new.ensures.1 in
     rw (p.1, p.2)
-    (λ T n. open_stop _ _ T n _ _ _ _ _ _ _ (c.loop.invariant.0 T n) (omega arith) c.open_record.result c.open_record.new.types (c.open_record.ensures.result T n) c.in_err-new.was)
+    (λ T n. open_stop _ _ T n _ _ _ _ _ _ _ (c.loop-i.invariant.goes T n) (omega arith) c.open_record.result c.open_record.new.types (c.open_record.ensures.result T n) c.in_err-new.was)
 
 pub fields_from_exprs-set_pairs-requires : goal.fields_from_exprs-set_pairs-requires
 fields_from_exprs-set_pairs-requires t c = (
   c.requires.0,
   (
-    open_room _ _ (texts_of [] []) 0 _ _ _ _ _ _ _ (c.loop.invariant.0 (texts_of [] []) 0) (omega arith) c.open_record.result c.open_record.new.types
+    open_room _ _ (texts_of [] []) 0 _ _ _ _ _ _ _ (c.loop-i.invariant.goes (texts_of [] []) 0) (omega arith) c.open_record.result c.open_record.new.types
         (c.open_record.ensures.result (texts_of [] []) 0) c.in_ok-new.was,
     omega (arith, c.payload.ensures),
   ),
@@ -149,5 +137,5 @@ fields_from_exprs-set_pairs-requires t c = (
 
 pub fields_from_exprs-returns : goal.fields_from_exprs-returns
 fields_from_exprs-returns t c =
-    λ T n. open_put _ _ T n _ _ _ _ _ _ _ (c.loop.invariant.0 T n) (omega arith) c.open_record.result c.open_record.new.types (c.open_record.ensures.result T n) c.in_ok-new.was
+    λ T n. open_put _ _ T n _ _ _ _ _ _ _ (c.loop-i.invariant.goes T n) (omega arith) c.open_record.result c.open_record.new.types (c.open_record.ensures.result T n) c.in_ok-new.was
     c.payload.ensures c.set_pairs.ensures

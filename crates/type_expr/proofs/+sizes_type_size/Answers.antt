@@ -1,30 +1,28 @@
-use Prim.Native.Nat.{◌-◌}
-use native.Mathlib.Nat.{sub-zero}
-use Rattle.type_expr.proofs.Left.{one-less}
 use mathlib.Core.Path.{refl, sym}
-use native.Mathlib.Nat.{zero-add}
 use native.Mathlib.Omega.{arith}
-use Rattle.ast.specs.TypeExpr.{type_of}
 use Rattle.ast.specs.KindLaws.{expr-number, expr-not}
-use Rattle.type_expr.specs.SizeLaws.{sizes_none, sizes_first}
-use Rattle.type_expr.specs.TypesAt.{words-there, two-words, inner-ready, fields-ready, first-ready, rest-ready}
+use Rattle.type_expr.specs.TypesAt.{words-there, two-words, inner-ready, fields-ready}
+use Rattle.type_expr.proofs.FieldReturns.{summing_all, summing_end, summing_part, summing_most, summing_next}
 use Rattle.type_expr.proofs.Returns.{size-flat, size_record, size-inner}
 use Rattle.type_expr.proofs.+sizes_type_size.Goals as goal
 
-pub sizes-loop-init : goal.sizes-loop-init
-sizes-loop-init t c = rw sub-zero ((c.requires.0, sym (zero-add _)))
+pub sizes-loop-i-init : goal.sizes-loop-i-init
+sizes-loop-i-init t c = summing_all (omega arith) (omega arith) c.requires.0
 
 pub sizes-type_size-sum-requires : goal.sizes-type_size-sum-requires
-sizes-type_size-sum-requires t c = let p = first-ready c.loop.invariant.0 (λ z. omega arith) c.word_at.ensures in (omega (arith, c.decreases, p.under), (p.ready, omega (arith, c.requires.1, c.loop.invariant.1, sizes_first (type_of c.args.image.now.words) c.args.image.now.words c.loop.here (c.args.fields - c.loop.counter) (λ z. omega arith) c.word_at.ensures)))
+sizes-type_size-sum-requires t c =
+    let v = c.loop-i.invariant in
+    let p = summing_part v (λ z. omega arith) c.word_at.ensures in
+    (omega (arith, c.decreases, p.under), (p.ready, omega (arith, c.requires.1, summing_most v (λ z. omega arith) c.word_at.ensures)))
 
 pub sizes-overflow_add-sum : goal.sizes-overflow_add-sum
-sizes-overflow_add-sum t c = omega (arith, c.requires.1, c.loop.invariant.1, c.type_size-sum.ensures, sizes_first (type_of c.args.image.now.words) c.args.image.now.words c.loop.here (c.args.fields - c.loop.counter) (λ z. omega arith) c.word_at.ensures)
+sizes-overflow_add-sum t c = omega (arith, c.requires.1, c.type_size-sum.ensures, summing_most c.loop-i.invariant (λ z. omega arith) c.word_at.ensures)
 
-pub sizes-loop-preserved : goal.sizes-loop-preserved
-sizes-loop-preserved t c = rw one-less ((rest-ready c.loop.invariant.0 (λ z. omega arith), omega (arith, c.loop.invariant.1, c.type_size-sum.ensures, sizes_first (type_of c.args.image.now.words) c.args.image.now.words c.loop.here (c.args.fields - c.loop.counter) (λ z. omega arith) c.word_at.ensures)))
+pub sizes-loop-i-preserved : goal.sizes-loop-i-preserved
+sizes-loop-i-preserved t c = summing_next c.loop-i.invariant (λ z. omega arith) c.word_at.ensures (omega arith) (omega arith) c.type_size-sum.ensures
 
 pub sizes-returns : goal.sizes-returns
-sizes-returns t c = omega (arith, c.loop.invariant.1, sizes_none (type_of c.args.image.now.words) c.args.image.now.words c.loop.here (c.args.fields - c.loop.counter) (omega arith))
+sizes-returns t c = summing_end c.loop-i.invariant (omega arith)
 
 pub type_size-returns-in-Atom : goal.type_size-returns-in-Atom
 type_size-returns-in-Atom t c = sym (size-flat c.requires.0 c.type_place-at.ensures c.word_at-head.ensures refl c.of.ensures c.in-Atom.is)
