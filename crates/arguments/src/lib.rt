@@ -43,10 +43,9 @@ pub fn compared(
     if ptype::same_type(types, texts, expected, provided) {
         return Ok(((), used));
     }
-    let free = err_text::first_free(messages, used.told);
     let reported = err_arguments::arg_mismatch(
         diagnostics,
-        &mut messages[free..],
+        messages,
         used.told,
         types,
         texts,

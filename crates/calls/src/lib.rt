@@ -56,8 +56,7 @@ pub fn report_field(
     let used = st.used;
     let target = image.node_place(image.word_at(at + 2));
     let name = image.word_at(target + 3);
-    let free = err_text::first_free(messages, used.told);
-    let r = err_calls::call_through_field(diagnostics, &mut messages[free..], used.told, name);
+    let r = err_calls::call_through_field(diagnostics, messages, used.told, name);
     visit::answered(st, state::told(n, used, r, Answer::Poison))
 }
 

@@ -1,6 +1,6 @@
 -- The step of one diagnostic, from the writing of its texts and of its record: with room for all of it every part is written, and else
 -- some part had none. Assumes nothing.
-use Rattle.std.specs.Prelude.{ℕ, ◌+◌, ◌*◌, ◌-◌, ◌≤◌, ◌<◌, min, ◌≡◌, Bool, true, false, ◌&&◌, List, [], ◌∷◌, ◌++◌, set, None, Ok}
+use Rattle.std.specs.Prelude.{ℕ, ◌+◌, ◌*◌, ◌-◌, ◌≤◌, ◌<◌, min, ◌≡◌, Bool, true, false, ◌&&◌, List, [], ◌∷◌, ◌++◌, None, Ok}
 use Rattle.std.proofs.Math.Path.{sym, ap}
 use Rattle.std.proofs.Common.{◌∙◌, le-leb, leb-true, leb-false, ltb-true}
 use native.Mathlib.Omega.{arith}
@@ -11,7 +11,6 @@ use Rattle.facts.specs.Tests.{both, by-test, and-false}
 use Rattle.tok.specs.Step.{ok, refused, refusal, when}
 use Rattle.tok.specs.declared.Span.{Span}
 use Rattle.ptype.specs.Add.{write, append}
-use Rattle.display.specs.WriteLaws.{write-one, write-append}
 use Rattle.err.specs.declared.Counts.{Counts}
 use Rattle.err.specs.Message.{Diagnostic}
 use Rattle.err.specs.Report.{six_words, most_diagnostics, most_bytes, has_room, added, tell, output, ended, Reports, fits, placed, placed_answer}
@@ -88,13 +87,3 @@ module _ {ds ms ms' : List ℕ} {c : Counts} {code : ℕ} {span : Span} {message
       by-test (fits ds c m p)
       (λ f. record { step = λ n. tells-room ds ms c code span message primary (h ∙ f) n ∙ rw (f, n₃, n₁, n₂, e) })
       (λ f. record { step = λ n. tells_none ds ms c code span message primary (h ∙ f) n ∙ rw f })
-
--- ---- the record's six words, one after the other
-next_word : (ds : List ℕ) (n : ℕ) (s : List ℕ) (b : ℕ) → set (write ds n s) (n + length s) b ≡ write ds n (s ++ (b ∷ []))
-next_word ds n s b = sym (write-one (write ds n s) (n + length s) b) ∙ sym (write-append ds n s (b ∷ []))
-
-pub six-words :
-    (ds : List ℕ) (n a b c d e f : ℕ) →
-    set (set (set (set (set (set ds n a) (n + 1) b) (n + 2) c) (n + 3) d) (n + 4) e) (n + 5) f ≡ write ds n (a ∷ b ∷ c ∷ d ∷ e ∷ f ∷ [])
-six-words ds n a b c d e f =
-    rw (← write-one ds n a, next_word ds n (a ∷ []) b, next_word ds n (a ∷ b ∷ []) c, next_word ds n (a ∷ b ∷ c ∷ []) d, next_word ds n (a ∷ b ∷ c ∷ d ∷ []) e, next_word ds n (a ∷ b ∷ c ∷ d ∷ e ∷ []) f)

@@ -6,16 +6,15 @@ ghost use Rattle.tok.specs.Text.{name_bytes};
 ghost use Rattle.ptype.specs.Ty.{Ty};
 ghost use Rattle.ptype.specs.Words.{ty_of};
 ghost use Rattle.err.specs.Message.{call_name, arg_mismatch, slot_conflict, slot_void};
-ghost use Rattle.err_text.specs.Rest.{ReportsIn};
+ghost use Rattle.err.specs.Report.{Reports};
 
-use display::Writer;
 use err::{CallName, Counts};
 use tok::{Span, Texts};
 
 // 20: An argument of another type.
 pub fn arg_mismatch(
     diagnostics: &mut [u32],
-    rest: &mut [u8],
+    messages: &mut [u8],
     counts: Counts,
     types: &[u32],
     texts: &Texts,
@@ -26,10 +25,10 @@ pub fn arg_mismatch(
     provided: u32,
 ) -> Option<Counts>
     ensures { let U : ℕ → Ty = ty_of texts.now types.now in
-        ReportsIn (arg_mismatch span (call_name texts.now callee) (name_bytes texts.now name) (U expected) (U provided)) diagnostics.old rest.old counts diagnostics.new
-        rest.new result }
+        Reports (arg_mismatch span (call_name texts.now callee) (name_bytes texts.now name) (U expected) (U provided)) diagnostics.old messages.old counts diagnostics.new
+        messages.new result }
 {
-    let mut out = Writer::new(rest);
+    let mut out = err_text::writer(messages, counts);
     let a = err_text::put_call_name(&mut out, texts, callee);
     let b = a.and(out.put(b" expected "));
     let c = b.and(err_text::put_name(&mut out, texts, name));
@@ -49,7 +48,7 @@ pub fn arg_mismatch(
 // 21: An argument that binds a slot to another type than an earlier one did.
 pub fn slot_conflict(
     diagnostics: &mut [u32],
-    rest: &mut [u8],
+    messages: &mut [u8],
     counts: Counts,
     types: &[u32],
     texts: &Texts,
@@ -60,10 +59,10 @@ pub fn slot_conflict(
     new: u32,
 ) -> Option<Counts>
     ensures { let U : ℕ → Ty = ty_of texts.now types.now in
-        ReportsIn (slot_conflict span (call_name texts.now callee) (name_bytes texts.now slot) (U existing) (U new)) diagnostics.old rest.old counts diagnostics.new
-        rest.new result }
+        Reports (slot_conflict span (call_name texts.now callee) (name_bytes texts.now slot) (U existing) (U new)) diagnostics.old messages.old counts diagnostics.new
+        messages.new result }
 {
-    let mut out = Writer::new(rest);
+    let mut out = err_text::writer(messages, counts);
     let a = err_text::put_call_name(&mut out, texts, callee);
     let b = a.and(out.put(b" can not bind "));
     let c = b.and(err_text::put_name(&mut out, texts, slot));
@@ -82,16 +81,16 @@ pub fn slot_conflict(
 // 22: An argument that binds a slot to Void.
 pub fn slot_void(
     diagnostics: &mut [u32],
-    rest: &mut [u8],
+    messages: &mut [u8],
     counts: Counts,
     texts: &Texts,
     span: Span,
     callee: CallName,
     slot: u32,
 ) -> Option<Counts>
-    ensures { ReportsIn (slot_void span (call_name texts.now callee) (name_bytes texts.now slot)) diagnostics.old rest.old counts diagnostics.new rest.new result }
+    ensures { Reports (slot_void span (call_name texts.now callee) (name_bytes texts.now slot)) diagnostics.old messages.old counts diagnostics.new messages.new result }
 {
-    let mut out = Writer::new(rest);
+    let mut out = err_text::writer(messages, counts);
     let a = err_text::put_call_name(&mut out, texts, callee);
     let b = a.and(out.put(b" can not bind "));
     let c = b.and(err_text::put_name(&mut out, texts, slot));

@@ -8,7 +8,7 @@ ghost use Rattle.ptype.specs.Words.{ty_of};
 ghost use Rattle.display.specs.Writing.{Writes};
 ghost use Rattle.display.specs.Joined.{joined, sig};
 ghost use Rattle.err.specs.Message.{pkg_name, call_name, no_specialisation, call_through_field, missing_package, undefined_in_package, undefined_own, argument_count};
-ghost use Rattle.err_text.specs.Rest.{ReportsIn};
+ghost use Rattle.err.specs.Report.{Reports};
 ghost use Rattle.err_calls.specs.Candidates.{candidate_at, candidates_at};
 
 use display::{Full, Writer};
@@ -18,13 +18,13 @@ use tok::Texts;
 // 14: A call through a field of what is no name.
 pub fn call_through_field(
     diagnostics: &mut [u32],
-    rest: &mut [u8],
+    messages: &mut [u8],
     counts: Counts,
     name: u32,
 ) -> Option<Counts>
-    ensures { ReportsIn (call_through_field name) diagnostics.old rest.old counts diagnostics.new rest.new result }
+    ensures { Reports (call_through_field name) diagnostics.old messages.old counts diagnostics.new messages.new result }
 {
-    let mut out = Writer::new(rest);
+    let mut out = err_text::writer(messages, counts);
     let a = out.put(b"only package functions can be called through field syntax");
     err_text::report(
         diagnostics,
@@ -40,14 +40,14 @@ pub fn call_through_field(
 // 15: A call into a package that is not held.
 pub fn missing_package(
     diagnostics: &mut [u32],
-    rest: &mut [u8],
+    messages: &mut [u8],
     counts: Counts,
     texts: &Texts,
     pkg: u32,
 ) -> Option<Counts>
-    ensures { ReportsIn (missing_package pkg (name_bytes texts.now pkg)) diagnostics.old rest.old counts diagnostics.new rest.new result }
+    ensures { Reports (missing_package pkg (name_bytes texts.now pkg)) diagnostics.old messages.old counts diagnostics.new messages.new result }
 {
-    let mut out = Writer::new(rest);
+    let mut out = err_text::writer(messages, counts);
     let a = out.put(b"Can't find package ");
     let b = a.and(err_text::put_ticked(&mut out, texts, pkg));
     let message = out.at;
@@ -66,16 +66,16 @@ pub fn missing_package(
 // 16: A call of a function that the package does not have.
 pub fn undefined_in_package(
     diagnostics: &mut [u32],
-    rest: &mut [u8],
+    messages: &mut [u8],
     counts: Counts,
     texts: &Texts,
     pkg: u32,
     name: u32,
 ) -> Option<Counts>
-    ensures { ReportsIn (undefined_in_package name (pkg_name (name_bytes texts.now pkg) (name_bytes texts.now name))) diagnostics.old rest.old counts diagnostics.new
-        rest.new result }
+    ensures { Reports (undefined_in_package name (pkg_name (name_bytes texts.now pkg) (name_bytes texts.now name))) diagnostics.old messages.old counts diagnostics.new
+        messages.new result }
 {
-    let mut out = Writer::new(rest);
+    let mut out = err_text::writer(messages, counts);
     let a = out.put(b"Call to undefined function ");
     let b = a.and(err_text::put_call_name(&mut out, texts, CallName::OfPackage(pkg, name)));
     err_text::report(
@@ -92,14 +92,14 @@ pub fn undefined_in_package(
 // 17: A call of a function that the script does not have.
 pub fn undefined_own(
     diagnostics: &mut [u32],
-    rest: &mut [u8],
+    messages: &mut [u8],
     counts: Counts,
     texts: &Texts,
     name: u32,
 ) -> Option<Counts>
-    ensures { ReportsIn (undefined_own name (name_bytes texts.now name)) diagnostics.old rest.old counts diagnostics.new rest.new result }
+    ensures { Reports (undefined_own name (name_bytes texts.now name)) diagnostics.old messages.old counts diagnostics.new messages.new result }
 {
-    let mut out = Writer::new(rest);
+    let mut out = err_text::writer(messages, counts);
     let a = out.put(b"Call to undefined function ");
     let b = a.and(err_text::put_ticked(&mut out, texts, name));
     err_text::report(
@@ -150,7 +150,7 @@ fn put_candidates(
 // 18: A call of a group of several, none of which takes these argument types. The candidates' signatures begin at the places `starts` of `words`.
 pub fn no_specialisation(
     diagnostics: &mut [u32],
-    rest: &mut [u8],
+    messages: &mut [u8],
     counts: Counts,
     types: &[u32],
     texts: &Texts,
@@ -161,10 +161,10 @@ pub fn no_specialisation(
     starts: &[u32],
 ) -> Option<Counts>
     ensures { let U : ℕ → Ty = ty_of texts.now types.now in
-        ReportsIn (no_specialisation token (call_name texts.now callee) (map U provided.now) (candidates_at texts.now types.now words.now starts.now))
-        diagnostics.old rest.old counts diagnostics.new rest.new result }
+        Reports (no_specialisation token (call_name texts.now callee) (map U provided.now) (candidates_at texts.now types.now words.now starts.now))
+        diagnostics.old messages.old counts diagnostics.new messages.new result }
 {
-    let mut out = Writer::new(rest);
+    let mut out = err_text::writer(messages, counts);
     let a = out.put(b"no specialisation of ");
     let b = a.and(err_text::put_call_name(&mut out, texts, callee));
     let c = b.and(out.put(b" accepts ("));
@@ -185,7 +185,7 @@ pub fn no_specialisation(
 // 19: A call with another number of arguments.
 pub fn argument_count(
     diagnostics: &mut [u32],
-    rest: &mut [u8],
+    messages: &mut [u8],
     counts: Counts,
     texts: &Texts,
     token: u32,
@@ -193,9 +193,9 @@ pub fn argument_count(
     required: usize,
     given: usize,
 ) -> Option<Counts>
-    ensures { ReportsIn (argument_count token (call_name texts.now callee) required given) diagnostics.old rest.old counts diagnostics.new rest.new result }
+    ensures { Reports (argument_count token (call_name texts.now callee) required given) diagnostics.old messages.old counts diagnostics.new messages.new result }
 {
-    let mut out = Writer::new(rest);
+    let mut out = err_text::writer(messages, counts);
     let a = err_text::put_call_name(&mut out, texts, callee);
     let b = a.and(out.put(b" requires "));
     let c = b.and(out.put_decimal(required));

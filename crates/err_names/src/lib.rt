@@ -6,23 +6,22 @@ ghost use Rattle.tok.specs.Text.{name_bytes};
 ghost use Rattle.ptype.specs.Ty.{Ty};
 ghost use Rattle.ptype.specs.Words.{ty_of};
 ghost use Rattle.err.specs.Message.{no_binding, let_void, defined_already, bad_return, bad_condition, match_cases, empty_import, no_import};
-ghost use Rattle.err_text.specs.Rest.{ReportsIn};
+ghost use Rattle.err.specs.Report.{Reports};
 
-use display::Writer;
 use err::Counts;
 use tok::Texts;
 
 // 3: A name that is not bound.
 pub fn no_binding(
     diagnostics: &mut [u32],
-    rest: &mut [u8],
+    messages: &mut [u8],
     counts: Counts,
     texts: &Texts,
     name: u32,
 ) -> Option<Counts>
-    ensures { ReportsIn (no_binding name (name_bytes texts.now name)) diagnostics.old rest.old counts diagnostics.new rest.new result }
+    ensures { Reports (no_binding name (name_bytes texts.now name)) diagnostics.old messages.old counts diagnostics.new messages.new result }
 {
-    let mut out = Writer::new(rest);
+    let mut out = err_text::writer(messages, counts);
     let a = out.put(b"binding ");
     let b = a.and(err_text::put_ticked(&mut out, texts, name));
     let c = b.and(out.put(b" not found"));
@@ -40,13 +39,13 @@ pub fn no_binding(
 // 7: A let whose right side returns nothing.
 pub fn let_void(
     diagnostics: &mut [u32],
-    rest: &mut [u8],
+    messages: &mut [u8],
     counts: Counts,
     name: u32,
 ) -> Option<Counts>
-    ensures { ReportsIn (let_void name) diagnostics.old rest.old counts diagnostics.new rest.new result }
+    ensures { Reports (let_void name) diagnostics.old messages.old counts diagnostics.new messages.new result }
 {
-    let mut out = Writer::new(rest);
+    let mut out = err_text::writer(messages, counts);
     let a = out.put(b"RHS of let has to return a value, but it didnt");
     err_text::report(
         diagnostics,
@@ -62,14 +61,14 @@ pub fn let_void(
 // 8: A function of a name already met.
 pub fn defined_already(
     diagnostics: &mut [u32],
-    rest: &mut [u8],
+    messages: &mut [u8],
     counts: Counts,
     texts: &Texts,
     name: u32,
 ) -> Option<Counts>
-    ensures { ReportsIn (defined_already name (name_bytes texts.now name)) diagnostics.old rest.old counts diagnostics.new rest.new result }
+    ensures { Reports (defined_already name (name_bytes texts.now name)) diagnostics.old messages.old counts diagnostics.new messages.new result }
 {
-    let mut out = Writer::new(rest);
+    let mut out = err_text::writer(messages, counts);
     let a = err_text::put_ticked(&mut out, texts, name);
     let b = a.and(out.put(b" is already defined"));
     err_text::report(
@@ -86,7 +85,7 @@ pub fn defined_already(
 // 9: A function whose body is not of its return type. The token is the return type's.
 pub fn bad_return(
     diagnostics: &mut [u32],
-    rest: &mut [u8],
+    messages: &mut [u8],
     counts: Counts,
     types: &[u32],
     texts: &Texts,
@@ -96,9 +95,9 @@ pub fn bad_return(
     computed: u32,
 ) -> Option<Counts>
     ensures { let U : ℕ → Ty = ty_of texts.now types.now in
-        ReportsIn (bad_return token (name_bytes texts.now name) (U ret) (U computed)) diagnostics.old rest.old counts diagnostics.new rest.new result }
+        Reports (bad_return token (name_bytes texts.now name) (U ret) (U computed)) diagnostics.old messages.old counts diagnostics.new messages.new result }
 {
-    let mut out = Writer::new(rest);
+    let mut out = err_text::writer(messages, counts);
     let a = err_text::put_ticked(&mut out, texts, name);
     let b = a.and(out.put(b" should return "));
     let c = b.and(display::show_type(&mut out, types, texts, ret));
@@ -118,7 +117,7 @@ pub fn bad_return(
 // 23: A match condition that is not Bool.
 pub fn bad_condition(
     diagnostics: &mut [u32],
-    rest: &mut [u8],
+    messages: &mut [u8],
     counts: Counts,
     types: &[u32],
     texts: &Texts,
@@ -126,9 +125,9 @@ pub fn bad_condition(
     ty: u32,
 ) -> Option<Counts>
     ensures { let U : ℕ → Ty = ty_of texts.now types.now in
-        ReportsIn (bad_condition token (U ty)) diagnostics.old rest.old counts diagnostics.new rest.new result }
+        Reports (bad_condition token (U ty)) diagnostics.old messages.old counts diagnostics.new messages.new result }
 {
-    let mut out = Writer::new(rest);
+    let mut out = err_text::writer(messages, counts);
     let a = out.put(b"Match conditions must be Bool, got ");
     let b = a.and(display::show_type(&mut out, types, texts, ty));
     let c = b.and(out.put(b" instead"));
@@ -146,7 +145,7 @@ pub fn bad_condition(
 // 24: A match case that is not of the default's type.
 pub fn match_cases(
     diagnostics: &mut [u32],
-    rest: &mut [u8],
+    messages: &mut [u8],
     counts: Counts,
     types: &[u32],
     texts: &Texts,
@@ -155,9 +154,9 @@ pub fn match_cases(
     ty: u32,
 ) -> Option<Counts>
     ensures { let U : ℕ → Ty = ty_of texts.now types.now in
-        ReportsIn (match_cases token (U default) (U ty)) diagnostics.old rest.old counts diagnostics.new rest.new result }
+        Reports (match_cases token (U default) (U ty)) diagnostics.old messages.old counts diagnostics.new messages.new result }
 {
-    let mut out = Writer::new(rest);
+    let mut out = err_text::writer(messages, counts);
     let a = out.put(b"Match cases must resolve to the same type, but got ");
     let b = a.and(display::show_type(&mut out, types, texts, default));
     let c = b.and(out.put(b" and "));
@@ -176,13 +175,13 @@ pub fn match_cases(
 // 25: An import of no paths.
 pub fn empty_import(
     diagnostics: &mut [u32],
-    rest: &mut [u8],
+    messages: &mut [u8],
     counts: Counts,
     token: u32,
 ) -> Option<Counts>
-    ensures { ReportsIn (empty_import token) diagnostics.old rest.old counts diagnostics.new rest.new result }
+    ensures { Reports (empty_import token) diagnostics.old messages.old counts diagnostics.new messages.new result }
 {
-    let mut out = Writer::new(rest);
+    let mut out = err_text::writer(messages, counts);
     let a = out.put(b"Import without any paths to import is considered invalid");
     err_text::report(
         diagnostics,
@@ -198,14 +197,14 @@ pub fn empty_import(
 // 26: A path that names no package of the library.
 pub fn no_import(
     diagnostics: &mut [u32],
-    rest: &mut [u8],
+    messages: &mut [u8],
     counts: Counts,
     texts: &Texts,
     path: u32,
 ) -> Option<Counts>
-    ensures { ReportsIn (no_import path (name_bytes texts.now path)) diagnostics.old rest.old counts diagnostics.new rest.new result }
+    ensures { Reports (no_import path (name_bytes texts.now path)) diagnostics.old messages.old counts diagnostics.new messages.new result }
 {
-    let mut out = Writer::new(rest);
+    let mut out = err_text::writer(messages, counts);
     let a = out.put(b"Wasnt able to find a package named ");
     let b = a.and(err_text::put_ticked(&mut out, texts, path));
     err_text::report(

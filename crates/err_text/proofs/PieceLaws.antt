@@ -1,13 +1,13 @@
 -- The pieces of messages by the branches that write them. Assumes nothing.
-use Prim.Native.Nat.{ℕ, ◌≤◌}
+use Prim.Native.Nat.{ℕ}
 use mathlib.Core.Path.{◌≡◌, refl, sym}
 use mathlib.Core.List.{List, [], ◌∷◌, ◌++◌, map}
-use lib.ListN.{get_or, get_or-eq_default, get_or-map}
+use lib.ListN.{get_or, get_or-map}
 use Rattle.tok.specs.Text.{Texts, name_bytes, text}
 use Rattle.display.specs.Writing.{written}
 use Rattle.display.specs.WritingLaws.{written_next, written_append}
 use Rattle.err.specs.declared.CallName.TheVariants.{Own, OfPackage}
-use Rattle.err.specs.Message.{operators, quoted, class_of, pkg_name, call_name}
+use Rattle.err.specs.Message.{operators, quoted, pkg_name, call_name}
 
 -- ---- names
 pub own_call : (t : Texts) (name : ℕ) → call_name t (Own name) ≡ name_bytes t name
@@ -31,11 +31,3 @@ in_quotes s = text "\"" ++ s ++ text "\""
 pub quoted-one : (op : ℕ) → quoted op ≡ get_or (map in_quotes operators) op (in_quotes [])
 unfolding quoted
 quoted-one op = sym (get_or-map in_quotes operators op [])
-
-pub class_at : {i op : ℕ} → i ≡ op → get_or (0 ∷ 0 ∷ 0 ∷ 0 ∷ 1 ∷ 2 ∷ 2 ∷ 3 ∷ 3 ∷ []) i 0 ≡ class_of op
-unfolding class_of
-class_at e = rw e
-
-pub class_none : {i op : ℕ} → i ≡ op → 9 ≤ i → 0 ≡ class_of op
-unfolding class_of
-class_none {i} e h = rw (← e, get_or-eq_default {A = ℕ} (0 ∷ 0 ∷ 0 ∷ 0 ∷ 1 ∷ 2 ∷ 2 ∷ 3 ∷ 3 ∷ []) 0 h)

@@ -27,28 +27,17 @@ const MOST_BYTES: usize = 65_536;
 fn most_diagnostics(diagnostics: &[u32]) -> usize
     ensures { result ≡ most_diagnostics diagnostics.now }
 {
-    let lent = diagnostics.len() / 6;
-    if lent <= MOST_DIAGNOSTICS {
-        lent
-    } else {
-        MOST_DIAGNOSTICS
-    }
+    (diagnostics.len() / 6).min(MOST_DIAGNOSTICS)
 }
 
-// Whether a record is free, and texts that end at m and at p, counted from the first free byte, lie in order within the limit.
+// Whether a record is free, and texts that end at the places m and p lie in order within the limit.
 fn has_room(diagnostics: &[u32], counts: Counts, m: usize, p: usize) -> bool
-    ensures { result ≡ fits diagnostics.now counts (counts.bytes + m) (counts.bytes + p) }
+    ensures { result ≡ fits diagnostics.now counts m p }
 {
-    if counts.diagnostics >= most_diagnostics(diagnostics) {
-        return false;
-    }
-    if m > p {
-        return false;
-    }
-    if p > MOST_BYTES {
-        return false;
-    }
-    counts.bytes <= MOST_BYTES - p
+    counts.diagnostics < most_diagnostics(diagnostics)
+        && counts.bytes <= m
+        && m <= p
+        && p <= MOST_BYTES
 }
 
 // The low 32 bits of a number.
@@ -58,31 +47,19 @@ fn as_word(n: usize) -> u32
     (n % 0x1_0000_0000) as u32
 }
 
-// Writes six words from the index `at` on.
-fn put_record(diagnostics: &mut [u32], at: usize, a: u32, b: u32, c: u32, d: u32, e: u32, f: u32)
-    requires { at + 6 ≤ length diagnostics.old }
-    ensures { diagnostics.new ≡ write diagnostics.old at (a ∷ b ∷ c ∷ d ∷ e ∷ f ∷ []) }
+// A writer into the rest of the messages, which begins at the first free byte.
+pub fn writer(messages: &mut [u8], counts: Counts) -> Writer
+    ensures same_buffer { result.buffer.ghost_name ≡ messages.entry.ghost_name }
+    ensures from_the_first_free { (result.buffer.now ≡ messages.old) × (result.at ≡ first_free messages.old counts) }
 {
-    diagnostics[at] = a;
-    diagnostics[at + 1] = b;
-    diagnostics[at + 2] = c;
-    diagnostics[at + 3] = d;
-    diagnostics[at + 4] = e;
-    diagnostics[at + 5] = f;
-}
-
-// The first free byte of the messages, at which the rest begins that a writer is lent.
-pub fn first_free(messages: &[u8], counts: Counts) -> usize
-    ensures { result ≡ first_free messages.now counts }
-{
-    if counts.bytes <= messages.len() {
-        counts.bytes
-    } else {
-        messages.len()
+    let at = counts.bytes.min(messages.len());
+    Writer {
+        buffer: messages,
+        at,
     }
 }
 
-// Writes the record of a diagnostic whose message was written from the start of the rest up to a place, and its primary message from there up to
+// Writes the record of a diagnostic whose message was written from the first free byte up to a place, and its primary message from there up to
 // `end`, where both texts had room.
 pub fn report(
     diagnostics: &mut [u32],
@@ -93,8 +70,8 @@ pub fn report(
     message: usize,
     end: usize,
 ) -> Option<Counts>
-    ensures six_words { diagnostics.new ≡ placed diagnostics.old counts code span texts (counts.bytes + message) (counts.bytes + end) }
-    ensures answer { result ≡ placed_answer diagnostics.old counts texts (counts.bytes + message) (counts.bytes + end) }
+    ensures six_words { diagnostics.new ≡ placed diagnostics.old counts code span texts message end }
+    ensures answer { result ≡ placed_answer diagnostics.old counts texts message end }
 {
     if texts.is_err() {
         return None;
@@ -102,19 +79,19 @@ pub fn report(
     if !has_room(diagnostics, counts, message, end) {
         return None;
     }
-    put_record(
-        diagnostics,
-        6 * counts.diagnostics,
+    let record = [
         KIND + code as u32,
         as_word(span.start),
         as_word(span.len),
         counts.bytes as u32,
-        message as u32,
+        (message - counts.bytes) as u32,
         (end - message) as u32,
-    );
+    ];
+    let at = 6 * counts.diagnostics;
+    diagnostics[at..at + 6].copy_from_slice(&record);
     Some(Counts {
         diagnostics: counts.diagnostics + 1,
-        bytes: counts.bytes + end,
+        bytes: end,
     })
 }
 
@@ -153,12 +130,12 @@ pub fn put_call_name(out: &mut Writer, texts: &Texts, callee: CallName) -> Resul
 }
 
 // The class of an operator: "+ - * /", "%", "== and !=", "< and >".
+#[tactic(auto, unfolding(err::specs::Message::class_of))]
 pub fn class_of(op: u32) -> usize
     ensures { result ≡ class_of op }
 {
     let classes = [0, 0, 0, 0, 1, 2, 2, 3, 3];
-    let i = op as usize;
-    if i < 9 { classes[i] } else { 0 }
+    classes.get(op as usize).copied().unwrap_or(0)
 }
 
 // Writes the operator of a number in double quotes; for a number that no operator has, the quotes alone.

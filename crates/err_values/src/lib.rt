@@ -6,22 +6,21 @@ ghost use Rattle.tok.specs.Text.{name_bytes};
 ghost use Rattle.ptype.specs.Ty.{Ty};
 ghost use Rattle.ptype.specs.Words.{ty_of};
 ghost use Rattle.err.specs.Message.{empty_array, members_differ, unsupported, incompatible, bad_unary, redundant_cast, bad_cast, no_record, no_field_of};
-ghost use Rattle.err_text.specs.Rest.{ReportsIn};
+ghost use Rattle.err.specs.Report.{Reports};
 
-use display::Writer;
 use err::Counts;
 use tok::{Span, Texts};
 
 // 1: An array literal of no members.
 pub fn empty_array(
     diagnostics: &mut [u32],
-    rest: &mut [u8],
+    messages: &mut [u8],
     counts: Counts,
     token: u32,
 ) -> Option<Counts>
-    ensures { ReportsIn (empty_array token) diagnostics.old rest.old counts diagnostics.new rest.new result }
+    ensures { Reports (empty_array token) diagnostics.old messages.old counts diagnostics.new messages.new result }
 {
-    let mut out = Writer::new(rest);
+    let mut out = err_text::writer(messages, counts);
     let a = out.put(b"Can not infer the element type of an empty array");
     let message = out.at;
     let b = out.put(b"empty array");
@@ -39,7 +38,7 @@ pub fn empty_array(
 // 2: An array member whose type is not the first member's.
 pub fn members_differ(
     diagnostics: &mut [u32],
-    rest: &mut [u8],
+    messages: &mut [u8],
     counts: Counts,
     types: &[u32],
     texts: &Texts,
@@ -48,9 +47,9 @@ pub fn members_differ(
     ty: u32,
 ) -> Option<Counts>
     ensures { let U : ℕ → Ty = ty_of texts.now types.now in
-        ReportsIn (members_differ span (U first) (U ty)) diagnostics.old rest.old counts diagnostics.new rest.new result }
+        Reports (members_differ span (U first) (U ty)) diagnostics.old messages.old counts diagnostics.new messages.new result }
 {
-    let mut out = Writer::new(rest);
+    let mut out = err_text::writer(messages, counts);
     let a = out.put(b"Array members must all have the same type, expected ");
     let b = a.and(display::show_type(&mut out, types, texts, first));
     let c = b.and(out.put(b" but got "));
@@ -64,7 +63,7 @@ pub fn members_differ(
 // 4: Operands of one type that the operator does not take.
 pub fn unsupported(
     diagnostics: &mut [u32],
-    rest: &mut [u8],
+    messages: &mut [u8],
     counts: Counts,
     types: &[u32],
     texts: &Texts,
@@ -73,9 +72,9 @@ pub fn unsupported(
     left: u32,
 ) -> Option<Counts>
     ensures { let U : ℕ → Ty = ty_of texts.now types.now in
-        ReportsIn (unsupported token op (U left)) diagnostics.old rest.old counts diagnostics.new rest.new result }
+        Reports (unsupported token op (U left)) diagnostics.old messages.old counts diagnostics.new messages.new result }
 {
-    let mut out = Writer::new(rest);
+    let mut out = err_text::writer(messages, counts);
     let a = out.put(b"Unsupported type ");
     let b = a.and(display::show_type(&mut out, types, texts, left));
     let c = b.and(out.put(b" for "));
@@ -95,7 +94,7 @@ pub fn unsupported(
 // 5: Operands of two types.
 pub fn incompatible(
     diagnostics: &mut [u32],
-    rest: &mut [u8],
+    messages: &mut [u8],
     counts: Counts,
     types: &[u32],
     texts: &Texts,
@@ -105,9 +104,9 @@ pub fn incompatible(
     right: u32,
 ) -> Option<Counts>
     ensures { let U : ℕ → Ty = ty_of texts.now types.now in
-        ReportsIn (incompatible token op (U left) (U right)) diagnostics.old rest.old counts diagnostics.new rest.new result }
+        Reports (incompatible token op (U left) (U right)) diagnostics.old messages.old counts diagnostics.new messages.new result }
 {
-    let mut out = Writer::new(rest);
+    let mut out = err_text::writer(messages, counts);
     let a = out.put(b"Incompatible types ");
     let b = a.and(display::show_type(&mut out, types, texts, left));
     let c = b.and(out.put(b" and "));
@@ -129,7 +128,7 @@ pub fn incompatible(
 // 6: An operand that a unary operator does not take.
 pub fn bad_unary(
     diagnostics: &mut [u32],
-    rest: &mut [u8],
+    messages: &mut [u8],
     counts: Counts,
     types: &[u32],
     texts: &Texts,
@@ -138,9 +137,9 @@ pub fn bad_unary(
     inner: u32,
 ) -> Option<Counts>
     ensures { let U : ℕ → Ty = ty_of texts.now types.now in
-        ReportsIn (bad_unary token op (U inner)) diagnostics.old rest.old counts diagnostics.new rest.new result }
+        Reports (bad_unary token op (U inner)) diagnostics.old messages.old counts diagnostics.new messages.new result }
 {
-    let mut out = Writer::new(rest);
+    let mut out = err_text::writer(messages, counts);
     let a = out.put(b"Unary ");
     let b = a.and(err_text::put_operator(&mut out, op));
     let c = b.and(out.put(b" requires Int or Double, got "));
@@ -159,7 +158,7 @@ pub fn bad_unary(
 // 10: A cast to the type that the operand has.
 pub fn redundant_cast(
     diagnostics: &mut [u32],
-    rest: &mut [u8],
+    messages: &mut [u8],
     counts: Counts,
     types: &[u32],
     texts: &Texts,
@@ -167,9 +166,9 @@ pub fn redundant_cast(
     ty: u32,
 ) -> Option<Counts>
     ensures { let U : ℕ → Ty = ty_of texts.now types.now in
-        ReportsIn (redundant_cast token (U ty)) diagnostics.old rest.old counts diagnostics.new rest.new result }
+        Reports (redundant_cast token (U ty)) diagnostics.old messages.old counts diagnostics.new messages.new result }
 {
-    let mut out = Writer::new(rest);
+    let mut out = err_text::writer(messages, counts);
     let a = out.put(b"Can not cast ");
     let b = a.and(display::show_type(&mut out, types, texts, ty));
     let c = b.and(out.put(b" to "));
@@ -190,7 +189,7 @@ pub fn redundant_cast(
 // 11: A cast that does not exist.
 pub fn bad_cast(
     diagnostics: &mut [u32],
-    rest: &mut [u8],
+    messages: &mut [u8],
     counts: Counts,
     types: &[u32],
     texts: &Texts,
@@ -199,9 +198,9 @@ pub fn bad_cast(
     to: u32,
 ) -> Option<Counts>
     ensures { let U : ℕ → Ty = ty_of texts.now types.now in
-        ReportsIn (bad_cast token (U from) (U to)) diagnostics.old rest.old counts diagnostics.new rest.new result }
+        Reports (bad_cast token (U from) (U to)) diagnostics.old messages.old counts diagnostics.new messages.new result }
 {
-    let mut out = Writer::new(rest);
+    let mut out = err_text::writer(messages, counts);
     let a = out.put(b"Can not cast ");
     let b = a.and(display::show_type(&mut out, types, texts, from));
     let c = b.and(out.put(b" to "));
@@ -220,7 +219,7 @@ pub fn bad_cast(
 // 12: A field of what is no record.
 pub fn no_record(
     diagnostics: &mut [u32],
-    rest: &mut [u8],
+    messages: &mut [u8],
     counts: Counts,
     types: &[u32],
     texts: &Texts,
@@ -228,9 +227,9 @@ pub fn no_record(
     ty: u32,
 ) -> Option<Counts>
     ensures { let U : ℕ → Ty = ty_of texts.now types.now in
-        ReportsIn (no_record name (U ty)) diagnostics.old rest.old counts diagnostics.new rest.new result }
+        Reports (no_record name (U ty)) diagnostics.old messages.old counts diagnostics.new messages.new result }
 {
-    let mut out = Writer::new(rest);
+    let mut out = err_text::writer(messages, counts);
     let a = display::show_type(&mut out, types, texts, ty);
     let b = a.and(out.put(b" can not be indexed in this way"));
     err_text::report(
@@ -247,7 +246,7 @@ pub fn no_record(
 // 13: A field that the record does not have.
 pub fn no_field(
     diagnostics: &mut [u32],
-    rest: &mut [u8],
+    messages: &mut [u8],
     counts: Counts,
     types: &[u32],
     texts: &Texts,
@@ -255,9 +254,9 @@ pub fn no_field(
     ty: u32,
 ) -> Option<Counts>
     ensures { let U : ℕ → Ty = ty_of texts.now types.now in
-        ReportsIn (no_field_of name (U ty) (name_bytes texts.now name)) diagnostics.old rest.old counts diagnostics.new rest.new result }
+        Reports (no_field_of name (U ty) (name_bytes texts.now name)) diagnostics.old messages.old counts diagnostics.new messages.new result }
 {
-    let mut out = Writer::new(rest);
+    let mut out = err_text::writer(messages, counts);
     let a = display::show_type(&mut out, types, texts, ty);
     let b = a.and(out.put(b" does not have a field called "));
     let c = b.and(err_text::put_name(&mut out, texts, name));

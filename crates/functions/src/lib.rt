@@ -47,8 +47,7 @@ pub fn unless_defined(
         return Ok((true, st.used));
     };
     let counts = st.used.told;
-    let free = err_text::first_free(messages, counts);
-    let met = err_names::defined_already(diagnostics, &mut messages[free..], counts, texts, name);
+    let met = err_names::defined_already(diagnostics, messages, counts, texts, name);
     state::told(n, st.used, met, false)
 }
 

@@ -11,7 +11,7 @@ ghost use Rattle.display.specs.Writing.{Writes};
 ghost use Rattle.display.specs.Joined.{joined, sig};
 ghost use Rattle.library.specs.Package.{Signature};
 ghost use Rattle.err.specs.Message.{call_name, no_specialisation};
-ghost use Rattle.err_text.specs.Rest.{ReportsIn};
+ghost use Rattle.err.specs.Report.{Reports};
 ghost use Rattle.state.specs.Signatures.{signature_at};
 ghost use Rattle.library.specs.Entries.{flag_words};
 ghost use Rattle.selection.specs.Candidates.{group, param_types};
@@ -66,7 +66,7 @@ fn put_candidates(
 // 18: A call of a group of several, none of which takes these argument types.
 fn no_specialisation(
     diagnostics: &mut [u32],
-    rest: &mut [u8],
+    messages: &mut [u8],
     counts: Counts,
     types: &[u32],
     texts: &Texts,
@@ -78,9 +78,9 @@ fn no_specialisation(
 ) -> Option<Counts>
     ensures { let U : ℕ → Ty = ty_of texts.now types.now in
         let fs : List Signature = group texts.now name.now entries.now.words (flag_words entries.now.flagged) entries.now.from entries.now.count in
-        ReportsIn (no_specialisation token (call_name texts.now callee) (map U provided.now) (candidate_types U fs)) diagnostics.old rest.old counts diagnostics.new rest.new result }
+        Reports (no_specialisation token (call_name texts.now callee) (map U provided.now) (candidate_types U fs)) diagnostics.old messages.old counts diagnostics.new messages.new result }
 {
-    let mut out = Writer::new(rest);
+    let mut out = err_text::writer(messages, counts);
     let a = out.put(b"no specialisation of ");
     let b = a.and(err_text::put_call_name(&mut out, texts, callee));
     let c = b.and(out.put(b" accepts ("));
@@ -118,10 +118,9 @@ fn none_fits(
         (group texts.now name.now entries.now.words (flag_words entries.now.flagged) entries.now.from entries.now.count) slots.old types.now diagnostics.old messages.old used
         slots.new diagnostics.new messages.new result }
 {
-    let free = err_text::first_free(messages, used.told);
     let r = no_specialisation(
         diagnostics,
-        &mut messages[free..],
+        messages,
         used.told,
         types,
         texts,

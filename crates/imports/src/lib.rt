@@ -57,8 +57,7 @@ pub fn import_one(
     let name = tok::name_bytes(texts, path);
     let Some(at) = library::find_package(texts, words, name) else {
         let counts = st.used.told;
-        let free = err_text::first_free(messages, counts);
-        let none = err_names::no_import(diagnostics, &mut messages[free..], counts, texts, path);
+        let none = err_names::no_import(diagnostics, messages, counts, texts, path);
         return visit::answered(st, state::told(n, st.used, none, ()));
     };
     operators::store(scratch, st.held - 1, at as u32);
@@ -88,8 +87,7 @@ pub fn import_all(
 {
     if count == 0 {
         let counts = st.used.told;
-        let free = err_text::first_free(messages, counts);
-        let none = err_names::empty_import(diagnostics, &mut messages[free..], counts, token);
+        let none = err_names::empty_import(diagnostics, messages, counts, token);
         return visit::answered(st, state::told(n, st.used, none, ()));
     }
     let mut after = st;

@@ -87,14 +87,7 @@ pub fn ident(
         Binding::Poisoned => Ok((Answer::Poison, st)),
         Binding::Nothing => {
             let counts = used.told;
-            let free = err_text::first_free(messages, counts);
-            let none = err_names::no_binding(
-                diagnostics,
-                &mut messages[free..],
-                counts,
-                texts,
-                name,
-            );
+            let none = err_names::no_binding(diagnostics, messages, counts, texts, name);
             visit::answered(st, state::told(n, used, none, Answer::Poison))
         }
     }

@@ -132,11 +132,10 @@ pub fn fuse(
         return set_known(slots, used, slot, plain_word(kind));
     }
     let counts = used.told;
-    let free = err_text::first_free(messages, counts);
     if ptype::same_type(types, texts, l, r) {
         let told = err_values::unsupported(
             diagnostics,
-            &mut messages[free..],
+            messages,
             counts,
             types,
             texts,
@@ -148,7 +147,7 @@ pub fn fuse(
     }
     let told = err_values::incompatible(
         diagnostics,
-        &mut messages[free..],
+        messages,
         counts,
         types,
         texts,
@@ -193,17 +192,7 @@ pub fn unary(
         return set_known(slots, used, slot, plain_word(kind));
     }
     let counts = used.told;
-    let free = err_text::first_free(messages, counts);
-    let told = err_values::bad_unary(
-        diagnostics,
-        &mut messages[free..],
-        counts,
-        types,
-        texts,
-        token,
-        op,
-        r,
-    );
+    let told = err_values::bad_unary(diagnostics, messages, counts, types, texts, token, op, r);
     state::told(n, used, told, Answer::Poison)
 }
 
@@ -243,23 +232,13 @@ pub fn cast(
         return set_known(slots, used, slot, to);
     }
     let counts = used.told;
-    let free = err_text::first_free(messages, counts);
     if !ptype::same_type(types, texts, i, to) {
-        let bad = err_values::bad_cast(
-            diagnostics,
-            &mut messages[free..],
-            counts,
-            types,
-            texts,
-            token,
-            i,
-            to,
-        );
+        let bad = err_values::bad_cast(diagnostics, messages, counts, types, texts, token, i, to);
         return state::told(n, used, bad, Answer::Poison);
     }
     let reported = err_values::redundant_cast(
         diagnostics,
-        &mut messages[free..],
+        messages,
         counts,
         types,
         texts,

@@ -51,14 +51,7 @@ pub fn resolve_call(
             count,
         ),
         None => {
-            let free = err_text::first_free(messages, used.told);
-            let reported = err_calls::undefined_own(
-                diagnostics,
-                &mut messages[free..],
-                used.told,
-                texts,
-                name,
-            );
+            let reported = err_calls::undefined_own(diagnostics, messages, used.told, texts, name);
             state::told(n, used, reported, Answer::Poison)
         }
     }

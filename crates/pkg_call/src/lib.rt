@@ -234,14 +234,7 @@ fn in_held(
             poisoned,
         ),
         Held::Nothing => {
-            let free = err_text::first_free(messages, used.told);
-            let r = err_calls::missing_package(
-                diagnostics,
-                &mut messages[free..],
-                used.told,
-                texts,
-                pkg,
-            );
+            let r = err_calls::missing_package(diagnostics, messages, used.told, texts, pkg);
             state::told(n, used, r, Answer::Poison)
         }
     }

@@ -73,10 +73,9 @@ pub fn in_group(
 {
     match found {
         Candidates::Nothing => {
-            let free = err_text::first_free(messages, used.told);
             let r = err_calls::undefined_in_package(
                 diagnostics,
-                &mut messages[free..],
+                messages,
                 used.told,
                 texts,
                 pkg,

@@ -93,10 +93,9 @@ fn after_binding(
                 existing,
                 new,
             } => {
-                let free = err_text::first_free(messages, used.told);
                 let reported = err_arguments::slot_conflict(
                     diagnostics,
-                    &mut messages[free..],
+                    messages,
                     used.told,
                     &types[..],
                     texts,
@@ -109,10 +108,9 @@ fn after_binding(
                 state::told(n, used, reported, ())
             }
             BindError::Void { slot } => {
-                let free = err_text::first_free(messages, used.told);
                 let reported = err_arguments::slot_void(
                     diagnostics,
-                    &mut messages[free..],
+                    messages,
                     used.told,
                     texts,
                     span,

@@ -113,10 +113,9 @@ pub fn check_slotted(
 {
     let required = signatures::argument_count(words, at);
     if count != required {
-        let free = err_text::first_free(messages, used.told);
         let reported = err_calls::argument_count(
             diagnostics,
-            &mut messages[free..],
+            messages,
             used.told,
             texts,
             token,

@@ -88,30 +88,12 @@ pub fn field(
     let w = word_at(slots, target as usize);
     let counts = used.told;
     let TypeKind::Record = TypeKind::of(w) else {
-        let free = err_text::first_free(messages, counts);
-        let other = err_values::no_record(
-            diagnostics,
-            &mut messages[free..],
-            counts,
-            types,
-            texts,
-            name,
-            w,
-        );
+        let other = err_values::no_record(diagnostics, messages, counts, types, texts, name, w);
         return state::told(n, used, other, Answer::Poison);
     };
     let found = find_field(types, texts, name, w);
     let Some(t) = found else {
-        let free = err_text::first_free(messages, counts);
-        let none = err_values::no_field(
-            diagnostics,
-            &mut messages[free..],
-            counts,
-            types,
-            texts,
-            name,
-            w,
-        );
+        let none = err_values::no_field(diagnostics, messages, counts, types, texts, name, w);
         return state::told(n, used, none, Answer::Poison);
     };
     field_type(slots, used, slot, t)
@@ -130,8 +112,7 @@ pub fn empty_array(
     ensures { (s t : List ℕ) → Steps (poison n (empty_array token)) s t diagnostics.old messages.old used s t diagnostics.new messages.new result }
 {
     let counts = used.told;
-    let free = err_text::first_free(messages, counts);
-    let reported = err_values::empty_array(diagnostics, &mut messages[free..], counts, token);
+    let reported = err_values::empty_array(diagnostics, messages, counts, token);
     state::told(n, used, reported, Answer::Poison)
 }
 
@@ -160,10 +141,9 @@ fn member_types(
         return Ok((Compared::Alike, used));
     }
     let counts = used.told;
-    let free = err_text::first_free(messages, counts);
     let reported = err_values::members_differ(
         diagnostics,
-        &mut messages[free..],
+        messages,
         counts,
         types,
         texts,
@@ -260,16 +240,7 @@ pub fn condition(
         return Ok(((), used));
     }
     let counts = used.told;
-    let free = err_text::first_free(messages, counts);
-    let reported = err_names::bad_condition(
-        diagnostics,
-        &mut messages[free..],
-        counts,
-        types,
-        texts,
-        token,
-        w,
-    );
+    let reported = err_names::bad_condition(diagnostics, messages, counts, types, texts, token, w);
     state::told(n, used, reported, ())
 }
 
@@ -299,17 +270,7 @@ pub fn compare_branch(
         return Ok(((), used));
     }
     let counts = used.told;
-    let free = err_text::first_free(messages, counts);
-    let reported = err_names::match_cases(
-        diagnostics,
-        &mut messages[free..],
-        counts,
-        types,
-        texts,
-        token,
-        d,
-        w,
-    );
+    let reported = err_names::match_cases(diagnostics, messages, counts, types, texts, token, d, w);
     state::told(n, used, reported, ())
 }
 
@@ -345,8 +306,7 @@ pub fn let_binding(
         return Ok((Some(w), used));
     };
     let counts = used.told;
-    let free = err_text::first_free(messages, counts);
-    let reported = err_names::let_void(diagnostics, &mut messages[free..], counts, name);
+    let reported = err_names::let_void(diagnostics, messages, counts, name);
     state::told(n, used, reported, None)
 }
 
@@ -376,10 +336,9 @@ pub fn check_return(
         return Ok(((), used));
     }
     let counts = used.told;
-    let free = err_text::first_free(messages, counts);
     let reported = err_names::bad_return(
         diagnostics,
-        &mut messages[free..],
+        messages,
         counts,
         types,
         texts,

@@ -1,5 +1,4 @@
 -- `arguments::compared` meets its contract: equal types, or diagnostic 20. Assumes nothing.
-use Rattle.err_text.specs.RestLaws.{told_in_whole}
 use Rattle.arguments.proofs.Returns.{alike, differ}
 use Rattle.arguments.proofs.compared.Goals as goal
 
@@ -7,4 +6,4 @@ pub returns-then-same_type : goal.returns-then-same_type
 returns-then-same_type c = alike _ _ _ _ _ _ _ _ _ _ _ c.same_type.ensures c.if-same_type.true
 
 pub returns : goal.returns
-returns c = differ _ _ _ _ _ _ _ _ _ _ _ c.same_type.ensures c.if-same_type.false (told_in_whole _ c.first_free-free.ensures c.arg_mismatch-reported.ensures) c.told.ensures
+returns c = differ _ _ _ _ _ _ _ _ _ _ _ c.same_type.ensures c.if-same_type.false c.arg_mismatch-reported.ensures c.told.ensures

@@ -1,7 +1,6 @@
 -- `calls::report_field` meets its contract: the diagnostic, and poison. Assumes nothing.
 use native.Mathlib.Omega.{arith}
 use Rattle.calls.proofs.Returns.{call-low, field-low, field_told}
-use Rattle.err_text.specs.RestLaws.{told_in_whole}
 use Rattle.calls.proofs.report_field.Goals as goal
 
 pub overflow_add-at : goal.overflow_add-at
@@ -12,5 +11,5 @@ overflow_add-target c = omega (arith, field-low c.requires c.word_at.ensures c.n
 
 pub returns : goal.returns
 returns c =
-    let reported = told_in_whole c.args.messages.now c.first_free-free.ensures c.call_through_field-r.ensures in
+    let reported = c.call_through_field-r.ensures in
     field_told c.args.n c.args.st c.requires c.word_at.ensures c.node_place-target.ensures c.word_at-name.ensures reported c.told.ensures c.answered.ensures

@@ -13,4 +13,4 @@ returns c =
     let to_b = both _ _ _ _ c.put_call_name-a.ensures.1 c.put.ensures.1 c.and-b.ensures in
     let to_c = both _ _ _ _ to_b c.put_name.ensures.1 c.and-c.ensures in
     let to_d = both _ _ _ _ to_c c.put-2.ensures.1 c.and-d.ensures in
-    tells-rest c.new-out.ensures.from_the_start to_d (both _ _ _ _ to_d c.put-e.ensures.1 c.and.ensures) (search rules) refl (c.report.ensures.six_words, c.report.ensures.answer)
+    tells-rest c.writer-out.ensures.from_the_first_free to_d (both _ _ _ _ to_d c.put-e.ensures.1 c.and.ensures) (search rules) refl (c.report.ensures.six_words, c.report.ensures.answer)

@@ -13,4 +13,4 @@ returns c =
     let to_c = both _ _ _ _ to_b c.put_decimal.ensures.1 c.and-c.ensures in
     let to_d = both _ _ _ _ to_c c.put-2.ensures.1 c.and-d.ensures in
     let to_e = both _ _ _ _ to_d c.put_decimal-2.ensures.1 c.and-e.ensures in
-    tells-rest-alone c.new-out.ensures.from_the_start to_e (search rules) c.token_span.ensures (c.report.ensures.six_words, c.report.ensures.answer)
+    tells-rest-alone c.writer-out.ensures.from_the_first_free to_e (search rules) c.token_span.ensures (c.report.ensures.six_words, c.report.ensures.answer)

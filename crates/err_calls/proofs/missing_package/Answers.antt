@@ -10,4 +10,4 @@ pub returns : goal.returns
 unfolding missing_package text
 returns c =
     let to_b = both _ _ _ _ c.put-a.ensures.1 c.put_ticked.ensures.1 c.and-b.ensures in
-    tells-rest c.new-out.ensures.from_the_start to_b (both _ _ _ _ to_b c.put-c.ensures.1 c.and.ensures) (search rules) c.token_span.ensures (c.report.ensures.six_words, c.report.ensures.answer)
+    tells-rest c.writer-out.ensures.from_the_first_free to_b (both _ _ _ _ to_b c.put-c.ensures.1 c.and.ensures) (search rules) c.token_span.ensures (c.report.ensures.six_words, c.report.ensures.answer)

@@ -14,4 +14,4 @@ returns c =
     let to_d = both _ _ _ _ to_c c.show_types.ensures.1 c.and-d.ensures in
     let to_e = both _ _ _ _ to_d c.put-2.ensures.1 c.and-e.ensures in
     let to_f = both _ _ _ _ to_e c.put_candidates.ensures.1 c.and-f.ensures in
-    tells-rest-alone c.new-out.ensures.from_the_start to_f (search rules) c.token_span.ensures (c.report.ensures.six_words, c.report.ensures.answer)
+    tells-rest-alone c.writer-out.ensures.from_the_first_free to_f (search rules) c.token_span.ensures (c.report.ensures.six_words, c.report.ensures.answer)

@@ -10,4 +10,4 @@ pub returns : goal.returns
 unfolding defined_already text
 returns c =
     let to_b = both _ _ _ _ c.put_ticked-a.ensures.1 c.put.ensures.1 c.and-b.ensures in
-    tells-rest-alone c.new-out.ensures.from_the_start to_b (search rules) c.token_span.ensures (c.report.ensures.six_words, c.report.ensures.answer)
+    tells-rest-alone c.writer-out.ensures.from_the_first_free to_b (search rules) c.token_span.ensures (c.report.ensures.six_words, c.report.ensures.answer)

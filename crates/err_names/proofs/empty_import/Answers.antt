@@ -7,4 +7,4 @@ use Rattle.err_names.proofs.empty_import.Goals as goal
 
 pub returns : goal.returns
 unfolding empty_import text
-returns c = tells-rest-alone c.new-out.ensures.from_the_start (c.put-a.ensures.1) (search rules) c.token_span.ensures (c.report.ensures.six_words, c.report.ensures.answer)
+returns c = tells-rest-alone c.writer-out.ensures.from_the_first_free (c.put-a.ensures.1) (search rules) c.token_span.ensures (c.report.ensures.six_words, c.report.ensures.answer)

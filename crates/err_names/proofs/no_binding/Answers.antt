@@ -11,4 +11,4 @@ unfolding no_binding text
 returns c =
     let to_b = both _ _ _ _ c.put-a.ensures.1 c.put_ticked.ensures.1 c.and-b.ensures in
     let to_c = both _ _ _ _ to_b c.put.ensures.1 c.and-c.ensures in
-    tells-rest-alone c.new-out.ensures.from_the_start to_c (search rules) c.token_span.ensures (c.report.ensures.six_words, c.report.ensures.answer)
+    tells-rest-alone c.writer-out.ensures.from_the_first_free to_c (search rules) c.token_span.ensures (c.report.ensures.six_words, c.report.ensures.answer)

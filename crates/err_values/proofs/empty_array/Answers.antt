@@ -10,4 +10,4 @@ pub returns : goal.returns
 unfolding empty_array text
 returns c =
     let m = c.put-a.ensures.1 in
-    tells-rest c.new-out.ensures.from_the_start m (both _ _ _ _ m (c.put-b.ensures.1) c.and.ensures) (search rules) c.token_span.ensures (c.report.ensures.six_words, c.report.ensures.answer)
+    tells-rest c.writer-out.ensures.from_the_first_free m (both _ _ _ _ m (c.put-b.ensures.1) c.and.ensures) (search rules) c.token_span.ensures (c.report.ensures.six_words, c.report.ensures.answer)

@@ -15,4 +15,4 @@ returns c =
     let to_e = both _ _ _ _ to_d c.put-2.ensures.1 c.and-e.ensures in
     let to_f = both _ _ _ _ to_e c.put_operator.ensures.1 c.and-f.ensures in
     let to_g = both _ _ _ _ to_f (rw c.class_of.ensures at c.put_wanted_both.ensures.1) c.and-g.ensures in
-    tells-rest-alone c.new-out.ensures.from_the_start to_g (search rules) c.token_span.ensures (c.report.ensures.six_words, c.report.ensures.answer)
+    tells-rest-alone c.writer-out.ensures.from_the_first_free to_g (search rules) c.token_span.ensures (c.report.ensures.six_words, c.report.ensures.answer)

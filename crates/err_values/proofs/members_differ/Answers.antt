@@ -14,4 +14,4 @@ returns c =
     let to_c = both _ _ _ _ to_b c.put.ensures.1 c.and-c.ensures in
     let to_d = both _ _ _ _ to_c c.show_type-2.ensures.1 c.and-d.ensures in
     let to_f = both _ _ _ _ c.put-e.ensures.1 c.show_type-3.ensures.1 c.and-f.ensures in
-    tells-rest c.new-out.ensures.from_the_start to_d (both _ _ _ _ to_d to_f c.and.ensures) (search rules) refl (c.report.ensures.six_words, c.report.ensures.answer)
+    tells-rest c.writer-out.ensures.from_the_first_free to_d (both _ _ _ _ to_d to_f c.and.ensures) (search rules) refl (c.report.ensures.six_words, c.report.ensures.answer)

@@ -1,5 +1,4 @@
 -- `functions::unless_defined` meets its contract: one law for each return. Assumes nothing.
-use Rattle.err_text.specs.RestLaws.{told_in_whole}
 use Rattle.functions.proofs.Returns.{name_new, name-met}
 use Rattle.functions.proofs.unless_defined.Goals as goal
 
@@ -8,5 +7,5 @@ returns-in_default c = λ ls v words s t e o. name_new _ c.args.n c.args.name c.
 
 pub returns : goal.returns
 returns c =
-    let told = told_in_whole c.args.messages.now c.first_free-free.ensures c.defined_already-met.ensures in
+    let told = c.defined_already-met.ensures in
     name-met _ c.args.n c.args.name c.args.st _ c.find_own-own.result c.find_own-own.ensures c.in-Some.is told c.told.ensures

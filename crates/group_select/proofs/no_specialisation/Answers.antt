@@ -11,4 +11,4 @@ unfolding no_specialisation text
 returns c =
     let a = both _ _ _ _ (both _ _ _ _ (both _ _ _ _ c.put-a.ensures.1 c.put_call_name.ensures.1 c.and-b.ensures) c.put.ensures.1 c.and-c.ensures) c.show_types.ensures.1 c.and-d.ensures in
     let f = both _ _ _ _ (both _ _ _ _ a c.put-2.ensures.1 c.and-e.ensures) c.put_candidates.ensures.1 c.and-f.ensures in
-    tells-rest-alone c.new-out.ensures.from_the_start f (search rules) c.token_span.ensures (c.report.ensures.six_words, c.report.ensures.answer)
+    tells-rest-alone c.writer-out.ensures.from_the_first_free f (search rules) c.token_span.ensures (c.report.ensures.six_words, c.report.ensures.answer)

@@ -1,12 +1,11 @@
 -- `imports::import_all` meets its contract: one law for each return, and for the loop's turn. Assumes nothing.
 use native.Mathlib.Omega.{arith}
-use Rattle.err_text.specs.RestLaws.{told_in_whole}
 use Rattle.imports.proofs.Returns.{import_begin, import_empty, import_room, import_over, import_stops, import_more}
 use Rattle.imports.proofs.import_all.Goals as goal
 
 pub returns-then-count-eq0 : goal.returns-then-count-eq0
 returns-then-count-eq0 c =
-    let told = told_in_whole c.args.messages.now c.first_free-free.ensures c.empty_import-none.ensures in
+    let told = c.empty_import-none.ensures in
     import_empty _ c.args.n c.args.token c.args.at c.args.count c.requires c.if-count-eq0.true told c.told.ensures c.answered.ensures
 
 pub loop-k-init : goal.loop-k-init

@@ -1,6 +1,5 @@
 -- `imports::import_one` meets its contract: one law for each return. Assumes nothing.
 use native.Mathlib.Omega.{arith}
-use Rattle.err_text.specs.RestLaws.{told_in_whole}
 use Rattle.imports.specs.Holding.{held-near}
 use Rattle.imports.proofs.Returns.{place-low, import_held, import_found_lem, import_none}
 use Rattle.imports.proofs.import_one.Goals as goal
@@ -13,7 +12,7 @@ returns-in_default c = import_held _ _ c.args.n c.args.path c.requires c.find_he
 
 pub returns-in_default-find_package : goal.returns-in_default-find_package
 returns-in_default-find_package c =
-    let told = told_in_whole c.args.messages.now c.first_free-free.ensures c.no_import-none.ensures in
+    let told = c.no_import-none.ensures in
     let held = c.find_held-held in
     let found = c.find_package in
     import_none _ _ c.args.n c.args.path c.requires held.result held.ensures c.in-Nothing.is c.name_bytes-name.ensures found.result found.ensures

@@ -1,5 +1,4 @@
 -- `names::ident` meets its contract: one law for each return. Assumes nothing.
-use Rattle.err_text.specs.RestLaws.{told_in_whole}
 use Rattle.names.proofs.Returns.{ident-bound, ident-poisoned, ident-none}
 use Rattle.names.proofs.ident.Goals as goal
 
@@ -11,5 +10,5 @@ returns-in-Poisoned c = λ ls v words f t o. ident-poisoned _ c.args.n c.args.sl
 
 pub returns-in-Nothing : goal.returns-in-Nothing
 returns-in-Nothing c =
-    let told = told_in_whole c.args.messages.now c.first_free-free.ensures c.no_binding-none.ensures in
+    let told = c.no_binding-none.ensures in
     λ ls v words f t o. ident-none _ c.args.n c.args.slot c.args.name _ c.env_get.ensures c.in-Nothing.is told c.told.ensures c.answered-in-Nothing.ensures ls v words _ f t o

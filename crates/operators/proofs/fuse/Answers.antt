@@ -1,6 +1,5 @@
 -- `operators::fuse` meets its contract: one law for each return. Assumes nothing.
 use Rattle.operators.proofs.Returns.{fuse-known, fuse-unsupported, fuse-incompatible}
-use Rattle.err_text.specs.RestLaws.{told_in_whole}
 use Rattle.operators.proofs.fuse.Goals as goal
 
 pub returns-in-Some : goal.returns-in-Some
@@ -15,11 +14,11 @@ returns-then-same_type c =
     let a = c.args in
     fuse-unsupported a.texts.now a.slots.now a.types.now a.diagnostics.now a.messages.now a.used a.n a.slot a.token a.op a.left a.right
     c.word_at-l.ensures c.word_at-r.ensures c.of.ensures c.of-2.ensures c.result_kind.ensures c.in_default.is
-    c.same_type.ensures c.told.ensures c.if-same_type.true (told_in_whole a.messages.now c.first_free-free.ensures c.unsupported-told.ensures)
+    c.same_type.ensures c.told.ensures c.if-same_type.true c.unsupported-told.ensures
 
 pub returns : goal.returns
 returns c =
     let a = c.args in
     fuse-incompatible a.texts.now a.slots.now a.types.now a.diagnostics.now a.messages.now a.used a.n a.slot a.token a.op a.left a.right
     c.word_at-l.ensures c.word_at-r.ensures c.of.ensures c.of-2.ensures c.result_kind.ensures c.in_default.is
-    c.same_type.ensures c.told-2.ensures c.if-same_type.false (told_in_whole a.messages.now c.first_free-free.ensures c.incompatible-told.ensures)
+    c.same_type.ensures c.told-2.ensures c.if-same_type.false c.incompatible-told.ensures

@@ -1,6 +1,5 @@
 -- `operators::unary` meets its contract: one law for each return. Assumes nothing.
 use Rattle.operators.proofs.Returns.{unary-known, unary_bad}
-use Rattle.err_text.specs.RestLaws.{told_in_whole}
 use Rattle.operators.proofs.unary.Goals as goal
 
 pub returns-then-takes : goal.returns-then-takes
@@ -14,4 +13,4 @@ returns c =
     let a = c.args in
     unary_bad a.texts.now a.slots.now a.types.now a.diagnostics.now a.messages.now a.used a.n a.slot a.token a.op a.right
     c.word_at-r.ensures c.of-kind.ensures c.takes.ensures c.if-takes.false
-    (told_in_whole a.messages.now c.first_free-free.ensures c.bad_unary-told.ensures) c.told.ensures
+    c.bad_unary-told.ensures c.told.ensures

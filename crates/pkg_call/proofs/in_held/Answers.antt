@@ -1,7 +1,6 @@
 -- `pkg_call::in_held` meets its contract: a package of the library, of an Extern, or none (15). Assumes nothing.
 use Rattle.pkg_call.proofs.Ready.{held-near, library-ready}
 use Rattle.pkg_call.proofs.Returns.{no_package, library-held, extern-held}
-use Rattle.err_text.specs.RestLaws.{told_in_whole}
 use Rattle.pkg_call.proofs.in_held.Goals as goal
 
 pub find_held-found-requires : goal.find_held-found-requires
@@ -23,5 +22,5 @@ returns-in-Extern c =
 
 pub returns-in-Nothing : goal.returns-in-Nothing
 returns-in-Nothing c =
-    let t = told_in_whole _ c.first_free-free.ensures c.missing_package-r.ensures in
+    let t = c.missing_package-r.ensures in
     (no_package _ _ _ _ _ _ _ _ _ _ _ _ _ _ _ _ _ c.find_held-found.ensures c.in-Nothing.is t c.told.ensures)

@@ -1,12 +1,11 @@
 -- `pkg_group::in_group` meets its contract: no candidate (16), one, or several. Assumes nothing.
 use mathlib.Core.Path.{◌≡◌, refl, ap}
 use Rattle.pkg_group.proofs.Returns.{group-none, group-plain, group_several}
-use Rattle.err_text.specs.RestLaws.{told_in_whole}
 use Rattle.pkg_group.proofs.in_group.Goals as goal
 
 pub returns-in-Nothing : goal.returns-in-Nothing
 returns-in-Nothing c =
-    group-none _ _ _ _ _ _ _ _ _ _ _ c.requires c.in-Nothing.is (told_in_whole _ c.first_free-free.ensures c.undefined_in_package-r.ensures) c.told.ensures
+    group-none _ _ _ _ _ _ _ _ _ _ _ c.requires c.in-Nothing.is c.undefined_in_package-r.ensures c.told.ensures
 
 pub returns-in-Plain : goal.returns-in-Plain
 returns-in-Plain c =

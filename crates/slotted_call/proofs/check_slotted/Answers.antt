@@ -1,13 +1,12 @@
 -- `slotted_call::check_slotted` meets its contract: another number of arguments, an argument that is refused, or the return type. Assumes
 -- nothing.
 use mathlib.Core.Path.{◌∙◌}
-use Rattle.err_text.specs.RestLaws.{told_in_whole}
 use Rattle.slotted_call.proofs.Returns.{miscounted, call-refused, return-meant, call-returned}
 use Rattle.slotted_call.proofs.check_slotted.Goals as goal
 
 pub returns-then-count-required : goal.returns-then-count-required
 returns-then-count-required c =
-    miscounted _ _ _ _ _ _ _ _ _ _ _ _ _ _ _ c.argument_count-required.ensures c.if-count-required.true (told_in_whole _ c.first_free-free.ensures c.argument_count-reported.ensures) c.told.ensures
+    miscounted _ _ _ _ _ _ _ _ _ _ _ _ _ _ _ c.argument_count-required.ensures c.if-count-required.true c.argument_count-reported.ensures c.told.ensures
 
 pub slotted_arguments-requires : goal.slotted_arguments-requires
 slotted_arguments-requires c = record {

@@ -1,5 +1,4 @@
 -- `values::check_return` meets its contract of a known answer: the types are equal, or 9 is told. Assumes nothing.
-use Rattle.err_text.specs.RestLaws.{told_in_whole}
 use Rattle.rules.specs.Rules.{check_return}
 use Rattle.rules.specs.Steps.{if_known, ty, tree, ty_tree}
 use Rattle.std.proofs.Common.{rules}
@@ -15,5 +14,5 @@ returns-then-same_type c = search rules
 pub returns : goal.returns
 unfolding check_return if_known ty tree ty_tree when
 returns c ls v e is =
-    told-steps c.args.n (told_in_whole _ c.first_free-free.ensures c.bad_return-reported.ensures) c.told.ensures
+    told-steps c.args.n c.bad_return-reported.ensures c.told.ensures
     (λ rest. rw (c.in-Known.is, is, ← c.word_at-w.ensures, ← c.same_type.ensures, c.if-same_type.false))

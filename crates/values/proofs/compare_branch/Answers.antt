@@ -1,5 +1,4 @@
 -- `values::compare_branch` meets its contract of a known answer: the types are equal, or 24 is told. Assumes nothing.
-use Rattle.err_text.specs.RestLaws.{told_in_whole}
 use Rattle.rules.specs.Steps.{if_known, ty, tree, ty_tree}
 use Rattle.std.proofs.Common.{rules}
 use Rattle.state.specs.World.{stepped}
@@ -15,5 +14,5 @@ returns-then-same_type c = search rules
 pub returns : goal.returns
 unfolding compare_branch if_known ty tree ty_tree when
 returns c ls v =
-    told-steps c.args.n (told_in_whole _ c.first_free-free.ensures c.match_cases-reported.ensures) c.told.ensures
+    told-steps c.args.n c.match_cases-reported.ensures c.told.ensures
     (λ rest. rw (c.in-Known.is, ← c.word_at-w.ensures, ← c.word_at-d.ensures, ← c.same_type.ensures, c.if-same_type.false))

@@ -1,5 +1,4 @@
 -- `values::condition` meets its contract of a known condition: it is Bool, or 23 is told. Assumes nothing.
-use Rattle.err_text.specs.RestLaws.{told_in_whole}
 use Rattle.rules.specs.Rules.{condition}
 use Rattle.rules.specs.Steps.{if_known, ty, tree, ty_tree}
 use Rattle.tok.specs.Step.{when}
@@ -15,5 +14,5 @@ returns-then-same_type c ls v = record { step = λ rest. rw (c.in-Known.is, ← 
 pub returns : goal.returns
 unfolding condition if_known ty tree ty_tree when ty_of unfolded ways
 returns c ls v =
-    told-steps c.args.n (told_in_whole _ c.first_free-free.ensures c.bad_condition-reported.ensures) c.told.ensures
+    told-steps c.args.n c.bad_condition-reported.ensures c.told.ensures
     (λ rest. rw (c.in-Known.is, ← c.word_at-w.ensures, ← c.same_type.ensures, c.if-same_type.false))

@@ -2,7 +2,6 @@
 use borrow.Author.Tests.{ne_eqb}
 use Rattle.tok.specs.Word.{kind_of}
 use Rattle.ptype.specs.TypeKindLaws.{type-number, type-not}
-use Rattle.err_text.specs.RestLaws.{told_in_whole}
 use Rattle.rules.specs.Rules.{field}
 use Rattle.rules.specs.Steps.{ty, tree, on_option}
 use Rattle.tok.specs.Step.{when}
@@ -15,14 +14,14 @@ pub returns-in_default : goal.returns-in_default
 unfolding field ty tree when
 returns-in_default c ls v =
     rw c.told.ensures
-    (same-steps (poisons-step c.args.n (told_in_whole _ c.first_free-free.ensures c.no_record-other.ensures))
+    (same-steps (poisons-step c.args.n c.no_record-other.ensures)
     (λ rest. rw (← c.word_at-w.ensures, ne_eqb (kind_of c.word_at-w.result) 8 (type-not _ c.of.ensures c.in_default.not-Record))))
 
 pub returns-in_default-found : goal.returns-in_default-found
 unfolding field ty tree when on_option found_of
 returns-in_default-found c ls v =
     rw c.told-in_default-found.ensures
-    (same-steps (poisons-step c.args.n (told_in_whole _ c.first_free-free-in_default-found.ensures c.no_field-none.ensures))
+    (same-steps (poisons-step c.args.n c.no_field-none.ensures)
     (λ rest. rw (← c.word_at-w.ensures, type-number _ c.in-Record.ensures, ← c.find_field-found.ensures, c.in_default-found.is)))
 
 pub returns : goal.returns

@@ -1,6 +1,5 @@
 -- `values::let_binding` meets its contract of Void: 7 is told. Assumes nothing.
 use Rattle.ptype.specs.TypeKindLaws.{type-number, type-not}
-use Rattle.err_text.specs.RestLaws.{told_in_whole}
 use Rattle.std.proofs.Common.{rules, ◌≡◌, false, ne_eqb}
 use Rattle.std.specs.Prelude.{None, eqb}
 use Rattle.tok.specs.Word.{kind_of}
@@ -19,5 +18,5 @@ returns-in_default-of c = let k : eqb (kind_of c.word_at-w.result) 1 ≡ false =
 pub returns : goal.returns
 unfolding let_binding ty when found_of
 returns c t =
-    told-means c.args.n (told_in_whole _ c.first_free-free.ensures c.let_void-reported.ensures) found_of None c.told.ensures
+    told-means c.args.n c.let_void-reported.ensures found_of None c.told.ensures
     (λ rest. rw (c.in-Known.is, ← c.word_at-w.ensures, type-number _ c.in-Void.ensures))

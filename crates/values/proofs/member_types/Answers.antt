@@ -1,5 +1,4 @@
 -- `values::member_types` meets its contract: silent, alike, or 2 is told. Assumes nothing.
-use Rattle.err_text.specs.RestLaws.{told_in_whole}
 use Rattle.rules.specs.Rules.{member_types}
 use Rattle.rules.specs.Steps.{ty, tree, ty_tree}
 use Rattle.std.proofs.Common.{rules}
@@ -21,7 +20,7 @@ returns-then-same_type c = search rules
 pub returns : goal.returns
 unfolding member_types ty tree ty_tree when member_of
 returns c ls v =
-    told-means c.args.n (told_in_whole _ c.first_free-free.ensures c.members_differ-reported.ensures) member_of Differs c.told.ensures
+    told-means c.args.n c.members_differ-reported.ensures member_of Differs c.told.ensures
     (λ rest.
     rw (← c.word_at-f.ensures, ← c.word_at-t.ensures, ← c.contains_unknown.ensures c.args.texts.now, c.if-contains_unknown.false)
     (rw (← c.contains_unknown-else-contains_unknown.ensures c.args.texts.now, c.if-contains_unknown-2.false, ← c.same_type.ensures, c.if-same_type.false)))
