@@ -1,0 +1,7 @@
+-- `call_args::report_count` meets its contract: diagnostic 19. Assumes nothing.
+use Rattle.err_text.specs.RestLaws.{told_in_whole}
+use Rattle.state.specs.Reporting.{reports_step}
+use Rattle.call_args.proofs.report_count.Goals as goal
+
+pub returns : goal.returns
+returns c = λ s t. rw c.told.ensures (reports_step _ (told_in_whole _ c.first_free-free.ensures c.argument_count-reported.ensures))
