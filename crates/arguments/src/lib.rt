@@ -15,6 +15,15 @@ use err::CallName;
 use state::{Step, Used};
 use tok::{Span, Texts};
 
+// One argument: the name and the expected type of the parameter that it is for, and the slot and the span of its node.
+#[derive(Clone, Copy)]
+pub struct Argument {
+    pub name: u32,
+    pub expected: u32,
+    pub slot: u32,
+    pub span: Span,
+}
+
 // Whether an argument is left unchecked: it has no type, or Unknown stands in it.
 pub fn is_unchecked(types: &[u32], w: u32) -> bool
     ensures { (t : Texts) → result ≡ unchecked t types.now w }
@@ -31,16 +40,14 @@ pub fn compared(
     used: Used,
     n: u32,
     callee: CallName,
-    name: u32,
-    span: Span,
-    expected: u32,
+    arg: Argument,
     provided: u32,
 ) -> Step<()>
     ensures { let U : ℕ → Ty = ty_of texts.now types.now in
-        Compares texts.now n (call_name texts.now callee) name span (U expected) (U provided) types.now diagnostics.old messages.old used diagnostics.new
-        messages.new result }
+        Compares texts.now n (call_name texts.now callee) arg.name arg.span (U arg.expected) (U provided) types.now diagnostics.old messages.old used
+        diagnostics.new messages.new result }
 {
-    if ptype::same_type(types, texts, expected, provided) {
+    if ptype::same_type(types, texts, arg.expected, provided) {
         return Ok(((), used));
     }
     let reported = err_arguments::arg_mismatch(
@@ -49,10 +56,10 @@ pub fn compared(
         used.told,
         types,
         texts,
-        span,
+        arg.span,
         callee,
-        name,
-        expected,
+        arg.name,
+        arg.expected,
         provided,
     );
     state::told(n, used, reported, ())
@@ -68,29 +75,14 @@ pub fn plain_argument(
     used: Used,
     n: u32,
     callee: CallName,
-    name: u32,
-    expected: u32,
-    slot: u32,
-    span: Span,
+    arg: Argument,
 ) -> Step<()>
-    ensures { Leaves texts.now (λ c. argument c n (call_name texts.now callee) false (param name expected) (given slot span)) slots.now types.now diagnostics.old
-        messages.old used diagnostics.new messages.new result }
+    ensures { Leaves texts.now (λ c. argument c n (call_name texts.now callee) false (param arg.name arg.expected) (given arg.slot arg.span)) slots.now
+        types.now diagnostics.old messages.old used diagnostics.new messages.new result }
 {
-    let w = tok::word_at(slots, slot as usize);
+    let w = tok::word_at(slots, arg.slot as usize);
     if is_unchecked(types, w) {
         return Ok(((), used));
     }
-    compared(
-        types,
-        diagnostics,
-        messages,
-        texts,
-        used,
-        n,
-        callee,
-        name,
-        span,
-        expected,
-        w,
-    )
+    compared(types, diagnostics, messages, texts, used, n, callee, arg, w)
 }

@@ -1,5 +1,5 @@
 -- A call of a function without slots, one law for each way out of the code. Assumes nothing.
-use Rattle.std.specs.Prelude.{ℕ, zero, suc, ◌+◌, ◌-◌, ◌≤◌, ◌<◌, ◌≡◌, Bool, false, List, [], ◌∷◌, Option, Ok, Err, length, get_or, drop}
+use Rattle.std.specs.Prelude.{ℕ, zero, suc, ◌+◌, ◌-◌, ◌≤◌, ◌<◌, ◌≡◌, Bool, false, List, [], ◌∷◌, Ok, Err, length, get_or, drop}
 use Rattle.std.specs.Result.{IsErrAnd}
 use Rattle.std.proofs.Math.Path.{refl}
 use Rattle.std.proofs.Common.{ap, ◌∙◌, arith}
@@ -8,26 +8,24 @@ use lib.Seq.{drop-cons}
 use borrow.Author.Tests.{eq-eqb, ne_eqb}
 use Rattle.tok.specs.Text.{Texts}
 use Rattle.tok.specs.Step.{ok, next, when}
-use Rattle.tok.specs.declared.Span.{Span}
 use Rattle.ptype.specs.Slots.{Binding}
 use Rattle.ast.specs.Node.{nodes_from, tree_of, slot_of}
 use Rattle.ast.specs.Span.{span_of}
-use Rattle.err.specs.declared.Counts.{Counts}
 use Rattle.err.specs.Message.{argument_count}
-use Rattle.err.specs.Report.{Reports}
 use Rattle.library.specs.Package.{Param, param, Package}
 use Rattle.rules.specs.declared.Answer.{Answer}
 use Rattle.rules.specs.World.{Ctx, World}
-use Rattle.rules.specs.Steps.{Done, set_known}
+use Rattle.rules.specs.Steps.{Done, report, set_known}
 use Rattle.rules.specs.Calls.{provided_of, argument, arguments, returned, check_call_args}
 use Rattle.state.specs.declared.Used.{Used}
 use Rattle.state.specs.declared.Refusal.{Refusal}
 use Rattle.state.specs.Context.{ctx}
 use Rattle.state.specs.Signatures.{signature_at}
 use Rattle.state.specs.World.{Rest, world, Step, stepped, with_answer, Steps}
-use Rattle.state.specs.Reporting.{told_of, reports_step, passed, on-ok, on-err}
+use Rattle.state.specs.Reporting.{passed, on-ok, on-err}
 use Rattle.arguments.specs.Argument.{given, Leaves}
-use Rattle.call_args.specs.Given.{given_from}
+use Rattle.arguments.specs.declared.Argument.{Argument}
+use Rattle.call_args.specs.Given.{given_from, argument_in}
 
 -- ── Each argument ──
 
@@ -57,13 +55,12 @@ module _ (texts : Texts) (n : ℕ) (call_name : List ℕ) (ps : List Param) (ima
         let z : count - i ≡ 0 = omega arith in
         record { step = λ library void bs. record { step = λ rest. h.so library void bs rest ∙ rw z (arguments-none (ctx texts library void) n call_name false (drop i ps) bs (world rest s t d' m' u')) } }
 
-    module _ (long : count ≡ length ps) (l : i < count) {number name type slot : ℕ} {span : Span} (en : number ≡ get_or image (args + i) 0) (ename : name ≡ (get_or ps i (param 0 0)).name)
-        (etype : type ≡ (get_or ps i (param 0 0)).type) (eslot : slot ≡ slot_of (tree_of image number)) (espan : span ≡ span_of (tree_of image number)) {d'' m'' : List ℕ} {r : Step Done}
-        (a : Leaves texts (λ c. argument c n call_name false (param name type) (given slot span)) s t d' m' u' d'' m'' r) where
+    module _ (long : count ≡ length ps) (l : i < count) {arg : Argument} (e : arg ≡ argument_in image args ps i) {d'' m'' : List ℕ} {r : Step Done}
+        (a : Leaves texts (λ c. argument c n call_name false (param arg.name arg.expected) (given arg.slot arg.span)) s t d' m' u' d'' m'' r) where
       one : (library : List Package) (void : ℕ) (bs : List Binding)
           → Steps (argument (ctx texts library void) n call_name false (get_or ps i (param 0 0)) (given (slot_of (tree_of image (get_or image (args + i) 0))) (span_of (tree_of image (get_or image (args + i) 0)))) bs)
           s t d' m' u' s t d'' m'' (with_answer (λ _. bs) r)
-      one library void bs = rw (ename, etype, eslot, espan, en) at (a.step library void bs)
+      one library void bs = rw e at (a.step library void bs)
 
       split : (library : List Package) (void : ℕ) (bs : List Binding) (rest : Rest)
           → arguments (ctx texts library void) n call_name false ps (given_from image args count) bs (world rest s t d m u)
@@ -94,16 +91,16 @@ length-given image (suc k) at = ap suc (length-given image k (at + 1))
 module _ (texts : Texts) (n slot token : ℕ) (call_name words : List ℕ) (at : ℕ) (image : List ℕ) (args count : ℕ) (s t d m : List ℕ) (u : Used) {required ret : ℕ}
     (en : (f : Bool) → required ≡ length (signature_at words at f).params) (er : (f : Bool) → ret ≡ (signature_at words at f).ret) {d' m' : List ℕ} {r : Step Done} where
   -- another number of arguments
-  module _ {reported : Option Counts} (differ : count ≡ required → ⊥) (p : Reports (argument_count token call_name required count) d m u.told d' m' reported) (is : r ≡ told_of n u reported tt) where
+  module _ (differ : count ≡ required → ⊥) (p : Steps (report n (argument_count token call_name required count)) s t d m u s t d' m' r) where
     pub miscounted : {v : Used} {s' : List ℕ} {q : Step Answer} → r ≡ Ok (tt, v) → ((t d m : List ℕ) → Steps (set_known slot ret) s t d m v s' t d m q)
         → (library : List Package) (void : ℕ) → Steps (check_call_args (ctx texts library void) n slot token call_name (signature_at words at false) (given_from image args count)) s t d m u s' t d' m' q
     unfolding check_call_args signature_at when
-    miscounted {v} o k library void = rw (length-given image count args, ← en false, ne_eqb count required differ, ← er false) (on-ok (λ _. set_known slot ret) (rw is (reports_step n p)) o (k t d' m'))
+    miscounted {v} o k library void = rw (length-given image count args, ← en false, ne_eqb count required differ, ← er false) (on-ok (λ _. set_known slot ret) p o (k t d' m'))
 
     pub miscounted-full : {e : Refusal} {q : Step Answer} → r ≡ Err e → IsErrAnd q (λ y. y ≡ e)
         → (library : List Package) (void : ℕ) → Steps (check_call_args (ctx texts library void) n slot token call_name (signature_at words at false) (given_from image args count)) s t d m u s t d' m' q
     unfolding check_call_args signature_at when
-    miscounted-full o k library void = rw (length-given image count args, ← en false, ne_eqb count required differ, ← er false) (on-err (λ _. set_known slot ret) (rw is (reports_step n p)) o k)
+    miscounted-full o k library void = rw (length-given image count args, ← en false, ne_eqb count required differ, ← er false) (on-err (λ _. set_known slot ret) p o k)
 
   -- each argument, and then the return type
   module _ (same : count ≡ required) (a : Leaves texts (λ c. arguments c n call_name false (signature_at words at false).params (given_from image args count)) s t d m u d' m' r) where

@@ -1,6 +1,9 @@
 -- The arguments that a call provides, by their place in the image, and what the steps of the call take for granted. Definitions.
-use Rattle.std.specs.Prelude.{ℕ, ◌≡◌, Bool, List, length}
-use Rattle.ast.specs.Node.{nodes_from, tree_of}
+use Rattle.std.specs.Prelude.{ℕ, ◌+◌, ◌≡◌, Bool, List, length, get_or}
+use Rattle.ast.specs.Node.{Node, nodes_from, tree_of, slot_of}
+use Rattle.ast.specs.Span.{span_of}
+use Rattle.library.specs.Package.{Param, param}
+use Rattle.arguments.specs.declared.Argument.{Argument}
 use Rattle.rules.specs.Calls.{Provided, provided_of}
 use Rattle.state.specs.Signatures.{signature_at}
 use Rattle.spans.specs.Ready.{NodesReady}
@@ -8,6 +11,13 @@ use Rattle.spans.specs.Ready.{NodesReady}
 -- k arguments, whose node numbers stand from word `at` of the image on
 abbrev pub given_from : (image : List ℕ) → (at k : ℕ) → List Provided
 given_from image at k = provided_of (nodes_from (tree_of image) image at k)
+
+-- argument number i, for the parameter of that number
+abbrev pub argument_in : (image : List ℕ) → (args : ℕ) → List Param → (i : ℕ) → Argument
+argument_in image args ps i =
+    let p : Param = get_or ps i (param 0 0) in
+    let node : Node = tree_of image (get_or image (args + i) 0) in
+    record { name = p.name; expected = p.type; slot = slot_of node; span = span_of node }
 
 -- the arguments are nodes of an accepted image, and as many as the signature asks for
 pub record CallReady (image places : List ℕ) (n args count : ℕ) (words : List ℕ) (at : ℕ) : Type 0 where

@@ -2,24 +2,80 @@
 // The buffers are lent in one order: slots, types, diagnostics, messages; then the two texts, the image and the places of its records.
 #![tactic(auto)]
 
-ghost use Rattle.std.specs.Prelude.{◌≡◌, false, List, ℕ};
+ghost use Rattle.std.specs.Prelude.{◌≡◌, ◌<◌, Bool, false, List, ℕ, length, get_or};
 ghost use Rattle.ast.specs.Node.{tree_of, slot_of};
-ghost use Rattle.err.specs.Message.{call_name};
-ghost use Rattle.library.specs.Package.{Package};
-ghost use Rattle.rules.specs.Calls.{arguments, check_call_args};
+ghost use Rattle.err.specs.Message.{argument_count, call_name};
+ghost use Rattle.library.specs.Package.{Package, Param, param};
+ghost use Rattle.rules.specs.Steps.{report};
+ghost use Rattle.rules.specs.Calls.{Provided, arguments, check_call_args};
 ghost use Rattle.state.specs.Context.{ctx};
 ghost use Rattle.state.specs.Signatures.{signature_at};
 ghost use Rattle.state.specs.World.{Steps};
 ghost use Rattle.arguments.specs.Argument.{Leaves};
 ghost use Rattle.places.specs.NodesAt.{NodeReady};
 ghost use Rattle.spans.specs.Ready.{NodesReady};
-ghost use Rattle.call_args.specs.Given.{given_from, CallReady};
+ghost use Rattle.call_args.specs.Given.{given_from, argument_in, CallReady};
+ghost use Rattle.call_args.specs.SignatureAt.{SignatureAt, signature_by};
 
+use arguments::Argument;
 use err::CallName;
 use places::Image;
 use rules::Answer;
 use state::{Step, Used};
+use std::marker::Model;
 use tok::Texts;
+
+// A call: its node, the slot of its answer, and its arguments, whose node numbers stand from word `args` of the image on.
+#[derive(Clone, Copy)]
+pub struct Call {
+    pub n: u32,
+    pub slot: u32,
+    pub args: usize,
+    pub count: usize,
+}
+
+// A signature, by the place of its argument count.
+#[derive(Drop)]
+pub struct Signature<'a> {
+    pub words: &'a [u32],
+    pub at: usize,
+}
+
+impl<'a> Model for Signature<'a> {
+    ghost Value = { SignatureAt };
+
+    ghost view = { λ s. signature_by s.words.now s.at };
+}
+
+impl<'a> Signature<'a> {
+    // How many arguments it takes.
+    pub fn argument_count(&self) -> usize
+        ensures { (f : Bool) → result ≡ length (signature_at self.now.words self.now.at f).params }
+    {
+        signatures::argument_count(self.words, self.at)
+    }
+
+    // The name of argument number i.
+    pub fn argument_name(&self, i: usize) -> u32
+        ensures { (f : Bool) → result ≡ (get_or (signature_at self.now.words self.now.at f).params i (param 0 0)).name }
+    {
+        signatures::argument_name(self.words, self.at, i)
+    }
+
+    // Its type.
+    pub fn argument_type(&self, i: usize) -> u32
+        ensures { (f : Bool) → result ≡ (get_or (signature_at self.now.words self.now.at f).params i (param 0 0)).type }
+    {
+        signatures::argument_type(self.words, self.at, i)
+    }
+
+    // What it returns.
+    pub fn return_type(&self) -> u32
+        ensures { (f : Bool) → result ≡ (signature_at self.now.words self.now.at f).ret }
+    {
+        signatures::return_type(self.words, self.at)
+    }
+}
 
 // The slot of a node.
 pub fn slot_of(image: &Image, n: u32) -> u32
@@ -27,6 +83,48 @@ pub fn slot_of(image: &Image, n: u32) -> u32
     ensures { result ≡ slot_of (tree_of image.now.words n) }
 {
     image.word_at(image.node_place(n) + 1)
+}
+
+// Argument number i of a call, for the parameter of that number.
+pub fn argument_of(image: &Image, call: Call, signature: &Signature, i: usize) -> Argument
+    requires given { NodesReady image.now.words image.now.places call.n call.args call.count }
+    requires within { i < call.count }
+    ensures { (f : Bool) → result ≡ argument_in image.now.words call.args (signature_at signature.now.words signature.now.at f).params i }
+{
+    let number = image.word_at(call.args + i);
+    Argument {
+        name: signature.argument_name(i),
+        expected: signature.argument_type(i),
+        slot: slot_of(image, number),
+        span: spans::span_of(image, number),
+    }
+}
+
+// Another number of arguments than the signature's: 19.
+pub fn report_count(
+    diagnostics: &mut [u32],
+    messages: &mut [u8],
+    texts: &Texts,
+    used: Used,
+    call: Call,
+    token: u32,
+    callee: CallName,
+    required: usize,
+) -> Step<()>
+    ensures { (s t : List ℕ) → Steps (report call.n (argument_count token (call_name texts.now callee) required call.count)) s t diagnostics.old messages.old used
+        s t diagnostics.new messages.new result }
+{
+    let reported = err_calls::argument_count(
+        diagnostics,
+        messages,
+        used.told,
+        texts,
+        token,
+        callee,
+        required,
+        call.count,
+    );
+    state::told(call.n, used, reported, ())
 }
 
 // Each argument, in order.
@@ -38,20 +136,18 @@ fn plain_arguments(
     texts: &Texts,
     image: &Image,
     used: Used,
-    n: u32,
+    call: Call,
     callee: CallName,
-    words: &[u32],
-    at: usize,
-    args: usize,
-    count: usize,
+    signature: &Signature,
 ) -> Step<()>
-    requires { CallReady image.now.words image.now.places n args count words.now at }
-    ensures { Leaves texts.now (λ c. arguments c n (call_name texts.now callee) false (signature_at words.now at false).params (given_from image.now.words args count)) slots.now
-        types.now diagnostics.old messages.old used diagnostics.new messages.new result }
+    requires { CallReady image.now.words image.now.places call.n call.args call.count signature.now.words signature.now.at }
+    ensures { let ps : List Param = (signature_at signature.now.words signature.now.at false).params in
+        Leaves texts.now (λ c. arguments c call.n (call_name texts.now callee) false ps (given_from image.now.words call.args call.count)) slots.now types.now
+        diagnostics.old messages.old used diagnostics.new messages.new result }
 {
     let mut used = used;
-    for i in 0..count {
-        let number = image.word_at(args + i);
+    for i in 0..call.count {
+        let arg = argument_of(image, call, signature, i);
         let (_, after) = arguments::plain_argument(
             slots,
             types,
@@ -59,20 +155,16 @@ fn plain_arguments(
             messages,
             texts,
             used,
-            n,
+            call.n,
             callee,
-            signatures::argument_name(words, at, i),
-            signatures::argument_type(words, at, i),
-            slot_of(image, number),
-            spans::span_of(image, number),
+            arg,
         )?;
         used = after;
     }
     Ok(((), used))
 }
 
-// Typechecker::check_call_args, of a function without slots whose signature stands at a place of `words`. Another number of arguments is 19,
-// yet the return type is known.
+// Typechecker::check_call_args, of a function without slots. Another number of arguments is 19, yet the return type is known.
 pub fn check_plain(
     slots: &mut [u32],
     types: &[u32],
@@ -81,35 +173,32 @@ pub fn check_plain(
     texts: &Texts,
     image: &Image,
     used: Used,
-    n: u32,
-    slot: u32,
+    call: Call,
     token: u32,
     callee: CallName,
-    words: &[u32],
-    at: usize,
-    args: usize,
-    count: usize,
+    signature: &Signature,
 ) -> Step<Answer>
-    requires { NodesReady image.now.words image.now.places n args count }
-    ensures { ((ls : List Package) (v : ℕ) → Steps
-        (check_call_args (ctx texts.now ls v) n slot token (call_name texts.now callee) (signature_at words.now at false) (given_from image.now.words args count)) slots.old
+    requires { NodesReady image.now.words image.now.places call.n call.args call.count }
+    ensures { ((ls : List Package) (v : ℕ) →
+        let given : List Provided = given_from image.now.words call.args call.count in
+        let name : List ℕ = call_name texts.now callee in
+        Steps (check_call_args (ctx texts.now ls v) call.n call.slot token name (signature_at signature.now.words signature.now.at false) given) slots.old
         types.now diagnostics.old messages.old used slots.new types.now diagnostics.new messages.new result) }
 {
-    let required = signatures::argument_count(words, at);
-    let ret = signatures::return_type(words, at);
-    if count != required {
-        let reported = err_calls::argument_count(
+    let required = signature.argument_count();
+    let ret = signature.return_type();
+    if call.count != required {
+        let (_, used) = report_count(
             diagnostics,
             messages,
-            used.told,
             texts,
+            used,
+            call,
             token,
             callee,
             required,
-            count,
-        );
-        let (_, used) = state::told(n, used, reported, ())?;
-        return operators::set_known(slots, used, slot, ret);
+        )?;
+        return operators::set_known(slots, used, call.slot, ret);
     }
     let (_, used) = plain_arguments(
         &slots[..],
@@ -119,12 +208,9 @@ pub fn check_plain(
         texts,
         image,
         used,
-        n,
+        call,
         callee,
-        words,
-        at,
-        args,
-        count,
+        signature,
     )?;
-    operators::set_known(slots, used, slot, ret)
+    operators::set_known(slots, used, call.slot, ret)
 }

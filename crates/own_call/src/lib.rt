@@ -5,6 +5,7 @@ ghost use Rattle.std.specs.Prelude.{◌≡◌};
 ghost use Rattle.call_args.specs.Given.{given_from};
 ghost use Rattle.own_call.specs.OwnCalls.{OwnReady, OwnCalls};
 
+use call_args::{Call, Signature};
 use err::CallName;
 use places::Image;
 use rules::Answer;
@@ -22,14 +23,11 @@ pub fn resolve_call(
     texts: &Texts,
     image: &Image,
     used: Used,
-    n: u32,
-    slot: u32,
+    call: Call,
     name: u32,
-    args: usize,
-    count: usize,
 ) -> Step<Answer>
-    requires { OwnReady functions.now k image.now.words image.now.places n args count }
-    ensures { OwnCalls texts.now n slot name (given_from image.now.words args count) functions.now k slots.old types.now diagnostics.old
+    requires { OwnReady functions.now k image.now.words image.now.places call.n call.args call.count }
+    ensures { OwnCalls texts.now call.n call.slot name (given_from image.now.words call.args call.count) functions.now k slots.old types.now diagnostics.old
         messages.old used slots.new diagnostics.new messages.new result }
 {
     match scope::find_own(texts, functions, k, name) {
@@ -41,18 +39,17 @@ pub fn resolve_call(
             texts,
             image,
             used,
-            n,
-            slot,
+            call,
             name,
             CallName::Own(name),
-            functions,
-            at,
-            args,
-            count,
+            &Signature {
+                words: functions,
+                at,
+            },
         ),
         None => {
             let reported = err_calls::undefined_own(diagnostics, messages, used.told, texts, name);
-            state::told(n, used, reported, Answer::Poison)
+            state::told(call.n, used, reported, Answer::Poison)
         }
     }
 }

@@ -11,10 +11,11 @@ ghost use Rattle.slots.specs.Bindings.{bindings_of};
 ghost use Rattle.slotted.specs.Argues.{AfterBinding, Argues};
 ghost use Rattle.slotted.specs.Meant.{Meant, ArgumentMeant};
 
+use arguments::Argument;
 use err::CallName;
 use slots::{Bind, BindError, Bindings};
 use state::{Refusal, Step, Used};
-use tok::{Span, Texts};
+use tok::Texts;
 
 // The argument bound without an error: the expected type with its slots applied is compared.
 fn applied(
@@ -26,16 +27,14 @@ fn applied(
     used: Used,
     n: u32,
     callee: CallName,
-    name: u32,
-    expected: u32,
+    arg: Argument,
     provided: u32,
-    span: Span,
 ) -> Step<()>
-    requires { Meant texts.now types.old used.types expected × Meant texts.now types.old used.types provided }
-    ensures { AfterBinding texts.now n (call_name texts.now callee) name expected span provided types.old diagnostics.old messages.old used (bindings_of texts.now bindings.now) (Ok tt)
-        types.new diagnostics.new messages.new result }
+    requires { Meant texts.now types.old used.types arg.expected × Meant texts.now types.old used.types provided }
+    ensures { AfterBinding texts.now n (call_name texts.now callee) arg.name arg.expected arg.span provided types.old diagnostics.old messages.old used
+        (bindings_of texts.now bindings.now) (Ok tt) types.new diagnostics.new messages.new result }
 {
-    let added = apply::apply_slot_binding(types, used.types, texts, bindings, expected);
+    let added = apply::apply_slot_binding(types, used.types, texts, bindings, arg.expected);
     let (word, used) = state::added(n, used, added)?;
     arguments::compared(
         &types[..],
@@ -45,9 +44,10 @@ fn applied(
         used,
         n,
         callee,
-        name,
-        span,
-        word,
+        Argument {
+            expected: word,
+            ..arg
+        },
         provided,
     )
 }
@@ -63,14 +63,12 @@ fn after_binding(
     bound: Bind,
     n: u32,
     callee: CallName,
-    name: u32,
-    expected: u32,
+    arg: Argument,
     provided: u32,
-    span: Span,
 ) -> Step<()>
-    requires { Meant texts.now types.old used.types expected × Meant texts.now types.old used.types provided }
-    ensures { AfterBinding texts.now n (call_name texts.now callee) name expected span provided types.old diagnostics.old messages.old used (bindings_of texts.now bindings.now) bound
-        types.new diagnostics.new messages.new result }
+    requires { Meant texts.now types.old used.types arg.expected × Meant texts.now types.old used.types provided }
+    ensures { AfterBinding texts.now n (call_name texts.now callee) arg.name arg.expected arg.span provided types.old diagnostics.old messages.old used
+        (bindings_of texts.now bindings.now) bound types.new diagnostics.new messages.new result }
 {
     match bound {
         Ok(()) => applied(
@@ -82,10 +80,8 @@ fn after_binding(
             used,
             n,
             callee,
-            name,
-            expected,
+            arg,
             provided,
-            span,
         ),
         Err(error) => match error {
             BindError::Conflict {
@@ -99,7 +95,7 @@ fn after_binding(
                     used.told,
                     &types[..],
                     texts,
-                    span,
+                    arg.span,
                     callee,
                     slot,
                     existing,
@@ -113,7 +109,7 @@ fn after_binding(
                     messages,
                     used.told,
                     texts,
-                    span,
+                    arg.span,
                     callee,
                     slot,
                 );
@@ -136,23 +132,20 @@ pub fn slotted_argument(
     used: Used,
     n: u32,
     callee: CallName,
-    name: u32,
-    expected: u32,
-    slot: u32,
-    span: Span,
+    arg: Argument,
 ) -> Step<()>
-    requires { ArgumentMeant texts.now slots.now types.old used.types expected slot bindings.old }
-    ensures { Argues texts.now (λ c. argument c n (call_name texts.now callee) true (param name expected) (given slot span)) slots.now types.old diagnostics.old
-        messages.old used bindings.old types.new diagnostics.new messages.new bindings.new result }
+    requires { ArgumentMeant texts.now slots.now types.old used.types arg.expected arg.slot bindings.old }
+    ensures { Argues texts.now (λ c. argument c n (call_name texts.now callee) true (param arg.name arg.expected) (given arg.slot arg.span)) slots.now
+        types.old diagnostics.old messages.old used bindings.old types.new diagnostics.new messages.new bindings.new result }
 {
-    let w = tok::word_at(slots, slot as usize);
+    let w = tok::word_at(slots, arg.slot as usize);
     if arguments::is_unchecked(&types[..], w) {
         return Ok(((), used));
     }
     if ptype::contains_slot(&types[..], w) {
         return Ok(((), used));
     }
-    let bound = slots::bind_slots(bindings, &types[..], texts, expected, w);
+    let bound = slots::bind_slots(bindings, &types[..], texts, arg.expected, w);
     after_binding(
         types,
         diagnostics,
@@ -163,9 +156,7 @@ pub fn slotted_argument(
         bound,
         n,
         callee,
-        name,
-        expected,
+        arg,
         w,
-        span,
     )
 }

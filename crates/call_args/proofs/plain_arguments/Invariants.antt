@@ -11,6 +11,6 @@ use Rattle.call_args.proofs.plain_arguments.Given as goal
 abbrev pub invariant-loop-i : goal.invariant-loop-i
 invariant-loop-i l =
     let first = l.initial in
-    SoFar l.texts l.n (call_name l.texts l.callee) (signature_at l.words l.at false).params l.image.words l.args l.count l.slots l.types first.diagnostics first.messages first.used
+    SoFar l.texts l.call.n (call_name l.texts l.callee) (signature_at l.signature.words l.signature.at false).params l.image.words l.call.args l.call.count l.slots l.types first.diagnostics first.messages first.used
     l.i l.diagnostics l.messages l.used
     × (length l.diagnostics ≡ length first.diagnostics) × (length l.messages ≡ length first.messages)
