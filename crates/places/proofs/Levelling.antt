@@ -13,7 +13,7 @@ use Rattle.ast.specs.declared.ExprKind.TheVariants as expr
 use Rattle.ast.specs.Kinds.{kind_of_expr}
 use Rattle.ast.specs.KindLaws.{expr-number}
 use Rattle.tok.specs.Word.{kind_of, payload_of}
-use Rattle.places.specs.Places.{clipped, levels_in, most_in, levels_inside, levels_at, fill_levels}
+use Rattle.places.specs.Places.{levels_in, most_in, levels_inside, levels_at, fill_levels}
 
 -- ── The fields ──
 
@@ -78,12 +78,6 @@ module _ (image places : List ℕ) (at : ℕ) {head k : ℕ} (eh : head ≡ get_
       by (suc (suc (suc zero))) q = absurd (a q)
       by (suc (suc (suc (suc zero)))) q = absurd (c q)
       by (suc (suc (suc (suc (suc j))))) q = rw (kind q)
-
--- one more than what is inside
-pub level-is : (image places : List ℕ) (t : ℕ) {at inside r : ℕ} → at ≡ get_or places (2048 + t) 0 → inside ≡ levels_inside image places at → r ≡ clipped (1 + inside)
-    → r ≡ levels_at image places t
-unfolding levels_at
-level-is image places t ea ei er = er ∙ rw (ei, ea)
 
 -- ── The types ──
 

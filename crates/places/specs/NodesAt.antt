@@ -6,8 +6,10 @@ use Rattle.tok.specs.Word.{kind_of, payload_of}
 use Rattle.ast.specs.Image.{node_count, node_place, record_kind, record_length}
 use Rattle.ast.specs.Node.{read_atom, read_ident, read_bin, read_unary, read_let, read_fn, read_match, read_call, read_field, read_cast, read_import, read_extern, read_record, read_array, tree_of}
 use Rattle.ast.specs.Outline.{Counts}
-use Rattle.image_laws.specs.RecordWords.{Under, AtomWords, IdentWords, BinWords, UnaryWords, LetWords, FnWords, MatchWords, CallWords, FieldWords, CastWords, ImportWords, ExternWords, RecordWords, ArrayWords}
-use Rattle.image_laws.proofs.NodesRead.{atom-words, ident-words, bin-words, unary-words, let_words, fn-words, match-words, call-words, field-words, cast-words, import_words, extern-words, record_words, array-words}
+use Rattle.image_laws.specs.RecordWords.{Under, AtomWords, IdentWords, BinWords, UnaryWords, LetWords, FnWords, MatchWords, CallWords, FieldWords, CastWords, ImportWords}
+use Rattle.image_laws.specs.RecordWords.{ExternWords, RecordWords, ArrayWords}
+use Rattle.image_laws.proofs.NodesRead.{atom-words, ident-words, bin-words, unary-words, let_words, fn-words, match-words, call-words, field-words, cast-words, import_words}
+use Rattle.image_laws.proofs.NodesRead.{extern-words, record_words, array-words}
 use Rattle.image_laws.proofs.Accepted.{counts_in}
 use Rattle.trees.specs.Trees.{tree-atom, tree-ident, tree-bin, tree-unary, tree_let, tree-fn, tree-match, tree-call, tree-field, tree-cast, tree_import, tree-extern, tree_record, tree-array}
 use Rattle.places.specs.Readable.{Readable, node-there, node-read, node-room, node-kind}

@@ -76,10 +76,11 @@ impl<'a> Image<'a> {
 fn clipped(at: usize) -> u16
     ensures { result ≡ clipped at }
 {
-    if at <= 65535 { at as u16 } else { 65535 }
+    u16::try_from(at).unwrap_or(u16::MAX)
 }
 
 // Where the record after the one at a place stands.
+#[tactic(auto, unfolding(crate::specs::Places::place_after))]
 fn place_after(image: &[u32], at: u16) -> u16
     ensures { result ≡ place_after image.now at }
 {
@@ -141,12 +142,12 @@ fn levels_inside(places: &[u16], image: &[u32], at: u16) -> u16
 }
 
 // The levels of type t.
+#[tactic(auto, unfolding(crate::specs::Places::levels_at))]
 fn levels_at(places: &[u16], image: &[u32], t: usize) -> u16
     requires { t < 2 ^ 40 }
     ensures { result ≡ levels_at image.now places.now t }
 {
-    let inside = levels_inside(places, image, place(places, TYPES + t));
-    clipped(1 + inside as usize)
+    levels_inside(places, image, place(places, TYPES + t)).saturating_add(1)
 }
 
 // Fills in the levels of some types, each after its parts: "A part's number is smaller than its owner's."

@@ -1,11 +1,12 @@
 // The rows of an answer one after the other, part by part: what a printing loop calls.
 #![tactic(auto)]
 
-ghost use Rattle.std.specs.Prelude.{◌≡◌, ℕ};
+ghost use Rattle.std.specs.Prelude.{◌≡◌};
 ghost use Rattle.rows_window.specs.Showing.{Shows};
-ghost use Rattle.rows_part.specs.Printing.{Answer, answer_of, row_of, diag_from, fn_from, next_of, Prints};
+ghost use Rattle.rows_part.specs.Printing.{Answer, answer_of, row_of, diag_from, fn_from, next_in, Prints};
 
 use rows_window::Window;
+use std::marker::Model;
 use tok::{Texts, word_at};
 
 // A row: a slot's by its number, a function's by the place of its entry, a diagnostic's by its number; the last of an answer; a refusal's with number
@@ -29,152 +30,131 @@ pub struct Part {
     pub skip: usize,
 }
 
-// The bytes of a row, through a window.
-fn put_row(
-    w: &mut Window,
-    texts: &Texts,
-    slots: &[u32],
-    types: &[u32],
-    functions: &[u32],
-    diagnostics: &[u32],
-    messages: &[u8],
-    count: u32,
-    row: Row,
-)
-    ensures { (last words : ℕ) → Shows w.old w.new
-        (row_of (answer_of texts.now slots.now types.now functions.now
-        diagnostics.now messages.now last words count) row) }
-{
-    match row {
-        Row::Slot(i) => {
-            let slot = i as usize;
-            let word = word_at(slots, slot);
-            rows::slot_row(w, types, texts, slot, word);
-        }
-        Row::Fn(at) => {
-            rows::fn_row(w, types, texts, functions, at);
-        }
-        Row::Diag(k) => {
-            rows::diag_row(w, diagnostics, messages, k);
-        }
-        Row::End => {
-            rows::end_row(w, count as usize);
-        }
-        Row::Refused(number, place) => {
-            rows::refused_row(w, number as usize, place);
-        }
-        Row::Input => {
-            rows::input_row(w);
-        }
-        Row::Done => {
-            w.put(b"");
-        }
-    }
+// What rows are printed from: the texts, the buffers, V, and how many function words and diagnostics are used.
+#[derive(Drop)]
+pub struct Answer<'a> {
+    pub texts: &'a Texts<'a>,
+    pub slots: &'a [u32],
+    pub types: &'a [u32],
+    pub functions: &'a [u32],
+    pub diagnostics: &'a [u32],
+    pub messages: &'a [u8],
+    pub last: u32,
+    pub words: u32,
+    pub count: u32,
 }
 
-// The row of diagnostic k, or the last row where there are no more.
-fn diag_from(count: u32, k: usize) -> Row
-    ensures { result ≡ diag_from count k }
-{
-    if k < count as usize {
-        return Row::Diag(k as u32);
-    }
-    Row::End
+impl<'a> Model for Answer<'a> {
+    ghost Value = { Answer };
+
+    ghost view = { λ a. answer_of a.texts.now a.slots.now a.types.now a.functions.now
+        a.diagnostics.now a.messages.now a.last a.words a.count };
 }
 
-// The row of the function whose entry is at a place, or the first diagnostic's where there are no more.
-fn fn_from(words: u32, count: u32, at: usize) -> Row
-    ensures { result ≡ fn_from words count at }
-{
-    if at < words as usize {
-        return Row::Fn(at as u32);
-    }
-    diag_from(count, 0)
-}
-
-// The row behind a row.
-fn next(functions: &[u32], last: u32, words: u32, count: u32, row: Row) -> Row
-    ensures { result ≡ next_of functions.now last words count row }
-{
-    match row {
-        Row::Slot(i) => {
-            if i < last {
-                return Row::Slot(i + 1);
+impl<'a> Answer<'a> {
+    // The bytes of a row, through a window.
+    #[tactic(auto, unfolding(crate::specs::Printing::row_of), using(rows_window::specs::ShowingLaws::shows_as))]
+    fn put_row(&self, w: &mut Window, row: Row)
+        ensures { Shows w.old w.new (row_of self.now row) }
+    {
+        match row {
+            Row::Slot(i) => {
+                let slot = i as usize;
+                let word = word_at(self.slots, slot);
+                rows::slot_row(w, self.types, self.texts, slot, word);
             }
-            return fn_from(words, count, 0);
-        }
-        Row::Fn(at) => {
-            let i = at as usize;
-            let n = word_at(functions, i + 1) as usize;
-            return fn_from(words, count, i + 3 + 2 * n);
-        }
-        Row::Diag(k) => {
-            return diag_from(count, k as usize + 1);
-        }
-        Row::End => {
-            return Row::Done;
-        }
-        Row::Refused(_, _) => {
-            return Row::Done;
-        }
-        Row::Input => {
-            return Row::Done;
-        }
-        Row::Done => {
-            return Row::Done;
+            Row::Fn(at) => {
+                rows::fn_row(w, self.types, self.texts, self.functions, at);
+            }
+            Row::Diag(k) => {
+                rows::diag_row(w, self.diagnostics, self.messages, k);
+            }
+            Row::End => {
+                rows::end_row(w, self.count as usize);
+            }
+            Row::Refused(number, place) => {
+                rows::refused_row(w, number as usize, place);
+            }
+            Row::Input => {
+                rows::input_row(w);
+            }
+            Row::Done => {
+                w.put(b"");
+            }
         }
     }
-}
 
-// Writes the part of a row behind its first bytes into a buffer, as much as has room. A part goes no further than to the last place of a row that a
-// number can say: where the bytes passed over are as many as that, it is empty.
-pub fn write_part(
-    out: &mut [u8],
-    texts: &Texts,
-    slots: &[u32],
-    types: &[u32],
-    functions: &[u32],
-    diagnostics: &[u32],
-    messages: &[u8],
-    last: u32,
-    words: u32,
-    count: u32,
-    row: Row,
-    skip: usize,
-) -> Part
-    ensures { Prints
-        (answer_of texts.now slots.now types.now functions.now
-        diagnostics.now messages.now last words count)
-        row skip out.old out.new result }
-{
-    let mut w = Window {
-        buffer: out,
-        skip,
-        at: 0,
-    };
-    put_row(
-        &mut w,
-        texts,
-        slots,
-        types,
-        functions,
-        diagnostics,
-        messages,
-        count,
-        row,
-    );
-    let room = w.buffer.len().min(usize::MAX - skip);
-    let n = w.at.min(room);
-    if n < room {
-        return Part {
-            bytes: n,
-            row: next(functions, last, words, count, row),
-            skip: 0,
-        };
+    // The row of diagnostic k, or the last row where there are no more.
+    #[tactic(auto, unfolding(crate::specs::Printing::diag_from))]
+    fn diag_from(&self, k: usize) -> Row
+        ensures { result ≡ diag_from self.now.count k }
+    {
+        if k < self.count as usize {
+            Row::Diag(k as u32)
+        } else {
+            Row::End
+        }
     }
-    Part {
-        bytes: n,
-        row,
-        skip: skip + n,
+
+    // The row of the function whose entry is at a place, or the first diagnostic's where there are no more.
+    #[tactic(auto, unfolding(crate::specs::Printing::fn_from))]
+    fn fn_from(&self, at: usize) -> Row
+        ensures { result ≡ fn_from self.now.words self.now.count at }
+    {
+        if at < self.words as usize {
+            Row::Fn(at as u32)
+        } else {
+            self.diag_from(0)
+        }
+    }
+
+    // The row behind a row.
+    #[tactic(auto, unfolding(crate::specs::Printing::next_of))]
+    fn next(&self, row: Row) -> Row
+        ensures { result ≡ next_in self.now row }
+    {
+        match row {
+            Row::Slot(i) => {
+                if i < self.last {
+                    Row::Slot(i + 1)
+                } else {
+                    self.fn_from(0)
+                }
+            }
+            Row::Fn(at) => {
+                let i = at as usize;
+                let n = word_at(self.functions, i + 1) as usize;
+                self.fn_from(i + 3 + 2 * n)
+            }
+            Row::Diag(k) => self.diag_from(k as usize + 1),
+            Row::End | Row::Refused(_, _) | Row::Input | Row::Done => Row::Done,
+        }
+    }
+
+    // Writes the part of a row behind its first bytes into a buffer, as much as has room. A part goes no further than to the last place of a row
+    // that a number can say: where the bytes passed over are as many as that, it is empty.
+    pub fn write_part(&self, out: &mut [u8], row: Row, skip: usize) -> Part
+        ensures { Prints self.now row skip out.old out.new result }
+    {
+        let mut w = Window {
+            buffer: out,
+            skip,
+            at: 0,
+        };
+        self.put_row(&mut w, row);
+        let room = w.buffer.len().min(usize::MAX - skip);
+        let n = w.at.min(room);
+        if n < room {
+            return Part {
+                bytes: n,
+                row: self.next(row),
+                skip: 0,
+            };
+        }
+        Part {
+            bytes: n,
+            row,
+            skip: skip + n,
+        }
     }
 }

@@ -14,7 +14,8 @@ use Rattle.trees.specs.SameWords.{cases_end_lem, cases_default}
 use Rattle.places.specs.NodesAt.{NodeReady, PartReady, part-ready, counts_of, record_room, length-there, words-fn, words-match, words-call, words_import, words-extern, words_record, words-array}
 use Rattle.spans.specs.Ready.{NodesReady, ValuesReady, CasesReady, ExternsReady, MatchReady}
 
-module _ {image places : List ℕ} {n at : ℕ} (r : NodeReady image places n) (e : at ≡ get_or places n 0) {h k long : ℕ} (eh : h ≡ get_or image at 0) (ek : k ≡ kind_of h) (el : long ≡ payload_of h) where
+module _ {image places : List ℕ} {n at : ℕ} (r : NodeReady image places n) (e : at ≡ get_or places n 0)
+    {h k long : ℕ} (eh : h ≡ get_or image at 0) (ek : k ≡ kind_of h) (el : long ≡ payload_of h) where
   same : record_length image at ≡ long
   same = sym (length-there r e eh ek el)
 

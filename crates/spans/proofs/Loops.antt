@@ -25,6 +25,17 @@ module _ {k i : ℕ} where
 pub one-less : (k i : ℕ) → k - (i + 1) ≡ k - i - 1
 one-less k i = omega arith
 
+-- all k from word `at` on
+pub whole-left : (at k : ℕ) → at + k - at ≡ k
+whole-left at k = omega arith
+
+-- pairs from word `at` on
+pub first-pair : (at : ℕ) → at + 2 * 0 ≡ at
+first-pair at = omega arith
+
+pub next-pair : (at i : ℕ) → at + 2 * (i + 1) ≡ at + 2 * i + 2
+next-pair at i = omega arith
+
 less : {k : ℕ} → 0 < k → k ≡ suc (k - 1)
 less l = omega arith
 
@@ -73,7 +84,8 @@ module _ {image places : List ℕ} {span : Span} {at k : ℕ} where
   args-all h = record { ready = h; rest = refl }
 
   module _ {covered : Span} {i left : ℕ} (h : ArgsLeft image places span at k covered i left) where
-    pub args-less : {w v : ℕ} {x y named covered' : Span} → 0 < left → w ≡ get_or image i 0 → x ≡ token_span w → named ≡ cover covered x → v ≡ get_or image (i + 1) 0 → y ≡ type_span (type_of image v) → covered' ≡ cover named y → ArgsLeft image places span at k covered' (i + 2) (left - 1)
+    pub args-less : {w v : ℕ} {x y named covered' : Span} → 0 < left → w ≡ get_or image i 0 → x ≡ token_span w → named ≡ cover covered x → v ≡ get_or image (i + 1) 0
+        → y ≡ type_span (type_of image v) → covered' ≡ cover named y → ArgsLeft image places span at k covered' (i + 2) (left - 1)
     args-less l ew ex en ev ey ec = record {
       ready = args-rest l h.ready;
       rest =
@@ -97,7 +109,9 @@ module _ {image places : List ℕ} {span : Span} {at k : ℕ} where
   externs_all h = record { ready = h; rest = refl }
 
   module _ {covered : Span} {i left : ℕ} (h : ExternsLeft image places span at k covered i left) where
-    pub externs_less : {w v m : ℕ} {x y named args covered' : Span} → 0 < left → m ≡ get_or image (i + 2) 0 → w ≡ get_or image i 0 → x ≡ token_span w → named ≡ cover covered x → args ≡ cover_from named (arg_spans_at image (i + 3) m) → v ≡ get_or image (i + 1) 0 → y ≡ type_span (type_of image v) → covered' ≡ cover args y → ExternsLeft image places span at k covered' (i + 3 + 2 * m) (left - 1)
+    pub externs_less : {w v m : ℕ} {x y named args covered' : Span} → 0 < left → m ≡ get_or image (i + 2) 0 → w ≡ get_or image i 0 → x ≡ token_span w → named ≡ cover covered x
+        → args ≡ cover_from named (arg_spans_at image (i + 3) m) → v ≡ get_or image (i + 1) 0 → y ≡ type_span (type_of image v) → covered' ≡ cover args y
+        → ExternsLeft image places span at k covered' (i + 3 + 2 * m) (left - 1)
     externs_less l em ew ex en ea ev ey ec = record {
       ready = extern-rest l h.ready em;
       rest =
@@ -122,7 +136,8 @@ module _ {image places : List ℕ} {owner : ℕ} {span : Span} {at k : ℕ} wher
   nodes-all h = record { ready = h; rest = refl }
 
   module _ {covered : Span} {i left : ℕ} (h : NodesLeft image places owner span at k covered i left) where
-    pub nodes-less : {w : ℕ} {x covered' : Span} → 0 < left → w ≡ get_or image i 0 → x ≡ span_of (tree_of image w) → covered' ≡ cover covered x → NodesLeft image places owner span at k covered' (i + 1) (left - 1)
+    pub nodes-less : {w : ℕ} {x covered' : Span} → 0 < left → w ≡ get_or image i 0 → x ≡ span_of (tree_of image w) → covered' ≡ cover covered x
+        → NodesLeft image places owner span at k covered' (i + 1) (left - 1)
     nodes-less l ew ex ec = record {
       ready = nodes-rest l h.ready;
       rest = rw (ec, ex, ew) (sym (ap (λ m. cover_from covered (spans_at image i m)) (less l) ∙ one_more covered (spans_first image i (left - 1)))) ∙ h.rest;
@@ -143,7 +158,8 @@ module _ {image places : List ℕ} {owner : ℕ} {span : Span} {at k : ℕ} wher
   values-all h = record { ready = h; rest = refl }
 
   module _ {covered : Span} {i left : ℕ} (h : ValuesLeft image places owner span at k covered i left) where
-    pub values-less : {w v : ℕ} {x y named covered' : Span} → 0 < left → w ≡ get_or image i 0 → x ≡ token_span w → named ≡ cover covered x → v ≡ get_or image (i + 1) 0 → y ≡ span_of (tree_of image v) → covered' ≡ cover named y → ValuesLeft image places owner span at k covered' (i + 2) (left - 1)
+    pub values-less : {w v : ℕ} {x y named covered' : Span} → 0 < left → w ≡ get_or image i 0 → x ≡ token_span w → named ≡ cover covered x → v ≡ get_or image (i + 1) 0
+        → y ≡ span_of (tree_of image v) → covered' ≡ cover named y → ValuesLeft image places owner span at k covered' (i + 2) (left - 1)
     values-less l ew ex en ev ey ec = record {
       ready = values-rest l h.ready;
       rest =
@@ -167,7 +183,9 @@ module _ {image places : List ℕ} {owner : ℕ} {span : Span} {at k : ℕ} wher
   cases-all h = record { ready = h; rest = refl }
 
   module _ {covered : Span} {i left : ℕ} (h : CasesLeft image places owner span at k covered i left) where
-    pub cases-less : {w v m : ℕ} {x y begun tested covered' : Span} → 0 < left → m ≡ get_or image (i + 2) 0 → w ≡ get_or image i 0 → x ≡ token_span w → begun ≡ cover covered x → v ≡ get_or image (i + 1) 0 → y ≡ span_of (tree_of image v) → tested ≡ cover begun y → covered' ≡ cover_from tested (spans_at image (i + 3) m) → CasesLeft image places owner span at k covered' (i + 3 + m) (left - 1)
+    pub cases-less : {w v m : ℕ} {x y begun tested covered' : Span} → 0 < left → m ≡ get_or image (i + 2) 0 → w ≡ get_or image i 0 → x ≡ token_span w → begun ≡ cover covered x
+        → v ≡ get_or image (i + 1) 0 → y ≡ span_of (tree_of image v) → tested ≡ cover begun y → covered' ≡ cover_from tested (spans_at image (i + 3) m)
+        → CasesLeft image places owner span at k covered' (i + 3 + m) (left - 1)
     cases-less l em ew ex eb ev ey et ec = record {
       ready = case-rest l h.ready em;
       rest =

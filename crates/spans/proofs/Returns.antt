@@ -17,7 +17,8 @@ use Rattle.ast.specs.Kinds.{kind_of_node}
 use Rattle.ast.specs.KindLaws.{NodeNumber, node-number, node-not}
 use Rattle.ast.specs.Node.{tree_of, cases_end}
 use Rattle.ast.specs.Span.{type_span, span_of}
-use Rattle.places.specs.NodesAt.{NodeReady, length-there, node-atom, node-ident, node-bin, node-unary, node_let, node-fn, node-match, node_call, node-field, node-cast, node_import, node-extern, node_record, node-array}
+use Rattle.places.specs.NodesAt.{NodeReady, length-there, node-atom, node-ident, node-bin, node-unary, node_let, node-fn, node-match, node_call, node-field, node-cast, node_import}
+use Rattle.places.specs.NodesAt.{node-extern, node_record, node-array}
 use Rattle.spans.specs.Covers.{cover_from, cover-append, cover-from, cover-three, token-whole, span-whole}
 use Rattle.spans.specs.Lists.{spans_at, value_spans_at, case_spans_at, token_spans_at, extern_spans_at}
 use Rattle.spans.specs.Ready.{MatchReady, Listed, is-listed, is-array}

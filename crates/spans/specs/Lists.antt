@@ -51,6 +51,7 @@ module _ (image : List ℕ) where
   args-first at k = refl
 
   pub externs_first : (at k : ℕ) → extern_spans_at at (suc k)
-      ≡ token_span (word_at image at) ∷ (arg_spans_at (at + 3) (word_at image (at + 2)) ++ (type_span (type_of image (word_at image (at + 1))) ∷ extern_spans_at (at + 3 + 2 * word_at image (at + 2)) k))
+      ≡ token_span (word_at image at) ∷
+      (arg_spans_at (at + 3) (word_at image (at + 2)) ++ (type_span (type_of image (word_at image (at + 1))) ∷ extern_spans_at (at + 3 + 2 * word_at image (at + 2)) k))
   unfolding externs_from extern_spans
   externs_first at k = refl

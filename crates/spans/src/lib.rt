@@ -32,10 +32,8 @@ fn cover_tokens(image: &Image, span: Span, at: usize, k: usize) -> Span
     ensures { result ≡ cover_from span (token_spans_at image.now.words at k) }
 {
     let mut covered = span;
-    let mut i = at;
-    for _ in 0..k {
+    for i in at..at + k {
         covered = cover_spans(covered, token_span(image.word_at(i)));
-        i += 1;
     }
     covered
 }
@@ -46,11 +44,10 @@ fn cover_args(image: &Image, span: Span, at: usize, k: usize) -> Span
     ensures { result ≡ cover_from span (arg_spans_at image.now.words at k) }
 {
     let mut covered = span;
-    let mut i = at;
-    for _ in 0..k {
-        let named = cover_spans(covered, token_span(image.word_at(i)));
-        covered = cover_spans(named, type_span(image, image.word_at(i + 1)));
-        i += 2;
+    for i in 0..k {
+        let pair = at + 2 * i;
+        let named = cover_spans(covered, token_span(image.word_at(pair)));
+        covered = cover_spans(named, type_span(image, image.word_at(pair + 1)));
     }
     covered
 }
@@ -91,10 +88,8 @@ fn cover_nodes(image: &Image, owner: u32, span: Span, at: usize, k: usize) -> Sp
     ensures { result ≡ cover_from span (spans_at image.now.words at k) }
 {
     let mut covered = span;
-    let mut i = at;
-    for _ in 0..k {
+    for i in at..at + k {
         covered = cover_spans(covered, span_of(image, image.word_at(i)));
-        i += 1;
     }
     covered
 }
@@ -106,11 +101,10 @@ fn cover_values(image: &Image, owner: u32, span: Span, at: usize, k: usize) -> S
     ensures { result ≡ cover_from span (value_spans_at image.now.words at k) }
 {
     let mut covered = span;
-    let mut i = at;
-    for _ in 0..k {
-        let named = cover_spans(covered, token_span(image.word_at(i)));
-        covered = cover_spans(named, span_of(image, image.word_at(i + 1)));
-        i += 2;
+    for i in 0..k {
+        let pair = at + 2 * i;
+        let named = cover_spans(covered, token_span(image.word_at(pair)));
+        covered = cover_spans(named, span_of(image, image.word_at(pair + 1)));
     }
     covered
 }

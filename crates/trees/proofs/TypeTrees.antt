@@ -28,12 +28,14 @@ module _ {text image : List ℕ} (a : Accepted text image) where
   type-enough zero g t h k l = absurd (omega arith)
   type-enough (suc f) zero t h k l = absurd (omega arith)
   type-enough (suc f) (suc g) t h k l =
-      sym (type-same {go = type_within image f} {go' = type_within image g} (record { agree = λ p q. sym (type-enough f g p (omega arith) (omega arith) (omega arith)) }) (a.type t l) (same_self image (type_place image t) _))
+      sym (type-same {go = type_within image f} {go' = type_within image g}
+      (record { agree = λ p q. sym (type-enough f g p (omega arith) (omega arith) (omega arith)) }) (a.type t l) (same_self image (type_place image t) _))
 
   pub type-step : (t : ℕ) → t < type_count image → type_of image t ≡ read_type (type_of image) image (type_place image t)
   unfolding type_of type_within read_type
   type-step t l =
-      sym (type-same {go = type_within image t} {go' = type_of image} (record { agree = λ p q. type-enough (suc p) t p (omega arith) (omega arith) (omega arith) }) (a.type t l) (same_self image (type_place image t) _))
+      sym (type-same {go = type_within image t} {go' = type_of image}
+      (record { agree = λ p q. type-enough (suc p) t p (omega arith) (omega arith) (omega arith) }) (a.type t l) (same_self image (type_place image t) _))
 
   module _ (t : ℕ) (l : t < type_count image) where
     law : (k : ℕ) → record_kind image (type_place image t) ≡ k → type_of image t ≡ get_or type_readers k read_atom_type (type_of image) image (type_place image t)

@@ -9,7 +9,8 @@ use Rattle.ast.specs.Node.{Node, Cases, Match, Reader, nodes_from, cases_from, c
 use Rattle.ast.specs.Outline.{Counts}
 use Rattle.image_laws.specs.Many.{Each}
 use Rattle.image_laws.specs.RecordWords.{Under, FnWords, MatchWords, CallWords, ImportWords, ExternWords, RecordWords, ArrayWords}
-use Rattle.image_laws.proofs.NodesRead.{NodeRead, atom-words, ident-words, bin-words, unary-words, let_words, fn-words, match-words, call-words, field-words, cast-words, import_words, extern-words, record_words, array-words}
+use Rattle.image_laws.proofs.NodesRead.{NodeRead, atom-words, ident-words, bin-words, unary-words, let_words, fn-words, match-words, call-words, field-words, cast-words}
+use Rattle.image_laws.proofs.NodesRead.{import_words, extern-words, record_words, array-words}
 use Rattle.trees.specs.SameWords.{SameWords, Agree, same_first, same_from, words_same, args-same, externs_same, nodes-same, values_same, cases_same, end_same, cases-low, cases_end_lem, cases_default}
 
 -- the reader of the kind that stands at a place

@@ -5,7 +5,8 @@ use Rattle.std.specs.Prelude.{◌≡◌, refl, List, get_or}
 use Rattle.std.proofs.Common.{◌∙◌, arith}
 use Rattle.ast.specs.Image.{node_count, node_place, record_kind, record_length}
 use Rattle.ast.specs.TypeExpr.{type_of}
-use Rattle.ast.specs.Node.{read_atom, read_ident, read_bin, read_unary, read_let, read_fn, read_match, read_call, read_field, read_cast, read_import, read_extern, read_record, read_array, read_absent, readers, tree_within, tree_of}
+use Rattle.ast.specs.Node.{read_atom, read_ident, read_bin, read_unary, read_let, read_fn, read_match, read_call, read_field, read_cast, read_import, read_extern, read_record}
+use Rattle.ast.specs.Node.{read_array, read_absent, readers, tree_within, tree_of}
 use Rattle.image_laws.proofs.Accepted.{Accepted}
 use Rattle.trees.specs.SameWords.{Agree, same_self}
 use Rattle.trees.specs.SameRecords.{read_node, node_as, node-same}

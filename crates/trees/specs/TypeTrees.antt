@@ -40,6 +40,7 @@ module _ {c : Counts} {image image' : List ℕ} {t at' : ℕ} {go go' : ℕ → 
       (rw (
         s.same 1 (omega arith),
         ap payload_of head,
-        fields-same image image' a ((record_length image (type_place image t) - 2) / 2) (type_place image t + 2) (at' + 2) (same_from s 2 (2 * ((record_length image (type_place image t) - 2) / 2)) (omega arith)) w.fields,
+        fields-same image image' a ((record_length image (type_place image t) - 2) / 2) (type_place image t + 2) (at' + 2)
+            (same_from s 2 (2 * ((record_length image (type_place image t) - 2) / 2)) (omega arith)) w.fields,
       ))
   by_kind (suc (suc (suc (suc (suc k))))) e = absurd (let l = r.words.kind in omega arith)

@@ -1,7 +1,7 @@
 use native.Mathlib.Omega.{arith}
 use Rattle.spans.specs.Ready.{values-part}
 use native.Mathlib.Nat.{sub-zero}
-use Rattle.spans.proofs.Loops.{some-left, none-left, one-less}
+use Rattle.spans.proofs.Loops.{some-left, none-left, one-less, whole-left, first-pair, next-pair}
 use Rattle.spans.proofs.Loops.{values-all, values-less, values-done}
 use Rattle.spans.proofs.ListsAt.{room}
 use Rattle.places.specs.NodesAt.{part-ready, record_room, kind-small, words-bin, words-unary, words_let, words-field, words-cast}
@@ -18,27 +18,21 @@ use Rattle.spans.proofs.Loops.{cases-all, cases-less, cases_done}
 use Rattle.ast.specs.KindLaws.{node-number}
 use Rattle.spans.proofs.+cover_cases_cover_nodes_cover_values_list_span_match_span_span_of.Goals as goal
 
-pub cover_values-loop-init : goal.cover_values-loop-init
-cover_values-loop-init t c = rw sub-zero (values-all c.requires)
-
-pub cover_values-overflow_add-i : goal.cover_values-overflow_add-i
-cover_values-overflow_add-i t c = omega (arith, c.loop.invariant.ready.room, (some-left c.loop-test.true))
+pub cover_values-loop-i-init : goal.cover_values-loop-i-init
+cover_values-loop-i-init t c = rw (sub-zero, first-pair) (values-all c.requires)
 
 pub cover_values-span_of-requires : goal.cover_values-span_of-requires
 cover_values-span_of-requires t c =
-    let p = values-part (some-left c.loop-test.true) c.loop.invariant.ready c.word_at-in-loop.ensures in (omega (arith, c.decreases, p.under), p.ready)
+    let p = values-part (some-left (omega arith)) c.loop-i.invariant.ready c.word_at-in-loop-i.ensures in (omega (arith, c.decreases, p.under), p.ready)
 
-pub cover_values-overflow_add-i-in-loop : goal.cover_values-overflow_add-i-in-loop
-cover_values-overflow_add-i-in-loop t c = omega (arith, c.loop.invariant.ready.room, (some-left c.loop-test.true))
-
-pub cover_values-loop-preserved : goal.cover_values-loop-preserved
-cover_values-loop-preserved t c =
-    let left = some-left c.loop-test.true in
-    rw one-less
-    (values-less c.loop.invariant left c.word_at.ensures c.token_span.ensures c.cover_spans-named.ensures c.word_at-in-loop.ensures c.span_of.ensures c.cover_spans-covered.ensures)
+pub cover_values-loop-i-preserved : goal.cover_values-loop-i-preserved
+cover_values-loop-i-preserved t c =
+    rw (one-less, next-pair)
+    (values-less c.loop-i.invariant (some-left (omega arith)) c.word_at.ensures c.token_span.ensures c.cover_spans-named.ensures c.word_at-in-loop-i.ensures c.span_of.ensures
+    c.cover_spans-covered.ensures)
 
 pub cover_values-returns : goal.cover_values-returns
-cover_values-returns t c = values-done c.loop.invariant (none-left c.loop-test.false)
+cover_values-returns t c = values-done c.loop-i.invariant (none-left (omega arith))
 
 pub span_of-overflow_add-at : goal.span_of-overflow_add-at
 span_of-overflow_add-at t c = omega (arith, record_room c.requires c.node_place-at.ensures)
@@ -283,22 +277,19 @@ list_span-returns-in_default t c =
     span-array c.requires.ready c.requires.place c.requires.word refl c.word_at.ensures c.token_span-first.ensures c.payload-long.ensures q
     c.cover_nodes-in_default.ensures
 
-pub cover_nodes-loop-init : goal.cover_nodes-loop-init
-cover_nodes-loop-init t c = rw sub-zero (nodes-all c.requires)
+pub cover_nodes-loop-i-init : goal.cover_nodes-loop-i-init
+cover_nodes-loop-i-init t c = rw whole-left (nodes-all c.requires)
 
 pub cover_nodes-span_of-requires : goal.cover_nodes-span_of-requires
 cover_nodes-span_of-requires t c =
-    let p = nodes-part (some-left c.loop-test.true) c.loop.invariant.ready c.word_at.ensures in (omega (arith, c.decreases, p.under), p.ready)
+    let p = nodes-part (some-left (omega arith)) c.loop-i.invariant.ready c.word_at.ensures in (omega (arith, c.decreases, p.under), p.ready)
 
-pub cover_nodes-overflow_add-i : goal.cover_nodes-overflow_add-i
-cover_nodes-overflow_add-i t c = omega (arith, c.loop.invariant.ready.room)
-
-pub cover_nodes-loop-preserved : goal.cover_nodes-loop-preserved
-cover_nodes-loop-preserved t c =
-    rw one-less (nodes-less c.loop.invariant (some-left c.loop-test.true) c.word_at.ensures c.span_of.ensures c.cover_spans-covered.ensures)
+pub cover_nodes-loop-i-preserved : goal.cover_nodes-loop-i-preserved
+cover_nodes-loop-i-preserved t c =
+    rw one-less (nodes-less c.loop-i.invariant (some-left (omega arith)) c.word_at.ensures c.span_of.ensures c.cover_spans-covered.ensures)
 
 pub cover_nodes-returns : goal.cover_nodes-returns
-cover_nodes-returns t c = nodes-done c.loop.invariant (none-left c.loop-test.false)
+cover_nodes-returns t c = nodes-done c.loop-i.invariant (none-left (omega arith))
 
 -- `spans::match_span` meets its contract. Assumes nothing.
 pub match_span-overflow_add-at : goal.match_span-overflow_add-at

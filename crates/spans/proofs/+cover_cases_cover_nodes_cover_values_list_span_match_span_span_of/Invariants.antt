@@ -25,12 +25,12 @@ abbrev pub decreases-span_of : goal.decreases-span_of
 decreases-span_of l = l.n * 8 + 7
 
 -- `spans::cover_values` meets its contract. The loop's invariant, `ValuesLeft`: what is left to cover gives the whole. Assumes nothing.
-abbrev pub invariant-cover_values-loop : goal.invariant-cover_values-loop
-invariant-cover_values-loop l = ValuesLeft l.image.words l.image.places l.owner l.initial.covered l.at l.k l.covered l.i (l.k - l.counter)
+abbrev pub invariant-cover_values-loop-i : goal.invariant-cover_values-loop-i
+invariant-cover_values-loop-i l = ValuesLeft l.image.words l.image.places l.owner l.initial.covered l.at l.k l.covered (l.at + 2 * l.i) (l.k - l.i)
 
 -- `spans::cover_nodes` meets its contract. The loop's invariant, `NodesLeft`: what is left to cover gives the whole. Assumes nothing.
-abbrev pub invariant-cover_nodes-loop : goal.invariant-cover_nodes-loop
-invariant-cover_nodes-loop l = NodesLeft l.image.words l.image.places l.owner l.initial.covered l.at l.k l.covered l.i (l.k - l.counter)
+abbrev pub invariant-cover_nodes-loop-i : goal.invariant-cover_nodes-loop-i
+invariant-cover_nodes-loop-i l = NodesLeft l.image.words l.image.places l.owner l.initial.covered l.at l.k l.covered l.i (l.at + l.k - l.i)
 
 -- `spans::cover_cases` meets its contract. The loop's invariant, `CasesLeft`: what is left to cover gives the whole. Assumes nothing.
 abbrev pub invariant-cover_cases-loop : goal.invariant-cover_cases-loop

@@ -1,6 +1,0 @@
--- `rows_input::text_start` meets its contract. Assumes nothing.
-use native.Mathlib.Omega.{arith}
-use Rattle.rows_input.proofs.text_start.Goals as goal
-
-pub returns : goal.returns
-returns c = record { value = omega (arith, c.image_start.ensures.value, c.word.ensures); small = omega (arith, c.image_start.ensures.small) }
