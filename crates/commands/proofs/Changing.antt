@@ -5,13 +5,13 @@ use borrow.Author.Tests.{lt-leb}
 use Rattle.commands.specs.Changes.{low_byte, whole, filled, four_bytes, Lists, lists, on_list, patterned, fill_of, data_of, changed}
 
 -- ---- fills
-module _ (held : ℕ → ℕ) (stride step : ℕ) where
-  pub fill_begins : (l : List ℕ) (at count w : ℕ) → filled held l stride at count w step ≡ filled held l stride at (count - 0) w step
+module _ {T : Type 0} (held : ℕ → T) (stride step : ℕ) where
+  pub fill_begins : (l : List T) (at count w : ℕ) → filled held l stride at count w step ≡ filled held l stride at (count - 0) w step
   fill_begins l at count w = rw (sub-zero count)
 
   -- one turn
   pub fill-next :
-      (l : List ℕ) (at w count counter : ℕ) {l' x : List ℕ} {at' w' : ℕ} → x ≡ filled held l stride at (count - counter) w step → counter < count →
+      (l : List T) (at w count counter : ℕ) {l' x : List T} {at' w' : ℕ} → x ≡ filled held l stride at (count - counter) w step → counter < count →
       l' ≡ set l at (held w) → at' ≡ (at + stride) % 2 ^ 64 → w' ≡ (w + step) % 2 ^ 32 →
       x ≡ filled held l' stride at' (count - (counter + 1)) w' step
   unfolding filled
@@ -19,7 +19,7 @@ module _ (held : ℕ → ℕ) (stride step : ℕ) where
       let n : count - counter ≡ suc (count - (counter + 1)) = omega arith in
       e ∙ rw (n, el, ea, ew)
 
-  pub fill-ends : (l : List ℕ) (at w count counter : ℕ) {x : List ℕ} → x ≡ filled held l stride at (count - counter) w step → count ≤ counter → l ≡ x
+  pub fill-ends : (l : List T) (at w count counter : ℕ) {x : List T} → x ≡ filled held l stride at (count - counter) w step → count ≤ counter → l ≡ x
   unfolding filled
   fill-ends l at w count counter e h =
       let n : count - counter ≡ 0 = omega arith in

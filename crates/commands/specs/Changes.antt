@@ -9,7 +9,7 @@ abbrev pub low_byte : ℕ → ℕ
 low_byte w = w % 256
 
 -- "COUNT elements at START, START + STRIDE, .. become VALUE, VALUE + STEP, ..": places are 64-bit numbers, values 32-bit ones
-unfoldable pub filled : (held : ℕ → ℕ) → List ℕ → (stride start count value step : ℕ) → List ℕ
+unfoldable pub filled : {T : Type 0} → (held : ℕ → T) → List T → (stride start count value step : ℕ) → List T
 filled held l stride at zero w step = l
 filled held l stride at (suc k) w step = filled held (slice_set l at (held w)) stride ((at + stride) % 2 ^ 64) k ((w + step) % 2 ^ 32) step
 

@@ -12,6 +12,7 @@ ghost use Rattle.commands.specs.Printed.{NumberBytes, RefusedBytes};
 use digits::decimal;
 use std::io;
 use std::io::Read;
+use tok::set_item;
 
 // Registers: the lengths of the four lists, then of the six lent buffers, ..
 pub const SCRIPT: usize = 0;
@@ -118,21 +119,34 @@ pub fn next_command(rt: &impl Input) -> io::Result<Command>
 
 // Writing into lists.
 
-pub fn put(out: &mut [u32], i: usize, w: u32)
-    ensures { out.new ≡ slice_set out.old i w }
-{
-    if i < out.len() {
-        out[i] = w;
+// What an element of a list holds of a value.
+trait Element: Copy {
+    ghost held: { ℕ → Self };
+
+    fn of(w: u32) -> Self
+        ensures { result ≡ held w };
+}
+
+impl Element for u32 {
+    ghost held = { whole };
+
+    fn of(w: u32) -> u32 {
+        w
     }
 }
 
-// The low byte of a word.
-fn put_byte(text: &mut [u8], i: usize, w: u32)
-    ensures { text.new ≡ slice_set text.old i (w % 256) }
-{
-    if i < text.len() {
-        text[i] = (w % 0x100) as u8;
+impl Element for u8 {
+    ghost held = { low_byte };
+
+    fn of(w: u32) -> u8 {
+        (w % 0x100) as u8
     }
+}
+
+pub fn put(out: &mut [u32], i: usize, w: u32)
+    ensures { out.new ≡ slice_set out.old i w }
+{
+    set_item(out, i, w);
 }
 
 // Four bytes of a word, from a place on.
@@ -141,35 +155,42 @@ fn put_bytes(out: &mut [u8], at: usize, w: u32)
     requires { at < 2 ^ 33 }
     ensures { out.new ≡ four_bytes out.old at w }
 {
-    put_byte(out, at, w);
-    put_byte(out, at + 1, w / 0x100);
-    put_byte(out, at + 2, w / 0x1_0000);
-    put_byte(out, at + 3, w / 0x100_0000);
+    set_item(out, at, u8::of(w));
+    set_item(out, at + 1, u8::of(w / 0x100));
+    set_item(out, at + 2, u8::of(w / 0x1_0000));
+    set_item(out, at + 3, u8::of(w / 0x100_0000));
 }
 
 // Every `stride`-th element from `start` on, `count` of them: `value`, `value + step`, ..
-pub fn fill_words(out: &mut [u32], stride: usize, start: usize, count: usize, value: u32, step: u32)
-    ensures { out.new ≡ filled whole out.old stride start count value step }
+fn fill_items<T: Element>(
+    out: &mut [T],
+    stride: usize,
+    start: usize,
+    count: usize,
+    value: u32,
+    step: u32,
+)
+    ensures { out.new ≡ filled T.held out.old stride start count value step }
 {
     let mut at = start;
     let mut w = value;
     for _ in 0..count {
-        put(out, at, w);
+        set_item(out, at, T::of(w));
         at = at.wrapping_add(stride);
         w = w.wrapping_add(step);
     }
+}
+
+pub fn fill_words(out: &mut [u32], stride: usize, start: usize, count: usize, value: u32, step: u32)
+    ensures { out.new ≡ filled whole out.old stride start count value step }
+{
+    fill_items(out, stride, start, count, value, step);
 }
 
 pub fn fill_bytes(out: &mut [u8], stride: usize, start: usize, count: usize, value: u32, step: u32)
     ensures { out.new ≡ filled low_byte out.old stride start count value step }
 {
-    let mut at = start;
-    let mut w = value;
-    for _ in 0..count {
-        put_byte(out, at, w);
-        at = at.wrapping_add(stride);
-        w = w.wrapping_add(step);
-    }
+    fill_items(out, stride, start, count, value, step);
 }
 
 // What the registers hold.

@@ -6,6 +6,9 @@ use mathlib.Core.Logic.{◌⊎◌, ⊎_elim}
 use mathlib.Core.List.{List, [], ◌++◌, append-nil, append_assoc}
 use native.Mathlib.Omega.{arith}
 use lib.ListN.{get_or}
+use Rattle.std.proofs.Common.{rules}
+use Rattle.std.proofs.lemmas.List.{get_or_past}
+use Rattle.facts.specs.Lists.{EachAt, each_at}
 use Rattle.tok.specs.Word.{kind_of, payload_of}
 use Rattle.tok.specs.Text.{Texts, text, name_bytes}
 use Rattle.ptype.specs.Ty.{Ty}
@@ -27,21 +30,14 @@ pub is_leaf : (w : ℕ) {x : TypeKind} → x ≡ kind_of_type (kind_of w) → (x
 is_leaf w e a b c = record { no_type = type-flat _ e a b; no_field = type-not _ e c }
 
 -- A number that is no type's has no text, as the kind of no type has none.
-texts-at : (k : ℕ) → let n = number_of_type (kind_of_type k) in (get_or openings n [] ≡ get_or openings k []) × (get_or plain_names n [] ≡ get_or plain_names k [])
-unfolding kind_of_type kinds_of_types openings plain_names
-texts-at zero = (refl, refl)
-texts-at (suc zero) = (refl, refl)
-texts-at (suc (suc zero)) = (refl, refl)
-texts-at (suc (suc (suc zero))) = (refl, refl)
-texts-at (suc (suc (suc (suc zero)))) = (refl, refl)
-texts-at (suc (suc (suc (suc (suc zero))))) = (refl, refl)
-texts-at (suc (suc (suc (suc (suc (suc zero)))))) = (refl, refl)
-texts-at (suc (suc (suc (suc (suc (suc (suc zero))))))) = (refl, refl)
-texts-at (suc (suc (suc (suc (suc (suc (suc (suc zero)))))))) = (refl, refl)
-texts-at (suc (suc (suc (suc (suc (suc (suc (suc (suc zero))))))))) = (refl, refl)
-texts-at (suc (suc (suc (suc (suc (suc (suc (suc (suc (suc zero)))))))))) = (refl, refl)
-texts-at (suc (suc (suc (suc (suc (suc (suc (suc (suc (suc (suc zero))))))))))) = (refl, refl)
-texts-at (suc (suc (suc (suc (suc (suc (suc (suc (suc (suc (suc (suc k)))))))))))) = (refl, refl)
+abbrev SameTexts : TypeKind → ℕ → Type 0
+SameTexts x k = (get_or openings (number_of_type x) [] ≡ get_or openings k []) × (get_or plain_names (number_of_type x) [] ≡ get_or plain_names k [])
+
+texts-at : (k : ℕ) → SameTexts (kind_of_type k) k
+unfolding kind_of_type kinds_of_types openings plain_names EachAt
+texts-at =
+    each_at SameTexts kinds_of_types type.None (search rules)
+    (λ k h. (sym (get_or_past openings k [] (omega arith)), sym (get_or_past plain_names k [] h)))
 
 wrap_closing : (k : ℕ) → wraps k ≡ true → get_or closings k [] ≡ text ">"
 unfolding closings

@@ -14,7 +14,7 @@ ghost use Rattle.display.specs.Every.{every};
 ghost use Rattle.display.specs.Pieces.{one_of};
 ghost use Rattle.display.specs.Signature.{show_signature, arg_types, args_of, ret_of};
 
-use ptype::TypeKind;
+use ptype::{LEVELS, TypeKind};
 use tok::Texts;
 
 // That a piece had no room.
@@ -142,9 +142,6 @@ const MOST_DIGITS: usize = 10;
 
 // Types.
 
-// "type depth 32": one level more tells a type that is deeper.
-const LEVELS: usize = 33;
-
 // What stands before the inside of an Option, an Array, a Record or a Foreign.
 #[tactic(auto, unfolding(ptype::specs::Show::openings, tok::specs::Text::text))]
 pub fn opening(kind: TypeKind) -> &'static [u8]
@@ -235,13 +232,12 @@ fn show_fields(
     ensures { let F : Fields = fields_from (unfolded texts.now types.now depth) texts.now words.now i n in
         Writes out.old out.new result (show_fields F) }
 {
-    let mut i = i;
-    for left in (0..n).rev() {
-        out.put(ptype::field_name(words, texts, i))?;
+    for k in 0..n {
+        let at = i + 2 * k;
+        out.put(ptype::field_name(words, texts, at))?;
         out.put(b": ")?;
-        show_within(out, types, texts, ptype::field_type(words, i), depth)?;
-        out.put_separator(left, b" ")?;
-        i += 2;
+        show_within(out, types, texts, ptype::field_type(words, at), depth)?;
+        out.put_separator(n - 1 - k, b" ")?;
     }
     out.put(b"")
 }
@@ -283,11 +279,9 @@ fn show_every(
     requires { (step ≤ 2) × (first + 2 * count < 2 ^ 63) }
     ensures { Writes out.old out.new result (sig (every (ty_of texts.now types.now) words.now first step count)) }
 {
-    let mut i = first;
     for done in 0..count {
         out.put_separator(done, b", ")?;
-        show_type(out, types, texts, tok::word_at(words, i))?;
-        i += step;
+        show_type(out, types, texts, tok::word_at(words, first + step * done))?;
     }
     out.put(b"")
 }

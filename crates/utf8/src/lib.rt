@@ -2,7 +2,7 @@
 // The functions `utf8_..` are named after the rules of its ABNF, and take octets.
 #![tactic(auto)]
 
-ghost use Rattle.std.specs.Prelude.{◌≡◌, ◌&&◌, ◌<◌, length, get_or};
+ghost use Rattle.std.specs.Prelude.{◌≡◌, ◌&&◌, ◌<◌, length};
 ghost use Rattle.utf8.specs.Rfc3629.{range, utf8_tail, utf8_1, utf8_2, utf8_3, utf8_4, well_formed};
 ghost use Rattle.utf8.specs.Properties.{ascii};
 ghost use Rattle.utf8.specs.Front.{Front};
@@ -71,35 +71,19 @@ fn utf8_4(a: u8, b: u8, c: u8, d: u8) -> bool
         || four(0xF4, 0xF4, 0x80, 0x8F, a, b, c, d)
 }
 
-// The octet at i; past the end 0, which is no tail, so that a character that is cut short is none.
-fn octet(t: &[u8], i: usize) -> u8
-    ensures { result ≡ get_or t.now i 0 }
-{
-    t.get(i).copied().unwrap_or(0)
-}
-
 // How many octets the character has that t begins with; 0 where it begins with none.
+#[tactic(auto, using(crate::proofs::Fronts::front_1, crate::proofs::Fronts::front_2, crate::proofs::Fronts::front_3, crate::proofs::Fronts::front_4, crate::proofs::Fronts::front_0))]
 fn char_len(t: &[u8]) -> usize
     requires { 0 < length t.now }
     ensures { Front t.now result }
 {
-    let a = octet(t, 0);
-    if utf8_1(a) {
-        return 1;
+    match *t {
+        [a, ..] if utf8_1(a) => 1,
+        [a, b, ..] if utf8_2(a, b) => 2,
+        [a, b, c, ..] if utf8_3(a, b, c) => 3,
+        [a, b, c, d, ..] if utf8_4(a, b, c, d) => 4,
+        _ => 0,
     }
-    let b = octet(t, 1);
-    if utf8_2(a, b) {
-        return 2;
-    }
-    let c = octet(t, 2);
-    if utf8_3(a, b, c) {
-        return 3;
-    }
-    let d = octet(t, 3);
-    if utf8_4(a, b, c, d) {
-        return 4;
-    }
-    0
 }
 
 // Whether s is of octets 00 to 7F alone, as most names are. There is no way out of the loop, so that it is compiled to take many octets at a time.

@@ -4,7 +4,7 @@ use Rattle.tok.specs.Text.{Texts}
 use Rattle.ptype.specs.Words.{fields_from, unfolded}
 use Rattle.ptype.specs.Show.{show_fields}
 use Rattle.display.specs.WritingLaws.{Owes}
-use Prim.Native.Nat.{◌+◌, ◌*◌, ◌^◌, ◌<◌}
+use Prim.Native.Nat.{◌+◌, ◌-◌, ◌*◌}
 use Rattle.display.proofs.+show_fields_show_within.Given as goal
 
 abbrev pub decreases-show_fields : goal.decreases-show_fields
@@ -13,7 +13,7 @@ decreases-show_fields l = 2 * l.depth + 1
 abbrev pub decreases-show_within : goal.decreases-show_within
 decreases-show_within l = 2 * l.depth
 
-abbrev pub invariant-show_fields-loop-left : goal.invariant-show_fields-loop-left
-invariant-show_fields-loop-left l = let T : Texts = l.texts in
+abbrev pub invariant-show_fields-loop-k : goal.invariant-show_fields-loop-k
+invariant-show_fields-loop-k l = let T : Texts = l.texts in
     let F = fields_from (unfolded T l.types l.depth) T l.words in
-    Owes l.initial.out (show_fields (F l.i-2 l.n)) l.out (show_fields (F l.i l.left)) × (l.i + 2 * l.left < 2 ^ 40)
+    Owes l.initial.out (show_fields (F l.i l.n)) l.out (show_fields (F (l.i + 2 * l.k) (l.n - l.k)))

@@ -1,5 +1,5 @@
--- `display::show_every` meets its contract. The loop's invariant: `done` types are written, those from index i on are owed. Assumes nothing.
-use Prim.Native.Nat.{◌+◌, ◌*◌, ◌≤◌}
+-- `display::show_every` meets its contract. The loop's invariant: `done` types are written, the others are owed. Assumes nothing.
+use Prim.Native.Nat.{◌+◌, ◌*◌}
 use Rattle.ptype.specs.Words.{ty_of}
 use Rattle.display.specs.WritingLaws.{Owes}
 use Rattle.display.specs.Joined.{sig}
@@ -9,4 +9,4 @@ use Rattle.display.proofs.show_every.Given as goal
 
 abbrev pub invariant-loop-done : goal.invariant-loop-done
 invariant-loop-done l = let go = ty_of l.texts l.types in
-    Owes l.initial.out (sig (every go l.words l.first l.step l.count)) l.out (owed go l.words l.i l.step l.count l.done) × (l.i ≤ l.first + 2 * l.done)
+    Owes l.initial.out (sig (every go l.words l.first l.step l.count)) l.out (owed go l.words (l.first + l.step * l.done) l.step l.count l.done)
