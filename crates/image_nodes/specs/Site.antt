@@ -13,7 +13,7 @@ counts_of text n = record { text = text; nodes = n.nodes; types = n.types; slots
 abbrev pub here_of : (text : List ℕ) (kind : ℕ) (before : List Outline) → Site → Here
 here_of text kind before s =
     record {
-      counts = record { text = text; nodes = s.nodes; types = s.types; slots = s.slots };
+      counts = counts_of text s.sizes;
       before = before;
       number = s.number;
       kind = kind;

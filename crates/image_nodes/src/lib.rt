@@ -14,7 +14,7 @@ ghost use Rattle.image_nodes.specs.Site.{counts_of, here_of, Kept};
 
 use ast::NodeKind;
 use image_words::{between, names, numbers, pairs, token};
-use reader::{Fault, Place};
+use reader::{Fault, Reader};
 
 // The counts of an image that its records go by.
 #[derive(Clone, Copy)]
@@ -27,9 +27,7 @@ pub struct Sizes {
 // Where a node record is read: the counts of the image, the node's number and slot, and how many words follow the slot.
 #[derive(Clone, Copy)]
 pub struct Site {
-    pub nodes: usize,
-    pub types: usize,
-    pub slots: usize,
+    pub sizes: Sizes,
     pub number: usize,
     pub slot: usize,
     pub left: usize,
@@ -42,71 +40,67 @@ const OPERATORS: usize = 9;
 
 // 0 Atom: token, type kind 2 to 5.
 #[tactic(auto, unfolding(ast::specs::NodeRecords::atom, reader::specs::Reading::gave, image_words::specs::Leads::unanswered), using(image_words::specs::LeadLaws::leads))]
-fn atom(script: &[u8], words: &[u32], from: Place, site: Site) -> Result<Place, Fault>
-    ensures { (kind : ℕ) (before : List Outline) → Leads words.now from (atom (here_of script.now kind before site)) result }
+fn atom<'a>(script: &[u8], from: Reader<'a>, site: Site) -> Result<Reader<'a>, Fault>
+    ensures { (kind : ℕ) (before : List Outline) → Leads from.entry (atom (here_of script.now kind before site)) result }
 {
-    let at = token(script, words, from)?;
-    let kind = reader::next_word(words, at) as usize;
-    reader::word(words, at, between(2, 5, kind))
+    let at = token(script, from)?;
+    let kind = at.next_word() as usize;
+    at.word(between(2, 5, kind))
 }
 
 // 1 Ident: name.
 #[tactic(auto, unfolding(ast::specs::NodeRecords::ident, reader::specs::Reading::gave, image_words::specs::Leads::unanswered), using(image_words::specs::LeadLaws::leads))]
-fn ident(script: &[u8], words: &[u32], from: Place, site: Site) -> Result<Place, Fault>
-    ensures { (kind : ℕ) (before : List Outline) → Leads words.now from (ident (here_of script.now kind before site)) result }
+fn ident<'a>(script: &[u8], from: Reader<'a>, site: Site) -> Result<Reader<'a>, Fault>
+    ensures { (kind : ℕ) (before : List Outline) → Leads from.entry (ident (here_of script.now kind before site)) result }
 {
-    token(script, words, from)
+    token(script, from)
 }
 
 // 2 Bin: token, operator, left, right.
 #[tactic(auto, unfolding(ast::specs::NodeRecords::bin, reader::specs::Reading::gave, image_words::specs::Leads::unanswered), using(image_words::specs::LeadLaws::leads))]
-fn bin(script: &[u8], words: &[u32], from: Place, site: Site) -> Result<Place, Fault>
-    ensures { (kind : ℕ) (before : List Outline) → Leads words.now from (bin (here_of script.now kind before site)) result }
+fn bin<'a>(script: &[u8], from: Reader<'a>, site: Site) -> Result<Reader<'a>, Fault>
+    ensures { (kind : ℕ) (before : List Outline) → Leads from.entry (bin (here_of script.now kind before site)) result }
 {
-    let at = token(script, words, from)?;
-    let at = reader::below(words, at, OPERATORS)?;
-    let at = reader::below(words, at, site.number)?;
-    reader::below(words, at, site.number)
+    token(script, from)?
+        .below(OPERATORS)?
+        .below(site.number)?
+        .below(site.number)
 }
 
 // 3 Unary: token, operator, right.
 #[tactic(auto, unfolding(ast::specs::NodeRecords::unary, reader::specs::Reading::gave, image_words::specs::Leads::unanswered), using(image_words::specs::LeadLaws::leads))]
-fn unary(script: &[u8], words: &[u32], from: Place, site: Site) -> Result<Place, Fault>
-    ensures { (kind : ℕ) (before : List Outline) → Leads words.now from (unary (here_of script.now kind before site)) result }
+fn unary<'a>(script: &[u8], from: Reader<'a>, site: Site) -> Result<Reader<'a>, Fault>
+    ensures { (kind : ℕ) (before : List Outline) → Leads from.entry (unary (here_of script.now kind before site)) result }
 {
-    let at = token(script, words, from)?;
-    let at = reader::below(words, at, OPERATORS)?;
-    reader::below(words, at, site.number)
+    token(script, from)?.below(OPERATORS)?.below(site.number)
 }
 
 // 4 Let: name, right.
 #[tactic(auto, unfolding(ast::specs::NodeRecords::binding, reader::specs::Reading::gave, image_words::specs::Leads::unanswered), using(image_words::specs::LeadLaws::leads))]
-fn binding(script: &[u8], words: &[u32], from: Place, site: Site) -> Result<Place, Fault>
-    ensures { (kind : ℕ) (before : List Outline) → Leads words.now from (binding (here_of script.now kind before site)) result }
+fn binding<'a>(script: &[u8], from: Reader<'a>, site: Site) -> Result<Reader<'a>, Fault>
+    ensures { (kind : ℕ) (before : List Outline) → Leads from.entry (binding (here_of script.now kind before site)) result }
 {
-    let at = token(script, words, from)?;
-    reader::below(words, at, site.number)
+    token(script, from)?.below(site.number)
 }
 
 // Whether n arguments of an Fn lie within its record, and their slots below V.
 fn arguments_fit(site: Site, n: usize) -> bool
     ensures { (text : List ℕ) (kind : ℕ) (before : List Outline) → result ≡ good_arguments (here_of text kind before site) n }
 {
-    n <= site.left.saturating_sub(3) / 2 && n < site.slots.saturating_sub(site.slot)
+    n <= site.left.saturating_sub(3) / 2 && n < site.sizes.slots.saturating_sub(site.slot)
 }
 
 // 5 Fn: name, return type, argument count, name and type of each, body.
 #[tactic(auto, unfolding(ast::specs::Outline::typed_name, reader::specs::Reading::gave, image_words::specs::Leads::unanswered), using(crate::proofs::Rows::fn_words, image_words::specs::LeadLaws::leads))]
-fn function(script: &[u8], words: &[u32], from: Place, site: Site) -> Result<Place, Fault>
-    ensures { (kind : ℕ) (before : List Outline) → Leads words.now from (fn (here_of script.now kind before site)) result }
+fn function<'a>(script: &[u8], from: Reader<'a>, site: Site) -> Result<Reader<'a>, Fault>
+    ensures { (kind : ℕ) (before : List Outline) → Leads from.entry (fn (here_of script.now kind before site)) result }
 {
-    let at = token(script, words, from)?;
-    let at = reader::below(words, at, site.types)?;
-    let n = reader::next_word(words, at) as usize;
-    let at = reader::word(words, at, arguments_fit(site, n))?;
-    let at = pairs(script, words, at, n, site.types)?;
+    let at = token(script, from)?.below(site.sizes.types)?;
+    let n = at.next_word() as usize;
+    let at = at.word(arguments_fit(site, n))?;
+    let at = pairs(script, at, n, site.sizes.types)?;
     let body = site.left.saturating_sub(3).saturating_sub(2 * n);
-    numbers(words, at, body, site.number)
+    numbers(at, body, site.number)
 }
 
 // Whether a body of n words, `others` cases of three words at least and the default's token lie within `room` words.
@@ -118,40 +112,38 @@ fn cases_fit(n: usize, others: usize, room: usize) -> bool
 
 // `count` cases and the default, in `left` words: per case token, condition, body count, body; then default token, body.
 #[tactic(auto, unfolding(reader::specs::Reading::gave, image_words::specs::Leads::unanswered), using(crate::proofs::Loops::cases_ways))]
-fn cases(
+fn cases<'a>(
     script: &[u8],
-    words: &[u32],
-    from: Place,
+    from: Reader<'a>,
     site: Site,
     count: usize,
     left: usize,
-) -> Result<Place, Fault>
-    ensures { (kind : ℕ) (before : List Outline) → Leads words.now from (cases (here_of script.now kind before site) count left) result }
+) -> Result<Reader<'a>, Fault>
+    ensures { (kind : ℕ) (before : List Outline) → Leads from.entry (cases (here_of script.now kind before site) count left) result }
 {
     let mut to = from;
     let mut room = left;
     for others in (0..count).rev() {
-        to = token(script, words, to)?;
-        to = reader::below(words, to, site.number)?;
-        let n = reader::next_word(words, to) as usize;
+        to = token(script, to)?.below(site.number)?;
+        let n = to.next_word() as usize;
         room = room.saturating_sub(3);
-        to = reader::word(words, to, cases_fit(n, others, room))?;
-        to = numbers(words, to, n, site.number)?;
+        to = to.word(cases_fit(n, others, room))?;
+        to = numbers(to, n, site.number)?;
         room = room.saturating_sub(n);
     }
-    let at = token(script, words, to)?;
-    numbers(words, at, room.saturating_sub(1), site.number)
+    let at = token(script, to)?;
+    numbers(at, room.saturating_sub(1), site.number)
 }
 
 // 6 Match: case count; the cases.
 #[tactic(auto, unfolding(reader::specs::Reading::gave, image_words::specs::Leads::unanswered), using(crate::proofs::Rows::match_words, image_words::specs::LeadLaws::leads))]
-fn matching(script: &[u8], words: &[u32], from: Place, site: Site) -> Result<Place, Fault>
-    ensures { (kind : ℕ) (before : List Outline) → Leads words.now from (match (here_of script.now kind before site)) result }
+fn matching<'a>(script: &[u8], from: Reader<'a>, site: Site) -> Result<Reader<'a>, Fault>
+    ensures { (kind : ℕ) (before : List Outline) → Leads from.entry (match (here_of script.now kind before site)) result }
 {
-    let count = reader::next_word(words, from) as usize;
+    let count = from.next_word() as usize;
     let room = site.left.saturating_sub(1);
-    let at = reader::word(words, from, cases_fit(0, count, room))?;
-    cases(script, words, at, site, count, room)
+    let at = from.word(cases_fit(0, count, room))?;
+    cases(script, at, site, count, room)
 }
 
 // Whether a node before node n may be called: an Ident or a Field.
@@ -163,40 +155,39 @@ fn callable(kinds: &[u8], p: usize, n: usize) -> bool
 
 // 7 Call: target (Ident or Field), arguments.
 #[tactic(auto, unfolding(ast::specs::NodeRecords::call, reader::specs::Reading::gave, image_words::specs::Leads::unanswered), using(image_words::specs::LeadLaws::leads))]
-fn call(words: &[u32], kinds: &[u8], from: Place, site: Site) -> Result<Place, Fault>
-    ensures { (text : List ℕ) (kind : ℕ) (before : List Outline) → Kept kinds.now before site.number → Leads words.now from (call (here_of text kind before site)) result }
+fn call<'a>(kinds: &[u8], from: Reader<'a>, site: Site) -> Result<Reader<'a>, Fault>
+    ensures { (text : List ℕ) (kind : ℕ) (before : List Outline) → Kept kinds.now before site.number → Leads from.entry (call (here_of text kind before site)) result }
 {
-    let target = reader::next_word(words, from) as usize;
-    let at = reader::word(words, from, callable(kinds, target, site.number))?;
-    numbers(words, at, site.left.saturating_sub(1), site.number)
+    let target = from.next_word() as usize;
+    let at = from.word(callable(kinds, target, site.number))?;
+    numbers(at, site.left.saturating_sub(1), site.number)
 }
 
 // 8 Field: target, name.
 #[tactic(auto, unfolding(ast::specs::NodeRecords::field, reader::specs::Reading::gave, image_words::specs::Leads::unanswered), using(image_words::specs::LeadLaws::leads))]
-fn field(script: &[u8], words: &[u32], from: Place, site: Site) -> Result<Place, Fault>
-    ensures { (kind : ℕ) (before : List Outline) → Leads words.now from (field (here_of script.now kind before site)) result }
+fn field<'a>(script: &[u8], from: Reader<'a>, site: Site) -> Result<Reader<'a>, Fault>
+    ensures { (kind : ℕ) (before : List Outline) → Leads from.entry (field (here_of script.now kind before site)) result }
 {
-    let at = reader::below(words, from, site.number)?;
-    token(script, words, at)
+    token(script, from.below(site.number)?)
 }
 
 // 9 Cast: token, left, type.
 #[tactic(auto, unfolding(ast::specs::NodeRecords::cast, reader::specs::Reading::gave, image_words::specs::Leads::unanswered), using(image_words::specs::LeadLaws::leads))]
-fn cast(script: &[u8], words: &[u32], from: Place, site: Site) -> Result<Place, Fault>
-    ensures { (kind : ℕ) (before : List Outline) → Leads words.now from (cast (here_of script.now kind before site)) result }
+fn cast<'a>(script: &[u8], from: Reader<'a>, site: Site) -> Result<Reader<'a>, Fault>
+    ensures { (kind : ℕ) (before : List Outline) → Leads from.entry (cast (here_of script.now kind before site)) result }
 {
-    let at = token(script, words, from)?;
-    let at = reader::below(words, at, site.number)?;
-    reader::below(words, at, site.types)
+    token(script, from)?
+        .below(site.number)?
+        .below(site.sizes.types)
 }
 
 // 10 Import: token, paths.
 #[tactic(auto, unfolding(ast::specs::NodeRecords::imports, reader::specs::Reading::gave, image_words::specs::Leads::unanswered), using(image_words::specs::LeadLaws::leads))]
-fn imports(script: &[u8], words: &[u32], from: Place, site: Site) -> Result<Place, Fault>
-    ensures { (kind : ℕ) (before : List Outline) → Leads words.now from (imports (here_of script.now kind before site)) result }
+fn imports<'a>(script: &[u8], from: Reader<'a>, site: Site) -> Result<Reader<'a>, Fault>
+    ensures { (kind : ℕ) (before : List Outline) → Leads from.entry (imports (here_of script.now kind before site)) result }
 {
-    let at = token(script, words, from)?;
-    names(script, words, at, site.left.saturating_sub(1))
+    let at = token(script, from)?;
+    names(script, at, site.left.saturating_sub(1))
 }
 
 // Whether n arguments and `others` functions of three words at least lie within `room` words; the last function's use them up.
@@ -216,25 +207,23 @@ fn function_fits(n: usize, others: usize, room: usize) -> bool
 
 // `count` functions of an Extern, in `left` words: each: name, return type, argument count, pairs.
 #[tactic(auto, unfolding(ast::specs::Outline::typed_name, reader::specs::Reading::gave, image_words::specs::Leads::unanswered), using(crate::proofs::Loops::functions_ways))]
-fn functions(
+fn functions<'a>(
     script: &[u8],
-    words: &[u32],
-    from: Place,
+    from: Reader<'a>,
     site: Site,
     count: usize,
     left: usize,
-) -> Result<Place, Fault>
-    ensures { (kind : ℕ) (before : List Outline) → Leads words.now from (extern_functions (here_of script.now kind before site) count left) result }
+) -> Result<Reader<'a>, Fault>
+    ensures { (kind : ℕ) (before : List Outline) → Leads from.entry (extern_functions (here_of script.now kind before site) count left) result }
 {
     let mut to = from;
     let mut room = left;
     for others in (0..count).rev() {
-        to = token(script, words, to)?;
-        to = reader::below(words, to, site.types)?;
-        let n = reader::next_word(words, to) as usize;
+        to = token(script, to)?.below(site.sizes.types)?;
+        let n = to.next_word() as usize;
         room = room.saturating_sub(3);
-        to = reader::word(words, to, function_fits(n, others, room))?;
-        to = pairs(script, words, to, n, site.types)?;
+        to = to.word(function_fits(n, others, room))?;
+        to = pairs(script, to, n, site.sizes.types)?;
         room = room.saturating_sub(2 * n);
     }
     Ok(to)
@@ -253,39 +242,33 @@ fn functions_fit(count: usize, room: usize) -> bool
 
 // 11 Extern: token, name, function count; the functions.
 #[tactic(auto, unfolding(reader::specs::Reading::gave, image_words::specs::Leads::unanswered), using(crate::proofs::Rows::extern_words, image_words::specs::LeadLaws::leads))]
-fn externs(script: &[u8], words: &[u32], from: Place, site: Site) -> Result<Place, Fault>
-    ensures { (kind : ℕ) (before : List Outline) → Leads words.now from (extern (here_of script.now kind before site)) result }
+fn externs<'a>(script: &[u8], from: Reader<'a>, site: Site) -> Result<Reader<'a>, Fault>
+    ensures { (kind : ℕ) (before : List Outline) → Leads from.entry (extern (here_of script.now kind before site)) result }
 {
-    let at = token(script, words, from)?;
-    let at = token(script, words, at)?;
-    let count = reader::next_word(words, at) as usize;
+    let at = token(script, from)?;
+    let at = token(script, at)?;
+    let count = at.next_word() as usize;
     let room = site.left.saturating_sub(3);
-    let at = reader::word(words, at, functions_fit(count, room))?;
-    functions(script, words, at, site, count, room)
+    let at = at.word(functions_fit(count, room))?;
+    functions(script, at, site, count, room)
 }
 
 // 12 Record: token, name and value pairs.
 #[tactic(auto, unfolding(ast::specs::NodeRecords::record_node, ast::specs::NodeRecords::named_part, reader::specs::Reading::gave, image_words::specs::Leads::unanswered), using(image_words::specs::LeadLaws::leads))]
-fn record_node(script: &[u8], words: &[u32], from: Place, site: Site) -> Result<Place, Fault>
-    ensures { (kind : ℕ) (before : List Outline) → Leads words.now from (record_node (here_of script.now kind before site)) result }
+fn record_node<'a>(script: &[u8], from: Reader<'a>, site: Site) -> Result<Reader<'a>, Fault>
+    ensures { (kind : ℕ) (before : List Outline) → Leads from.entry (record_node (here_of script.now kind before site)) result }
 {
-    let at = token(script, words, from)?;
-    pairs(
-        script,
-        words,
-        at,
-        site.left.saturating_sub(1) / 2,
-        site.number,
-    )
+    let at = token(script, from)?;
+    pairs(script, at, site.left.saturating_sub(1) / 2, site.number)
 }
 
 // 13 Array: token, members.
 #[tactic(auto, unfolding(ast::specs::NodeRecords::array, reader::specs::Reading::gave, image_words::specs::Leads::unanswered), using(image_words::specs::LeadLaws::leads))]
-fn array(script: &[u8], words: &[u32], from: Place, site: Site) -> Result<Place, Fault>
-    ensures { (kind : ℕ) (before : List Outline) → Leads words.now from (array (here_of script.now kind before site)) result }
+fn array<'a>(script: &[u8], from: Reader<'a>, site: Site) -> Result<Reader<'a>, Fault>
+    ensures { (kind : ℕ) (before : List Outline) → Leads from.entry (array (here_of script.now kind before site)) result }
 {
-    let at = token(script, words, from)?;
-    numbers(words, at, site.left.saturating_sub(1), site.number)
+    let at = token(script, from)?;
+    numbers(at, site.left.saturating_sub(1), site.number)
 }
 
 // Nodes.
@@ -322,61 +305,57 @@ fn good_head(head: u32) -> bool
 }
 
 // The words after the slot, by kind.
-fn rest(
+fn rest<'a>(
     script: &[u8],
-    words: &[u32],
     kinds: &[u8],
-    from: Place,
+    from: Reader<'a>,
     kind: NodeKind,
     site: Site,
-) -> Result<Place, Fault>
-    ensures { (head : ℕ) (before : List Outline) → kind ≡ kind_of_node (kind_of head) → Kept kinds.now before site.number → Leads words.now from
+) -> Result<Reader<'a>, Fault>
+    ensures { (head : ℕ) (before : List Outline) → kind ≡ kind_of_node (kind_of head) → Kept kinds.now before site.number → Leads from.entry
         ((node_kind head).rest (here_of script.now (kind_of head) before site)) result }
 {
     match kind {
-        NodeKind::Atom => atom(script, words, from, site),
-        NodeKind::Ident => ident(script, words, from, site),
-        NodeKind::Bin => bin(script, words, from, site),
-        NodeKind::Unary => unary(script, words, from, site),
-        NodeKind::Let => binding(script, words, from, site),
-        NodeKind::Fn => function(script, words, from, site),
-        NodeKind::Match => matching(script, words, from, site),
-        NodeKind::Call => call(words, kinds, from, site),
-        NodeKind::Field => field(script, words, from, site),
-        NodeKind::Cast => cast(script, words, from, site),
-        NodeKind::Import => imports(script, words, from, site),
-        NodeKind::Extern => externs(script, words, from, site),
-        NodeKind::Record => record_node(script, words, from, site),
-        NodeKind::Array => array(script, words, from, site),
+        NodeKind::Atom => atom(script, from, site),
+        NodeKind::Ident => ident(script, from, site),
+        NodeKind::Bin => bin(script, from, site),
+        NodeKind::Unary => unary(script, from, site),
+        NodeKind::Let => binding(script, from, site),
+        NodeKind::Fn => function(script, from, site),
+        NodeKind::Match => matching(script, from, site),
+        NodeKind::Call => call(kinds, from, site),
+        NodeKind::Field => field(script, from, site),
+        NodeKind::Cast => cast(script, from, site),
+        NodeKind::Import => imports(script, from, site),
+        NodeKind::Extern => externs(script, from, site),
+        NodeKind::Record => record_node(script, from, site),
+        NodeKind::Array => array(script, from, site),
         NodeKind::None => Ok(from),
     }
 }
 
 // The record of a node: its first word, its slot, and the rest by kind. `kinds`: of the nodes before it.
 #[tactic(auto, unfolding(ast::specs::Nodes::node, reader::specs::Reading::gave), using(reader::specs::Laws::by_rule))]
-pub fn node(
+pub fn node<'a>(
     script: &[u8],
-    words: &[u32],
     kinds: &[u8],
-    from: Place,
+    from: Reader<'a>,
     sizes: Sizes,
     number: usize,
-) -> Result<Place, Fault>
-    ensures { (before : List Outline) → Kept kinds.now before number → onward words.now from (node (counts_of script.now sizes) before number) ≡ gave
-        words.now (outline_from words.now from.at) result }
+) -> Result<Reader<'a>, Fault>
+    ensures { (before : List Outline) → Kept kinds.now before number → onward from.entry (node (counts_of script.now sizes) before number)
+        ≡ gave (outline_from from.entry.words from.entry.at) result }
 {
-    let head = reader::next_word(words, from);
+    let head = from.next_word();
     let long = tok::payload(head);
-    let at = reader::owing(words, from, good_head(head), long.saturating_sub(3))?;
-    let slot = reader::next_word(words, at) as usize;
-    let at = reader::below(words, at, sizes.slots)?;
+    let at = from.owing(good_head(head), long.saturating_sub(3))?;
+    let slot = at.next_word() as usize;
+    let at = at.below(sizes.slots)?;
     let site = Site {
-        nodes: sizes.nodes,
-        types: sizes.types,
-        slots: sizes.slots,
+        sizes,
         number,
         slot,
         left: long.saturating_sub(2),
     };
-    rest(script, words, kinds, at, NodeKind::of(head), site)
+    rest(script, kinds, at, NodeKind::of(head), site)
 }

@@ -11,7 +11,7 @@ use Rattle.image_words.specs.LeadLaws.{leads}
 
 -- what a loop that has read k of n keeps: those that are left lead where all lead
 abbrev pub Rest : {A : Type 0} (from : Reader) (n : ℕ) (m : Read A) (to : Reader) (k : ℕ) → Type 0
-Rest from n m to k = (unanswered (onward to (many (n - k) m)) ≡ unanswered (onward from (many n m))) × (to.words ≡ from.words)
+Rest from n m to k = unanswered (onward to (many (n - k) m)) ≡ unanswered (onward from (many n m))
 
 module _ {A : Type 0} (m : Read A) (n k : ℕ) where
   pub many_some : k < n → many (n - k) m ≡ (do

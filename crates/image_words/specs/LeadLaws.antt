@@ -8,7 +8,7 @@ use Rattle.reader.specs.declared.Fault.{Fault}
 use Rattle.reader.specs.Reading.{Reader, standing, onward, gave, offending}
 use Rattle.reader.specs.Laws.{by_rule}
 use Rattle.reader.specs.Reads.{Reads, reads, faults}
-use Rattle.image_words.specs.Leads.{unanswered}
+use Rattle.image_words.specs.Leads.{unanswered, Leads}
 
 -- a word that was read
 pub leads_word : {A : Type 0} (a : A) (to : Result Reader Fault) (r : step.Result Cursor ℕ A) → r ≡ gave a to → unanswered r ≡ gave tt to
@@ -25,7 +25,7 @@ module _ {A B : Type 0} (f : A → Read B) where
   leads_on (refused place) mid end e h = cc
 
   pub leads_then : (r : step.Result Cursor ℕ A) (mid : Reader) (to : Result Reader Fault) → unanswered r ≡ gave tt (Ok mid)
-      → ((a : A) → unanswered (onward mid (f a)) ≡ gave tt to) → unanswered (next r f) ≡ gave tt to
+      → ((a : A) → Leads mid (f a) to) → unanswered (next r f) ≡ gave tt to
   leads_then r mid to e h = leads_on r mid (gave tt to) e h
 
   -- a fault ends all

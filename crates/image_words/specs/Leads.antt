@@ -5,13 +5,13 @@ use Rattle.tok.specs.Step.{ok, refused}
 use Rattle.tok.specs.Step as step
 use Rattle.tok.specs.Reader.{Cursor, Read}
 use Rattle.reader.specs.declared.Fault.{Fault}
-use Rattle.reader.specs.Reading.{Reader, onward, gave, Same}
+use Rattle.reader.specs.Reading.{Reader, onward, gave}
 
 -- what reading has come to, whatever was read
 unfoldable pub unanswered : {A : Type 0} → step.Result Cursor ℕ A → step.Result Cursor ℕ (Unit {0})
 unanswered (ok a c) = ok tt c
 unanswered (refused place) = refused place
 
--- Going on from `from` by a rule comes to `to`, in the same words. Where a reading comes to is thereby said in full; only the answer is left open.
+-- Going on from `from` by a rule comes to `to`. Where a reading comes to is thereby said in full; only the answer is left open.
 abbrev pub Leads : {A : Type 0} → Reader → Read A → Result Reader Fault → Type 0
-Leads from rule to = (unanswered (onward from rule) ≡ gave tt to) × Same from to
+Leads from rule to = unanswered (onward from rule) ≡ gave tt to

@@ -11,5 +11,5 @@ use Rattle.image_nodes.proofs.functions.Given as goal
 
 abbrev pub invariant-loop-others : goal.invariant-loop-others
 invariant-loop-others l =
-    (kind : ℕ) (before : List Outline) → unanswered (onward l.words l.to (extern_functions (here_of l.script kind before l.site) l.others l.room))
-    ≡ unanswered (onward l.words l.initial.to (extern_functions (here_of l.script kind before l.site) l.count l.left))
+    (kind : ℕ) (before : List Outline) → unanswered (onward l.to (extern_functions (here_of l.script kind before l.site) l.others l.room))
+    ≡ unanswered (onward l.initial.to (extern_functions (here_of l.script kind before l.site) l.count l.left))

@@ -15,8 +15,8 @@ use Rattle.image_nodes.proofs.node.Goals as goal
 pub returns : goal.returns
 unfolding node gave unanswered
 returns c = λ before kept.
-    let head = owed good_node_head (λ w. payload_of w - 3) c.args.words.now c.args.from (Ok c.in_ok-at.at) c.next_word-head.result c.saturating_sub.result c.good_head.result
-    c.next_word-head.ensures c.good_head.ensures (c.saturating_sub.ensures ∙ ap (λ n. n - 3) c.payload-long.ensures) c.in_ok-at.ensures in
+    let head = owed good_node_head (λ w. payload_of w - 3) c.args.from (Ok c.in_ok-at.at) c.next_word-head.result c.saturating_sub.result c.good_head.result
+    c.next_word-head.ensures c.good_head.ensures (c.saturating_sub.ensures ∙ ap (λ n. n - 3) c.payload-long.ensures) c.in_ok-at.ensures.0 in
     let left = c.saturating_sub-2.ensures ∙ ap (λ n. n - 2) c.payload-long.ensures in
-    leads_there _ _ _ _ _ _ (any_node (counts_of c.args.script.now c.args.sizes) before c.args.words.now c.args.number c.args.from.at c.args.from.least)
-    (rw (head, c.in_ok-at-2.ensures, ← c.next_word-slot.ensures) (rw left at (c.rest.ensures c.next_word-head.result before c.of.ensures kept)))
+    leads_there _ _ _ _ _ (any_node (counts_of c.args.script.now c.args.sizes) before c.args.from.words c.args.number c.args.from.at c.args.from.least)
+    (rw (head, c.in_ok-at-2.ensures.0, ← c.next_word-slot.ensures) (rw left at (c.rest.ensures c.next_word-head.result before c.of.ensures kept)))
