@@ -6,11 +6,11 @@ ghost use Rattle.tok.specs.Word.{kind_of, payload_of};
 ghost use Rattle.tok.specs.Text.{texts_of};
 ghost use Rattle.tok.specs.Name.{good_name, in_library};
 ghost use Rattle.tok.specs.Reader.{word};
-ghost use Rattle.reader.specs.Reading.{next_word, onward, gave};
+ghost use Rattle.reader.specs.Reading.{next_word, Comes};
 ghost use Rattle.library.specs.Pool.{pool_at, good_type, fields, good_pool_word, pairs_after, pool_from};
 
 use ptype::TypeKind;
-use reader::{Fault, Place};
+use reader::{Fault, Reader};
 
 // Type words.
 
@@ -57,51 +57,43 @@ pub fn good_type(library: &[u8], pool: &[u32], own: usize, w: u32) -> bool
 
 // A name of the library.
 #[tactic(auto, using(reader::specs::Laws::by_rule))]
-pub fn name(library: &[u8], words: &[u32], from: Place) -> Result<Place, Fault>
-    ensures { onward words.now from (word (good_name in_library library.now)) ≡ gave words.now (next_word words.now from) result }
+pub fn name<'a>(library: &[u8], from: Reader<'a>) -> Result<Reader<'a>, Fault>
+    ensures { Comes from.entry (word (good_name in_library library.now)) (next_word from.entry) result }
 {
-    let w = reader::next_word(words, from);
-    reader::word(
-        words,
-        from,
-        tok::good_name(tok::Source::Library, library, w),
-    )
+    let w = from.next_word();
+    from.word(tok::good_name(tok::Source::Library, library, w))
 }
 
 // A type word that refers below `own`.
 #[tactic(auto, using(reader::specs::Laws::by_rule))]
-fn type_word(
+fn type_word<'a>(
     library: &[u8],
-    words: &[u32],
     pool: &[u32],
     own: usize,
-    from: Place,
-) -> Result<Place, Fault>
-    ensures { (script : List ℕ) (size : ℕ) → onward words.now from (word (good_type (pool_at (texts_of script library.now) size pool.now) own))
-        ≡ gave words.now (next_word words.now from) result }
+    from: Reader<'a>,
+) -> Result<Reader<'a>, Fault>
+    ensures { (script : List ℕ) (size : ℕ) → Comes from.entry (word (good_type (pool_at (texts_of script library.now) size pool.now) own)) (next_word from.entry) result }
 {
-    let w = reader::next_word(words, from);
-    reader::word(words, from, good_type(library, pool, own, w))
+    let w = from.next_word();
+    from.word(good_type(library, pool, own, w))
 }
 
 // n pairs of a field list, the first at pool index i: a name and a type word each.
 #[tactic(auto, unfolding(reader::specs::Reading::gave), using(crate::proofs::PoolWays::fields_some, crate::proofs::PoolWays::fields_none))]
-fn fields(
+fn fields<'a>(
     library: &[u8],
-    words: &[u32],
     pool: &[u32],
     n: usize,
     i: usize,
-    from: Place,
-) -> Result<Place, Fault>
+    from: Reader<'a>,
+) -> Result<Reader<'a>, Fault>
     requires { i + 2 * n < 2 ^ 40 }
-    ensures { (script : List ℕ) (size : ℕ) → onward words.now from (fields (pool_at (texts_of script library.now) size pool.now) n i)
-        ≡ gave words.now (i + 2 * n) result }
+    ensures { (script : List ℕ) (size : ℕ) → Comes from.entry (fields (pool_at (texts_of script library.now) size pool.now) n i) (i + 2 * n) result }
 {
     let mut to = from;
     for k in 0..n {
-        let at = name(library, words, to)?;
-        to = type_word(library, words, pool, i + 2 * k + 1, at)?;
+        let at = name(library, to)?;
+        to = type_word(library, pool, i + 2 * k + 1, at)?;
     }
     Ok(to)
 }
@@ -131,24 +123,22 @@ fn pairs_after(w: u32) -> usize
 }
 
 // The pool of `count` words, from its first word to its last.
-pub fn pool_words(
+pub fn pool_words<'a>(
     library: &[u8],
-    words: &[u32],
     pool: &[u32],
     count: u32,
-    from: Place,
-) -> Result<Place, Fault>
-    ensures { (script : List ℕ) → onward words.now from (pool_from (pool_at (texts_of script library.now) count pool.now) count 0)
-        ≡ gave words.now tt result }
+    from: Reader<'a>,
+) -> Result<Reader<'a>, Fault>
+    ensures { (script : List ℕ) → Comes from.entry (pool_from (pool_at (texts_of script library.now) count pool.now) count 0) tt result }
 {
     let size = count as usize;
     let mut to = from;
     let mut i = 0;
     while i < size {
-        let w = reader::next_word(words, to);
-        let at = reader::word(words, to, good_pool_word(library, pool, size, i, w))?;
+        let w = to.next_word();
+        let at = to.word(good_pool_word(library, pool, size, i, w))?;
         let n = pairs_after(w);
-        to = fields(library, words, pool, n, i + 1, at)?;
+        to = fields(library, pool, n, i + 1, at)?;
         i += 1 + 2 * n;
     }
     Ok(to)

@@ -6,4 +6,5 @@ use Rattle.library.specs.Pool.{pool_at, fields}
 use Rattle.library_pool.proofs.fields.Given as goal
 
 abbrev pub invariant-loop-k : goal.invariant-loop-k
-invariant-loop-k l = (script : List ℕ) (size : ℕ) → onward l.words l.to (fields (pool_at (texts_of script l.library) size l.pool) (l.n - l.k) (l.i + 2 * l.k)) ≡ onward l.words l.initial.to (fields (pool_at (texts_of script l.library) size l.pool) l.n l.i)
+invariant-loop-k l = (l.to.words ≡ l.initial.to.words)
+    × ((script : List ℕ) (size : ℕ) → onward l.to (fields (pool_at (texts_of script l.library) size l.pool) (l.n - l.k) (l.i + 2 * l.k)) ≡ onward l.initial.to (fields (pool_at (texts_of script l.library) size l.pool) l.n l.i))
