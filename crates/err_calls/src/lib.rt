@@ -1,7 +1,7 @@
 // The diagnostics of calls (err.rs; typecheck/lib.rs, `resolve_call`, `resolve_pkg_call`, `check_call_args`).
 #![tactic(auto)]
 
-ghost use Rattle.std.specs.Prelude.{ℕ, map};
+ghost use Rattle.std.specs.Prelude.{ℕ, List, map};
 ghost use Rattle.tok.specs.Text.{name_bytes, text};
 ghost use Rattle.ptype.specs.Ty.{Ty};
 ghost use Rattle.ptype.specs.Words.{ty_of};
@@ -113,21 +113,17 @@ pub fn undefined_own(
     )
 }
 
-// Writes the types of the arguments of the signature that begins at a place of `words`, joined by `, `.
-fn put_candidate(
+// Writes the types of the arguments of the signature that begins at a place of `words`, joined by `, `; none where the place is past them.
+pub fn put_candidate(
     out: &mut Writer,
     types: &[u32],
     texts: &Texts,
     words: &[u32],
-    start: u32,
+    at: usize,
 ) -> Result<(), Full>
-    ensures { Writes out.old out.new result (sig (candidate_at texts.now types.now words.now start)) }
+    ensures { Writes out.old out.new result (sig (candidate_at texts.now types.now words.now at)) }
 {
-    let i = start as usize;
-    if i <= words.len() {
-        return display::show_arg_types(out, types, texts, &words[i..]);
-    }
-    out.put(b"")
+    display::show_arg_types(out, types, texts, &words[at.min(words.len())..])
 }
 
 // Writes the candidates whose signatures begin at the places `starts` of `words`, joined by ` | `.
@@ -140,15 +136,50 @@ fn put_candidates(
 ) -> Result<(), Full>
     ensures { Writes out.old out.new result (joined (text " | ") (map sig (candidates_at texts.now types.now words.now starts.now))) }
 {
-    for i in 0..starts.len() {
+    for (i, start) in starts.iter().enumerate() {
         out.put_separator(i, b" | ")?;
-        put_candidate(out, types, texts, words, tok::word_at(starts, i))?;
+        put_candidate(out, types, texts, words, *start as usize)?;
     }
     out.put(b"")
 }
 
-// 18: A call of a group of several, none of which takes these argument types. The candidates' signatures begin at the places `starts` of `words`.
-pub fn no_specialisation(
+// 18: A call of a group of several, none of which takes these argument types. `candidates` writes those that it has, joined by ` | `.
+pub fn no_specialisation<F: Fn(&mut Writer) -> Result<(), Full>>(
+    diagnostics: &mut [u32],
+    messages: &mut [u8],
+    counts: Counts,
+    types: &[u32],
+    texts: &Texts,
+    token: u32,
+    callee: CallName,
+    provided: &[u32],
+    candidates: F,
+) -> Option<Counts>
+    requires { F.IsAlwaysCallable candidates }
+    ensures { let U : ℕ → Ty = ty_of texts.now types.now in
+        ((cs : List (List Ty)) → ((w : _) (r : _) (w' : _) → F.post candidates w r w' → Writes w.now w'.now r (joined (text " | ") (map sig cs))) →
+        Reports (no_specialisation token (call_name texts.now callee) (map U provided.now) cs) diagnostics.old messages.old counts diagnostics.new messages.new result) }
+{
+    let mut out = err_text::writer(messages, counts);
+    let a = out.put(b"no specialisation of ");
+    let b = a.and(err_text::put_call_name(&mut out, texts, callee));
+    let c = b.and(out.put(b" accepts ("));
+    let d = c.and(display::show_types(&mut out, types, texts, provided));
+    let e = d.and(out.put(b"); available: "));
+    let f = e.and(candidates(&mut out));
+    err_text::report(
+        diagnostics,
+        counts,
+        18,
+        tok::token_span(token),
+        f,
+        out.at,
+        out.at,
+    )
+}
+
+// The same, of candidates whose signatures begin at the places `starts` of `words`.
+pub fn no_specialisation_at(
     diagnostics: &mut [u32],
     messages: &mut [u8],
     counts: Counts,
@@ -164,21 +195,16 @@ pub fn no_specialisation(
         Reports (no_specialisation token (call_name texts.now callee) (map U provided.now) (candidates_at texts.now types.now words.now starts.now))
         diagnostics.old messages.old counts diagnostics.new messages.new result }
 {
-    let mut out = err_text::writer(messages, counts);
-    let a = out.put(b"no specialisation of ");
-    let b = a.and(err_text::put_call_name(&mut out, texts, callee));
-    let c = b.and(out.put(b" accepts ("));
-    let d = c.and(display::show_types(&mut out, types, texts, provided));
-    let e = d.and(out.put(b"); available: "));
-    let f = e.and(put_candidates(&mut out, types, texts, words, starts));
-    err_text::report(
+    no_specialisation(
         diagnostics,
+        messages,
         counts,
-        18,
-        tok::token_span(token),
-        f,
-        out.at,
-        out.at,
+        types,
+        texts,
+        token,
+        callee,
+        provided,
+        |out: &mut Writer| put_candidates(out, types, texts, words, starts),
     )
 }
 

@@ -1,7 +1,7 @@
 -- The pieces of messages by the branches that write them. Assumes nothing.
 use Prim.Native.Nat.{ℕ}
 use mathlib.Core.Path.{◌≡◌, refl, sym}
-use mathlib.Core.List.{List, [], ◌∷◌, ◌++◌, map}
+use mathlib.Core.List.{List, [], ◌++◌, map}
 use lib.ListN.{get_or, get_or-map}
 use Rattle.tok.specs.Text.{Texts, name_bytes, text}
 use Rattle.display.specs.Writing.{written}

@@ -16,6 +16,7 @@ use Rattle.display.specs.Joined.{joined, sig, separated}
 use Rattle.display.specs.JoinedLaws.{joined_after, joined-start, joined-turn, joined_end}
 use Rattle.display.specs.Signature.{arg_types, args_of}
 use Rattle.display.specs.WritingLaws.{Owes}
+use Rattle.err_calls.specs.Candidates.{candidate_at}
 use Rattle.library.specs.Package.{Signature, params_from}
 use Rattle.state.specs.Signatures.{signature_at}
 use Rattle.library.specs.declared.Entry.{Entry}
@@ -36,20 +37,12 @@ module _ (texts : Texts) (types words : List ℕ) where
       ap₂ (λ (t : Ty) (ts : List Ty). t ∷ ts) (ap (ty_of texts types) (get_or-drop start words (i + 1) 0 ∙ ap (λ a. get_or words a 0) p)) (fields-params k start (i + 2) (j + 2) (omega arith))
 
   -- the types of its arguments, as they are written
-  candidate_is : (at : ℕ) (f : Bool) → arg_types (args_of texts types (drop at words)) ≡ param_types (ty_of texts types) (signature_at words at f).params
-  unfolding signature_at
+  pub candidate_is : (at : ℕ) (f : Bool) → candidate_at texts types words at ≡ param_types (ty_of texts types) (signature_at words at f).params
+  unfolding candidate_at signature_at
   candidate_is at f =
       let p : at + 0 ≡ at = omega arith in
       let q : get_or (drop at words) 0 0 ≡ get_or words at 0 = get_or-drop at words 0 0 ∙ ap (λ a. get_or words a 0) p in
       rw q (fields-params (get_or words at 0) at 1 (at + 1) refl)
-
-  -- the rest of the words was lent
-  pub candidate_in : (at : ℕ) → at ≤ length words → (f : Bool) → sig (param_types (ty_of texts types) (signature_at words at f).params) ≡ sig (arg_types (args_of texts types (take (length words - at) (drop at words))))
-  candidate_in at h f = ap sig (sym (candidate_is at f)) ∙ rw (take_all (length words - at) (drop at words) (simp length-drop (omega arith)))
-
-  pub candidate_past : (at : ℕ) → length words < at → (f : Bool) → sig (param_types (ty_of texts types) (signature_at words at f).params) ≡ []
-  unfolding fields_from arg_types sig joined
-  candidate_past at h f = ap sig (sym (candidate_is at f)) ∙ rw (drop_of_length-le words {i = at} (omega arith)) refl
 
 -- ── All of them: some are written, the others are owed; `count` is 0 while none is written ──
 

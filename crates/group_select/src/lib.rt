@@ -10,35 +10,17 @@ ghost use Rattle.ptype.specs.Words.{ty_of};
 ghost use Rattle.display.specs.Writing.{Writes};
 ghost use Rattle.display.specs.Joined.{joined, sig};
 ghost use Rattle.library.specs.Package.{Signature};
-ghost use Rattle.err.specs.Message.{call_name, no_specialisation};
-ghost use Rattle.err.specs.Report.{Reports};
-ghost use Rattle.state.specs.Signatures.{signature_at};
+ghost use Rattle.err.specs.Message.{call_name};
 ghost use Rattle.library.specs.Entries.{flag_words};
 ghost use Rattle.selection.specs.Candidates.{group, param_types};
 ghost use Rattle.group_select.specs.Selects.{candidate_types, NoneFits, Selects};
 
 use display::{Full, Writer};
-use err::{CallName, Counts};
+use err::CallName;
 use rules::Answer;
 use signatures::Entries;
 use state::{Step, Used};
 use tok::Texts;
-
-// Writes the types of the arguments of the signature whose argument count stands at a place of `words`, joined by `, `.
-fn put_candidate(
-    out: &mut Writer,
-    types: &[u32],
-    texts: &Texts,
-    words: &[u32],
-    at: usize,
-) -> Result<(), Full>
-    ensures { ((f : Bool) → Writes out.old out.new result (sig (param_types (ty_of texts.now types.now) (signature_at words.now at f).params))) }
-{
-    if at <= words.len() {
-        return display::show_arg_types(out, types, texts, &words[at..]);
-    }
-    out.put(b"")
-}
 
 // Writes the candidates, joined by ` | `.
 fn put_candidates(
@@ -56,46 +38,11 @@ fn put_candidates(
     let mut found = entries.find(texts, name);
     while let Some(entry) = found {
         out.put_separator(before, b" | ")?;
-        put_candidate(out, types, texts, entries.words, entry.at)?;
+        err_calls::put_candidate(out, types, texts, entries.words, entry.at)?;
         before = 1;
         found = entries.after(entry).find(texts, name);
     }
     out.put(b"")
-}
-
-// 18: A call of a group of several, none of which takes these argument types.
-fn no_specialisation(
-    diagnostics: &mut [u32],
-    messages: &mut [u8],
-    counts: Counts,
-    types: &[u32],
-    texts: &Texts,
-    token: u32,
-    callee: CallName,
-    provided: &[u32],
-    entries: &Entries,
-    name: &[u8],
-) -> Option<Counts>
-    ensures { let U : ℕ → Ty = ty_of texts.now types.now in
-        let fs : List Signature = group texts.now name.now entries.now.words (flag_words entries.now.flagged) entries.now.from entries.now.count in
-        Reports (no_specialisation token (call_name texts.now callee) (map U provided.now) (candidate_types U fs)) diagnostics.old messages.old counts diagnostics.new messages.new result }
-{
-    let mut out = err_text::writer(messages, counts);
-    let a = out.put(b"no specialisation of ");
-    let b = a.and(err_text::put_call_name(&mut out, texts, callee));
-    let c = b.and(out.put(b" accepts ("));
-    let d = c.and(display::show_types(&mut out, types, texts, provided));
-    let e = d.and(out.put(b"); available: "));
-    let f = e.and(put_candidates(&mut out, types, texts, entries, name));
-    err_text::report(
-        diagnostics,
-        counts,
-        18,
-        tok::token_span(token),
-        f,
-        out.at,
-        out.at,
-    )
 }
 
 // No candidate fits: 18, and what all return is still known.
@@ -118,7 +65,7 @@ fn none_fits(
         (group texts.now name.now entries.now.words (flag_words entries.now.flagged) entries.now.from entries.now.count) slots.old types.now diagnostics.old messages.old used
         slots.new diagnostics.new messages.new result }
 {
-    let r = no_specialisation(
+    let r = err_calls::no_specialisation(
         diagnostics,
         messages,
         used.told,
@@ -127,8 +74,7 @@ fn none_fits(
         token,
         callee,
         provided,
-        entries,
-        name,
+        |out: &mut Writer| put_candidates(out, types, texts, entries, name),
     );
     let (_, used) = state::told(n, used, r, ())?;
     selection::common_return(slots, types, texts, used, slot, entries, name)

@@ -8,10 +8,11 @@ use Rattle.err_calls.proofs.no_specialisation.Goals as goal
 
 pub returns : goal.returns
 unfolding no_specialisation text
-returns c =
+returns g c cs h =
     let to_b = both _ _ _ _ c.put-a.ensures.1 c.put_call_name.ensures.1 c.and-b.ensures in
     let to_c = both _ _ _ _ to_b c.put.ensures.1 c.and-c.ensures in
     let to_d = both _ _ _ _ to_c c.show_types.ensures.1 c.and-d.ensures in
     let to_e = both _ _ _ _ to_d c.put-2.ensures.1 c.and-e.ensures in
-    let to_f = both _ _ _ _ to_e c.put_candidates.ensures.1 c.and-f.ensures in
+    let written = h _ _ _ c.candidates.ensures in
+    let to_f = both _ _ _ _ to_e written.1 c.and-f.ensures in
     tells-rest-alone c.writer-out.ensures.from_the_first_free to_f (search rules) c.token_span.ensures (c.report.ensures.six_words, c.report.ensures.answer)

@@ -1,4 +1,3 @@
-use mathlib.Core.Path.{refl}
 use native.Mathlib.Omega.{arith}
 use Rattle.tok.specs.Text.{text}
 use Rattle.display.specs.WritingLaws.{writing}
@@ -11,17 +10,17 @@ loop-i-init c = let e = candidates-start c.args.texts.now c.args.types.now c.arg
 pub returns-in_err-put_separator : goal.returns-in_err-put_separator
 unfolding text
 returns-in_err-put_separator c =
-    let e = candidates-turn c.args.texts.now c.args.types.now c.args.words.now c.args.starts.now {i = c.loop-i.i} (omega arith) refl in grind writing
+    let e = candidates-turn c.args.texts.now c.args.types.now c.args.words.now c.args.starts.now {i = c.loop-i.i} (omega arith) in grind writing
 
 pub returns-in_err-put_candidate : goal.returns-in_err-put_candidate
 unfolding text
 returns-in_err-put_candidate c =
-    let e = candidates-turn c.args.texts.now c.args.types.now c.args.words.now c.args.starts.now {i = c.loop-i.i} (omega arith) c.word_at.ensures in grind writing
+    let e = candidates-turn c.args.texts.now c.args.types.now c.args.words.now c.args.starts.now {i = c.loop-i.i} (omega arith) in grind writing
 
 pub loop-i-preserved : goal.loop-i-preserved
 unfolding text
 loop-i-preserved c =
-    let e = candidates-turn c.args.texts.now c.args.types.now c.args.words.now c.args.starts.now {i = c.loop-i.i} (omega arith) c.word_at.ensures in grind writing
+    let e = candidates-turn c.args.texts.now c.args.types.now c.args.words.now c.args.starts.now {i = c.loop-i.i} (omega arith) in grind writing
 
 pub returns : goal.returns
 returns c = let e = candidates-end c.args.texts.now c.args.types.now c.args.words.now c.args.starts.now {i = c.loop-i.i} (omega arith) in grind writing

@@ -1,7 +1,7 @@
 use Rattle.std.proofs.Common.{◌≡◌, ap}
 use Rattle.tok.specs.Text.{text}
 use Rattle.display.specs.WritingLaws.{writing}
-use Rattle.group_select.proofs.Candidates.{listing-begin, listing-over, listing-turn, listing-more}
+use Rattle.group_select.proofs.Candidates.{candidate_is, listing-begin, listing-over, listing-turn, listing-more}
 use Rattle.group_select.proofs.put_candidates.Goals as goal
 
 pub loop-found-init : goal.loop-found-init
@@ -18,7 +18,7 @@ unfolding text
 returns-in_err-put_candidate c =
     let i = c.loop-found.invariant.owes in
     let v : c.entries.inside.words.now ≡ c.args.entries.now.words = ap (λ e. e.words) c.entries.view_is in
-    let p = rw v at c.put_candidate.ensures c.in-Some.entry.slotted in
+    let p = rw (v, candidate_is _ _ _ _ c.in-Some.entry.slotted) at c.put_candidate.ensures in
     let e = listing-turn _ _ _ _ c.loop-found.invariant c.in-Some.is in grind writing
 
 pub loop-found-preserved : goal.loop-found-preserved
@@ -26,7 +26,7 @@ unfolding text
 loop-found-preserved c =
     let i = c.loop-found.invariant.owes in
     let v : c.entries.inside.words.now ≡ c.args.entries.now.words = ap (λ e. e.words) c.entries.view_is in
-    let p = rw v at c.put_candidate.ensures c.in-Some.entry.slotted in
+    let p = rw (v, candidate_is _ _ _ _ c.in-Some.entry.slotted) at c.put_candidate.ensures in
     let e = listing-turn _ _ _ _ c.loop-found.invariant c.in-Some.is in
     listing-more _ _ _ _ c.loop-found.invariant c.in-Some.is c.after.ensures c.find-found-in-Some.ensures (grind writing)
 
