@@ -5,15 +5,16 @@ ghost use Rattle.std.specs.Prelude.{◌≡◌, take};
 ghost use Rattle.call_args.specs.Given.{given_from};
 ghost use Rattle.call_types.specs.Gather.{words_in, Gatherable};
 
+use call_args::Call;
 use places::Image;
 
-// The type words of `count` arguments, whose node numbers stand from word `args` of the image on.
-pub fn gather_types(provided: &mut [u32], slots: &[u32], image: &Image, args: usize, count: usize)
-    requires { Gatherable image.now.words image.now.places args count provided.old }
-    ensures { take count provided.new ≡ words_in slots.now (given_from image.now.words args count) }
+// The type words of a call's arguments.
+pub fn gather_types(provided: &mut [u32], slots: &[u32], image: &Image, call: Call)
+    requires { Gatherable image.now.words image.now.places call.args call.count provided.old }
+    ensures { take call.count provided.new ≡ words_in slots.now (given_from image.now.words call.args call.count) }
 {
-    for i in 0..count {
-        let number = image.word_at(args + i);
+    for i in 0..call.count {
+        let number = image.word_at(call.args + i);
         let slot = call_args::slot_of(image, number);
         provided[i] = tok::word_at(slots, slot as usize);
     }

@@ -7,7 +7,9 @@ ghost use Rattle.std.specs.Prelude.{◌≡◌, List, ℕ, ◌+◌, min, length, 
 ghost use Rattle.tok.specs.Text.{name_bytes};
 ghost use Rattle.library.specs.Package.{Package, group_of};
 ghost use Rattle.library.specs.PackagesRead.{package_at};
-ghost use Rattle.rules.specs.Calls.{resolve_pkg_call};
+ghost use Rattle.rules.specs.declared.Answer.{Answer};
+ghost use Rattle.rules.specs.World.{Walk};
+ghost use Rattle.rules.specs.Calls.{Provided, resolve_pkg_call};
 ghost use Rattle.state.specs.Context.{ctx};
 ghost use Rattle.state.specs.Store.{extern_at};
 ghost use Rattle.call_args.specs.Given.{given_from};
@@ -20,8 +22,9 @@ ghost use Rattle.pkg_group.specs.Groups.{InGroup};
 ghost use Rattle.pkg_call.specs.Ready.{GatheredReady, LibraryReady, HeldReady, PkgReady};
 ghost use Rattle.pkg_call.specs.Calls.{LibraryCalls, HeldCalls};
 
+use call_args::Signature;
 use err::CallName;
-use pkg_group::{Candidates, in_group};
+use pkg_group::{Candidates, PackageCall, in_group};
 use places::Image;
 use rules::Answer;
 use scope::Held;
@@ -56,25 +59,20 @@ fn in_library(
     library: &[u32],
     used: Used,
     top: usize,
-    n: u32,
-    slot: u32,
-    pkg: u32,
-    name: u32,
+    call: PackageCall,
     at: usize,
-    args: usize,
-    count: usize,
-    poisoned: bool,
 ) -> Step<Answer>
     requires { let i : Image = image.now in
-        LibraryReady texts.now i.words i.places library.now scratch.old top n at args count slots.old types.old used.types }
-    ensures { LibraryCalls texts.now n slot pkg name (given_from image.now.words args count) poisoned (package_at library.now at)
+        LibraryReady texts.now i.words i.places library.now scratch.old top call.site.n at call.site.args call.site.count slots.old types.old used.types }
+    ensures { let given : List Provided = given_from image.now.words call.site.args call.site.count in
+        LibraryCalls texts.now call.site.n call.site.slot call.pkg call.name given call.poisoned (package_at library.now at)
         scratch.old slots.old types.old diagnostics.old messages.old used
         scratch.new slots.new types.new diagnostics.new messages.new result }
 {
     let entries = functions_at(library, true, at);
-    let found = pkg_group::find_candidates(texts, &entries, name);
+    let found = pkg_group::find_candidates(texts, &entries, call.name);
     let Candidates::Slotted(place) = found else {
-        let end = top + count;
+        let end = top + call.site.count;
         return in_group(
             slots,
             &types[..],
@@ -84,15 +82,9 @@ fn in_library(
             texts,
             image,
             used,
-            n,
-            slot,
-            pkg,
-            name,
+            call,
             &entries,
             found,
-            args,
-            count,
-            poisoned,
         );
     };
     slotted_call::check_slotted(
@@ -104,14 +96,13 @@ fn in_library(
         texts,
         image,
         used,
-        n,
-        slot,
-        name,
-        CallName::OfPackage(pkg, name),
-        library,
-        place,
-        args,
-        count,
+        call.site,
+        call.name,
+        CallName::OfPackage(call.pkg, call.name),
+        &Signature {
+            words: library,
+            at: place,
+        },
     )
 }
 
@@ -126,23 +117,19 @@ fn in_extern(
     image: &Image,
     used: Used,
     top: usize,
-    n: u32,
-    slot: u32,
-    pkg: u32,
-    name: u32,
+    call: PackageCall,
     at: usize,
-    args: usize,
-    count: usize,
-    poisoned: bool,
 ) -> Step<Answer>
-    requires { GatheredReady texts.now image.now.words image.now.places scratch.now top n args count slots.old types.now used.types }
-    ensures { InGroup texts.now n slot pkg name (given_from image.now.words args count) poisoned
-        (group_of texts.now (name_bytes texts.now name) (extern_at scratch.now at).functions) slots.old types.now diagnostics.old messages.old used
+    requires { let i : Image = image.now in
+        GatheredReady texts.now i.words i.places scratch.now top call.site.n call.site.args call.site.count slots.old types.now used.types }
+    ensures { let given : List Provided = given_from image.now.words call.site.args call.site.count in
+        InGroup texts.now call.site.n call.site.slot call.pkg call.name given call.poisoned
+        (group_of texts.now (name_bytes texts.now call.name) (extern_at scratch.now at).functions) slots.old types.now diagnostics.old messages.old used
         slots.new types.now diagnostics.new messages.new result }
 {
     let entries = functions_at(scratch, false, at);
-    let found = pkg_group::find_candidates(texts, &entries, name);
-    let end = top + count;
+    let found = pkg_group::find_candidates(texts, &entries, call.name);
+    let end = top + call.site.count;
     in_group(
         slots,
         types,
@@ -152,15 +139,9 @@ fn in_extern(
         texts,
         image,
         used,
-        n,
-        slot,
-        pkg,
-        name,
+        call,
         &entries,
         found,
-        args,
-        count,
-        poisoned,
     )
 }
 
@@ -174,25 +155,20 @@ fn in_held(
     texts: &Texts,
     image: &Image,
     library: &[u32],
-    used: Used,
-    held: usize,
-    packages: usize,
+    st: State,
     top: usize,
-    n: u32,
-    slot: u32,
-    pkg: u32,
-    name: u32,
-    args: usize,
-    count: usize,
-    poisoned: bool,
+    call: PackageCall,
 ) -> Step<Answer>
     requires { let i : Image = image.now in
-        HeldReady texts.now i.words i.places library.now scratch.old held packages top n args count slots.old types.old used.types }
-    ensures { HeldCalls texts.now n slot pkg name (given_from image.now.words args count) poisoned library.now held packages
-        scratch.old slots.old types.old diagnostics.old messages.old used
+        HeldReady texts.now i.words i.places library.now scratch.old st.held st.packages top call.site.n call.site.args call.site.count slots.old types.old
+        st.used.types }
+    ensures { let given : List Provided = given_from image.now.words call.site.args call.site.count in
+        HeldCalls texts.now call.site.n call.site.slot call.pkg call.name given call.poisoned library.now st.held st.packages
+        scratch.old slots.old types.old diagnostics.old messages.old st.used
         scratch.new slots.new types.new diagnostics.new messages.new result }
 {
-    let found = scope::find_held(texts, library, &scratch[..], held, packages, pkg);
+    let used = st.used;
+    let found = scope::find_held(texts, library, &scratch[..], st.held, st.packages, call.pkg);
     match found {
         Held::Library(at) => in_library(
             slots,
@@ -205,14 +181,8 @@ fn in_held(
             library,
             used,
             top,
-            n,
-            slot,
-            pkg,
-            name,
+            call,
             at,
-            args,
-            count,
-            poisoned,
         ),
         Held::Extern(at) => in_extern(
             slots,
@@ -224,24 +194,23 @@ fn in_held(
             image,
             used,
             top,
-            n,
-            slot,
-            pkg,
-            name,
+            call,
             at,
-            args,
-            count,
-            poisoned,
         ),
         Held::Nothing => {
-            let r = err_calls::missing_package(diagnostics, messages, used.told, texts, pkg);
-            state::told(n, used, r, Answer::Poison)
+            let r = err_calls::missing_package(
+                diagnostics,
+                messages,
+                used.told,
+                texts,
+                call.pkg,
+            );
+            state::told(call.site.n, used, r, Answer::Poison)
         }
     }
 }
 
-// Function `name` of package `pkg`, called with the arguments whose node numbers stand from word `args` of the image on. Their types are
-// gathered in scratch, between the names in scope and the packages held.
+// A call of a package's function. The types of its arguments are gathered in scratch, between the names in scope and the packages held.
 pub fn resolve_pkg_call(
     slots: &mut [u32],
     types: &mut [u32],
@@ -252,23 +221,20 @@ pub fn resolve_pkg_call(
     image: &Image,
     library: &[u32],
     st: State,
-    n: u32,
-    slot: u32,
-    pkg: u32,
-    name: u32,
-    args: usize,
-    count: usize,
-    poisoned: bool,
+    call: PackageCall,
 ) -> Visit<Answer>
-    requires { PkgReady texts.now image.now.words image.now.places library.now st scratch.old n args count slots.old types.old }
+    requires { let i : Image = image.now in
+        PkgReady texts.now i.words i.places library.now st scratch.old call.site.n call.site.args call.site.count slots.old types.old }
     ensures { ((ls : List Package) (v : ℕ) (f : List ℕ) (o : More) →
         let b : Lent = lent slots.old f types.old diagnostics.old messages.old scratch.old o in
         let b' : Lent = lent slots.new f types.new diagnostics.new messages.new scratch.new o in
-        Visits (resolve_pkg_call (ctx texts.now ls v) n slot pkg name (given_from image.now.words args count) poisoned) count 0 library.now st b b' result) }
+        let given : List Provided = given_from image.now.words call.site.args call.site.count in
+        let rule : Walk Answer = resolve_pkg_call (ctx texts.now ls v) call.site.n call.site.slot call.pkg call.name given call.poisoned in
+        Visits rule call.site.count 0 library.now st b b' result) }
 {
     let top = 2 * (st.base + st.depth);
-    let end = top + count;
-    call_types::gather_types(&mut scratch[top..end], &slots[..], image, args, count);
+    let end = top + call.site.count;
+    call_types::gather_types(&mut scratch[top..end], &slots[..], image, call.site);
     let step = in_held(
         slots,
         types,
@@ -278,17 +244,9 @@ pub fn resolve_pkg_call(
         texts,
         image,
         library,
-        st.used,
-        st.held,
-        st.packages,
+        st,
         top,
-        n,
-        slot,
-        pkg,
-        name,
-        args,
-        count,
-        poisoned,
+        call,
     );
     visit::answered(st, step)
 }

@@ -11,6 +11,7 @@ ghost use Rattle.call_args.specs.Given.{given_from};
 ghost use Rattle.pkg_group.specs.GroupSize.{group_size, size_found};
 ghost use Rattle.pkg_group.specs.Groups.{GroupReady, InGroup};
 
+use call_args::Call;
 use err::CallName;
 use places::Image;
 use rules::Answer;
@@ -25,6 +26,15 @@ pub enum Candidates {
     Plain(usize),
     Slotted(usize),
     Several,
+}
+
+// A call of a package's function, whose arguments are visited: the names of the package and of the function, and whether an argument is poisoned.
+#[derive(Clone, Copy)]
+pub struct PackageCall {
+    pub site: Call,
+    pub pkg: u32,
+    pub name: u32,
+    pub poisoned: bool,
 }
 
 // The candidates of a name among the entries of a package.
@@ -55,21 +65,17 @@ pub fn in_group(
     texts: &Texts,
     image: &Image,
     used: Used,
-    n: u32,
-    slot: u32,
-    pkg: u32,
-    name: u32,
+    call: PackageCall,
     entries: &Entries,
     found: Candidates,
-    args: usize,
-    count: usize,
-    poisoned: bool,
 ) -> Step<Answer>
-    requires { let fs : List Signature = group texts.now (name_bytes texts.now name) entries.now.words (flag_words entries.now.flagged) entries.now.from entries.now.count in
-        GroupReady image.now.words image.now.places n args count slots.old provided.now entries.now.words fs found }
-    ensures { let fs : List Signature = group texts.now (name_bytes texts.now name) entries.now.words (flag_words entries.now.flagged) entries.now.from entries.now.count in
-        InGroup texts.now n slot pkg name (given_from image.now.words args count) poisoned fs slots.old types.now diagnostics.old messages.old used
-        slots.new types.now diagnostics.new messages.new result }
+    requires { let fs : List Signature = group texts.now (name_bytes texts.now call.name) entries.now.words (flag_words entries.now.flagged) entries.now.from
+        entries.now.count in
+        GroupReady image.now.words image.now.places call.site.n call.site.args call.site.count slots.old provided.now entries.now.words fs found }
+    ensures { let fs : List Signature = group texts.now (name_bytes texts.now call.name) entries.now.words (flag_words entries.now.flagged) entries.now.from
+        entries.now.count in
+        InGroup texts.now call.site.n call.site.slot call.pkg call.name (given_from image.now.words call.site.args call.site.count) call.poisoned fs slots.old
+        types.now diagnostics.old messages.old used slots.new types.now diagnostics.new messages.new result }
 {
     match found {
         Candidates::Nothing => {
@@ -78,10 +84,10 @@ pub fn in_group(
                 messages,
                 used.told,
                 texts,
-                pkg,
-                name,
+                call.pkg,
+                call.name,
             );
-            state::told(n, used, r, Answer::Poison)
+            state::told(call.site.n, used, r, Answer::Poison)
         }
         Candidates::Plain(at) => call_args::check_plain(
             slots,
@@ -91,19 +97,18 @@ pub fn in_group(
             texts,
             image,
             used,
-            n,
-            slot,
-            name,
-            CallName::OfPackage(pkg, name),
-            entries.words,
-            at,
-            args,
-            count,
+            call.site,
+            call.name,
+            CallName::OfPackage(call.pkg, call.name),
+            &call_args::Signature {
+                words: entries.words,
+                at,
+            },
         ),
         // it is checked by itself, with its bindings
         Candidates::Slotted(_) => unreachable!(),
         Candidates::Several => {
-            let wanted = tok::name_bytes(texts, name);
+            let wanted = tok::name_bytes(texts, call.name);
             group_select::select(
                 slots,
                 types,
@@ -111,14 +116,14 @@ pub fn in_group(
                 messages,
                 texts,
                 used,
-                n,
-                slot,
-                name,
-                CallName::OfPackage(pkg, name),
+                call.site.n,
+                call.site.slot,
+                call.name,
+                CallName::OfPackage(call.pkg, call.name),
                 provided,
                 entries,
                 wanted,
-                poisoned,
+                call.poisoned,
             )
         }
     }

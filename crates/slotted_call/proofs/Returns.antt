@@ -1,5 +1,5 @@
 -- A call of a function with slots, one law for each way out of the code. Assumes nothing.
-use Rattle.std.specs.Prelude.{ℕ, suc, ◌+◌, ◌-◌, ◌≤◌, ◌<◌, ◌≡◌, min, Bool, true, false, ◌||◌, List, [], Option, Ok, Err, eqb, length, get_or, drop, ⊤}
+use Rattle.std.specs.Prelude.{ℕ, suc, ◌+◌, ◌-◌, ◌≤◌, ◌<◌, ◌≡◌, min, Bool, true, false, ◌||◌, List, [], Ok, Err, eqb, length, get_or, drop, ⊤}
 use Rattle.std.specs.Result.{IsErrAnd}
 use Rattle.std.proofs.Math.Path.{refl}
 use Rattle.std.proofs.Common.{sym, ap, ◌∙◌, arith}
@@ -9,7 +9,6 @@ use lib.Seq.{drop-cons}
 use borrow.Author.Tests.{eq-eqb, ne_eqb}
 use Rattle.tok.specs.Text.{Texts}
 use Rattle.tok.specs.Step.{Result, ok, Refusal as Refused, next, return, when}
-use Rattle.tok.specs.declared.Span.{Span}
 use Rattle.ptype.specs.Ty.{Ty, contains_unknown, contains_slot}
 use Rattle.ptype.specs.Words.{ty_of}
 use Rattle.ptype.specs.Add.{buffer}
@@ -23,14 +22,12 @@ use Rattle.slots.specs.Bindings.{first_pairs, pair_room, bindings_of, bindings_a
 use Rattle.apply.specs.Apply.{apply_word}
 use Rattle.ast.specs.Node.{nodes_from, tree_of, slot_of}
 use Rattle.ast.specs.Span.{span_of}
-use Rattle.err.specs.declared.Counts.{Counts}
 use Rattle.err.specs.Message.{argument_count}
-use Rattle.err.specs.Report.{Reports}
 use Rattle.library.specs.Package.{Param, param, Package}
 use Rattle.rules.specs.declared.Answer.{Answer}
 use Rattle.rules.specs.declared.Answer.TheVariants.{Poison}
 use Rattle.rules.specs.World.{Ctx, World}
-use Rattle.rules.specs.Steps.{tree, ty, on_types, set_known, report, poison}
+use Rattle.rules.specs.Steps.{tree, ty, on_types, set_known, report}
 use Rattle.rules.specs.Calls.{Provided, provided_of, compared, after_binding, slotted_argument, argument, arguments, returned, check_call_args}
 use Rattle.laws.specs.Keeps.{Keeps, kept, in_argument}
 use Rattle.laws.specs.Grow.{Grow, Walked, grow_kept, Below}
@@ -39,13 +36,14 @@ use Rattle.state.specs.declared.Refusal.{Refusal}
 use Rattle.state.specs.Context.{ctx}
 use Rattle.state.specs.Signatures.{signature_at}
 use Rattle.state.specs.World.{Rest, world, Step, stepped, with_answer, Steps, no_more}
-use Rattle.state.specs.Reporting.{told_of, poisons-step, passed, on-ok, on-err}
+use Rattle.state.specs.Reporting.{passed, on-ok, on-err}
 use Rattle.state.specs.Adding.{added_of}
 use Rattle.arguments.specs.Argument.{given}
 use Rattle.slotted.specs.Argues.{Argues}
 use Rattle.slotted.specs.Meant.{Meant, ArgumentMeant}
 use Rattle.slotted.proofs.Returns.{applying}
-use Rattle.call_args.specs.Given.{given_from}
+use Rattle.arguments.specs.declared.Argument.{Argument}
+use Rattle.call_args.specs.Given.{given_from, argument_in}
 use Rattle.call_args.proofs.Plain.{arguments-none, length-given}
 use Rattle.slotted_call.specs.Bindable.{Bindable, none, more, Arguments, known_return}
 
@@ -154,32 +152,30 @@ module _ (texts : Texts) (n : ℕ) (call_name : List ℕ) (ps : List Param) (ima
           grown = h.grown;
         }
 
-    module _ (long : count ≡ length ps) (l : i < count) {number name type slot : ℕ} (en : number ≡ get_or image (args + i) 0) (ename : name ≡ (get_or ps i (param 0 0)).name)
-        (etype : type ≡ (get_or ps i (param 0 0)).type) (eslot : slot ≡ slot_of (tree_of image number)) where
+    module _ (long : count ≡ length ps) (l : i < count) {arg : Argument} (ea : arg ≡ argument_in image args ps i) where
       -- what the step of the argument takes for granted
       pub argument-ready : ((j : ℕ) → j < length ps → Meant texts t u.types (get_or ps j (param 0 0)).type)
           → ((j : ℕ) → j < count → Meant texts t u.types (get_or s (slot_of (tree_of image (get_or image (args + j) 0))) 0))
-          → ((bs : List Binding) → Bindable texts t ps bs → length bs ≤ pair_room b.pairs.now) → ArgumentMeant texts s t' u'.types type slot b'
+          → ((bs : List Binding) → Bindable texts t ps bs → length bs ≤ pair_room b.pairs.now) → ArgumentMeant texts s t' u'.types arg.expected arg.slot b'
       argument-ready mp mg room =
           let k : i < length ps = omega (arith, long) in
           let m₁ = mp i k in
-          let z : slot ≡ slot_of (tree_of image (get_or image (args + i) 0)) = eslot ∙ ap (λ x. slot_of (tree_of image x)) en in
           let p = get_or ps i (param 0 0) in
-          let after = bindings_after (bind_slots texts t' (ty_of texts t p.type) (get_or s slot 0) (bindings_of texts b')) in
-          record {
-            expects = rw etype (meant-grown h.grown m₁);
-            provides = rw z (meant-grown h.grown (mg i l));
-            room = rw (etype, same-type h.grown m₁) (omega (arith, h.keeps, room after (more h.bindable i k t' (get_or s slot 0) refl)));
-          }
+          let w = get_or s (slot_of (tree_of image (get_or image (args + i) 0))) 0 in
+          let after = bindings_after (bind_slots texts t' (ty_of texts t p.type) w (bindings_of texts b')) in
+          rw ea (record {
+            expects = meant-grown h.grown m₁;
+            provides = meant-grown h.grown (mg i l);
+            room = rw (same-type h.grown m₁) (omega (arith, h.keeps, room after (more h.bindable i k t' w refl)));
+          })
 
-      module _ (mp : (j : ℕ) → j < length ps → Meant texts t u.types (get_or ps j (param 0 0)).type) {span : Span} (espan : span ≡ span_of (tree_of image number))
-          {t'' d'' m'' : List ℕ} {b'' : Bindings} {r : Step ⊤}
-          (a : Argues texts (λ c. argument c n call_name true (param name type) (given slot span)) s t' d' m' u' b' t'' d'' m'' b'' r) where
+      module _ (mp : (j : ℕ) → j < length ps → Meant texts t u.types (get_or ps j (param 0 0)).type) {t'' d'' m'' : List ℕ} {b'' : Bindings} {r : Step ⊤}
+          (a : Argues texts (λ c. argument c n call_name true (param arg.name arg.expected) (given arg.slot arg.span)) s t' d' m' u' b' t'' d'' m'' b'' r) where
         one : (library : List Package) (void : ℕ)
             → Steps (argument (ctx texts library void) n call_name true (get_or ps i (param 0 0))
             (given (slot_of (tree_of image (get_or image (args + i) 0))) (span_of (tree_of image (get_or image (args + i) 0)))) (bindings_of texts b'))
             s t' d' m' u' s t'' d'' m'' (with_answer (λ _. bindings_of texts b'') r)
-        one library void = rw (ename, etype, eslot, espan, en) at (a.step library void)
+        one library void = rw ea at (a.step library void)
 
         split : (library : List Package) (void : ℕ) (rest : Rest)
             → arguments (ctx texts library void) n call_name true ps (given_from image args count) [] (world rest s t d m u)
@@ -233,13 +229,18 @@ module _ (texts : Texts) (n slot ret : ℕ) (bs : List Binding) (s t d m : List 
 
 module _ (texts : Texts) (n slot token : ℕ) (call_name words : List ℕ) (at : ℕ) (image : List ℕ) (args count : ℕ) (s t d m : List ℕ) (u : Used) {required : ℕ}
     (en : (f : Bool) → required ≡ length (signature_at words at f).params) where
-  pub miscounted : {d' m' : List ℕ} {reported : Option Counts} {q : Step Answer} → (count ≡ required → ⊥)
-      → Reports (argument_count token call_name required count) d m u.told d' m' reported → q ≡ told_of n u reported Poison
-      → (library : List Package) (void : ℕ) → Steps (check_call_args (ctx texts library void) n slot token call_name (signature_at words at true) (given_from image args count)) s t d m u s t d' m' q
-  unfolding check_call_args signature_at when poison
-  miscounted differ p w library void = record {
-    step = λ rest. rw (length-given image count args, ← en true, ne_eqb count required differ, w) ((poisons-step n {s = s} {t = t} {u = u} p).step rest);
-  }
+  module _ (differ : count ≡ required → ⊥) {d' m' : List ℕ} {r : Step ⊤} (p : Steps (report n (argument_count token call_name required count)) s t d m u s t d' m' r) where
+    pub miscounted : {done : ⊤} {v : Used} → r ≡ Ok (done, v)
+        → (library : List Package) (void : ℕ)
+        → Steps (check_call_args (ctx texts library void) n slot token call_name (signature_at words at true) (given_from image args count)) s t d m u s t d' m' (Ok (Poison, v))
+    unfolding check_call_args signature_at when stepped
+    miscounted {v = v} o library void =
+        rw (length-given image count args, ← en true, ne_eqb count required differ) (on-ok (λ _. return Poison) p {u₁ = v} o (record { step = λ rest. refl }))
+
+    pub miscounted-full : {f : Refusal} {q : Step Answer} → r ≡ Err f → IsErrAnd q (λ y. y ≡ f)
+        → (library : List Package) (void : ℕ) → Steps (check_call_args (ctx texts library void) n slot token call_name (signature_at words at true) (given_from image args count)) s t d m u s t d' m' q
+    unfolding check_call_args signature_at when
+    miscounted-full o k library void = rw (length-given image count args, ← en true, ne_eqb count required differ) (on-err (λ _. return Poison) p o k)
 
   module _ (e : count ≡ required) {b b' : Bindings} {t' d' m' : List ℕ} {r : Step ⊤}
       (a : Arguments texts n call_name (signature_at words at true).params image args count s t d m u b t' d' m' b' r) where

@@ -5,8 +5,8 @@
 
 ghost use Rattle.std.specs.Prelude.{true, List, ℕ};
 ghost use Rattle.err.specs.Message.{call_name};
-ghost use Rattle.library.specs.Package.{Package};
-ghost use Rattle.rules.specs.Calls.{check_call_args};
+ghost use Rattle.library.specs.Package.{Package, Param};
+ghost use Rattle.rules.specs.Calls.{Provided, check_call_args};
 ghost use Rattle.state.specs.Context.{ctx};
 ghost use Rattle.state.specs.Signatures.{signature_at};
 ghost use Rattle.state.specs.World.{Steps};
@@ -15,6 +15,7 @@ ghost use Rattle.slotted.specs.Meant.{Meant};
 ghost use Rattle.call_args.specs.Given.{given_from};
 ghost use Rattle.slotted_call.specs.Bindable.{SlottedReady, Counted, Arguments, known_return};
 
+use call_args::{Call, Signature};
 use err::CallName;
 use places::Image;
 use rules::Answer;
@@ -32,20 +33,19 @@ fn slotted_arguments(
     texts: &Texts,
     image: &Image,
     used: Used,
-    n: u32,
+    call: Call,
     callee: CallName,
-    words: &[u32],
-    at: usize,
-    args: usize,
-    count: usize,
+    signature: &Signature,
 ) -> Step<()>
-    requires { Counted texts.now image.now.words image.now.places n args count slots.now types.old used.types words.now at bindings.old }
-    ensures { Arguments texts.now n (call_name texts.now callee) (signature_at words.now at true).params image.now.words args count slots.now types.old
+    requires { Counted texts.now image.now.words image.now.places call.n call.args call.count slots.now types.old used.types signature.now.words signature.now.at
+        bindings.old }
+    ensures { let ps : List Param = (signature_at signature.now.words signature.now.at true).params in
+        Arguments texts.now call.n (call_name texts.now callee) ps image.now.words call.args call.count slots.now types.old
         diagnostics.old messages.old used bindings.old types.new diagnostics.new messages.new bindings.new result }
 {
     let mut used = used;
-    for i in 0..count {
-        let number = tok::word_at(image.words, args + i);
+    for i in 0..call.count {
+        let arg = call_args::argument_of(image, call, signature, i);
         let (_, after) = slotted::slotted_argument(
             slots,
             types,
@@ -54,12 +54,9 @@ fn slotted_arguments(
             bindings,
             texts,
             used,
-            n,
+            call.n,
             callee,
-            signatures::argument_name(words, at, i),
-            signatures::argument_type(words, at, i),
-            call_args::slot_of(image, number),
-            spans::span_of(image, number),
+            arg,
         )?;
         used = after;
     }
@@ -73,21 +70,19 @@ fn returned(
     bindings: &Bindings,
     texts: &Texts,
     used: Used,
-    n: u32,
-    slot: u32,
+    call: Call,
     ret: u32,
 ) -> Step<Answer>
     requires { Meant texts.now types.old used.types ret }
-    ensures { (d m : List ℕ) → Steps (known_return texts.now n slot ret (bindings_of texts.now bindings.now) types.old) slots.old types.old d m used slots.new types.new d m
-        result }
+    ensures { (d m : List ℕ) → Steps (known_return texts.now call.n call.slot ret (bindings_of texts.now bindings.now) types.old) slots.old types.old d m used slots.new
+        types.new d m result }
 {
     let added = apply::apply_slot_binding(types, used.types, texts, bindings, ret);
-    let (word, used) = state::added(n, used, added)?;
-    operators::set_known(slots, used, slot, word)
+    let (word, used) = state::added(call.n, used, added)?;
+    operators::set_known(slots, used, call.slot, word)
 }
 
-// Typechecker::check_call_args, of a function with slots whose signature stands at a place of `words`. Another number of arguments is 19, and
-// the call is poisoned.
+// Typechecker::check_call_args, of a function with slots. Another number of arguments is 19, and the call is poisoned.
 pub fn check_slotted(
     slots: &mut [u32],
     types: &mut [u32],
@@ -97,33 +92,32 @@ pub fn check_slotted(
     texts: &Texts,
     image: &Image,
     used: Used,
-    n: u32,
-    slot: u32,
+    call: Call,
     token: u32,
     callee: CallName,
-    words: &[u32],
-    at: usize,
-    args: usize,
-    count: usize,
+    signature: &Signature,
 ) -> Step<Answer>
-    requires { SlottedReady texts.now image.now.words image.now.places n args count slots.old types.old used.types words.now at pairs.old }
-    ensures { ((ls : List Package) (v : ℕ) → Steps
-        (check_call_args (ctx texts.now ls v) n slot token (call_name texts.now callee) (signature_at words.now at true) (given_from image.now.words args count)) slots.old
+    requires { SlottedReady texts.now image.now.words image.now.places call.n call.args call.count slots.old types.old used.types signature.now.words
+        signature.now.at pairs.old }
+    ensures { ((ls : List Package) (v : ℕ) →
+        let given : List Provided = given_from image.now.words call.args call.count in
+        let name : List ℕ = call_name texts.now callee in
+        Steps (check_call_args (ctx texts.now ls v) call.n call.slot token name (signature_at signature.now.words signature.now.at true) given) slots.old
         types.old diagnostics.old messages.old used slots.new types.new diagnostics.new messages.new result) }
 {
-    let required = signatures::argument_count(words, at);
-    if count != required {
-        let reported = err_calls::argument_count(
+    let required = signature.argument_count();
+    if call.count != required {
+        let (_, used) = call_args::report_count(
             diagnostics,
             messages,
-            used.told,
             texts,
+            used,
+            call,
             token,
             callee,
             required,
-            count,
-        );
-        return state::told(n, used, reported, Answer::Poison);
+        )?;
+        return Ok((Answer::Poison, used));
     }
     let mut bindings = Bindings::new(pairs);
     let (_, used) = slotted_arguments(
@@ -135,13 +129,10 @@ pub fn check_slotted(
         texts,
         image,
         used,
-        n,
+        call,
         callee,
-        words,
-        at,
-        args,
-        count,
+        signature,
     )?;
-    let ret = signatures::return_type(words, at);
-    returned(slots, types, &bindings, texts, used, n, slot, ret)
+    let ret = signature.return_type();
+    returned(slots, types, &bindings, texts, used, call, ret)
 }

@@ -9,8 +9,8 @@ use Rattle.call_types.proofs.gather_types.Goals as goal
 pub loop-i-init : goal.loop-i-init
 loop-i-init c = (none-gathered _ _ _ _ _, refl)
 
-pub overflow_add-args : goal.overflow_add-args
-overflow_add-args c = omega (arith, c.requires.nodes.room)
+pub overflow_add-call : goal.overflow_add-call
+overflow_add-call c = omega (arith, c.requires.nodes.room)
 
 pub slot_of-slot-requires : goal.slot_of-slot-requires
 slot_of-slot-requires c = number-ready c.requires.nodes (omega arith) c.word_at-number.ensures

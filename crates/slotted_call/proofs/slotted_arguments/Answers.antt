@@ -1,46 +1,28 @@
 use mathlib.Core.Bool.{true}
-use mathlib.Core.Path.{refl, ap, ◌∙◌}
+use mathlib.Core.Path.{refl, ◌∙◌}
 use native.Mathlib.Omega.{arith}
 use Rattle.slotted_call.proofs.Returns.{none_done, all_done, argument-ready, more-done, done-stops}
-use Rattle.call_args.proofs.Slots.{number-ready}
 use Rattle.slotted_call.proofs.slotted_arguments.Goals as goal
 
 pub loop-i-init : goal.loop-i-init
 loop-i-init c = (none_done _ _ _ _ _ _ _ _ _ _ _ _ _ c.requires.fresh, refl, refl, refl)
 
-pub overflow_add-args : goal.overflow_add-args
-overflow_add-args c = omega (arith, c.requires.ready.nodes.room)
-
-pub slot_of-requires : goal.slot_of-requires
-slot_of-requires c =
-    let number = rw (ap (λ image. image.words) c.image.view_is) at c.word_at-number.ensures in
-    number-ready c.requires.ready.nodes (omega arith) number
-
-pub span_of-requires : goal.span_of-requires
-span_of-requires c =
-    let number = rw (ap (λ image. image.words) c.image.view_is) at c.word_at-number.ensures in
-    number-ready c.requires.ready.nodes (omega arith) number
-
 pub slotted_argument-requires : goal.slotted_argument-requires
 slotted_argument-requires c =
-    let number = rw (ap (λ image. image.words) c.image.view_is) at c.word_at-number.ensures in
     let ready = c.requires.ready in
-    argument-ready _ _ _ _ _ _ _ _ _ _ _ _ _ c.loop-i.invariant.0 (c.requires.counts true) (omega arith) number (c.argument_name.ensures true) (c.argument_type.ensures true)
-    c.slot_of.ensures ready.params ready.given ready.room
+    argument-ready _ _ _ _ _ _ _ _ _ _ _ _ _ c.loop-i.invariant.0 (c.requires.counts true) (omega arith) (c.argument_of-arg.ensures true) ready.params ready.given ready.room
 
 pub returns-in_err-after : goal.returns-in_err-after
 returns-in_err-after c =
-    let number = rw (ap (λ image. image.words) c.image.view_is) at c.word_at-number.ensures in
-    done-stops _ _ _ _ _ _ _ _ _ _ _ _ _ c.loop-i.invariant.0 (c.requires.counts true) (omega arith) number (c.argument_name.ensures true) (c.argument_type.ensures true)
-    c.slot_of.ensures c.requires.ready.params c.span_of.ensures c.slotted_argument.ensures c.in_err-after.was c.from_residual.ensures.1
+    done-stops _ _ _ _ _ _ _ _ _ _ _ _ _ c.loop-i.invariant.0 (c.requires.counts true) (omega arith) (c.argument_of-arg.ensures true)
+    c.requires.ready.params c.slotted_argument.ensures c.in_err-after.was c.from_residual.ensures.1
 
 pub loop-i-preserved : goal.loop-i-preserved
 loop-i-preserved c =
-    let number = rw (ap (λ image. image.words) c.image.view_is) at c.word_at-number.ensures in
     let one = c.slotted_argument in
     let so_far = c.loop-i.invariant in (
-      more-done _ _ _ _ _ _ _ _ _ _ _ _ _ so_far.0 (c.requires.counts true) (omega arith) number (c.argument_name.ensures true) (c.argument_type.ensures true)
-          c.slot_of.ensures c.requires.ready.params c.span_of.ensures one.ensures c.in_ok-after.was,
+      more-done _ _ _ _ _ _ _ _ _ _ _ _ _ so_far.0 (c.requires.counts true) (omega arith) (c.argument_of-arg.ensures true)
+          c.requires.ready.params one.ensures c.in_ok-after.was,
       one.auto.types ∙ so_far.1,
       one.auto.diagnostics ∙ so_far.2,
       one.auto.messages ∙ so_far.3,

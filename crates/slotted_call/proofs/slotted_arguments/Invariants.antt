@@ -12,7 +12,7 @@ abbrev pub invariant-loop-i : goal.invariant-loop-i
 invariant-loop-i l =
     let first = l.initial in
     let name = call_name l.texts l.callee in
-    let params = (signature_at l.words l.at true).params in
-    SoFar l.texts l.n name params l.image.words l.args l.count l.slots first.types first.diagnostics first.messages first.used first.bindings
+    let params = (signature_at l.signature.words l.signature.at true).params in
+    SoFar l.texts l.call.n name params l.image.words l.call.args l.call.count l.slots first.types first.diagnostics first.messages first.used first.bindings
     l.i l.types l.diagnostics l.messages l.used l.bindings
     × (length l.types ≡ length first.types) × (length l.diagnostics ≡ length first.diagnostics) × (length l.messages ≡ length first.messages)
