@@ -10,9 +10,8 @@ use lib.ListN.{length, set, length-append, get_or-append}
 use lib.Seq.{get_or-set_same, get_or-set_other, get_or_at}
 use Rattle.tok.specs.Word.{kind_of}
 use Rattle.std.specs.Prelude.{Ok, Err}
-use Rattle.reader.specs.declared.Place.{Place}
 use Rattle.reader.specs.declared.Fault.{Fault}
-use Rattle.reader.specs.Reading.{next_word, onward, gave}
+use Rattle.reader.specs.Reading.{Reader, next_word, onward, gave}
 use Rattle.ast.specs.Outline.{Outline, Counts}
 use Rattle.ast.specs.NodeRecords.{no_node}
 use Rattle.ast.specs.Nodes.{node, nodes}
@@ -21,13 +20,13 @@ use Rattle.image_words.specs.Leads.{unanswered, Leads}
 use Rattle.image_nodes.specs.Site.{Kept}
 
 -- the loop before node i: the outlines of the nodes before, whose kinds are kept; and what the others lead to, all lead to
-pub record Before (words : List ℕ) (from : Place) (c : Counts) (n : ℕ) (kinds : List ℕ) (to : Place) (i : ℕ) : Type 0 where
+pub record Before (from : Reader) (c : Counts) (n : ℕ) (kinds : List ℕ) (to : Reader) (i : ℕ) : Type 0 where
   pub outlines : List Outline
   pub many : length outlines ≡ i
   pub kept : Kept kinds outlines i
-  pub rest : unanswered (onward words to (nodes c (n - i) i outlines)) ≡ unanswered (onward words from (nodes c n 0 []))
+  pub rest : unanswered (onward to (nodes c (n - i) i outlines)) ≡ unanswered (onward from (nodes c n 0 []))
 
-pub at_first : {words : List ℕ} {from : Place} {c : Counts} {n : ℕ} (kinds : List ℕ) → Before words from c n kinds from 0
+pub at_first : {from : Reader} {c : Counts} {n : ℕ} (kinds : List ℕ) → Before from c n kinds from 0
 at_first {n = n} kinds =
     let e : n - 0 ≡ n = omega arith in
     record { outlines = []; many = refl; kept = record { kept = λ p h. absurd (not-suc-le-zero h) }; rest = rw e refl }
@@ -48,14 +47,14 @@ keep kinds before i o e fits k =
           ];
     }
 
-module _ {words : List ℕ} {from to : Place} {c : Counts} {n : ℕ} {kinds : List ℕ} {i : ℕ} (b : Before words from c n kinds to i) where
+module _ {from to : Reader} {c : Counts} {n : ℕ} {kinds : List ℕ} {i : ℕ} (b : Before from c n kinds to i) where
   module _ (h : i < n) where
-    pub one_more : (mid : Place) (kind : ℕ) → i < length kinds → kind ≡ kind_of (next_word words to)
-        → ((before : List Outline) → Kept kinds before i → onward words to (node c before i) ≡ gave words (outline_from words to.at) (Ok mid))
-        → Before words from c n (set kinds i kind) mid (i + 1)
+    pub one_more : (mid : Reader) (kind : ℕ) → i < length kinds → kind ≡ kind_of (next_word to)
+        → ((before : List Outline) → Kept kinds before i → onward to (node c before i) ≡ gave (outline_from to.words to.at) (Ok mid))
+        → Before from c n (set kinds i kind) mid (i + 1)
     unfolding nodes gave
     one_more mid kind fits k read =
-        let o : Outline = outline_from words to.at in
+        let o : Outline = outline_from to.words to.at in
         let e : n - i ≡ suc (n - (i + 1)) = omega arith in
         record {
           outlines = b.outlines ++ (o ∷ []);
@@ -65,13 +64,13 @@ module _ {words : List ℕ} {from to : Place} {c : Counts} {n : ℕ} {kinds : Li
         }
 
     pub stops_there : (fault : Fault)
-        → ((before : List Outline) → Kept kinds before i → onward words to (node c before i) ≡ gave words (outline_from words to.at) (Err fault))
-        → Leads words from (nodes c n 0 []) (Err fault)
+        → ((before : List Outline) → Kept kinds before i → onward to (node c before i) ≡ gave (outline_from to.words to.at) (Err fault))
+        → Leads from (nodes c n 0 []) (Err fault)
     unfolding nodes gave unanswered
     stops_there fault read =
         let e : n - i ≡ suc (n - (i + 1)) = omega arith in
         sym (rw (e, read b.outlines b.kept) at b.rest)
 
-  pub at_last : n ≤ i → Leads words from (nodes c n 0 []) (Ok to)
+  pub at_last : n ≤ i → Leads from (nodes c n 0 []) (Ok to)
   unfolding nodes gave unanswered
   at_last h = let e : n - i ≡ 0 = omega arith in sym (rw e at b.rest)

@@ -16,49 +16,48 @@ ghost use Rattle.image.specs.Counted.{counted};
 use ast::ExprKind;
 use image_nodes::Sizes;
 use image_words::{between, numbers, pairs, token};
-use reader::{Fault, Place};
+use reader::{Fault, Reader};
 
 // Type records: the words after the first, by kind.
 
 // 0 Atom: token, kind 1 to 5.
 #[tactic(auto, unfolding(ast::specs::TypeRecords::type_atom, reader::specs::Reading::gave, image_words::specs::Leads::unanswered), using(image_words::specs::LeadLaws::leads))]
-fn type_atom(script: &[u8], words: &[u32], from: Place) -> Result<Place, Fault>
-    ensures { (n t v number left : ℕ) → Leads words.now from (type_atom (counted script.now n t v) number left) result }
+fn type_atom<'a>(script: &[u8], from: Reader<'a>) -> Result<Reader<'a>, Fault>
+    ensures { (n t v number left : ℕ) → Leads from.entry (type_atom (counted script.now n t v) number left) result }
 {
-    let at = token(script, words, from)?;
-    let kind = reader::next_word(words, at) as usize;
-    reader::word(words, at, between(1, 5, kind))
+    let at = token(script, from)?;
+    let kind = at.next_word() as usize;
+    at.word(between(1, 5, kind))
 }
 
 // 1 Foreign: token.
 #[tactic(auto, unfolding(ast::specs::TypeRecords::type_foreign, reader::specs::Reading::gave, image_words::specs::Leads::unanswered), using(image_words::specs::LeadLaws::leads))]
-fn type_foreign(script: &[u8], words: &[u32], from: Place) -> Result<Place, Fault>
-    ensures { (n t v number left : ℕ) → Leads words.now from (type_foreign (counted script.now n t v) number left) result }
+fn type_foreign<'a>(script: &[u8], from: Reader<'a>) -> Result<Reader<'a>, Fault>
+    ensures { (n t v number left : ℕ) → Leads from.entry (type_foreign (counted script.now n t v) number left) result }
 {
-    token(script, words, from)
+    token(script, from)
 }
 
 // 2 Option, 3 Array: inner.
 #[tactic(auto, unfolding(ast::specs::TypeRecords::type_inner, reader::specs::Reading::gave, image_words::specs::Leads::unanswered), using(image_words::specs::LeadLaws::leads))]
-fn type_inner(words: &[u32], from: Place, number: usize) -> Result<Place, Fault>
-    ensures { (text : List ℕ) (n t v left : ℕ) → Leads words.now from (type_inner (counted text n t v) number left) result }
+fn type_inner(from: Reader, number: usize) -> Result<Reader, Fault>
+    ensures { (text : List ℕ) (n t v left : ℕ) → Leads from.entry (type_inner (counted text n t v) number left) result }
 {
-    reader::below(words, from, number)
+    from.below(number)
 }
 
 // 4 Record: token, pairs.
 #[tactic(auto, unfolding(ast::specs::TypeRecords::type_record, ast::specs::TypeRecords::type_field, reader::specs::Reading::gave, image_words::specs::Leads::unanswered), using(image_words::specs::LeadLaws::leads))]
-fn type_record(
+fn type_record<'a>(
     script: &[u8],
-    words: &[u32],
-    from: Place,
+    from: Reader<'a>,
     number: usize,
     left: usize,
-) -> Result<Place, Fault>
-    ensures { (n t v : ℕ) → Leads words.now from (type_record (counted script.now n t v) number left) result }
+) -> Result<Reader<'a>, Fault>
+    ensures { (n t v : ℕ) → Leads from.entry (type_record (counted script.now n t v) number left) result }
 {
-    let at = token(script, words, from)?;
-    pairs(script, words, at, left.saturating_sub(1) / 2, number)
+    let at = token(script, from)?;
+    pairs(script, at, left.saturating_sub(1) / 2, number)
 }
 
 // Whether a length is even, and 2 at least.
@@ -82,36 +81,34 @@ fn good_type_head(head: u32) -> bool
 }
 
 // The words after the first, by kind.
-fn type_rest(
+fn type_rest<'a>(
     script: &[u8],
-    words: &[u32],
-    from: Place,
+    from: Reader<'a>,
     kind: ExprKind,
     number: usize,
     left: usize,
-) -> Result<Place, Fault>
-    ensures { (head n t v : ℕ) → kind ≡ kind_of_expr (kind_of head) → Leads words.now from ((type_kind head).rest (counted script.now n t v) number left) result }
+) -> Result<Reader<'a>, Fault>
+    ensures { (head n t v : ℕ) → kind ≡ kind_of_expr (kind_of head) → Leads from.entry ((type_kind head).rest (counted script.now n t v) number left) result }
 {
     match kind {
-        ExprKind::Atom => type_atom(script, words, from),
-        ExprKind::Foreign => type_foreign(script, words, from),
-        ExprKind::Option | ExprKind::Array => type_inner(words, from, number),
-        ExprKind::Record => type_record(script, words, from, number, left),
+        ExprKind::Atom => type_atom(script, from),
+        ExprKind::Foreign => type_foreign(script, from),
+        ExprKind::Option | ExprKind::Array => type_inner(from, number),
+        ExprKind::Record => type_record(script, from, number, left),
         ExprKind::None => Ok(from),
     }
 }
 
 // The record of a type: its first word, and the rest by kind.
 #[tactic(auto, unfolding(ast::specs::TypeRecords::type_expression, reader::specs::Reading::gave, image_words::specs::Leads::unanswered), using(image_words::specs::LeadLaws::leads))]
-fn type_expression(script: &[u8], words: &[u32], from: Place, number: usize) -> Result<Place, Fault>
-    ensures { (n t v : ℕ) → Leads words.now from (type_expression (counted script.now n t v) number) result }
+fn type_expression<'a>(script: &[u8], from: Reader<'a>, number: usize) -> Result<Reader<'a>, Fault>
+    ensures { (n t v : ℕ) → Leads from.entry (type_expression (counted script.now n t v) number) result }
 {
-    let head = reader::next_word(words, from);
+    let head = from.next_word();
     let long = tok::payload(head);
-    let at = reader::owing(words, from, good_type_head(head), long.saturating_sub(2))?;
+    let at = from.owing(good_type_head(head), long.saturating_sub(2))?;
     type_rest(
         script,
-        words,
         at,
         ExprKind::of(head),
         number,
@@ -121,12 +118,12 @@ fn type_expression(script: &[u8], words: &[u32], from: Place, number: usize) -> 
 
 // All `count` type records.
 #[tactic(auto, unfolding(reader::specs::Reading::gave, image_words::specs::Leads::unanswered), using(crate::proofs::TypeRows::types_ways))]
-fn type_expressions(script: &[u8], words: &[u32], from: Place, count: usize) -> Result<Place, Fault>
-    ensures { (n t v : ℕ) → Leads words.now from (type_expressions (counted script.now n t v) count 0) result }
+fn type_expressions<'a>(script: &[u8], from: Reader<'a>, count: usize) -> Result<Reader<'a>, Fault>
+    ensures { (n t v : ℕ) → Leads from.entry (type_expressions (counted script.now n t v) count 0) result }
 {
     let mut to = from;
     for i in 0..count {
-        to = type_expression(script, words, to, i)?;
+        to = type_expression(script, to, i)?;
     }
     Ok(to)
 }
@@ -134,27 +131,26 @@ fn type_expressions(script: &[u8], words: &[u32], from: Place, count: usize) -> 
 // Nodes.
 
 // The kind of the record before which a reading stands.
-fn kind_there(words: &[u32], from: Place) -> u8
-    ensures { result ≡ kind_of (next_word words.now from) }
+fn kind_there(from: &Reader) -> u8
+    ensures { result ≡ kind_of (next_word from.now) }
 {
-    tok::kind(reader::next_word(words, from)) as u8
+    tok::kind(from.next_word()) as u8
 }
 
 // All node records. The kinds of those before are kept in `kinds`, for a call's target.
-fn nodes_by(
+fn nodes_by<'a>(
     script: &[u8],
-    words: &[u32],
     kinds: &mut [u8],
-    from: Place,
+    from: Reader<'a>,
     sizes: Sizes,
-) -> Result<Place, Fault>
+) -> Result<Reader<'a>, Fault>
     requires { sizes.nodes ≤ length kinds.old }
-    ensures { Leads words.now from (nodes (counts_of script.now sizes) sizes.nodes 0 []) result }
+    ensures { Leads from.entry (nodes (counts_of script.now sizes) sizes.nodes 0 []) result }
 {
     let mut to = from;
     for i in 0..sizes.nodes {
-        let kind = kind_there(words, to);
-        to = image_nodes::node(script, words, kinds, to, sizes, i)?;
+        let kind = kind_there(&to);
+        to = image_nodes::node(script, kinds, to, sizes, i)?;
         kinds[i] = kind;
     }
     Ok(to)
@@ -165,27 +161,27 @@ fn nodes_by(
 // Counts, roots, nodes, types, the end. The nodes' kinds stand in this frame, which lies in its caller's: what the caller has for another refusal then is not there
 // beside them (docs/PERFORMANCE.md, "Stack").
 #[tactic(auto, unfolding(ast::specs::ImageFault::image, reader::specs::Reading::gave, image_words::specs::Leads::unanswered), using(image_words::specs::LeadLaws::leads))]
-fn whole(script: &[u8], words: &[u32], from: Place) -> Result<Place, Fault>
-    ensures { (library : List ℕ) → Leads words.now from (image (texts_of script.now library)) result }
+fn whole<'a>(script: &[u8], from: Reader<'a>) -> Result<Reader<'a>, Fault>
+    ensures { (library : List ℕ) → Leads from.entry (image (texts_of script.now library)) result }
 {
-    let n = reader::next_word(words, from) as usize;
-    let at = reader::owing(words, from, n <= 2048, 3 * n)?;
-    let t = reader::next_word(words, at) as usize;
-    let at = reader::owing(words, at, t <= 512, 2 * t)?;
-    let r = reader::next_word(words, at) as usize;
-    let at = reader::owing(words, at, r <= 512, r)?;
-    let v = reader::next_word(words, at) as usize;
-    let at = reader::word(words, at, v <= 4096)?;
-    let at = numbers(words, at, r, n)?;
+    let n = from.next_word() as usize;
+    let at = from.owing(n <= 2048, 3 * n)?;
+    let t = at.next_word() as usize;
+    let at = at.owing(t <= 512, 2 * t)?;
+    let r = at.next_word() as usize;
+    let at = at.owing(r <= 512, r)?;
+    let v = at.next_word() as usize;
+    let at = at.word(v <= 4096)?;
+    let at = numbers(at, r, n)?;
     let sizes = Sizes {
         nodes: n,
         types: t,
         slots: v,
     };
     let mut kinds = [0u8; 2048];
-    let at = nodes_by(script, words, &mut kinds, at, sizes)?;
-    let at = type_expressions(script, words, at, t)?;
-    reader::ends(words, at)
+    let at = nodes_by(script, &mut kinds, at, sizes)?;
+    let at = type_expressions(script, at, t)?;
+    at.ends()
 }
 
 // Whether an image is accepted; if not, the first offending word, or its length.
@@ -193,7 +189,7 @@ fn whole(script: &[u8], words: &[u32], from: Place) -> Result<Place, Fault>
 pub fn read(script: &[u8], words: &[u32]) -> Result<(), Fault>
     ensures { (library : List ℕ) → offending result ≡ image_fault (texts_of script.now library) words.now }
 {
-    let at = reader::begin(script, 4)?;
-    whole(script, words, at)?;
+    let from = reader::begin(script, words, 4)?;
+    whole(script, from)?;
     Ok(())
 }
