@@ -4,7 +4,7 @@
 #![tactic(auto)]
 
 use commands::{CASES, Command};
-use refuse::Cause;
+use ending::Refused;
 use std::io;
 
 // The program's own register: how many cases were answered as expected.
@@ -12,30 +12,7 @@ const AGREE: usize = 14;
 
 // Cases.
 
-// Document 01's number and place; number 0 where none of the six comes.
-#[derive(Clone, Copy)]
-struct Answer {
-    number: usize,
-    place: usize,
-}
-
-fn pair(number: usize, place: usize) -> Answer {
-    Answer { number, place }
-}
-
-fn numbered(found: Result<(), Cause>) -> Answer {
-    match found {
-        Ok(()) => pair(0, 0),
-        Err(Cause::Scratch) => pair(1, 0),
-        Err(Cause::Library(word)) => pair(2, word),
-        Err(Cause::Image(word)) => pair(3, word),
-        Err(Cause::Claims(node)) => pair(4, node),
-        Err(Cause::Depth(node)) => pair(5, node),
-        Err(Cause::Room) => pair(6, 0),
-    }
-}
-
-// What is found of the lists, with buffers as long as the registers say.
+// What is found of the lists, with buffers as long as the registers say, as document 01's table numbers it.
 fn found<'a>(
     script: &'a [u8],
     image: &[u32],
@@ -44,8 +21,8 @@ fn found<'a>(
     registers: &[u32],
     words: &[u32],
     bytes: &[u8],
-) -> Answer {
-    numbered(refuse::refuse(
+) -> Result<(), Refused> {
+    refuse::refuse(
         commands::bytes_of(script, registers, commands::SCRIPT),
         commands::words_of(image, registers, commands::IMAGE),
         commands::bytes_of(text, registers, commands::TEXT),
@@ -56,26 +33,37 @@ fn found<'a>(
         commands::words_of(words, registers, commands::DIAGNOSTICS),
         commands::bytes_of(bytes, registers, commands::MESSAGES),
         commands::words_of(words, registers, commands::SCRATCH),
-    ))
+    )?;
+    Ok(())
 }
 
-fn print_answer(rt: &impl Print, number: usize, place: usize) -> io::Result<()> {
-    if number == 0 {
-        commands::print(rt, b" accepted")?;
-    } else {
-        commands::print_refused(rt, number, place)?;
-    }
+fn print_answer(rt: &impl Print, got: Result<(), Refused>) -> io::Result<()> {
+    match got {
+        Ok(()) => commands::print(rt, b" accepted")?,
+        Err(refused) => commands::print_refused(rt, refused.number as usize, refused.place)?,
+    };
     commands::print(rt, b"\n")?;
     Ok(())
 }
 
+// Whether a command expects the answer: it tells number and place, both 0 where none of the six comes.
+fn agrees(got: Result<(), Refused>, c: Command) -> bool {
+    match got {
+        Ok(()) => c.a == 0 && c.b == 0,
+        Err(refused) => refused.number == c.a && refused.place == c.b as usize,
+    }
+}
+
 // One case's answer is printed, and held to the expected one.
-fn told(rt: &impl Print, registers: &mut [u32], got: Answer, c: Command) -> io::Result<()> {
-    let number = got.number;
-    let place = got.place;
+fn told(
+    rt: &impl Print,
+    registers: &mut [u32],
+    got: Result<(), Refused>,
+    c: Command,
+) -> io::Result<()> {
     commands::begin_line(rt, registers)?;
-    print_answer(rt, number, place)?;
-    if number == c.a as usize && place == c.b as usize {
+    print_answer(rt, got)?;
+    if agrees(got, c) {
         commands::counted(registers, AGREE);
     }
     Ok(())
