@@ -18,6 +18,8 @@ ghost use Rattle.calls.specs.Callees.{callee_at, is_through_field, call_end, Cal
 ghost use Rattle.calls.specs.CallVisits.{Resolvable};
 
 use ast::NodeKind;
+use call_args::Call;
+use pkg_group::PackageCall;
 use places::Image;
 use rules::Answer;
 use tok::Texts;
@@ -78,19 +80,15 @@ fn resolve_own(
     texts: &Texts,
     image: &Image,
     st: State,
-    n: u32,
-    slot: u32,
+    call: Call,
     name: u32,
-    args: usize,
-    count: usize,
 ) -> Visit<Answer>
-    requires { OwnReady functions.now st.functions image.now.words image.now.places n args count }
+    requires { OwnReady functions.now st.functions image.now.words image.now.places call.n call.args call.count }
     ensures { ((ls : List Package) (v : ℕ) (words e : List ℕ) (o : More) →
         let b : Lent = lent slots.old functions.now types.now diagnostics.old messages.old e o in
         let b' : Lent = lent slots.new functions.now types.now diagnostics.new messages.new e o in
-        Visits (resolve_call (ctx texts.now ls v) n slot name (given_from image.now.words args count)) 0 0 words st b b' result) }
+        Visits (resolve_call (ctx texts.now ls v) call.n call.slot name (given_from image.now.words call.args call.count)) 0 0 words st b b' result) }
 {
-    let used = st.used;
     let step = own_call::resolve_call(
         slots,
         types,
@@ -100,12 +98,9 @@ fn resolve_own(
         st.functions,
         texts,
         image,
-        used,
-        n,
-        slot,
+        st.used,
+        call,
         name,
-        args,
-        count,
     );
     visit::answered(st, step)
 }
@@ -135,8 +130,13 @@ pub fn resolve(
         let image : List ℕ = image.now.words in
         Visits (call_end (ctx texts.now ls v) n (get_or image (at + 1) 0) (callee_at image at) (given_from image (at + 3) count) poisoned) count 0 library.now st b b' result) }
 {
-    let image = image;
     let slot = image.word_at(at + 1);
+    let call = Call {
+        n,
+        slot,
+        args: at + 3,
+        count,
+    };
     let target = image.node_place(image.word_at(at + 2));
     match NodeKind::of(image.word_at(target)) {
         NodeKind::Ident => resolve_own(
@@ -148,14 +148,17 @@ pub fn resolve(
             texts,
             image,
             st,
-            n,
-            slot,
+            call,
             image.word_at(target + 2),
-            at + 3,
-            count,
         ),
         _ => {
             let of = image.node_place(image.word_at(target + 2));
+            let call = PackageCall {
+                site: call,
+                pkg: image.word_at(of + 2),
+                name: image.word_at(target + 3),
+                poisoned,
+            };
             pkg_call::resolve_pkg_call(
                 slots,
                 types,
@@ -166,13 +169,7 @@ pub fn resolve(
                 image,
                 library,
                 st,
-                n,
-                slot,
-                image.word_at(of + 2),
-                image.word_at(target + 3),
-                at + 3,
-                count,
-                poisoned,
+                call,
             )
         }
     }

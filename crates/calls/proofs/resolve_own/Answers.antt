@@ -3,4 +3,4 @@ use Rattle.calls.proofs.Returns.{own-visits}
 use Rattle.calls.proofs.resolve_own.Goals as goal
 
 pub returns : goal.returns
-returns c = own-visits _ c.args.n c.args.slot c.args.name _ c.args.st c.resolve_call-step.ensures c.answered.ensures
+returns c = own-visits _ c.args.call.n c.args.call.slot c.args.name _ c.args.st c.resolve_call-step.ensures c.answered.ensures
