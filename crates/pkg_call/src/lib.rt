@@ -194,7 +194,7 @@ fn in_held(
 {
     let found = scope::find_held(texts, library, &scratch[..], held, packages, pkg);
     match found {
-        Held::Library(at) => in_library(
+        Some(Held::Library(at)) => in_library(
             slots,
             types,
             diagnostics,
@@ -214,7 +214,7 @@ fn in_held(
             count,
             poisoned,
         ),
-        Held::Extern(at) => in_extern(
+        Some(Held::Extern(at)) => in_extern(
             slots,
             &types[..],
             diagnostics,
@@ -233,7 +233,7 @@ fn in_held(
             count,
             poisoned,
         ),
-        Held::Nothing => {
+        None => {
             let free = err_text::first_free(messages, used.told);
             let r = err_calls::missing_package(
                 diagnostics,
@@ -273,7 +273,7 @@ pub fn resolve_pkg_call(
         let b' : Lent = lent slots.new f types.new diagnostics.new messages.new scratch.new o in
         Visits (resolve_pkg_call (ctx texts.now ls v) n slot pkg name (given_from image.now.words args count) poisoned) count 0 library.now st b b' result) }
 {
-    let top = 2 * (st.base + st.depth);
+    let top = 2 * (st.names.base + st.names.depth);
     let end = top + count;
     call_types::gather_types(&mut scratch[top..end], &slots[..], image, args, count);
     let step = in_held(
