@@ -49,7 +49,7 @@ module _ {image places : List ℕ} {at : ℕ} {st : State} {functions scratch : 
     rows = record { after = r.rows.after };
   })
 
-  pub few-names : st.base + st.depth < 2 ^ 40
+  pub few-names : st.names.base + st.names.depth < 2 ^ 40
   few-names = omega (arith, free-top r.free)
 
   pub entries-there : entries_end functions 0 0 st.functions ≤ length functions
@@ -128,10 +128,10 @@ ended c image at n ret words inner outer b v =
 
 -- the rule is its part up to the body, and what follows
 fn-follows : (c : Ctx) (image : List ℕ) (at n : ℕ) (words : List ℕ) (st : State) (b : Lent) (body : Walk Answer) {r : Result World Refusal (Option ℕ)} → to_body_at c image at n (whole words st b) ≡ r
-    → fn_at c image at n body (whole words st b) ≡ next r (after_at c image at n body (env_up b.scratch st.base st.depth))
+    → fn_at c image at n body (whole words st b) ≡ next r (after_at c image at n body (env_up b.scratch st.names.base st.names.depth))
 fn-follows c image at n words st b body e =
     fn-begun c n (slot_at image at) (name_at image at) (return_at image at) (args_at image at) body (whole words st b)
-    ∙ ap (λ z. next z (after_at c image at n body (env_up b.scratch st.base st.depth))) e
+    ∙ ap (λ z. next z (after_at c image at n body (env_up b.scratch st.names.base st.names.depth))) e
 
 module _ (c : Ctx) (image : List ℕ) (at n : ℕ) (words : List ℕ) {st : State} {b b₁ : Lent} where
   -- the name was met: the rule is over
@@ -149,12 +149,12 @@ module _ (c : Ctx) (image : List ℕ) (at n : ℕ) (words : List ℕ) {st : Stat
 
   module _ {ret : ℕ} {st₁ : State} (begun : Begins c image at n words st b b₁ (Ok (Some ret, st₁))) (xs : Nodes) {rb wb : ℕ} {b₂ : Lent} {v : Visit Answer}
       (body : Visits (last c (Known c.void) xs) rb wb words st₁ b₁ b₂ v) where
-    so_far : fn_at c image at n (block c xs) (whole words st b) ≡ ended c image at n ret words (env_up b₁.scratch st₁.base st₁.depth) (env_up b.scratch st.base st.depth) b₂ v
+    so_far : fn_at c image at n (block c xs) (whole words st b) ≡ ended c image at n ret words (env_up b₁.scratch st₁.names.base st₁.names.depth) (env_up b.scratch st.names.base st.names.depth) b₂ v
     unfolding visited body_and_end framed
     so_far =
         fn-follows c image at n words st b (block c xs) begun.step
-        ∙ ap (λ z. next z (λ computed t. end_at c image at n ret computed (with_env t (env_up b.scratch st.base st.depth))))
-        (block_last c xs (whole words st₁ b₁) ∙ ap (λ z. next z (λ a t. ok a (with_env t (env_up b₁.scratch st₁.base st₁.depth)))) body.step)
+        ∙ ap (λ z. next z (λ computed t. end_at c image at n ret computed (with_env t (env_up b.scratch st.names.base st.names.depth))))
+        (block_last c xs (whole words st₁ b₁) ∙ ap (λ z. next z (λ a t. ok a (with_env t (env_up b₁.scratch st₁.names.base st₁.names.depth)))) body.step)
 
     -- a refusal in it ends all
     pub body-stops : {e : Refused} → v ≡ Err e → (r w : ℕ) → Visits (fn_at c image at n (block c xs)) r w words st b b₂ (Err e)

@@ -138,7 +138,7 @@ module _ {image places : List ℕ} {st : State} {e : List ℕ} {from end count :
           → Visits (extern_rule (ctx T ls v) n slot name (externs_from image from count)) (extern_words (externs_from image from count)) 0 words st (lent s f t d m e o) (lent s' f t' d m e' o) (Ok (Known slot, extern_held st after start))
       unfolding extern_rule with_answer stepped visited hold set_known
       package_done {after = after} {s = s} eg eq T ls v words f d m o = record {
-        step = rw ((p.steps T ls v s d m).step (rest_of words st (lent s f t d m e o)), eg, eq, held-extern words, env-front (top st) e e' front st.base st.depth (omega arith)) refl;
+        step = rw ((p.steps T ls v s d m).step (rest_of words st (lent s f t d m e o)), eg, eq, held-extern words, env-front (top st) e e' front st.names.base st.names.depth (omega arith)) refl;
         keeps = goes (record {
           base = refl;
           deeper = omega arith;

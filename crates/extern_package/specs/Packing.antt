@@ -27,7 +27,7 @@ use Rattle.externs.specs.Entries.{FunctionRoom}
 
 -- the state with an Extern's package held from word `start` on
 abbrev pub extern_held : State → Used → (start : ℕ) → State
-extern_held st u start = record { used = u; base = st.base; depth = st.depth; held = start; packages = st.packages + 1; functions = st.functions }
+extern_held st u start = record { used = u; names = st.names; held = start; packages = st.packages + 1; functions = st.functions }
 
 -- Node::Extern
 unfoldable pub extern_rule : Ctx → (n slot name : ℕ) → List ExternFn → Walk Answer

@@ -13,13 +13,11 @@ ghost use Rattle.visit.specs.Within.{Visits};
 ghost use Rattle.room_laws.specs.Room.{extern_words};
 ghost use Rattle.extern_package.specs.Packing.{FunctionsRoom, WritesFunctions, ExternReady, extern_rule};
 
+use operators::VOID_WORD;
 use places::Image;
 use rules::Answer;
 use state::{Step, Used};
 use visit::{State, Visit};
-
-// The word of Void.
-const VOID_WORD: u32 = 0x1000_0000;
 
 // The functions, of which `count` stand in the image from word `from` on: their entries from word `at` of scratch on. An entry takes as
 // many words in scratch as in the image.

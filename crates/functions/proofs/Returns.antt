@@ -91,7 +91,7 @@ module _ {image places f e : List ℕ} {st : State} (n slot name ret at count : 
     unfolding with_answer
     left = went (rw eb at (p (record { script = []; library = [] }) [] 0 [] f [] [] no_more).visits.keeps)
 
-    pub entry-room : EntryRoom f inner.functions (2 * (st.base + st.depth)) count
+    pub entry-room : EntryRoom f inner.functions (2 * (st.names.base + st.names.depth)) count
     entry-room = record {
       room = omega (arith, h.rows.after, left.written);
       low = omega (arith, free-top h.arguments.free);
@@ -113,14 +113,14 @@ module _ {image places f e : List ℕ} {st : State} (n slot name ret at count : 
       })
 
       pub begin-done : {w : ℕ} {u : Used} {f₂ : List ℕ} → r ≡ Ok (w, u)
-          → f₂ ≡ write f (entries_end f 0 0 inner.functions) (entry_of name (params_from e₁ (2 * (st.base + st.depth)) count) w)
+          → f₂ ≡ write f (entries_end f 0 0 inner.functions) (entry_of name (params_from e₁ (2 * (st.names.base + st.names.depth)) count) w)
           → (T : Texts) (ls : List Package) (v : ℕ) (words d m : List ℕ) (o : More)
           → Visits (fn_begin (ctx T ls v) n slot name (type_of image ret) (args_from image at count)) (2 * count) (3 + 2 * count) words st (lent s f t d m e o) (lent s₁ f₂ t₂ d m e₁ o) (Ok (w, entered_with inner u))
       unfolding fn_begin with_answer visited stepped enter append
       begin-done {w} {u} {f₂} ea ef T ls v words d m o =
-          let ps : List Param = params_from e₁ (2 * (st.base + st.depth)) count in
+          let ps : List Param = params_from e₁ (2 * (st.names.base + st.names.depth)) count in
           let k : ℕ = inner.functions in
-          let z : length ps ≡ count = length-params e₁ (2 * (st.base + st.depth)) count in
+          let z : length ps ≡ count = length-params e₁ (2 * (st.names.base + st.names.depth)) count in
           let room : entries_end f 0 0 k + (3 + 2 * length ps) ≤ length f = rw z entry-room.room in
           let x : Within (2 * count) 0 st (lent s f t d m e o) inner (lent s₁ f t₁ d m e₁ o) = went (rw eb at (p T ls v words f d m o).visits.keeps) in
           record {

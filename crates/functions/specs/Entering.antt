@@ -15,7 +15,7 @@ use Rattle.parameters.specs.Arguments.{ArgumentsReady, params-split}
 
 -- the state with one more function entered
 abbrev pub entered_with : State → Used → State
-entered_with st u = record { used = u; base = st.base; depth = st.depth; held = st.held; packages = st.packages; functions = st.functions + 1 }
+entered_with st u = record { used = u; names = st.names; held = st.held; packages = st.packages; functions = st.functions + 1 }
 
 -- room for `count` pairs at a word, which stand in scratch from another word on
 pub record CopyRoom (functions : List ℕ) (at from count : ℕ) : Type 0 where

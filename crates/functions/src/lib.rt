@@ -107,7 +107,7 @@ pub fn fn_begin(
     let (_, inner) = fn_arguments(slots, types, scratch, image, st, n, slot, at, count)?;
     let added = type_from_type_expr(types, inner.used.types, image, ret);
     let (w, used) = state::added(n, inner.used, added)?;
-    let from = 2 * (st.base + st.depth);
+    let from = 2 * (st.names.base + st.names.depth);
     enter(
         functions,
         &scratch[..],

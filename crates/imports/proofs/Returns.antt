@@ -1,6 +1,6 @@
 -- Each return of the functions, from what the callees answered. By rewriting. Assumes nothing.
 use Rattle.std.specs.Prelude.{ℕ, suc, ◌+◌, ◌-◌, ◌≤◌, ◌<◌, ◌≡◌, refl, List, [], ◌∷◌, get_or, set, Option as Found, Some, None, Ok, Err}
-use Rattle.std.proofs.Common.{◌≢◌, sym, ap, ◌∙◌, arith}
+use Rattle.std.proofs.Common.{true, false, true≢false, ◌≢◌, sym, ap, ◌∙◌, arith}
 use Rattle.std.proofs.Math.Option.{none, some}
 use Rattle.std.specs.Result.{IsErrAnd}
 use Rattle.tok.specs.Text.{Texts, name_bytes}
@@ -24,14 +24,14 @@ use Rattle.state.specs.Reporting.{told_of, reports_step, passed}
 use Rattle.state.specs.Store.{held_from}
 use Rattle.state.specs.World.{More, no_more, Step, Steps}
 use Rattle.scope.specs.declared.Held.{Held}
-use Rattle.scope.specs.declared.Held.TheVariants.{Library, Extern, Nothing}
+use Rattle.std.specs.Option.{is_some}
 use Rattle.scope.specs.Found.{held_of}
 use Rattle.visit.specs.declared.State.{State}
 use Rattle.visit.specs.Whole.{Lent, Visit, lent, whole, visited}
-use Rattle.visit.specs.Within.{Within, within-then, within-most, Keeps, goes, stops, Visits}
+use Rattle.visit.specs.Within.{Within, within_same, within-then, within-most, Keeps, goes, stops, Visits}
 use Rattle.visit.specs.Plain.{visit_of, steps-visits}
 use Rattle.visit.specs.Free.{free-less, free-then}
-use Rattle.visiting.specs.Then.{within_same, visits-stop, visits-then, visits-most}
+use Rattle.visiting.specs.Then.{visits-stop, visits-then, visits-most}
 use Rattle.imports.specs.Holding.{one_held, CanHold, CanHoldAll, import_rule, found-low, held_one, names-kept, within_held}
 
 -- ── One path ──
@@ -47,17 +47,20 @@ module _ (T : Texts) (words : List ℕ) (n path : ℕ) {st : State} {e : List �
   unfolding import_one on_option visited
   already is d m v s f t o = record { step = rw (← is) refl; keeps = goes (within-most (within_same st (lent s f t d m e o)) (omega arith) (omega arith)) }
 
-  pub import_held : (held : Held) → held_of words e held ≡ find_package T (name_bytes T path) (held_from words e st.held st.packages) → held ≢ Nothing
+  pub import_held : (held : Found Held) → held_of words e held ≡ find_package T (name_bytes T path) (held_from words e st.held st.packages) → is_some held ≡ true
       → (d m : List ℕ) → OneImported T words n path st d m e d m e (Ok (tt, st))
-  import_held (Library at) is k = already is
-  import_held (Extern at) is k = already is
-  import_held Nothing is k = absurd (k refl)
+  import_held (Some h) is k = already is
+  import_held None is k = absurd (true≢false (sym k))
+
+  empty : (held : Found Held) → is_some held ≡ false → held ≡ None
+  empty (Some h) e = absurd (true≢false e)
+  empty None e = refl
 
   -- none is held
-  module _ (held : Held) (is : held_of words e held ≡ find_package T (name_bytes T path) (held_from words e st.held st.packages)) (eo : held ≡ Nothing)
+  module _ (held : Found Held) (is : held_of words e held ≡ find_package T (name_bytes T path) (held_from words e st.held st.packages)) (eo : is_some held ≡ false)
       {b : List ℕ} (eb : b ≡ name_bytes T path) (found : Found ℕ) (eg : find_package T b (packages_of words) ≡ found_in words found) where
     unheld : find_package T (name_bytes T path) (held_from words e st.held st.packages) ≡ none
-    unheld = sym is ∙ ap (λ x. held_of words e x) eo
+    unheld = sym is ∙ ap (λ x. held_of words e x) (empty held eo)
 
     looked : find_package T (name_bytes T path) (packages_of words) ≡ found_in words found
     looked = rw (← eb) eg

@@ -31,7 +31,7 @@ use Rattle.visit.specs.StoreLaws.{env-front, held_more, reach-more, reach-end}
 
 -- the state with one more package of the library held
 abbrev pub one_held : State → State
-one_held st = record { used = st.used; base = st.base; depth = st.depth; held = st.held - 1; packages = st.packages + 1; functions = st.functions }
+one_held st = record { used = st.used; names = st.names; held = st.held - 1; packages = st.packages + 1; functions = st.functions }
 
 -- there is room for a package's word, and the library is accepted
 pub record CanHold (T : Texts) (words : List ℕ) (st : State) (scratch : List ℕ) : Type 0 where
@@ -95,8 +95,8 @@ module _ {st : State} {e : List ℕ} (free : Free 1 st e) where
     held_one library = held_more library e (st.held - 1) st.packages w low below ∙ ap (λ i. package_at library w ∷ held_from library e i st.packages) back
 
     -- the names in scope stay
-    pub names-kept : env_up (set e (st.held - 1) w) st.base st.depth ≡ env_up e st.base st.depth
-    names-kept = env-front (top st) e (set e (st.held - 1) w) (take-set-le (top st) e (st.held - 1) w (omega (arith, free.between))) st.base st.depth (omega arith)
+    pub names-kept : env_up (set e (st.held - 1) w) st.names.base st.names.depth ≡ env_up e st.names.base st.names.depth
+    names-kept = env-front (top st) e (set e (st.held - 1) w) (take-set-le (top st) e (st.held - 1) w (omega (arith, free.between))) st.names.base st.names.depth (omega arith)
 
     pub within_held : (s f t d m : List ℕ) (o : More) → Within 1 0 st (lent s f t d m e o) (one_held st) (lent s f t d m (set e (st.held - 1) w) o)
     within_held s f t d m o = record {

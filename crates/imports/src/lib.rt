@@ -12,13 +12,10 @@ ghost use Rattle.visit.specs.Whole.{Lent, lent};
 ghost use Rattle.visit.specs.Within.{Visits};
 ghost use Rattle.imports.specs.Holding.{one_held, CanHold, CanHoldAll, import_rule};
 
+use operators::VOID_WORD;
 use rules::Answer;
-use scope::Held;
 use tok::Texts;
 use visit::{State, Visit};
-
-// The word of Void.
-const VOID_WORD: u32 = 0x1000_0000;
 
 // The state with one more package of the library held.
 fn one_held(st: State) -> State
@@ -51,9 +48,9 @@ pub fn import_one(
         Visits (import_one (ctx texts.now (packages_of W) v) n path) 1 0 W st b b' result) }
 {
     let held = scope::find_held(texts, words, &scratch[..], st.held, st.packages, path);
-    let Held::Nothing = held else {
+    if held.is_some() {
         return Ok(((), st));
-    };
+    }
     let name = tok::name_bytes(texts, path);
     let Some(at) = library::find_package(texts, words, name) else {
         let counts = st.used.told;

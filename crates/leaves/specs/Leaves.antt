@@ -1,9 +1,11 @@
 -- A node below which nothing is visited: what its rule asks for, and one law for each kind. Assumes nothing.
-use Rattle.std.specs.Prelude.{ℕ, ◌+◌, ◌-◌, ◌≤◌, ◌<◌, ◌≡◌, refl, List, length, get_or}
+use Rattle.std.specs.Prelude.{ℕ, zero, suc, ◌+◌, ◌-◌, ◌≤◌, ◌<◌, ◌≡◌, refl, List, length, get_or}
 use Rattle.std.proofs.Common.{◌∙◌, arith}
 use Rattle.std.proofs.Math.Path.{ap}
 use Rattle.tok.specs.Text.{Texts}
 use Rattle.tok.specs.Word.{kind_of, payload_of, word_of}
+use Rattle.ptype.specs.declared.TypeKind.{TypeKind}
+use Rattle.ptype.specs.TypeKind.{kind_of_type, number_of_type, kinds_of_types}
 use Rattle.library.specs.Package.{packages_of}
 use Rattle.library.specs.Accepted.{LibraryFine}
 use Rattle.ast.specs.Image.{record_length, slot_count}
@@ -38,10 +40,21 @@ words-many image at k = go k at
     go ℕ.zero at = refl
     go (ℕ.suc k) at = ap ℕ.suc (go k (at + 1))
 
+-- the kinds of types without payload are counted as their words have them
+kind-back : (k : ℕ) → k ≤ 5 → number_of_type (kind_of_type k) ≡ k
+unfolding kind_of_type kinds_of_types
+kind-back zero h = refl
+kind-back (suc zero) h = refl
+kind-back (suc (suc zero)) h = refl
+kind-back (suc (suc (suc zero))) h = refl
+kind-back (suc (suc (suc (suc zero)))) h = refl
+kind-back (suc (suc (suc (suc (suc zero))))) h = refl
+kind-back (suc (suc (suc (suc (suc (suc k)))))) h = absurd (omega arith)
+
 -- ── What each kind asks for ──
 
 module _ {T : Texts} {image places words : List ℕ} {n : ℕ} {st : State} {scratch : List ℕ} (r : LeafReady T image places words n st scratch) where
-  pub few-names : st.base + st.depth ≤ 4096
+  pub few-names : st.names.base + st.names.depth ≤ 4096
   few-names = omega (arith, free-top r.free)
 
   module _ {at h k long : ℕ} (e : at ≡ get_or places n 0) (eh : h ≡ get_or image at 0) (ek : k ≡ kind_of h) (el : long ≡ payload_of h) where
@@ -49,8 +62,8 @@ module _ {T : Texts} {image places words : List ℕ} {n : ℕ} {st : State} {scr
     length_at = el ∙ ap payload_of eh
 
     -- "type kind 2 to 5"
-    pub atom-kind : {w : ℕ} → k ≡ 0 → w ≡ get_or image (at + 3) 0 → w < 16
-    atom-kind q ew = omega (arith, ew, (words-atom r.node e eh ek q).most)
+    pub atom-word : {w t : ℕ} {x : TypeKind} → k ≡ 0 → w ≡ get_or image (at + 3) 0 → x ≡ kind_of_type w → t ≡ word_of (number_of_type x) 0 → t ≡ word_of w 0
+    atom-word {w} q ew ex et = et ∙ ap (λ y. word_of y 0) (ap number_of_type ex ∙ kind-back w (omega (arith, ew, (words-atom r.node e eh ek q).most)))
 
     pub import_long : k ≡ 10 → 3 ≤ long
     import_long q = omega (arith, (words_import r.node e eh ek q).long, length_at)

@@ -2,7 +2,6 @@
 #![tactic(auto)]
 
 ghost use Rattle.std.specs.Prelude.{◌≡◌, List, ℕ, ◌<◌};
-ghost use Rattle.tok.specs.Word.{word_of};
 ghost use Rattle.state.specs.World.{More};
 ghost use Rattle.visit.specs.Whole.{Lent, lent};
 ghost use Rattle.walking.specs.Visited.{NodeVisited};
@@ -10,17 +9,10 @@ ghost use Rattle.leaves.specs.Leaves.{LeafReady};
 
 use ast::NodeKind;
 use places::Image;
+use ptype::TypeKind;
 use rules::Answer;
 use tok::{Texts, payload};
 use visit::{State, Visit};
-
-// The word of a type with nothing inside and no name.
-fn plain_word(kind: u32) -> u32
-    requires { kind < 16 }
-    ensures { result ≡ word_of kind 0 }
-{
-    kind * 0x1000_0000
-}
 
 // A node of such a kind.
 pub fn leaf(
@@ -48,7 +40,7 @@ pub fn leaf(
     match NodeKind::of(head) {
         NodeKind::Atom => {
             let used = st.used;
-            let w = plain_word(image.word_at(at + 3));
+            let w = operators::plain_word(TypeKind::from(image.word_at(at + 3)));
             visit::answered(st, operators::set_known(slots, used, slot, w))
         }
         NodeKind::Ident => names::ident(

@@ -25,16 +25,16 @@ use Rattle.scope.specs.Found.{binding_of}
 use Rattle.values.specs.Answers.{found_of}
 use Rattle.visit.specs.declared.State.{State}
 use Rattle.visit.specs.Whole.{Visit, lent, visited}
-use Rattle.visit.specs.Within.{top, Within, within-from, goes, Visits}
+use Rattle.visit.specs.Within.{top, Within, within_same, within-from, goes, Visits}
 use Rattle.visit.specs.StoreLaws.{env-bound, env-unbound}
 use Rattle.visit.specs.Plain.{with_used, visit_of, steps-visits}
-use Rattle.visiting.specs.Then.{within_same, visits-stop, visits-then}
+use Rattle.visiting.specs.Then.{visits-stop, visits-then}
 use Rattle.names.specs.Bound.{local_words, one_more, Bindable, let_end, fits, packages-kept, within-bound}
 
 -- ── Node::Ident ──
 
-module _ (T : Texts) (n slot name : ℕ) (found : Binding) {st : State} {e : List ℕ} (is : binding_of found ≡ env_get T (name_bytes T name) (env_up e st.base st.depth)) where
-  pub ident-bound : {w : ℕ} {s s' : List ℕ} {r : Step Answer} {x : Visit Answer} → found ≡ B.Bound w
+module _ (T : Texts) (n slot name : ℕ) (found : Found Binding) {st : State} {e : List ℕ} (is : binding_of found ≡ env_get T (name_bytes T name) (env_up e st.names.base st.names.depth)) where
+  pub ident-bound : {w : ℕ} {s s' : List ℕ} {r : Step Answer} {x : Visit Answer} → found ≡ Some (B.Bound w)
       → ((t d m : List ℕ) → Steps (set_known slot w) s t d m st.used s' t d m r) → x ≡ visit_of st r
       → (ls : List Package) (v : ℕ) (words f t d m : List ℕ) (o : More) → Visits (ident (ctx T ls v) n slot name) 0 0 words st (lent s f t d m e o) (lent s' f t d m e o) x
   unfolding ident on_option
@@ -42,12 +42,12 @@ module _ (T : Texts) (n slot name : ℕ) (found : Binding) {st : State} {e : Lis
       let known = steps-visits (p t d m) words f e o in
       rw ex (record { step = rw (sym is ∙ ap (λ b. binding_of b) eb) known.step; keeps = known.keeps })
 
-  pub ident-poisoned : found ≡ B.Poisoned
+  pub ident-poisoned : found ≡ Some B.Poisoned
       → (ls : List Package) (v : ℕ) (words s f t d m : List ℕ) (o : More) → Visits (ident (ctx T ls v) n slot name) 0 0 words st (lent s f t d m e o) (lent s f t d m e o) (Ok (A.Poison, st))
   unfolding ident on_option visited
   ident-poisoned eb ls v words s f t d m o = record { step = rw (sym is ∙ ap (λ b. binding_of b) eb) refl; keeps = goes (within_same st (lent s f t d m e o)) }
 
-  pub ident-none : {d m d' m' : List ℕ} {q : Found Counts} {r : Step Answer} {x : Visit Answer} → found ≡ B.Nothing → Reports (no_binding name (name_bytes T name)) d m st.used.told d' m' q
+  pub ident-none : {d m d' m' : List ℕ} {q : Found Counts} {r : Step Answer} {x : Visit Answer} → found ≡ None → Reports (no_binding name (name_bytes T name)) d m st.used.told d' m' q
       → r ≡ told_of n st.used q A.Poison → x ≡ visit_of st r
       → (ls : List Package) (v : ℕ) (words s f t : List ℕ) (o : More) → Visits (ident (ctx T ls v) n slot name) 0 0 words st (lent s f t d m e o) (lent s f t d' m' e o) x
   unfolding ident on_option
@@ -65,9 +65,9 @@ module _ {st : State} {e : List ℕ} {name : ℕ} (h : Bindable st e name) (u : 
   binds : (bound : Found ℕ) → Visits (env_insert name (found_of bound)) 2 0 words (with_used st u) (lent s f t d m e o) (lent s f t d m (write e (top st) (local_words name bound)) o)
       (Ok (tt, one_more st u))
   unfolding env_insert found_of local_words visited
-  binds (Some w) = record { step = rw (packages-kept h.free name w words, env-bound e st.base st.depth name w h.kind (fits h.free)) refl; keeps = goes (within name w) }
+  binds (Some w) = record { step = rw (packages-kept h.free name w words, env-bound e st.names.base st.names.depth name w h.kind (fits h.free)) refl; keeps = goes (within name w) }
   binds None = record {
-    step = rw (packages-kept h.free (name + 2 ^ 28) 0 words, env-unbound e st.base st.depth name 0 h.kind (fits h.free)) refl;
+    step = rw (packages-kept h.free (name + 2 ^ 28) 0 words, env-unbound e st.names.base st.names.depth name 0 h.kind (fits h.free)) refl;
     keeps = goes (within (name + 2 ^ 28) 0);
   }
 
@@ -79,7 +79,7 @@ module _ (n slot name : ℕ) (answer : Answer) {st : State} {e : List ℕ} {s d 
   let_refused {q = q} er eq words f t o = rw (passed q eq) (visits-stop _ (steps-visits (rw er at (p t)) words f e o) 2 0)
 
   pub let_bound : {bound : Found ℕ} {u : Used} {e' s' : List ℕ} {st' : State} {w : Step Answer} {q : Visit Answer} → Bindable st e name → r ≡ Ok (bound, u)
-      → e' ≡ write e (2 * (st.base + st.depth)) (local_words name bound) → st' ≡ one_more st u
+      → e' ≡ write e (2 * (st.names.base + st.names.depth)) (local_words name bound) → st' ≡ one_more st u
       → ((t d m : List ℕ) → Steps (set_known slot void_word) s t d m st'.used s' t d m w) → q ≡ visit_of st' w
       → (words f t : List ℕ) (o : More) → Visits (let_end n slot name answer) 2 0 words st (lent s f t d m e o) (lent s' f t d' m' e' o) q
   unfolding let_end with_answer visit_of

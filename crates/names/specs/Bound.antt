@@ -27,7 +27,7 @@ local_words name None = (name + 2 ^ 28) ∷ 0 ∷ []
 
 -- the state with one more name in scope
 abbrev pub one_more : State → Used → State
-one_more st u = record { used = u; base = st.base; depth = st.depth + 1; held = st.held; packages = st.packages; functions = st.functions }
+one_more st u = record { used = u; names = record { base = st.names.base; depth = st.names.depth + 1 }; held = st.held; packages = st.packages; functions = st.functions }
 
 -- there is room for a name, and its word is a name's
 pub record Bindable (st : State) (scratch : List ℕ) (name : ℕ) : Type 0 where
@@ -47,18 +47,18 @@ let_parts_lem c n slot name right w = refl
 
 -- two words after the last name leave all else as it was
 module _ {st : State} {e : List ℕ} (free : Free 2 st e) where
-  pub few-names : st.base + st.depth ≤ 4096
+  pub few-names : st.names.base + st.names.depth ≤ 4096
   few-names = omega (arith, free-top free)
 
-  pub fits : 2 * (st.base + st.depth) + 2 ≤ length e
+  pub fits : 2 * (st.names.base + st.names.depth) + 2 ≤ length e
   fits = omega (arith, free-top free, free.long)
 
-  pub packages-kept : (x w : ℕ) (library : List ℕ) → held_from library (write e (2 * (st.base + st.depth)) (x ∷ w ∷ [])) st.held st.packages ≡ held_from library e st.held st.packages
+  pub packages-kept : (x w : ℕ) (library : List ℕ) → held_from library (write e (2 * (st.names.base + st.names.depth)) (x ∷ w ∷ [])) st.held st.packages ≡ held_from library e st.held st.packages
   packages-kept x w library =
       held-past e (write e (top st) (x ∷ w ∷ [])) (write-alike e (top st) st.held (x ∷ w ∷ []) (omega (arith, free.between))) library st.held st.packages (omega arith)
 
   pub within-bound : (x w : ℕ) (u : Used) (s f t d m s' t' d' m' : List ℕ) (o : More)
-      → Within 2 0 st (lent s f t d m e o) (one_more st u) (lent s' f t' d' m' (write e (2 * (st.base + st.depth)) (x ∷ w ∷ [])) o)
+      → Within 2 0 st (lent s f t d m e o) (one_more st u) (lent s' f t' d' m' (write e (2 * (st.names.base + st.names.depth)) (x ∷ w ∷ [])) o)
   within-bound x w u s f t d m s' t' d' m' o = record {
     base = refl;
     deeper = omega arith;

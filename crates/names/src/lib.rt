@@ -14,51 +14,52 @@ ghost use Rattle.visit.specs.Within.{Visits};
 ghost use Rattle.visit.specs.Free.{Free};
 ghost use Rattle.names.specs.Bound.{local_words, one_more, Bindable, let_end};
 
+use operators::VOID_WORD;
 use rules::Answer;
-use scope::Binding;
+use scope::{Binding, Names, ONE_KIND};
 use state::Used;
 use tok::Texts;
 use visit::{State, Visit};
 
-// The word of Void.
-const VOID_WORD: u32 = 0x1000_0000;
-
-// Typechecker::env_insert: a name and its type, after `depth` names from name number `base` on.
-pub fn bind_name(scratch: &mut [u32], base: usize, depth: usize, name: u32, ty: u32)
-    requires { base + depth ≤ 4096 }
-    ensures { scratch.new ≡ write scratch.old (2 * (base + depth)) (name ∷ ty ∷ []) }
+// Typechecker::env_insert: a name and its type, after the names in scope.
+pub fn bind_name(scratch: &mut [u32], names: Names, name: u32, ty: u32)
+    requires { names.base + names.depth ≤ 4096 }
+    ensures { scratch.new ≡ write scratch.old (2 * (names.base + names.depth)) (name ∷ ty ∷ []) }
 {
-    add::set_pair(scratch, 2 * (base + depth), name, ty);
+    add::set_pair(scratch, 2 * (names.base + names.depth), name, ty);
 }
 
 // The same of a poisoned binding: its name has kind 13 in place of 12.
-pub fn bind_poisoned(scratch: &mut [u32], base: usize, depth: usize, name: u32)
-    requires { (base + depth ≤ 4096) × (kind_of name ≡ 12) }
-    ensures { scratch.new ≡ write scratch.old (2 * (base + depth)) ((name + 2 ^ 28) ∷ 0 ∷ []) }
+pub fn bind_poisoned(scratch: &mut [u32], names: Names, name: u32)
+    requires { (names.base + names.depth ≤ 4096) × (kind_of name ≡ 12) }
+    ensures { scratch.new ≡ write scratch.old (2 * (names.base + names.depth)) ((name + 2 ^ 28) ∷ 0 ∷ []) }
 {
-    add::set_pair(scratch, 2 * (base + depth), name + 0x1000_0000, 0);
+    add::set_pair(scratch, 2 * (names.base + names.depth), name + ONE_KIND, 0);
 }
 
 // Either of the two, by whether there is a type.
 #[tactic(auto, unfolding(crate::specs::Bound::local_words))]
-fn bind(scratch: &mut [u32], base: usize, depth: usize, name: u32, ty: Option<u32>)
-    requires { (base + depth ≤ 4096) × (kind_of name ≡ 12) }
-    ensures { scratch.new ≡ write scratch.old (2 * (base + depth)) (local_words name ty) }
+fn bind(scratch: &mut [u32], names: Names, name: u32, ty: Option<u32>)
+    requires { (names.base + names.depth ≤ 4096) × (kind_of name ≡ 12) }
+    ensures { scratch.new ≡ write scratch.old (2 * (names.base + names.depth)) (local_words name ty) }
 {
     match ty {
-        Some(w) => bind_name(scratch, base, depth, name, w),
-        None => bind_poisoned(scratch, base, depth, name),
+        Some(w) => bind_name(scratch, names, name, w),
+        None => bind_poisoned(scratch, names, name),
     }
 }
 
 // The state with one more name in scope.
 pub fn one_more(st: State, used: Used) -> State
-    requires { st.base + st.depth ≤ 4096 }
+    requires { st.names.base + st.names.depth ≤ 4096 }
     ensures { result ≡ one_more st used }
 {
     State {
         used,
-        depth: st.depth + 1,
+        names: Names {
+            depth: st.names.depth + 1,
+            ..st.names
+        },
         ..st
     }
 }
@@ -75,17 +76,17 @@ pub fn ident(
     slot: u32,
     name: u32,
 ) -> Visit<Answer>
-    requires { st.base + st.depth ≤ 4096 }
+    requires { st.names.base + st.names.depth ≤ 4096 }
     ensures { ((ls : List Package) (v : ℕ) (words f t : List ℕ) (o : More) →
         let b : Lent = lent slots.old f t diagnostics.old messages.old scratch.now o in
         let b' : Lent = lent slots.new f t diagnostics.new messages.new scratch.now o in
         Visits (ident (ctx texts.now ls v) n slot name) 0 0 words st b b' result) }
 {
     let used = st.used;
-    match scope::env_get(texts, scratch, st.base, st.depth, name) {
-        Binding::Bound(w) => visit::answered(st, operators::set_known(slots, used, slot, w)),
-        Binding::Poisoned => Ok((Answer::Poison, st)),
-        Binding::Nothing => {
+    match scope::env_get(texts, scratch, st.names, name) {
+        Some(Binding::Bound(w)) => visit::answered(st, operators::set_known(slots, used, slot, w)),
+        Some(Binding::Poisoned) => Ok((Answer::Poison, st)),
+        None => {
             let counts = used.told;
             let none = err_names::no_binding(diagnostics, messages, counts, texts, name);
             visit::answered(st, state::told(n, used, none, Answer::Poison))
@@ -112,7 +113,7 @@ pub fn let_end(
         Visits (let_end n slot name answer) 2 0 words st b b' result) }
 {
     let (ty, used) = values::let_binding(slots, diagnostics, messages, st.used, n, name, answer)?;
-    bind(scratch, st.base, st.depth, name, ty);
+    bind(scratch, st.names, name, ty);
     let st = one_more(st, used);
     visit::answered(st, operators::set_known(slots, st.used, slot, VOID_WORD))
 }

@@ -52,16 +52,16 @@ module _ {image places e : List ℕ} {st : State} (n slot at : ℕ) (h : Argumen
         names = P.stops;
       })
 
-  pub one-bound : {s s' e' : List ℕ} {w : ℕ} {u : Used} {st' : State} → r ≡ Ok (w, u) → s' ≡ set s slot w → e' ≡ write e (2 * (st.base + st.depth)) (name ∷ w ∷ []) → st' ≡ one_more st u
+  pub one-bound : {s s' e' : List ℕ} {w : ℕ} {u : Used} {st' : State} → r ≡ Ok (w, u) → s' ≡ set s slot w → e' ≡ write e (2 * (st.names.base + st.names.depth)) (name ∷ w ∷ []) → st' ≡ one_more st u
       → (T : Texts) (ls : List Package) (v : ℕ) (words f d m : List ℕ) (o : More)
       → Argues (fn_arguments (ctx T ls v) n slot (args_from image at 1)) 1 words st (lent s f types d m e o) (lent s' f types' d m e' o) (Ok (tt, st'))
   unfolding fn_arguments args_from with_answer visited stepped set_known env_insert params_from
   one-bound {s} {s'} {w = w} {u} ea es ee eu T ls v words f d m o =
       let x : ℕ = get_or image at 0 in
-      let e₁ : List ℕ = write e (2 * (st.base + st.depth)) (x ∷ w ∷ []) in
-      let one : get_or e₁ (2 * (st.base + st.depth)) 0 ≡ x =
-      ap (λ i. get_or e₁ i 0) (sym (add-zero (2 * (st.base + st.depth)))) ∙ get_d_written e (2 * (st.base + st.depth)) (x ∷ w ∷ []) (fits h.free) 0 (omega arith) in
-      let two : get_or e₁ (2 * (st.base + st.depth) + 1) 0 ≡ w = get_d_written e (2 * (st.base + st.depth)) (x ∷ w ∷ []) (fits h.free) 1 (omega arith) in
+      let e₁ : List ℕ = write e (2 * (st.names.base + st.names.depth)) (x ∷ w ∷ []) in
+      let one : get_or e₁ (2 * (st.names.base + st.names.depth)) 0 ≡ x =
+      ap (λ i. get_or e₁ i 0) (sym (add-zero (2 * (st.names.base + st.names.depth)))) ∙ get_d_written e (2 * (st.names.base + st.names.depth)) (x ∷ w ∷ []) (fits h.free) 0 (omega arith) in
+      let two : get_or e₁ (2 * (st.names.base + st.names.depth) + 1) 0 ≡ w = get_d_written e (2 * (st.names.base + st.names.depth)) (x ∷ w ∷ []) (fits h.free) 1 (omega arith) in
       record {
         visits = record {
           step = rw (
@@ -72,7 +72,7 @@ module _ {image places e : List ℕ} {st : State} (n slot at : ℕ) (h : Argumen
             es,
             en,
             packages-kept h.free x w words,
-            env-bound e st.base st.depth x w h.kind (fits h.free),
+            env-bound e st.names.base st.names.depth x w h.kind (fits h.free),
             one,
             two,
           ) refl;
@@ -86,7 +86,7 @@ module _ {image places e : List ℕ} {st : State} (n slot at : ℕ) (h : Argumen
 went : {A : Type 0} {a : A} {r w : ℕ} {st st' : State} {b b' : Lent} → Keeps r w st b b' (Ok (a, st')) → Within r w st b st' b'
 went (goes x) = x
 
-depth-of : {k : ℕ} {d : Done} {st st' : State} → Deeper k st (Ok (d, st')) → st'.depth ≡ st.depth + k
+depth-of : {k : ℕ} {d : Done} {st st' : State} → Deeper k st (Ok (d, st')) → st'.names.depth ≡ st.names.depth + k
 depth-of (P.deeper e) = e
 
 append-ok : (c : Ctx) (n slot : ℕ) (xs ys : List Arg) (w : World) {ps : List Param} {w₁ : World} → fn_arguments c n slot xs w ≡ ok ps w₁ → fn_arguments c n slot (xs ++ ys) w ≡ others c n (slot + length xs) ys ps w₁

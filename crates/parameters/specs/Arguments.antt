@@ -62,7 +62,7 @@ module _ {image places : List ℕ} {at k : ℕ} (a : Arguments image places at k
 
 -- as many names more
 pub data Deeper (k : ℕ) (st : State) : Visit Done → Type 0 where
-  deeper : {d : Done} {st' : State} → st'.depth ≡ st.depth + k → Deeper k st (Ok (d, st'))
+  deeper : {d : Done} {st' : State} → st'.names.depth ≡ st.names.depth + k → Deeper k st (Ok (d, st'))
   stops : {e : Refused} → Deeper k st (Err e)
 
 -- k arguments were bound: their parameters are the pairs written after the names in scope

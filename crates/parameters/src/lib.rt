@@ -38,7 +38,7 @@ pub fn one_argument(
     let added = type_from_type_expr(types, st.used.types, image, t);
     let (w, used) = state::added(n, st.used, added)?;
     operators::store(slots, slot, w);
-    names::bind_name(scratch, st.base, st.depth, name, w);
+    names::bind_name(scratch, st.names, name, w);
     Ok(((), names::one_more(st, used)))
 }
 

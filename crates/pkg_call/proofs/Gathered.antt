@@ -84,8 +84,8 @@ module _ {count : ℕ} {st : State} {e e₁ e' : List ℕ} (free : Free count st
       let l : top st ≤ 8192 = omega (arith, free-top free) in
       sym (take-take (top st) 8192 e' l) ∙ ap (take (top st)) low.same ∙ take-take (top st) 8192 e₁ l ∙ front₁
 
-  env-same : env_up e' st.base st.depth ≡ env_up e st.base st.depth
-  env-same = env-front (top st) e e' front st.base st.depth (omega arith)
+  env-same : env_up e' st.names.base st.names.depth ≡ env_up e st.names.base st.names.depth
+  env-same = env-front (top st) e e' front st.names.base st.names.depth (omega arith)
 
   module _ (s t d m s' t' d' m' f : List ℕ) (o : More) where
     rest-same : (words : List ℕ) → rest_of words st (lent s f t d m e o) ≡ rest_of words st (lent s' f t' d' m' e' o)

@@ -170,7 +170,7 @@ fn in_held(
     let used = st.used;
     let found = scope::find_held(texts, library, &scratch[..], st.held, st.packages, call.pkg);
     match found {
-        Held::Library(at) => in_library(
+        Some(Held::Library(at)) => in_library(
             slots,
             types,
             diagnostics,
@@ -184,7 +184,7 @@ fn in_held(
             call,
             at,
         ),
-        Held::Extern(at) => in_extern(
+        Some(Held::Extern(at)) => in_extern(
             slots,
             &types[..],
             diagnostics,
@@ -197,7 +197,7 @@ fn in_held(
             call,
             at,
         ),
-        Held::Nothing => {
+        None => {
             let r = err_calls::missing_package(
                 diagnostics,
                 messages,
@@ -232,7 +232,7 @@ pub fn resolve_pkg_call(
         let rule : Walk Answer = resolve_pkg_call (ctx texts.now ls v) call.site.n call.site.slot call.pkg call.name given call.poisoned in
         Visits rule call.site.count 0 library.now st b b' result) }
 {
-    let top = 2 * (st.base + st.depth);
+    let top = 2 * (st.names.base + st.names.depth);
     let end = top + call.site.count;
     call_types::gather_types(&mut scratch[top..end], &slots[..], image, call.site);
     let step = in_held(

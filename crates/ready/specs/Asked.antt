@@ -63,7 +63,7 @@ module _ {image places : List ℕ} {n at : ℕ} (r : NodeReady image places n) (
 
 module _ {T : Texts} {image places words : List ℕ} {room rows : ℕ} {st : State} {b : Lent} (y : Ready T image places words room rows st b) where
   -- Ident, and the beginning of a function's body
-  pub few-names : st.base + st.depth ≤ 4096
+  pub few-names : st.names.base + st.names.depth ≤ 4096
   few-names = omega (arith, free-top y.free)
 
   -- the entries of own functions stand in the functions buffer

@@ -4,4 +4,4 @@ use Rattle.visit.specs.declared.State.{State}
 
 -- the state before the roots: no names, no packages held, no own functions
 abbrev pub start_state : Used → State
-start_state u = record { used = u; base = 0; depth = 0; held = 8192; packages = 0; functions = 0 }
+start_state u = record { used = u; names = record { base = 0; depth = 0 }; held = 8192; packages = 0; functions = 0 }

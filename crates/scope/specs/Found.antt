@@ -11,10 +11,10 @@ use Rattle.scope.specs.declared.Held.{Held}
 use Rattle.scope.specs.declared.Held.TheVariants as H
 
 -- a name's binding: none where there is none, some none where it is poisoned
-abbrev pub binding_of : Binding → Option (Option ℕ)
-binding_of (B.Bound w) = some (some w)
-binding_of B.Poisoned = some none
-binding_of B.Nothing = none
+abbrev pub binding_of : Found Binding → Option (Option ℕ)
+binding_of (Some (B.Bound w)) = some (some w)
+binding_of (Some B.Poisoned) = some none
+binding_of None = none
 
 -- the signature of an own function
 abbrev pub own_of : (functions : List ℕ) → Found ℕ → Option Signature
@@ -22,7 +22,11 @@ own_of functions (Some at) = some (signature_at functions at false)
 own_of functions None = none
 
 -- a package held
-abbrev pub held_of : (library scratch : List ℕ) → Held → Option Package
-held_of library scratch (H.Library at) = some (package_at library at)
-held_of library scratch (H.Extern at) = some (extern_at scratch at)
-held_of library scratch H.Nothing = none
+abbrev pub package_of : (library scratch : List ℕ) → Held → Package
+package_of library scratch (H.Library at) = package_at library at
+package_of library scratch (H.Extern at) = extern_at scratch at
+
+-- and what was found of a name
+abbrev pub held_of : (library scratch : List ℕ) → Found Held → Option Package
+held_of library scratch (Some h) = some (package_of library scratch h)
+held_of library scratch None = none

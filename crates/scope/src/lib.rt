@@ -2,34 +2,41 @@
 #![tactic(auto)]
 
 ghost use Rattle.std.specs.Prelude.{◌≡◌, List, ℕ, ◌+◌, ◌*◌, ◌^◌, ◌<◌, ◌≤◌, length, get_or};
-ghost use Rattle.std.proofs.Math.Option.{some};
 ghost use Rattle.tok.specs.Text.{name_bytes};
 ghost use Rattle.library.specs.Package.{find_function, find_package};
 ghost use Rattle.rules.specs.Steps.{env_get};
 ghost use Rattle.state.specs.Signatures.{entries_end, own_in};
 ghost use Rattle.state.specs.Store.{poisoned, local_name, env_up, held_at, held_size, held_from, held_end};
-ghost use Rattle.scope.specs.Found.{binding_of, own_of, held_of};
+ghost use Rattle.scope.specs.Found.{binding_of, own_of, package_of, held_of};
 
 use tok::{Texts, kind, name_bytes, word_at};
 
-// What a name is bound to: a type's word, a poisoned binding, or nothing.
+// The names in scope: `depth` of them, from name number `base` on.
+#[derive(Clone, Copy)]
+pub struct Names {
+    pub base: usize,
+    pub depth: usize,
+}
+
+// What a name is bound to: a type's word, or nothing that is known, since an error was reported.
 #[derive(Clone, Copy)]
 pub enum Binding {
     Bound(u32),
     Poisoned,
-    Nothing,
 }
 
-// The place of a package: in the library, or in scratch where an Extern's is kept; or none.
+// The place of a package: in the library, or in scratch where an Extern's is kept.
 #[derive(Clone, Copy)]
 pub enum Held {
     Library(usize),
     Extern(usize),
-    Nothing,
 }
 
-// The kind of a poisoned name's word.
+// The kind of a poisoned name's word: one more than a name's.
 const POISONED: u32 = 13;
+
+// What makes a word's kind one more.
+pub const ONE_KIND: u32 = 0x1000_0000;
 
 // Whether a name in scope is poisoned.
 fn is_poisoned(w: u32) -> bool
@@ -43,28 +50,28 @@ fn local_name(w: u32) -> u32
     ensures { result ≡ local_name w }
 {
     if is_poisoned(w) {
-        return w - 0x1000_0000;
+        return w - ONE_KIND;
     }
     w
 }
 
-// The newest binding of a name, among `depth` names from name number `base` on.
-pub fn env_get(texts: &Texts, scratch: &[u32], base: usize, depth: usize, name: u32) -> Binding
-    requires { base + depth ≤ 4096 }
-    ensures { binding_of result ≡ env_get texts.now (name_bytes texts.now name) (env_up scratch.now base depth) }
+// The newest binding of a name.
+pub fn env_get(texts: &Texts, scratch: &[u32], names: Names, name: u32) -> Option<Binding>
+    requires { names.base + names.depth ≤ 4096 }
+    ensures { binding_of result ≡ env_get texts.now (name_bytes texts.now name) (env_up scratch.now names.base names.depth) }
 {
     let wanted = name_bytes(texts, name);
-    for k in (0..depth).rev() {
-        let at = 2 * (base + k);
+    for k in (0..names.depth).rev() {
+        let at = 2 * (names.base + k);
         let w = word_at(scratch, at);
         if tok::is_name(texts, wanted, local_name(w)) {
             if is_poisoned(w) {
-                return Binding::Poisoned;
+                return Some(Binding::Poisoned);
             }
-            return Binding::Bound(word_at(scratch, at + 1));
+            return Some(Binding::Bound(word_at(scratch, at + 1)));
         }
     }
-    Binding::Nothing
+    None
 }
 
 // Where k entries of the functions buffer end.
@@ -96,35 +103,31 @@ pub fn find_own(texts: &Texts, functions: &[u32], k: usize, name: u32) -> Option
     found
 }
 
-// How many words a package held takes, by its first word.
-fn held_size(w: u32) -> usize
-    ensures { result ≡ held_size w }
+// Words below are those of library packages, in the list of what is held; an Extern's has this much more than its size.
+const EXTERN: usize = 8192;
+
+// Which package is held at a word of scratch, and how many words it takes there.
+fn held_at(scratch: &[u32], at: usize) -> (Held, usize)
+    requires { at < 2 ^ 40 }
+    ensures { ((library : List ℕ) → package_of library scratch.now result.0 ≡ held_at library scratch.now at) × (result.1 ≡ held_size (get_or scratch.now at 0)) }
 {
-    if w < 8192 { 1 } else { w as usize - 8192 }
+    let w = word_at(scratch, at) as usize;
+    if w < EXTERN {
+        (Held::Library(w), 1)
+    } else {
+        (Held::Extern(at + 1), w - EXTERN)
+    }
 }
 
-// Which package is held at a word of scratch.
-fn held_at(scratch: &[u32], at: usize) -> Held
-    requires { at < 2 ^ 40 }
-    ensures { (library : List ℕ) → held_of library scratch.now result ≡ some (held_at library scratch.now at) }
+// Its name.
+#[tactic(auto, unfolding(state::specs::Store::extern_at))]
+fn held_name(words: &[u32], scratch: &[u32], held: Held) -> u32
+    ensures { result ≡ (package_of words.now scratch.now held).name }
 {
-    let w = word_at(scratch, at);
-    if w < 8192 {
-        return Held::Library(w as usize);
+    match held {
+        Held::Library(at) => word_at(words, at),
+        Held::Extern(at) => word_at(scratch, at),
     }
-    Held::Extern(at + 1)
-}
-
-// The name of that package.
-fn held_name(words: &[u32], scratch: &[u32], at: usize) -> u32
-    requires { at < 2 ^ 40 }
-    ensures { result ≡ (held_at words.now scratch.now at).name }
-{
-    let w = word_at(scratch, at);
-    if w < 8192 {
-        return word_at(words, w as usize);
-    }
-    word_at(scratch, at + 1)
 }
 
 // The newest package of a name, among k packages held from a word of scratch on.
@@ -135,7 +138,7 @@ pub fn find_held(
     from: usize,
     k: usize,
     name: u32,
-) -> Held
+) -> Option<Held>
     requires { held_end scratch.now from k ≤ 16384 }
     ensures { held_of words.now scratch.now result ≡ find_package texts.now (name_bytes texts.now name) (held_from words.now scratch.now from k) }
 {
@@ -143,14 +146,15 @@ pub fn find_held(
     let mut at = from;
     let mut part = 0;
     for _ in 0..k {
-        let own = held_name(words, scratch, at);
+        let (held, size) = held_at(scratch, at);
+        let own = held_name(words, scratch, held);
         if !tok::differs_in(texts, wanted, own, part) {
             if tok::is_name(texts, wanted, own) {
-                return held_at(scratch, at);
+                return Some(held);
             }
             part = tok::next_part(part);
         }
-        at += held_size(word_at(scratch, at));
+        at += size;
     }
-    Held::Nothing
+    None
 }

@@ -26,7 +26,7 @@ beginning i = do
 
 -- the state before the first root: so many types are used; nothing is in scope, no package is held, no own function is met
 abbrev pub first_state : (pool : ℕ) → State
-first_state pool = record { used = record { types = pool; told = record { diagnostics = 0; bytes = 0 }; kept = record {} }; base = 0; depth = 0; held = 8192; packages = 0; functions = 0 }
+first_state pool = record { used = record { types = pool; told = record { diagnostics = 0; bytes = 0 }; kept = record {} }; names = record { base = 0; depth = 0 }; held = 8192; packages = 0; functions = 0 }
 
 -- "The types buffer begins with the library pool": where it fits
 unfoldable pub with_pool : (pool types : List ℕ) → List ℕ

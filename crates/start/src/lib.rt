@@ -12,11 +12,11 @@ ghost use Rattle.tworuns.specs.Accepted.{library_types};
 ghost use Rattle.start.specs.Begin.{first_state, Starts};
 
 use err::Counts;
+use operators::VOID_WORD;
+use ptype::MARKS;
+use scope::Names;
 use state::{Kept, Refusal, Used};
 use visit::{State, Visit};
-
-// The word of Void.
-const VOID_WORD: u32 = 0x1000_0000;
 
 // "slot words (0 where none; slot V is Void)"
 pub fn empty_slots(slots: &mut [u32], void: usize)
@@ -94,7 +94,7 @@ fn packages_are_shallow(types: &[u32], words: &[u32], known: &mut [u8]) -> bool
 pub fn library_is_shallow(types: &[u32], words: &[u32]) -> bool
     ensures { (t : Texts) → result ≡ all_shallow t types.now (library_types words.now) }
 {
-    let mut known = [0u8; 8192];
+    let mut known = [0; MARKS];
     if !add::pool_is_shallow(types, library::pool(words), &mut known) {
         return false;
     }
@@ -114,8 +114,7 @@ fn first_state(pool: usize) -> State
             },
             kept: Kept {},
         },
-        base: 0,
-        depth: 0,
+        names: Names { base: 0, depth: 0 },
         held: 8192,
         packages: 0,
         functions: 0,

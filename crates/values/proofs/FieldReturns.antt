@@ -41,7 +41,3 @@ module _ (T : Texts) (W : List ℕ) (name at : ℕ) where
   find_none {left} inv h =
       let z : left ≡ 0 = omega arith in
       sym (inv ∙ rw z)
-
--- before the first: all fields of the record
-pub find_all : (T : Texts) (W : List ℕ) (name word : ℕ) {p k : ℕ} → p ≡ payload_of word → k ≡ field_count W word → find_field T W (name_bytes T name) (payload_of word + 1) (field_count W word) ≡ find_field T W (name_bytes T name) (p + 1) k
-find_all T W name word e h = rw (e, h)

@@ -45,12 +45,12 @@ pub fn find_field(types: &[u32], texts: &Texts, name: u32, word: u32) -> Option<
         found_of result ≡ find_field texts.now W (name_bytes texts.now name) (payload_of word + 1) (field_count W word) }
 {
     let count = ptype::field_count(types, word);
-    let mut at = tok::payload(word) + 1;
-    for _ in 0..count {
+    let first = tok::payload(word) + 1;
+    for i in 0..count {
+        let at = first + 2 * i;
         if tok::same_name(texts, name, word_at(types, at)) {
             return Some(ptype::field_type(types, at));
         }
-        at += 2;
     }
     None
 }

@@ -8,7 +8,7 @@ use Rattle.state.specs.declared.Used.{Used}
 use Rattle.state.specs.World.{More, Step, stepped, Steps}
 use Rattle.visit.specs.declared.State.{State}
 use Rattle.visit.specs.Whole.{Visit, lent, rest_of, visited}
-use Rattle.visit.specs.Within.{Within, Keeps, goes, stops, Visits}
+use Rattle.visit.specs.Within.{Within, within_same, within-from, Keeps, goes, stops, Visits}
 pub use Rattle.visit.specs.Within.{with_used}
 
 -- what a plain step gives is what the walk gives, with the rest of the state as it was
@@ -18,17 +18,7 @@ visit_of st (Err e) = Err e
 
 -- nothing is taken
 pub within-plain : (st : State) (u : Used) (s t d m s' t' d' m' f e : List ℕ) (o : More) → Within 0 0 st (lent s f t d m e o) (with_used st u) (lent s' f t' d' m' e o)
-within-plain st u s t d m s' t' d' m' f e o = record {
-  base = refl;
-  deeper = omega arith;
-  taken = omega arith;
-  written = omega arith;
-  names = refl;
-  held = refl;
-  packages = omega arith;
-  scratch = refl;
-  functions = refl;
-}
+within-plain st u s t d m s' t' d' m' f e o = within-from {u = st.used} (within_same (with_used st u) (lent s' f t' d' m' e o)) (omega arith) (omega arith)
 
 module _ {A : Type 0} (st : State) (s t d m s' t' d' m' f e : List ℕ) (o : More) where
   keeps-plain : (r : Step A) → Keeps 0 0 st (lent s f t d m e o) (lent s' f t' d' m' e o) (visit_of st r)

@@ -30,7 +30,7 @@ function_words st b = entries_end b.functions 0 0 st.functions
 abbrev pub rest_of : (library : List ℕ) → State → Lent → Rest
 rest_of library st b = record {
   functions = buffer b.functions (function_words st b);
-  env = env_up b.scratch st.base st.depth;
+  env = env_up b.scratch st.names.base st.names.depth;
   packages = held_from library b.scratch st.held st.packages;
   own = own_in b.functions st.functions;
   more = b.more;

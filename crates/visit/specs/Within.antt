@@ -1,6 +1,6 @@
 -- What visiting leaves alone in scratch, and how much it takes: names in scope are added after those there, packages held before those
 -- there. Laws of it. Assumes nothing.
-use Rattle.std.specs.Prelude.{ℕ, ◌+◌, ◌*◌, ◌≤◌, ◌≡◌, List, take, length, Ok, Err}
+use Rattle.std.specs.Prelude.{ℕ, ◌+◌, ◌*◌, ◌≤◌, ◌≡◌, refl, List, take, length, Ok, Err}
 use Rattle.std.proofs.Common.{sym, ap, ◌∙◌, arith, take-take}
 use Rattle.rules.specs.World.{Walk}
 use Rattle.state.specs.declared.Refusal.{Refusal}
@@ -12,16 +12,16 @@ use Rattle.visit.specs.Reach.{held_reach}
 
 -- the state with other used counts
 abbrev pub with_used : State → Used → State
-with_used st u = record { used = u; base = st.base; depth = st.depth; held = st.held; packages = st.packages; functions = st.functions }
+with_used st u = record { used = u; names = st.names; held = st.held; packages = st.packages; functions = st.functions }
 
 -- the words of scratch below those of the next name in scope
 abbrev pub top : State → ℕ
-top st = 2 * (st.base + st.depth)
+top st = 2 * (st.names.base + st.names.depth)
 
 -- From one state to a later one, with at most `room` words of scratch and `rows` words of the functions buffer.
 pub record Within (room rows : ℕ) (st : State) (b : Lent) (st' : State) (b' : Lent) : Type 0 where
-  pub base : st'.base ≡ st.base
-  pub deeper : st.depth ≤ st'.depth
+  pub base : st'.names.base ≡ st.names.base
+  pub deeper : st.names.depth ≤ st'.names.depth
   pub taken : top st' + st.held ≤ top st + st'.held + room
   pub written : function_words st' b' ≤ function_words st b + rows
   pub names : take (top st) b'.scratch ≡ take (top st) b.scratch
@@ -29,6 +29,10 @@ pub record Within (room rows : ℕ) (st : State) (b : Lent) (st' : State) (b' : 
   pub packages : st'.packages + st'.held ≤ st.packages + st.held
   pub scratch : length b'.scratch ≡ length b.scratch
   pub functions : length b'.functions ≡ length b.functions
+
+-- nothing done
+pub within_same : (st : State) (b : Lent) → Within 0 0 st b st b
+within_same st b = record { base = refl; deeper = omega arith; taken = omega arith; written = omega arith; names = refl; held = refl; packages = omega arith; scratch = refl; functions = refl }
 
 take_below : (l l' : List ℕ) {n m : ℕ} → m ≤ n → take n l ≡ take n l' → take m l ≡ take m l'
 take_below l l' {n} {m} h e = sym (take-take m n l h) ∙ ap (take m) e ∙ take-take m n l' h

@@ -4,15 +4,15 @@
 ghost use Rattle.std.specs.Prelude.{◌≡◌};
 ghost use Rattle.visit.specs.Plain.{visit_of};
 
+use scope::Names;
 use state::{Refusal, Step, Used};
 
-// How much of each buffer is used, and what scratch holds: the names in scope are `depth` from name number `base` on; the packages held
-// are `packages` from word `held` on; the functions buffer has `functions` entries.
+// How much of each buffer is used, and what scratch holds: the names in scope, and the packages held, which are `packages` from word `held`
+// on; the functions buffer has `functions` entries.
 #[derive(Clone, Copy)]
 pub struct State {
     pub used: Used,
-    pub base: usize,
-    pub depth: usize,
+    pub names: Names,
     pub held: usize,
     pub packages: usize,
     pub functions: usize,

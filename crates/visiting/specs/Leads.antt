@@ -8,8 +8,8 @@ use Rattle.rules.specs.World.{Walk}
 use Rattle.state.specs.declared.Refusal.{Refusal}
 use Rattle.visit.specs.declared.State.{State}
 use Rattle.visit.specs.Whole.{Lent, Visit, visited}
-use Rattle.visit.specs.Within.{goes, Visits}
-use Rattle.visiting.specs.Then.{within_same, visits-stop, visits-then, visits-most}
+use Rattle.visit.specs.Within.{within_same, goes, Visits}
+use Rattle.visiting.specs.Then.{visits-stop, visits-then, visits-most}
 
 -- all of a rule: its beginning
 pub record Beginning : Type 0 where

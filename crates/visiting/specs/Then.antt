@@ -11,11 +11,7 @@ use Rattle.rules.specs.Steps.{known}
 use Rattle.state.specs.declared.Refusal.{Refusal}
 use Rattle.visit.specs.declared.State.{State}
 use Rattle.visit.specs.Whole.{Lent, Visit, visited}
-use Rattle.visit.specs.Within.{Within, within-then, within-most, Keeps, goes, stops, Visits}
-
--- nothing done
-pub within_same : (st : State) (b : Lent) → Within 0 0 st b st b
-within_same st b = record { base = refl; deeper = omega arith; taken = omega arith; written = omega arith; names = refl; held = refl; packages = omega arith; scratch = refl; functions = refl }
+use Rattle.visit.specs.Within.{Within, within_same, within-then, within-most, Keeps, goes, stops, Visits}
 
 -- ── One after the other ──
 

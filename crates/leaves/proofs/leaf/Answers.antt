@@ -5,7 +5,7 @@ use Rattle.ast.specs.Image.{slot_count}
 use Rattle.ast.specs.KindLaws.{node-number, node-not}
 use Rattle.places.specs.NodesAt.{record_room, length-there}
 use Rattle.visit.specs.Plain.{steps-visits}
-use Rattle.leaves.specs.Leaves.{atom-kind, import_long, import_ready, extern-ready, kind-extern, few-names, atom-visited, ident-visited, import_visited, extern-visited}
+use Rattle.leaves.specs.Leaves.{atom-word, import_long, import_ready, extern-ready, kind-extern, few-names, atom-visited, ident-visited, import_visited, extern-visited}
 use Rattle.leaves.proofs.leaf.Goals as goal
 
 pub overflow_add-at : goal.overflow_add-at
@@ -23,15 +23,10 @@ overflow_add-at-in-Atom c =
     let r = c.requires in
     omega (arith, record_room r.node c.node_place-at.ensures)
 
-pub plain_word-w-requires : goal.plain_word-w-requires
-plain_word-w-requires c =
-    let r = c.requires in
-    atom-kind r c.node_place-at.ensures c.word_at-head.ensures refl refl (node-number _ c.in-Atom.ensures) c.word_at.ensures
-
 pub returns-in-Atom : goal.returns-in-Atom
 returns-in-Atom c =
     let r = c.requires in
-    (λ f o. atom-visited _ _ r.node c.node_place-at.ensures c.word_at-head.ensures refl (node-number _ c.in-Atom.ensures) c.word_at-slot.ensures c.word_at.ensures c.plain_word-w.ensures
+    (λ f o. atom-visited _ _ r.node c.node_place-at.ensures c.word_at-head.ensures refl (node-number _ c.in-Atom.ensures) c.word_at-slot.ensures c.word_at.ensures (atom-word r c.node_place-at.ensures c.word_at-head.ensures refl refl (node-number _ c.in-Atom.ensures) c.word_at.ensures c.from.ensures c.plain_word-w.ensures)
     (rw c.answered.ensures (steps-visits (c.set_known.ensures _ _ _) _ _ _ o)))
 
 pub ident-requires : goal.ident-requires

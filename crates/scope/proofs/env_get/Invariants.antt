@@ -5,7 +5,7 @@ use Rattle.scope.proofs.EnvWays.{EnvLeft}
 use Rattle.scope.proofs.env_get.Given as goal
 
 abbrev pub invariant-loop-k : goal.invariant-loop-k
-invariant-loop-k l = (l.wanted ≡ name_bytes l.texts l.name) × EnvLeft l.texts l.wanted l.scratch l.base l.depth l.k
+invariant-loop-k l = (l.wanted ≡ name_bytes l.texts l.name) × EnvLeft l.texts l.wanted l.scratch l.names.base l.names.depth l.k
 
 abbrev pub decreases-loop-k : goal.decreases-loop-k
 decreases-loop-k l = l.k

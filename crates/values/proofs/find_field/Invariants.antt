@@ -3,11 +3,11 @@ use Rattle.rules.specs.Rules.{find_field}
 use Rattle.ptype.specs.Words.{field_count}
 use Rattle.tok.specs.Text.{name_bytes}
 use Rattle.tok.specs.Word.{payload_of}
-use Prim.Native.Nat.{◌+◌, ◌-◌, ◌*◌, ◌<◌, ◌^◌}
+use Prim.Native.Nat.{◌+◌, ◌-◌, ◌*◌}
 use mathlib.Core.Path.{◌≡◌}
 use Rattle.values.proofs.find_field.Given as goal
 
-abbrev pub invariant-loop : goal.invariant-loop
-invariant-loop l =
+abbrev pub invariant-loop-i : goal.invariant-loop-i
+invariant-loop-i l =
     let find = find_field l.texts l.types (name_bytes l.texts l.name) in
-    (find (payload_of l.word + 1) (field_count l.types l.word) ≡ find l.at (l.count - l.counter)) × (l.at + 2 * (l.count - l.counter) < 2 ^ 40)
+    find (payload_of l.word + 1) (field_count l.types l.word) ≡ find (l.first + 2 * l.i) (l.count - l.i)
