@@ -1,3 +1,3 @@
 -- Laws that the proofs cite.
 pub mod Changing
-pub mod Powers
+pub mod DigitLaws

@@ -2,14 +2,12 @@
 // one before it. oracle/replay/README.md says what each command does. What is told past the end of a list is left out.
 #![tactic(auto)]
 
-mod digits;
-
 ghost use Rattle.std.specs.Prelude.{◌≡◌, ℕ, ◌+◌, ◌%◌, ◌^◌, ◌<◌, ◌≤◌, min, List, length, take, slice_index, slice_set, IfOk};
 ghost use Rattle.commands.specs.Words.{word_in, ByteAt, CommandIn, SomeCommand};
 ghost use Rattle.commands.specs.Changes.{whole, low_byte, filled, four_bytes, lists, patterned, fill_of, data_of, changed};
 ghost use Rattle.commands.specs.Printed.{NumberBytes, RefusedBytes};
 
-use digits::decimal;
+use display::Writer;
 use std::io;
 use std::io::Read;
 use tok::set_item;
@@ -335,12 +333,17 @@ pub fn print(rt: &impl Print, s: &[u8]) -> io::Result<usize>
     Ok(s.len())
 }
 
+// How many digits a number of 64 bits can have.
+const MOST_DIGITS: usize = 20;
+
 // A number in decimal.
 pub fn print_number(rt: &impl Print, n: usize) -> io::Result<usize>
     ensures { IfOk result (λ k. NumberBytes n k) }
 {
-    let mut digits = [0u8; 20];
-    let k = decimal(n as u64, &mut digits);
+    let mut digits = [0; MOST_DIGITS];
+    let mut out = Writer::new(&mut digits);
+    let _ = display::put_digits(&mut out, MOST_DIGITS, n);
+    let k = out.at;
     print(rt, &digits[..k])
 }
 

@@ -121,9 +121,9 @@ fn put_digit(out: &mut Writer, digit: usize) -> Result<(), Full>
     out.put(&byte)
 }
 
-// Writes the digits of a number, `most` of them at most.
+// Writes a number in decimal, in `most` digits at most.
 #[tactic(auto, using(crate::specs::WritingLaws::writing, crate::proofs::DigitLaws::by_digit))]
-fn put_digits(out: &mut Writer, most: usize, n: usize) -> Result<(), Full>
+pub fn put_digits(out: &mut Writer, most: usize, n: usize) -> Result<(), Full>
     ensures { Writes out.old out.new result (digits most n) }
 {
     if most == 0 {
@@ -137,7 +137,7 @@ fn put_digits(out: &mut Writer, most: usize, n: usize) -> Result<(), Full>
     }
 }
 
-// How many digits a number can have.
+// How many digits a number of 32 bits can have.
 const MOST_DIGITS: usize = 10;
 
 // Types.

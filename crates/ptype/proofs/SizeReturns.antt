@@ -61,5 +61,5 @@ module _ (t : Texts) (types : List ℕ) (go : ℕ → Ty) (at here : ℕ) {n s :
       omega arith)
 
 -- room is left where there are fewer words
-pub room-left : (n s : ℕ) {x : ℕ} → x ≡ n - s → ltb 0 x ≡ ltb s n
-room-left n s {x} e = elim (dec_lt s n) [ yes h ↦ lt-ltb 0 x (omega arith) ∙ sym (lt-ltb s n h) | no h ↦ le-ltb 0 x (omega arith) ∙ sym (le-ltb s n (omega arith)) ]
+pub room_left : (n s : ℕ) {x : ℕ} → x ≡ n - s → ltb 0 x ≡ ltb s n
+room_left n s {x} e = elim (dec_lt s n) [ yes h ↦ lt-ltb 0 x (omega arith) ∙ sym (lt-ltb s n h) | no h ↦ le-ltb 0 x (omega arith) ∙ sym (le-ltb s n (omega arith)) ]

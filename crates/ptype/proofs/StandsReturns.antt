@@ -85,13 +85,13 @@ module _ (t : Texts) (types : List ℕ) where
   among-unknown go e at zero = refl
   among-unknown go e at (suc n) = rw (e (get_or types (at + 1) 0), among-unknown go e (at + 2) n)
 
-  pub stands-unknown : (deep w : ℕ) → stands_in 11 (unfolded t types deep w) ≡ contains_unknown (unfolded t types deep w)
+  pub stands_unknown : (deep w : ℕ) → stands_in 11 (unfolded t types deep w) ≡ contains_unknown (unfolded t types deep w)
   unfolding stands_in contains_unknown unfolded
-  stands-unknown zero w = refl
-  stands-unknown (suc f) w = elim (shape (kind_of w)) [
+  stands_unknown zero w = refl
+  stands_unknown (suc f) w = elim (shape (kind_of w)) [
     | is_plain h ↦ rw (unfolded-plain t types w {deep = suc f} refl refl h)
-    | is_wrap h ↦ rw (unfolded-wrap t types w {deep = suc f} refl refl h) (stands-unknown f (inner_word types w))
-    | is_record h ↦ rw (unfolded_record t types w {deep = suc f} refl refl h) (among-unknown (unfolded t types f) (λ v. stands-unknown f v) (payload_of w + 1) (field_count types w))
+    | is_wrap h ↦ rw (unfolded-wrap t types w {deep = suc f} refl refl h) (stands_unknown f (inner_word types w))
+    | is_record h ↦ rw (unfolded_record t types w {deep = suc f} refl refl h) (among-unknown (unfolded t types f) (λ v. stands_unknown f v) (payload_of w + 1) (field_count types w))
     | is_named h ↦ rw (unfolded-named t types w {deep = suc f} refl refl h) (no-unknown (kind_of w) h)
   ]
 
@@ -101,12 +101,12 @@ module _ (t : Texts) (types : List ℕ) where
   among-slot go e at zero = refl
   among-slot go e at (suc n) = rw (e (get_or types (at + 1) 0), among-slot go e (at + 2) n)
 
-  pub stands-slot : (deep w : ℕ) → stands_in 10 (unfolded t types deep w) ≡ contains_slot (unfolded t types deep w)
+  pub stands_slot : (deep w : ℕ) → stands_in 10 (unfolded t types deep w) ≡ contains_slot (unfolded t types deep w)
   unfolding stands_in contains_slot unfolded
-  stands-slot zero w = refl
-  stands-slot (suc f) w = elim (shape (kind_of w)) [
+  stands_slot zero w = refl
+  stands_slot (suc f) w = elim (shape (kind_of w)) [
     | is_plain h ↦ rw (unfolded-plain t types w {deep = suc f} refl refl h) (ne_eqb (kind_of w) 10 (λ e. true≢false (rw e at h.no_name)))
-    | is_wrap h ↦ rw (unfolded-wrap t types w {deep = suc f} refl refl h) (stands-slot f (inner_word types w))
-    | is_record h ↦ rw (unfolded_record t types w {deep = suc f} refl refl h) (among-slot (unfolded t types f) (λ v. stands-slot f v) (payload_of w + 1) (field_count types w))
+    | is_wrap h ↦ rw (unfolded-wrap t types w {deep = suc f} refl refl h) (stands_slot f (inner_word types w))
+    | is_record h ↦ rw (unfolded_record t types w {deep = suc f} refl refl h) (among-slot (unfolded t types f) (λ v. stands_slot f v) (payload_of w + 1) (field_count types w))
     | is_named h ↦ rw (unfolded-named t types w {deep = suc f} refl refl h)
   ]
