@@ -41,11 +41,9 @@ fn deepest_run(words: &[u32], run: Run, depths: &[u8]) -> u8
     requires { (run.step ≤ 2) × (run.from + 2 * run.count < 2 ^ 63) }
     ensures { result ≡ deepest depths.now (parts_from words.now run.step run.from run.count) }
 {
-    let mut i = run.from;
     let mut d = 0u8;
-    for _ in 0..run.count {
-        d = d.max(depth_at(depths, word_at(words, i) as usize));
-        i += run.step;
+    for k in 0..run.count {
+        d = d.max(depth_at(depths, run.number(words, k) as usize));
     }
     d
 }

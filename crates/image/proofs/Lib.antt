@@ -1,3 +1,4 @@
+pub mod Callable
 pub mod Limits
 pub mod NodeRows
 pub mod TypeRows

@@ -1,11 +1,13 @@
--- The nodes one after the other, as the code's loop reads them: the list of outlines that the definition collects, and the kinds that the
--- code keeps of them. Assumes nothing.
+-- The nodes one after the other, as the code's loop reads them: the list of outlines that the definition collects, and which of them may
+-- be called, which the code keeps. Assumes nothing.
 use Prim.Native.Nat.{ℕ, suc, ◌+◌, ◌-◌, ◌≤◌, ◌<◌}
 use mathlib.Core.Path.{◌≡◌, refl, sym, ap, ◌∙◌}
+use mathlib.Core.Bool.{Bool, false, ◌||◌}
 use mathlib.Core.List.{List, [], ◌∷◌, ◌++◌}
 use native.Mathlib.Nat.{not-suc-le-zero}
 use native.Mathlib.Omega.{arith}
 use native.Mathlib.Decide.{dec_lt}
+use lib.Dec.{eqb}
 use lib.ListN.{length, set, length-append, get_or-append}
 use lib.Seq.{get_or-set_same, get_or-set_other, get_or_at}
 use Rattle.tok.specs.Word.{kind_of}
@@ -13,58 +15,58 @@ use Rattle.std.specs.Prelude.{Ok, Err}
 use Rattle.reader.specs.declared.Fault.{Fault}
 use Rattle.reader.specs.Reading.{Reader, next_word, onward, gave}
 use Rattle.ast.specs.Outline.{Outline, Counts}
-use Rattle.ast.specs.NodeRecords.{no_node}
+use Rattle.ast.specs.NodeRecords.{no_node, callable}
 use Rattle.ast.specs.Nodes.{node, nodes}
 use Rattle.image_laws.specs.OutlineAt.{outline_from}
 use Rattle.image_words.specs.Leads.{unanswered, Leads}
 use Rattle.image_nodes.specs.Site.{Kept}
 
--- the loop before node i: the outlines of the nodes before, whose kinds are kept; and what the others lead to, all lead to
-pub record Before (from : Reader) (c : Counts) (n : ℕ) (kinds : List ℕ) (to : Reader) (i : ℕ) : Type 0 where
+-- the loop before node i: the outlines of the nodes before, of which it is kept whether they may be called; and what the others lead to, all lead to
+pub record Before (from : Reader) (c : Counts) (n : ℕ) (called : List Bool) (to : Reader) (i : ℕ) : Type 0 where
   pub outlines : List Outline
   pub many : length outlines ≡ i
-  pub kept : Kept kinds outlines i
+  pub kept : Kept called outlines i
   pub rest : unanswered (onward to (nodes c (n - i) i outlines)) ≡ unanswered (onward from (nodes c n 0 []))
 
-pub at_first : {from : Reader} {c : Counts} {n : ℕ} (kinds : List ℕ) → Before from c n kinds from 0
-at_first {n = n} kinds =
+pub at_first : {from : Reader} {c : Counts} {n : ℕ} (called : List Bool) → Before from c n called from 0
+at_first {n = n} called =
     let e : n - 0 ≡ n = omega arith in
     record { outlines = []; many = refl; kept = record { kept = λ p h. absurd (not-suc-le-zero h) }; rest = rw e refl }
 
--- one kind more
-keep : (kinds : List ℕ) (before : List Outline) (i : ℕ) (o : Outline) → length before ≡ i → i < length kinds → Kept kinds before i
-    → Kept (set kinds i o.kind) (before ++ (o ∷ [])) (i + 1)
-keep kinds before i o e fits k =
+-- one more
+keep : (called : List Bool) (before : List Outline) (i : ℕ) (o : Outline) → length before ≡ i → i < length called → Kept called before i
+    → Kept (set called i (callable o)) (before ++ (o ∷ [])) (i + 1)
+keep called before i o e fits k =
     record {
       kept =
           λ p h. elim (dec_lt p i) [
             | yes l ↦
-                get_or-set_other kinds i p o.kind 0 (λ q. omega arith) ∙ k.kept p l
-                ∙ ap (λ (x : Outline). x.kind) (sym (get_or-append before (o ∷ []) no_node p (rw e l)))
+                get_or-set_other called i p (callable o) false (λ q. omega arith) ∙ k.kept p l
+                ∙ ap callable (sym (get_or-append before (o ∷ []) no_node p (rw e l)))
             | no l ↦
                 let q : p ≡ i = omega arith in
-                rw q (get_or-set_same kinds i o.kind 0 fits ∙ ap (λ (x : Outline). x.kind) (sym (get_or_at before o [] no_node i e)))
+                rw q (get_or-set_same called i (callable o) false fits ∙ ap callable (sym (get_or_at before o [] no_node i e)))
           ];
     }
 
-module _ {from to : Reader} {c : Counts} {n : ℕ} {kinds : List ℕ} {i : ℕ} (b : Before from c n kinds to i) where
+module _ {from to : Reader} {c : Counts} {n : ℕ} {called : List Bool} {i : ℕ} (b : Before from c n called to i) where
   module _ (h : i < n) where
-    pub one_more : (mid : Reader) (kind : ℕ) → i < length kinds → kind ≡ kind_of (next_word to)
-        → ((before : List Outline) → Kept kinds before i → onward to (node c before i) ≡ gave (outline_from to.words to.at) (Ok mid))
-        → Before from c n (set kinds i kind) mid (i + 1)
+    pub one_more : (mid : Reader) (may : Bool) → i < length called → may ≡ (eqb (kind_of (next_word to)) 1 || eqb (kind_of (next_word to)) 8)
+        → ((before : List Outline) → Kept called before i → onward to (node c before i) ≡ gave (outline_from to.words to.at) (Ok mid))
+        → Before from c n (set called i may) mid (i + 1)
     unfolding nodes gave
-    one_more mid kind fits k read =
+    one_more mid may fits k read =
         let o : Outline = outline_from to.words to.at in
         let e : n - i ≡ suc (n - (i + 1)) = omega arith in
         record {
           outlines = b.outlines ++ (o ∷ []);
           many = length-append b.outlines (o ∷ []) ∙ rw b.many refl;
-          kept = rw k (keep kinds b.outlines i o b.many fits b.kept);
+          kept = rw k (keep called b.outlines i o b.many fits b.kept);
           rest = rw (e, read b.outlines b.kept) at b.rest;
         }
 
     pub stops_there : (fault : Fault)
-        → ((before : List Outline) → Kept kinds before i → onward to (node c before i) ≡ gave (outline_from to.words to.at) (Err fault))
+        → ((before : List Outline) → Kept called before i → onward to (node c before i) ≡ gave (outline_from to.words to.at) (Err fault))
         → Leads from (nodes c n 0 []) (Err fault)
     unfolding nodes gave unanswered
     stops_there fault read =

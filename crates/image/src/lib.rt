@@ -1,7 +1,7 @@
 // Reading an image: counts, roots, node records, type records, nothing after (document 01, "Words"; refusal 3).
 #![tactic(auto)]
 
-ghost use Rattle.std.specs.Prelude.{◌≡◌, ◌&&◌, List, [], ℕ, ◌%◌, ◌≤◌, length, leb, eqb};
+ghost use Rattle.std.specs.Prelude.{◌≡◌, ◌&&◌, ◌||◌, List, [], ℕ, ◌%◌, ◌≤◌, length, leb, eqb};
 ghost use Rattle.tok.specs.Text.{texts_of};
 ghost use Rattle.tok.specs.Word.{kind_of};
 ghost use Rattle.reader.specs.Reading.{next_word, offending};
@@ -13,7 +13,7 @@ ghost use Rattle.image_words.specs.Leads.{Leads};
 ghost use Rattle.image_nodes.specs.Site.{counts_of};
 ghost use Rattle.image.specs.Counted.{counted};
 
-use ast::ExprKind;
+use ast::{ExprKind, NodeKind};
 use image_nodes::Sizes;
 use image_words::{between, numbers, pairs, token};
 use reader::{Fault, Reader};
@@ -130,35 +130,39 @@ fn type_expressions<'a>(script: &[u8], from: Reader<'a>, count: usize) -> Result
 
 // Nodes.
 
-// The kind of the record before which a reading stands.
-fn kind_there(from: &Reader) -> u8
-    ensures { result ≡ kind_of (next_word from.now) }
+// Whether the record before which a reading stands is of a node that may be called: an Ident or a Field.
+#[tactic(auto, using(crate::proofs::Callable::may_call, crate::proofs::Callable::may_not))]
+fn callable_there(from: &Reader) -> bool
+    ensures { let k : ℕ = kind_of (next_word from.now) in result ≡ (eqb k 1 || eqb k 8) }
 {
-    tok::kind(from.next_word()) as u8
+    matches!(
+        NodeKind::of(from.next_word()),
+        NodeKind::Ident | NodeKind::Field
+    )
 }
 
-// All node records. The kinds of those before are kept in `kinds`, for a call's target.
+// All node records. Which of those before may be called is kept in `callable`, for a call's target.
 fn nodes_by<'a>(
     script: &[u8],
-    kinds: &mut [u8],
+    callable: &mut [bool],
     from: Reader<'a>,
     sizes: Sizes,
 ) -> Result<Reader<'a>, Fault>
-    requires { sizes.nodes ≤ length kinds.old }
+    requires { sizes.nodes ≤ length callable.old }
     ensures { Leads from.entry (nodes (counts_of script.now sizes) sizes.nodes 0 []) result }
 {
     let mut to = from;
     for i in 0..sizes.nodes {
-        let kind = kind_there(&to);
-        to = image_nodes::node(script, kinds, to, sizes, i)?;
-        kinds[i] = kind;
+        let called = callable_there(&to);
+        to = image_nodes::node(script, callable, to, sizes, i)?;
+        callable[i] = called;
     }
     Ok(to)
 }
 
 // The whole image.
 
-// Counts, roots, nodes, types, the end. The nodes' kinds stand in this frame, which lies in its caller's: what the caller has for another refusal then is not there
+// Counts, roots, nodes, types, the end. Which nodes may be called stands in this frame, which lies in its caller's: what the caller has for another refusal then is not there
 // beside them (docs/PERFORMANCE.md, "Stack").
 #[tactic(auto, unfolding(ast::specs::ImageFault::image, reader::specs::Reading::gave, image_words::specs::Leads::unanswered), using(image_words::specs::LeadLaws::leads))]
 fn whole<'a>(script: &[u8], from: Reader<'a>) -> Result<Reader<'a>, Fault>
@@ -178,8 +182,8 @@ fn whole<'a>(script: &[u8], from: Reader<'a>) -> Result<Reader<'a>, Fault>
         types: t,
         slots: v,
     };
-    let mut kinds = [0u8; 2048];
-    let at = nodes_by(script, &mut kinds, at, sizes)?;
+    let mut callable = [false; 2048];
+    let at = nodes_by(script, &mut callable, at, sizes)?;
     let at = type_expressions(script, at, t)?;
     at.ends()
 }

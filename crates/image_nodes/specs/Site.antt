@@ -1,7 +1,7 @@
 -- Where the code reads a node record, in the terms of the definitions. Definitions.
-use Rattle.std.specs.Prelude.{ℕ, ◌<◌, ◌≡◌, List, get_or}
+use Rattle.std.specs.Prelude.{ℕ, ◌<◌, ◌≡◌, Bool, false, List, get_or}
 use Rattle.ast.specs.Outline.{Outline, Counts, Here}
-use Rattle.ast.specs.NodeRecords.{no_node}
+use Rattle.ast.specs.NodeRecords.{no_node, callable}
 use Rattle.image_nodes.specs.declared.Site.{Site}
 use Rattle.image_nodes.specs.declared.Sizes.{Sizes}
 
@@ -21,6 +21,6 @@ here_of text kind before s =
       left = s.left;
     }
 
--- the kinds of the nodes before node n, as the code keeps them
-pub record Kept (kinds : List ℕ) (before : List Outline) (n : ℕ) : Type 0 where
-  pub kept : (p : ℕ) → p < n → get_or kinds p 0 ≡ (get_or before p no_node).kind
+-- whether each node before node n may be called, as the code keeps it
+pub record Kept (called : List Bool) (before : List Outline) (n : ℕ) : Type 0 where
+  pub kept : (p : ℕ) → p < n → get_or called p false ≡ callable (get_or before p no_node)

@@ -1,7 +1,7 @@
 // The node records of an image (document 01, "Words"): each kind's words, read forward.
 #![tactic(auto)]
 
-ghost use Rattle.std.specs.Prelude.{◌≡◌, ◌&&◌, ◌||◌, List, ℕ, ◌+◌, ◌*◌, ◌-◌, ◌%◌, get_or, leb, ltb, eqb};
+ghost use Rattle.std.specs.Prelude.{◌≡◌, false, ◌&&◌, List, ℕ, ◌+◌, ◌*◌, ◌-◌, ◌%◌, get_or, leb, ltb, eqb};
 ghost use Rattle.tok.specs.Word.{kind_of};
 ghost use Rattle.reader.specs.Reading.{onward, gave};
 ghost use Rattle.ast.specs.Kinds.{kind_of_node};
@@ -146,20 +146,20 @@ fn matching<'a>(script: &[u8], from: Reader<'a>, site: Site) -> Result<Reader<'a
     cases(script, at, site, count, room)
 }
 
-// Whether a node before node n may be called: an Ident or a Field.
-fn callable(kinds: &[u8], p: usize, n: usize) -> bool
-    ensures { result ≡ (ltb p n && (eqb (get_or kinds.now p 0) 1 || eqb (get_or kinds.now p 0) 8)) }
+// Whether node p lies before node n and may be called.
+fn good_target(callable: &[bool], p: usize, n: usize) -> bool
+    ensures { result ≡ (ltb p n && get_or callable.now p false) }
 {
-    p < n && matches!(kinds.get(p), Some(1 | 8))
+    p < n && callable.get(p).copied().unwrap_or(false)
 }
 
 // 7 Call: target (Ident or Field), arguments.
 #[tactic(auto, unfolding(ast::specs::NodeRecords::call, reader::specs::Reading::gave, image_words::specs::Leads::unanswered), using(image_words::specs::LeadLaws::leads))]
-fn call<'a>(kinds: &[u8], from: Reader<'a>, site: Site) -> Result<Reader<'a>, Fault>
-    ensures { (text : List ℕ) (kind : ℕ) (before : List Outline) → Kept kinds.now before site.number → Leads from.entry (call (here_of text kind before site)) result }
+fn call<'a>(callable: &[bool], from: Reader<'a>, site: Site) -> Result<Reader<'a>, Fault>
+    ensures { (text : List ℕ) (kind : ℕ) (before : List Outline) → Kept callable.now before site.number → Leads from.entry (call (here_of text kind before site)) result }
 {
     let target = from.next_word() as usize;
-    let at = from.word(callable(kinds, target, site.number))?;
+    let at = from.word(good_target(callable, target, site.number))?;
     numbers(at, site.left.saturating_sub(1), site.number)
 }
 
@@ -307,12 +307,12 @@ fn good_head(head: u32) -> bool
 // The words after the slot, by kind.
 fn rest<'a>(
     script: &[u8],
-    kinds: &[u8],
+    callable: &[bool],
     from: Reader<'a>,
     kind: NodeKind,
     site: Site,
 ) -> Result<Reader<'a>, Fault>
-    ensures { (head : ℕ) (before : List Outline) → kind ≡ kind_of_node (kind_of head) → Kept kinds.now before site.number → Leads from.entry
+    ensures { (head : ℕ) (before : List Outline) → kind ≡ kind_of_node (kind_of head) → Kept callable.now before site.number → Leads from.entry
         ((node_kind head).rest (here_of script.now (kind_of head) before site)) result }
 {
     match kind {
@@ -323,7 +323,7 @@ fn rest<'a>(
         NodeKind::Let => binding(script, from, site),
         NodeKind::Fn => function(script, from, site),
         NodeKind::Match => matching(script, from, site),
-        NodeKind::Call => call(kinds, from, site),
+        NodeKind::Call => call(callable, from, site),
         NodeKind::Field => field(script, from, site),
         NodeKind::Cast => cast(script, from, site),
         NodeKind::Import => imports(script, from, site),
@@ -334,16 +334,16 @@ fn rest<'a>(
     }
 }
 
-// The record of a node: its first word, its slot, and the rest by kind. `kinds`: of the nodes before it.
+// The record of a node: its first word, its slot, and the rest by kind. `callable`: whether each node before it may be called.
 #[tactic(auto, unfolding(ast::specs::Nodes::node, reader::specs::Reading::gave), using(reader::specs::Laws::by_rule))]
 pub fn node<'a>(
     script: &[u8],
-    kinds: &[u8],
+    callable: &[bool],
     from: Reader<'a>,
     sizes: Sizes,
     number: usize,
 ) -> Result<Reader<'a>, Fault>
-    ensures { (before : List Outline) → Kept kinds.now before number → onward from.entry (node (counts_of script.now sizes) before number)
+    ensures { (before : List Outline) → Kept callable.now before number → onward from.entry (node (counts_of script.now sizes) before number)
         ≡ gave (outline_from from.entry.words from.entry.at) result }
 {
     let head = from.next_word();
@@ -357,5 +357,5 @@ pub fn node<'a>(
         slot,
         left: long.saturating_sub(2),
     };
-    rest(script, kinds, at, NodeKind::of(head), site)
+    rest(script, callable, at, NodeKind::of(head), site)
 }

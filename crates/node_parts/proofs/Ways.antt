@@ -3,7 +3,7 @@ use Prim.Native.Nat.{ℕ, zero, suc, ◌+◌, ◌*◌, ◌-◌, ◌/◌, ◌^◌
 use mathlib.Core.Path.{◌≡◌, refl, sym, ap, subst, ◌∙◌}
 use mathlib.Core.List.{List}
 use native.Mathlib.Omega.{arith}
-use native.Mathlib.Nat.{add-zero}
+use native.Mathlib.Nat.{add-zero, mul-le-mul_right}
 use lib.ListN.{length, get_or, get_or-eq_default}
 use borrow.Author.Tests.{ne_eqb}
 use Rattle.tok.specs.Word.{kind_of, payload_of}
@@ -20,6 +20,10 @@ use Rattle.node_parts.specs.Runs.{run, no_run, runs_by_kind, run_at, RunHere}
 -- the run that is handed out
 pub handed : {image : List ℕ} {at : ℕ} {r s : Run} → r ≡ s → RunHere image at s → RunHere image at r
 handed {image} {at} e h = subst (RunHere image at) (sym e) h
+
+-- the steps to number k, counted in 64 bits
+pub near_enough : {step : ℕ} (k : ℕ) → step ≤ 2 → step * k ≤ 2 * k
+near_enough k h = mul-le-mul_right k h
 
 -- ── Past the end ──
 

@@ -2,10 +2,13 @@
 use Rattle.std.specs.Prelude.{ℕ, zero, suc, ◌+◌, ◌*◌, ◌-◌, ◌^◌, ◌≤◌, ◌<◌, ◌≡◌, refl, List, [], ◌∷◌, ◌++◌, length}
 use Rattle.std.proofs.Common.{ap, ◌∙◌, not-suc-le-zero, arith}
 use Rattle.std.proofs.Math.Decide.{dec_lt}
+use Rattle.std.proofs.Math.Nat.{mul-suc, mul-zero}
 use Rattle.std.proofs.Math.ListN.{get_or-eq_default}
 use Rattle.ast.specs.Image.{word_at, root_count, record_after, node_place, record_length}
 use Rattle.image_laws.specs.OutlineAt.{parts_from, case_parts, outline_at, outlines_from}
 use Rattle.image_laws.proofs.Places.{node-next}
+use Rattle.node_parts.specs.declared.Run.{Run}
+use Rattle.node_parts.specs.Runs.{place_of}
 
 -- ── The numbers in a run of words ──
 
@@ -18,6 +21,12 @@ pub parts_none : (words : List ℕ) (step i left : ℕ) → left ≤ 0 → parts
 unfolding parts_from
 parts_none words step i zero l = refl
 parts_none words step i (suc k) l = absurd (not-suc-le-zero l)
+
+pub place-first : (r : Run) → place_of r 0 ≡ r.from
+place-first r = rw mul-zero (omega arith)
+
+pub place-next : (r : Run) (k : ℕ) → place_of r k + r.step ≡ place_of r (k + 1)
+place-next r k = let e : k + 1 ≡ suc k = omega arith in rw (e, mul-suc) (omega arith)
 
 -- ── The cases of a Match ──
 

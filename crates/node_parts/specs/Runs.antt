@@ -12,6 +12,10 @@ use Rattle.node_parts.specs.declared.Run.{Run}
 abbrev pub run : (from count step : ℕ) → Run
 run from count step = record { from = from; count = count; step = step }
 
+-- the word in which its number k stands
+abbrev pub place_of : Run → ℕ → ℕ
+place_of r k = r.from + r.step * k
+
 -- the numbers in a run
 abbrev pub numbers_in : List ℕ → Run → List ℕ
 numbers_in image r = parts_from image r.step r.from r.count

@@ -1,10 +1,10 @@
 // Where the parts of a node stand in its record (document 01, "Words": "Rest of each").
 #![tactic(auto)]
 
-ghost use Rattle.std.specs.Prelude.{◌≡◌, ◌+◌};
+ghost use Rattle.std.specs.Prelude.{◌≡◌, ◌+◌, ◌*◌, ◌^◌, ◌≤◌, ◌<◌};
 ghost use Rattle.ast.specs.Image.{word_at, record_length};
 ghost use Rattle.image_laws.specs.OutlineAt.{arguments_at};
-ghost use Rattle.node_parts.specs.Runs.{run, RunHere};
+ghost use Rattle.node_parts.specs.Runs.{run, place_of, RunHere};
 
 use ast::NodeKind;
 use tok::{payload, word_at};
@@ -15,6 +15,17 @@ pub struct Run {
     pub from: usize,
     pub count: usize,
     pub step: usize,
+}
+
+impl Run {
+    // Its number k, and 0 past the end of the image.
+    #[tactic(auto, using(crate::proofs::Ways::near_enough))]
+    pub fn number(self, words: &[u32], k: usize) -> u32
+        requires { (self.step ≤ 2) × (self.from + 2 * k < 2 ^ 63) }
+        ensures { result ≡ word_at words.now (place_of self k) }
+    {
+        word_at(words, self.from + self.step * k)
+    }
 }
 
 // The place after the record at a place. Past the end of an image a record has no words.

@@ -10,23 +10,24 @@ use borrow.Author.Tests.{lt-ltb, le-ltb, ltb-true, ltb-false, ne_eqb}
 use Rattle.tok.specs.Word.{kind_of}
 use Rattle.ast.specs.Image.{word_at, node_count, slot_count, root_count, record_kind, record_length}
 use Rattle.ast.specs.Outline.{Outline}
+use Rattle.ast.specs.declared.NodeKind.{NodeKind}
+use Rattle.ast.specs.declared.NodeKind.TheVariants as node
+use Rattle.ast.specs.Kinds.{kind_of_node}
+use Rattle.ast.specs.KindLaws.{node-number, node-not}
 use Rattle.ast.specs.Room.{entry_words, function_words, room_fault}
 use Rattle.image_laws.specs.OutlineAt.{arguments_at, outline_from, outline_at, outlines_from}
 use Rattle.node_parts.specs.Lists.{outlines-next, outlines-none, NodesLeft, nodes-first, nodes-step}
 
 -- ── One node ──
 
-module _ (image : List ℕ) (at : ℕ) {head k : ℕ} (eh : head ≡ word_at image at) (ek : k ≡ kind_of head) where
-  kind-here : k ≡ record_kind image at
-  kind-here = ek ∙ ap kind_of eh
-
-  pub fn-words : {n : ℕ} → k ≡ 5 → n ≡ arguments_at image at → 3 + 2 * n ≡ entry_words (outline_from image at)
+module _ (image : List ℕ) (at : ℕ) {head : ℕ} (eh : head ≡ word_at image at) where
+  pub fn_words : {n : ℕ} → node.Fn ≡ kind_of_node (kind_of head) → n ≡ arguments_at image at → 3 + 2 * n ≡ entry_words (outline_from image at)
   unfolding entry_words
-  fn-words e en = rw (← kind-here, e, ← en) refl
+  fn_words e en = let k : record_kind image at ≡ 5 = rw (← eh) (node-number _ e) in rw (k, ← en) refl
 
-  pub other-words : (k ≡ 5 → ⊥) → 0 ≡ entry_words (outline_from image at)
+  pub other_words : {x : NodeKind} → x ≡ kind_of_node (kind_of head) → (x ≡ node.Fn → ⊥) → 0 ≡ entry_words (outline_from image at)
   unfolding entry_words
-  other-words d = rw (← kind-here, ne_eqb k 5 d) refl
+  other_words e n = let k : record_kind image at ≡ 5 → ⊥ = rw (← eh) (node-not _ e n) in rw (ne_eqb (record_kind image at) 5 k) refl
 
 -- ── All nodes ──
 

@@ -7,20 +7,18 @@ ghost use Rattle.ast.specs.Image.{node_count, slot_count};
 ghost use Rattle.ast.specs.Room.{entry_words, room_fault};
 ghost use Rattle.image_laws.specs.OutlineAt.{outline_from, outlines_from};
 
+use ast::NodeKind;
 use reader::Fault;
 use tok::word_at;
 
-// "5 Fn"
-const FN: u32 = 5;
-
 // How many words of the functions buffer the node at a place takes.
+#[tactic(auto, using(crate::proofs::Ways::fn_words, crate::proofs::Ways::other_words))]
 fn entry_words(words: &[u32], at: usize) -> usize
     ensures { result ≡ entry_words (outline_from words.now at) }
 {
-    if tok::kind(word_at(words, at)) == FN {
-        3 + 2 * node_parts::arguments(words, at) as usize
-    } else {
-        0
+    match NodeKind::of(word_at(words, at)) {
+        NodeKind::Fn => 3 + 2 * node_parts::arguments(words, at) as usize,
+        _ => 0,
     }
 }
 

@@ -14,7 +14,7 @@ returns-in_err-to c =
     rw (p.1, p.2) (stops_there c.loop-i.invariant.1 c.loop-i-test.true _ c.in_err-to.ensures)
 
 pub loop-i-preserved : goal.loop-i-preserved
-loop-i-preserved c = (length-set c.loop-i.kinds _ _ ∙ c.loop-i.invariant.0, one_more c.loop-i.invariant.1 c.loop-i-test.true _ _ (omega arith) c.kind_there-kind.ensures c.in_ok-to.ensures)
+loop-i-preserved c = (length-set c.loop-i.callable _ _ ∙ c.loop-i.invariant.0, one_more c.loop-i.invariant.1 c.loop-i-test.true _ _ (omega arith) c.callable_there-called.ensures c.in_ok-to.ensures)
 
 pub returns : goal.returns
 returns c = at_last c.loop-i.invariant.1 c.loop-i-test.false
