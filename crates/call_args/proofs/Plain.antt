@@ -53,18 +53,23 @@ module _ (texts : Texts) (n : ℕ) (call_name : List ℕ) (ps : List Param) (ima
     unfolding nodes_from provided_of stepped with_answer
     all_done l =
         let z : count - i ≡ 0 = omega arith in
-        record { step = λ library void bs. record { step = λ rest. h.so library void bs rest ∙ rw z (arguments-none (ctx texts library void) n call_name false (drop i ps) bs (world rest s t d' m' u')) } }
+        record {
+          step = λ library void bs.
+              record { step = λ rest. h.so library void bs rest ∙ rw z (arguments-none (ctx texts library void) n call_name false (drop i ps) bs (world rest s t d' m' u')) };
+        }
 
     module _ (long : count ≡ length ps) (l : i < count) {arg : Argument} (e : arg ≡ argument_in image args ps i) {d'' m'' : List ℕ} {r : Step Done}
         (a : Leaves texts (λ c. argument c n call_name false (param arg.name arg.expected) (given arg.slot arg.span)) s t d' m' u' d'' m'' r) where
       one : (library : List Package) (void : ℕ) (bs : List Binding)
-          → Steps (argument (ctx texts library void) n call_name false (get_or ps i (param 0 0)) (given (slot_of (tree_of image (get_or image (args + i) 0))) (span_of (tree_of image (get_or image (args + i) 0)))) bs)
+          → Steps (argument (ctx texts library void) n call_name false (get_or ps i (param 0 0))
+          (given (slot_of (tree_of image (get_or image (args + i) 0))) (span_of (tree_of image (get_or image (args + i) 0)))) bs)
           s t d' m' u' s t d'' m'' (with_answer (λ _. bs) r)
       one library void bs = rw e at (a.step library void bs)
 
       split : (library : List Package) (void : ℕ) (bs : List Binding) (rest : Rest)
           → arguments (ctx texts library void) n call_name false ps (given_from image args count) bs (world rest s t d m u)
-          ≡ next (stepped rest s t d'' m'' (with_answer (λ _. bs) r)) (λ more. arguments (ctx texts library void) n call_name false (drop (suc i) ps) (given_from image (args + i + 1) (count - suc i)) more)
+          ≡ next (stepped rest s t d'' m'' (with_answer (λ _. bs) r))
+          (λ more. arguments (ctx texts library void) n call_name false (drop (suc i) ps) (given_from image (args + i + 1) (count - suc i)) more)
       unfolding arguments nodes_from provided_of
       split library void bs rest =
           let k : i < length ps = omega (arith, long) in
@@ -88,28 +93,30 @@ unfolding nodes_from provided_of
 length-given image zero at = refl
 length-given image (suc k) at = ap suc (length-given image k (at + 1))
 
-module _ (texts : Texts) (n slot token : ℕ) (call_name words : List ℕ) (at : ℕ) (image : List ℕ) (args count : ℕ) (s t d m : List ℕ) (u : Used) {required ret : ℕ}
-    (en : (f : Bool) → required ≡ length (signature_at words at f).params) (er : (f : Bool) → ret ≡ (signature_at words at f).ret) {d' m' : List ℕ} {r : Step Done} where
-  -- another number of arguments
-  module _ (differ : count ≡ required → ⊥) (p : Steps (report n (argument_count token call_name required count)) s t d m u s t d' m' r) where
-    pub miscounted : {v : Used} {s' : List ℕ} {q : Step Answer} → r ≡ Ok (tt, v) → ((t d m : List ℕ) → Steps (set_known slot ret) s t d m v s' t d m q)
-        → (library : List Package) (void : ℕ) → Steps (check_call_args (ctx texts library void) n slot token call_name (signature_at words at false) (given_from image args count)) s t d m u s' t d' m' q
-    unfolding check_call_args signature_at when
-    miscounted {v} o k library void = rw (length-given image count args, ← en false, ne_eqb count required differ, ← er false) (on-ok (λ _. set_known slot ret) p o (k t d' m'))
+module _ (texts : Texts) (n slot token : ℕ) (call_name words : List ℕ) (at : ℕ) (image : List ℕ) (args count : ℕ) (s t d m : List ℕ) (u : Used) where
+  -- the check of the call
+  abbrev Checked : (s' d' m' : List ℕ) → Step Answer → Type 0
+  Checked s' d' m' q = (library : List Package) (void : ℕ)
+      → Steps (check_call_args (ctx texts library void) n slot token call_name (signature_at words at false) (given_from image args count)) s t d m u s' t d' m' q
 
-    pub miscounted-full : {e : Refusal} {q : Step Answer} → r ≡ Err e → IsErrAnd q (λ y. y ≡ e)
-        → (library : List Package) (void : ℕ) → Steps (check_call_args (ctx texts library void) n slot token call_name (signature_at words at false) (given_from image args count)) s t d m u s t d' m' q
-    unfolding check_call_args signature_at when
-    miscounted-full o k library void = rw (length-given image count args, ← en false, ne_eqb count required differ, ← er false) (on-err (λ _. set_known slot ret) p o k)
+  module _ {required ret : ℕ} (en : (f : Bool) → required ≡ length (signature_at words at f).params) (er : (f : Bool) → ret ≡ (signature_at words at f).ret) {d' m' : List ℕ} {r : Step Done} where
+    -- another number of arguments
+    module _ (differ : count ≡ required → ⊥) (p : Steps (report n (argument_count token call_name required count)) s t d m u s t d' m' r) where
+      pub miscounted : {v : Used} {s' : List ℕ} {q : Step Answer} → r ≡ Ok (tt, v) → ((t d m : List ℕ) → Steps (set_known slot ret) s t d m v s' t d m q) → Checked s' d' m' q
+      unfolding check_call_args signature_at when
+      miscounted {v} o k = λ library void. rw (length-given image count args, ← en false, ne_eqb count required differ, ← er false) (on-ok (λ _. set_known slot ret) p o (k t d' m'))
 
-  -- each argument, and then the return type
-  module _ (same : count ≡ required) (a : Leaves texts (λ c. arguments c n call_name false (signature_at words at false).params (given_from image args count)) s t d m u d' m' r) where
-    pub counted : {v : Used} {s' : List ℕ} {q : Step Answer} → r ≡ Ok (tt, v) → ((t d m : List ℕ) → Steps (set_known slot ret) s t d m v s' t d m q)
-        → (library : List Package) (void : ℕ) → Steps (check_call_args (ctx texts library void) n slot token call_name (signature_at words at false) (given_from image args count)) s t d m u s' t d' m' q
-    unfolding check_call_args signature_at returned when with_answer
-    counted {v} o k library void = rw (length-given image count args, ← en false, eq-eqb count required same, ← er false) (on-ok _ (a.step library void []) {a = []} {u₁ = v} (rw o refl) (k t d' m'))
+      pub miscounted-full : {e : Refusal} {q : Step Answer} → r ≡ Err e → IsErrAnd q (λ y. y ≡ e) → Checked s d' m' q
+      unfolding check_call_args signature_at when
+      miscounted-full o k = λ library void. rw (length-given image count args, ← en false, ne_eqb count required differ, ← er false) (on-err (λ _. set_known slot ret) p o k)
 
-    pub counted-stops : {e : Refusal} {q : Step Answer} → r ≡ Err e → IsErrAnd q (λ y. y ≡ e)
-        → (library : List Package) (void : ℕ) → Steps (check_call_args (ctx texts library void) n slot token call_name (signature_at words at false) (given_from image args count)) s t d m u s t d' m' q
-    unfolding check_call_args signature_at when with_answer
-    counted-stops {e} o k library void = rw (length-given image count args, ← en false, eq-eqb count required same) (on-err _ (a.step library void []) {e = e} (rw o refl) k)
+    -- each argument, and then the return type
+    module _ (same : count ≡ required) (a : Leaves texts (λ c. arguments c n call_name false (signature_at words at false).params (given_from image args count)) s t d m u d' m' r) where
+      pub counted : {v : Used} {s' : List ℕ} {q : Step Answer} → r ≡ Ok (tt, v) → ((t d m : List ℕ) → Steps (set_known slot ret) s t d m v s' t d m q) → Checked s' d' m' q
+      unfolding check_call_args signature_at returned when with_answer
+      counted {v} o k = λ library void.
+          rw (length-given image count args, ← en false, eq-eqb count required same, ← er false) (on-ok _ (a.step library void []) {a = []} {u₁ = v} (rw o refl) (k t d' m'))
+
+      pub counted-stops : {e : Refusal} {q : Step Answer} → r ≡ Err e → IsErrAnd q (λ y. y ≡ e) → Checked s d' m' q
+      unfolding check_call_args signature_at when with_answer
+      counted-stops {e} o k = λ library void. rw (length-given image count args, ← en false, eq-eqb count required same) (on-err _ (a.step library void []) {e = e} (rw o refl) k)

@@ -35,8 +35,8 @@ module _ (slots image : List ℕ) (args count : ℕ) where
         let e : i ≡ count = omega (arith, g.within) in
         sym (g.so ∙ rw z (append-nil (take i provided)) ∙ ap (λ k. take k provided) e)
 
-    pub more-gathered : i < count → count ≤ length provided → {number slot wide w : ℕ} → number ≡ get_or image (args + i) 0 → slot ≡ slot_of (tree_of image number) → wide ≡ slot → w ≡ get_or slots wide 0
-        → Gathered (set provided i w) (i + 1)
+    pub more-gathered : i < count → count ≤ length provided → {number slot wide w : ℕ} → number ≡ get_or image (args + i) 0
+        → slot ≡ slot_of (tree_of image number) → wide ≡ slot → w ≡ get_or slots wide 0 → Gathered (set provided i w) (i + 1)
     unfolding nodes_from provided_of
     more-gathered l room {w = w} en es ewide ew =
         let k : i < length provided = omega arith in

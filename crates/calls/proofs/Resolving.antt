@@ -35,7 +35,8 @@ use Rattle.calls.specs.CallVisits.{Resolvable}
 may_bind : {T : Texts} {types : List ℕ} {used : ℕ} (f : Function) → SignatureMeant T types used f.sig → MayBind T types used f.sig
 may_bind f m e = record { params = m.params; ret = m.ret; room = m.room e }
 
-packages-bind : (T : Texts) (types : List ℕ) (used : ℕ) (ps : List Package) → Every (λ (p : Package). Every (λ (f : Function). SignatureMeant T types used f.sig) p.functions) ps → PackagesBind T types used ps
+packages-bind : (T : Texts) (types : List ℕ) (used : ℕ) (ps : List Package)
+    → Every (λ (p : Package). Every (λ (f : Function). SignatureMeant T types used f.sig) p.functions) ps → PackagesBind T types used ps
 packages-bind T types used ps h =
     every_map (λ (p : Package). Every (λ (f : Function). SignatureMeant T types used f.sig) p.functions) (λ (p : Package). Every (λ (f : Function). MayBind T types used f.sig) p.functions)
     (λ p q. every_map (λ (f : Function). SignatureMeant T types used f.sig) (λ (f : Function). MayBind T types used f.sig) (λ f m. may_bind f m) p.functions q) ps h

@@ -34,7 +34,8 @@ use Rattle.err.specs.declared.Counts.{Counts}
 pub call-low : {image places : List ℕ} {at : ℕ} → CallAt image places at → at ≤ 8192
 call-low c = omega (arith, record_room c.ready c.place)
 
-module _ {image places : List ℕ} {at : ℕ} (c : CallAt image places at) {t p h k : ℕ} (et : t ≡ get_or image (at + 2) 0) (ep : p ≡ get_or places t 0) (eh : h ≡ get_or image p 0) (ek : k ≡ kind_of h) where
+module _ {image places : List ℕ} {at : ℕ} (c : CallAt image places at) {t p h k : ℕ}
+    (et : t ≡ get_or image (at + 2) 0) (ep : p ≡ get_or places t 0) (eh : h ≡ get_or image p 0) (ek : k ≡ kind_of h) where
   pub no_field : k ≡ 1 → false ≡ is_through_field (callee_at image at)
   unfolding is_through_field
   no_field q = sym (ap is_through_field (callee_own c et ep eh ek q))
@@ -55,7 +56,8 @@ pub field-low : {image places : List ℕ} {at : ℕ} → FieldCall image places 
 field-low c et ep = target-low c.call et ep refl refl
 
 -- its name is that of the Field
-field-name : {image places : List ℕ} {at : ℕ} → FieldCall image places at → {t p : ℕ} → t ≡ get_or image (at + 2) 0 → p ≡ get_or places t 0 → callee_at image at ≡ through_field (get_or image (p + 3) 0)
+field-name : {image places : List ℕ} {at : ℕ} → FieldCall image places at → {t p : ℕ} → t ≡ get_or image (at + 2) 0 → p ≡ get_or places t 0
+    → callee_at image at ≡ through_field (get_or image (p + 3) 0)
 unfolding is_through_field
 field-name {image} {places} {at} c {t} {p} et ep = by (ℕ_discrete (kind_of (get_or image p 0)) 1)
   where
@@ -73,8 +75,10 @@ field-name {image} {places} {at} c {t} {p} et ep = by (ℕ_discrete (kind_of (ge
     by (yes i) = absurd (another (callee_own c.call et ep refl refl i) refl)
     by (no d) = inside d (ℕ_discrete kind_in 1)
 
-pub field_told : {image places : List ℕ} {at : ℕ} (n : ℕ) (st : State) → FieldCall image places at → {t p name : ℕ} → t ≡ get_or image (at + 2) 0 → p ≡ get_or places t 0 → name ≡ get_or image (p + 3) 0
-    → {d m d' m' : List ℕ} {x : Option Counts} {r : Step Answer} {v : Visit Answer} → Reports (call_through_field name) d m st.used.told d' m' x → r ≡ told_of n st.used x Poison → v ≡ visit_of st r
+pub field_told : {image places : List ℕ} {at : ℕ} (n : ℕ) (st : State) → FieldCall image places at
+    → {t p name : ℕ} → t ≡ get_or image (at + 2) 0 → p ≡ get_or places t 0 → name ≡ get_or image (p + 3) 0
+    → {d m d' m' : List ℕ} {x : Option Counts} {r : Step Answer} {v : Visit Answer}
+    → Reports (call_through_field name) d m st.used.told d' m' x → r ≡ told_of n st.used x Poison → v ≡ visit_of st r
     → (c : Ctx) (slot : ℕ) (given : List Provided) (visits : Walk Bool) (words s f t e : List ℕ) (o : More)
     → Visits (call c n slot (callee_at image at) given visits) 0 0 words st (lent s f t d m e o) (lent s f t d' m' e o) v
 unfolding call
@@ -87,8 +91,10 @@ field_told {image} n st z et ep en {d} {m} {d'} {m'} {x} p er ev c slot given vi
 abbrev rest_in : World → Rest
 rest_in w = record { functions = w.functions; env = w.env; packages = w.packages; own = w.own; more = more_of w.log }
 
-pub own-visits : (T : Texts) (n slot name : ℕ) (given : List Provided) (st : State) {s f t d m s' d' m' : List ℕ} {r : Step Answer} {v : Visit Answer} → OwnCalls T n slot name given f st.functions s t d m st.used s' d' m' r
-    → v ≡ visit_of st r → (ls : List Package) (v₀ : ℕ) (words e : List ℕ) (o : More) → Visits (resolve_call (ctx T ls v₀) n slot name given) 0 0 words st (lent s f t d m e o) (lent s' f t d' m' e o) v
+pub own-visits : (T : Texts) (n slot name : ℕ) (given : List Provided) (st : State) {s f t d m s' d' m' : List ℕ} {r : Step Answer} {v : Visit Answer}
+    → OwnCalls T n slot name given f st.functions s t d m st.used s' d' m' r → v ≡ visit_of st r
+    → (ls : List Package) (v₀ : ℕ) (words e : List ℕ) (o : More)
+    → Visits (resolve_call (ctx T ls v₀) n slot name given) 0 0 words st (lent s f t d m e o) (lent s' f t d' m' e o) v
 own-visits T n slot name given st {s} {f} {t} {d} {m} {s'} {d'} {m'} {r} p ev ls v₀ words e o =
     let z : Steps (λ w. stepped (rest_in w) s' t d' m' r) s t d m st.used s' t d' m' r = record { step = λ rest. refl } in
     let y = steps-visits z words f e o in

@@ -59,7 +59,8 @@ pub record Resolvable (T : Texts) (image places words : List ℕ) (n at count : 
 
 -- Of `count` arguments, `left` from word `place` on are left.
 pub record Arguing (T : Texts) (image places words : List ℕ) (n at count place left : ℕ) (st₀ : State) (b₀ : Lent) (poisoned : Bool) (st : State) (b : Lent) : Type 0 where
-  pub leads : Leads (call_from T image words n st₀ b₀) (visits_from (ctx_in T image words) poisoned (nodes_at image place left) (end_at T image words n at count)) (rooms (nodes_at image place left) + count) (rows_all (nodes_at image place left)) st b
+  pub leads : Leads (call_from T image words n st₀ b₀) (visits_from (ctx_in T image words) poisoned (nodes_at image place left) (end_at T image words n at count))
+      (rooms (nodes_at image place left) + count) (rows_all (nodes_at image place left)) st b
   pub ready : Ready T image places words (rooms (nodes_at image place left) + count) (rows_all (nodes_at image place left)) st b
   pub fresh : Fresh (visited_among (nodes_at image place left)) b.slots
 
@@ -103,7 +104,8 @@ module _ {T : Texts} {image places words : List ℕ} {n at count place left : �
     abbrev rest-after : Answer → Walk Answer
     rest-after a = visits_from (ctx_in T image words) (poisoned || is_poison a) others (end_at T image words n at count)
 
-    argument-leads : Leads (call_from T image words n st₀ b₀) (◌>>=◌ (node (ctx_in T image words) (tree_of image part)) rest-after) (room (tree_of image part) + (rooms others + count)) (rows (tree_of image part) + rows_all others) st b
+    argument-leads : Leads (call_from T image words n st₀ b₀) (◌>>=◌ (node (ctx_in T image words) (tree_of image part)) rest-after)
+        (room (tree_of image part) + (rooms others + count)) (rows (tree_of image part) + rows_all others) st b
     unfolding rooms rows_all
     argument-leads =
         let e : room (tree_of image part) + rooms others + count ≡ room (tree_of image part) + (rooms others + count) = omega arith in
@@ -136,18 +138,20 @@ none_left_lem h = omega arith
 
 -- What a loop over the arguments keeps, whose turn i is: wherever the arguments before led to at its start, those so far lead to here.
 pub record Argued (T : Texts) (image places words : List ℕ) (n at count i₀ : ℕ) (poisoned₀ : Bool) (st₀ : State) (b₀ : Lent) (i : ℕ) (poisoned : Bool) (st : State) (b : Lent) : Type 0 where
-  pub on : (o : State) (b' : Lent) → Arguing T image places words n at count (at + 3 + i₀) (count - i₀) o b' poisoned₀ st₀ b₀ → Arguing T image places words n at count (at + 3 + i) (count - i) o b' poisoned st b
+  pub on : (o : State) (b' : Lent) → Arguing T image places words n at count (at + 3 + i₀) (count - i₀) o b' poisoned₀ st₀ b₀
+      → Arguing T image places words n at count (at + 3 + i) (count - i) o b' poisoned st b
 
 module _ {T : Texts} {image places words : List ℕ} {n at count i₀ : ℕ} {poisoned₀ : Bool} {st₀ : State} {b₀ : Lent} where
   pub argued-start : Argued T image places words n at count i₀ poisoned₀ st₀ b₀ i₀ poisoned₀ st₀ b₀
   argued-start = record { on = λ o b' t. t }
 
-  module _ {i : ℕ} {poisoned : Bool} {st : State} {b : Lent} (t : Argued T image places words n at count i₀ poisoned₀ st₀ b₀ i poisoned st b) (h : i < count) {part : ℕ} (ep : part ≡ get_or image (at + 3 + i) 0)
-      {b₁ : Lent} (below : part < node_count image) {a : Answer} {st₁ : State} (x : NodeVisited T image words part st b b₁ (Ok (a, st₁))) where
+  module _ {i : ℕ} {poisoned : Bool} {st : State} {b : Lent} (t : Argued T image places words n at count i₀ poisoned₀ st₀ b₀ i poisoned st b) (h : i < count)
+      {part : ℕ} (ep : part ≡ get_or image (at + 3 + i) 0) {b₁ : Lent} (below : part < node_count image) {a : Answer} {st₁ : State} (x : NodeVisited T image words part st b b₁ (Ok (a, st₁))) where
     pub argued-next : {p : Bool} → p ≡ (poisoned || is_poison a) → Argued T image places words n at count i₀ poisoned₀ st₀ b₀ (i + 1) p st₁ b₁
     argued-next {p} e = record { on = λ o b' s. again (argument-passed (t.on o b' s) (some_left h) ep below x e) }
       where
-        again : {o : State} {b' : Lent} → Arguing T image places words n at count (at + 3 + i + 1) (count - i - 1) o b' p st₁ b₁ → Arguing T image places words n at count (at + 3 + (i + 1)) (count - (i + 1)) o b' p st₁ b₁
+        again : {o : State} {b' : Lent} → Arguing T image places words n at count (at + 3 + i + 1) (count - i - 1) o b' p st₁ b₁
+            → Arguing T image places words n at count (at + 3 + (i + 1)) (count - (i + 1)) o b' p st₁ b₁
         again s =
             let f : at + 3 + (i + 1) ≡ at + 3 + i + 1 = omega arith in
             let g : count - (i + 1) ≡ count - i - 1 = omega arith in
@@ -195,18 +199,23 @@ module _ {T : Texts} {image places words : List ℕ} {n : ℕ} {st : State} {b :
     callee_proper : ProperCallee (Below (walk_run T image words)) (NameAt (walk_run T image words)) (callee_at image at)
     unfolding Proper
     callee_proper =
-        let p : Proper (Below (walk_run T image words)) (NameAt (walk_run T image words)) (Call n (get_or image (at + 1) 0) (tree_of image (get_or image (at + 2) 0)) (nodes_at image (at + 3) (l - 3))) = rw tree at (y.visit.ready.given.proper n y.visit.below) in
+        let here = Call n (get_or image (at + 1) 0) (tree_of image (get_or image (at + 2) 0)) (nodes_at image (at + 3) (l - 3)) in
+        let p : Proper (Below (walk_run T image words)) (NameAt (walk_run T image words)) here = rw tree at (y.visit.ready.given.proper n y.visit.below) in
         p.1
 
     -- all are left
     all_left : is_through_field (callee_at image at) ≡ false → Arguing T image places words n at (l - 3) (at + 3) (l - 3) st b false st b
     unfolding node room rows
     all_left o =
+        let c = ctx_in T image words in
+        let given = given_from image (at + 3) (l - 3) in
+        let visits = visit_all c (nodes_at image (at + 3) (l - 3)) in
+        let run = walk_run T image words in
         let e : call_room (nodes_at image (at + 3) (l - 3)) ≡ l - 3 = call-words image (l - 3) (at + 3) in
         record {
           leads = record {
             onto = λ b' v x. rw tree (record {
-              step = call-parts (ctx_in T image words) n (get_or image (at + 1) 0) (callee_at image at) (given_from image (at + 3) (l - 3)) (visit_all (ctx_in T image words) (nodes_at image (at + 3) (l - 3))) (whole words st b) o (Below (walk_run T image words)) (NameAt (walk_run T image words)) callee_proper ∙ x.step;
+              step = call-parts c n (get_or image (at + 1) 0) (callee_at image at) given visits (whole words st b) o (Below run) (NameAt run) callee_proper ∙ x.step;
               keeps = rw e x.keeps;
             });
           };
@@ -232,5 +241,7 @@ module _ {T : Texts} {image places words : List ℕ} {n : ℕ} {st : State} {b :
       → ((c : Ctx) (slot : ℕ) (given : List _) (visits : Walk Bool) → Visits (call c n slot (callee_at image at) given visits) 0 0 words st b b' v) → NodeVisited T image words n st b b' v
   unfolding node
   call-field x =
-      let z = x (ctx_in T image words) (get_or image (at + 1) 0) (given_from image (at + 3) (record_length image at - 3)) (visit_all (ctx_in T image words) (nodes_at image (at + 3) (record_length image at - 3))) in
+      let count = record_length image at - 3 in
+      let visits = visit_all (ctx_in T image words) (nodes_at image (at + 3) count) in
+      let z = x (ctx_in T image words) (get_or image (at + 1) 0) (given_from image (at + 3) count) visits in
       visits-most {r = 0} {w = 0} (omega arith) (omega arith) (rw (node_call (node-ready y.visit) ea refl refl call_at.kind) (record { step = z.step; keeps = z.keeps }))

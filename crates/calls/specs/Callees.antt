@@ -92,7 +92,8 @@ second-kind k d h = eqb-true k 8 (rest (eqb k 1) (ne_eqb k 1 d) h)
     rest false e f = f
 
 -- The target t, whose record begins at p with the word h, of kind k.
-module _ {image places : List ℕ} {at : ℕ} (c : CallAt image places at) {t p h k : ℕ} (et : t ≡ get_or image (at + 2) 0) (ep : p ≡ get_or places t 0) (eh : h ≡ get_or image p 0) (ek : k ≡ kind_of h) where
+module _ {image places : List ℕ} {at : ℕ} (c : CallAt image places at) {t p h k : ℕ}
+    (et : t ≡ get_or image (at + 2) 0) (ep : p ≡ get_or places t 0) (eh : h ≡ get_or image p 0) (ek : k ≡ kind_of h) where
   words-here : CallWords (counts_of c.ready) image c.node at
   words-here = words-call c.ready c.place refl refl c.kind
 

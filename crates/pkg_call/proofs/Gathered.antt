@@ -53,7 +53,8 @@ module _ (e ys : List ℕ) (at count : ℕ) {end : ℕ} (ee : end ≡ at + count
 
   pub back-length : length back ≡ length e
   back-length =
-      rw (length-append (take at e) (ys ++ drop (end - at) (drop at e)), length-append ys (drop (end - at) (drop at e)), length-take-le at e (omega arith), as_long, length-drop (end - at) (drop at e), length-drop at e)
+      let tail = drop (end - at) (drop at e) in
+      rw (length-append (take at e) (ys ++ tail), length-append ys tail, length-take-le at e (omega arith), as_long, length-drop (end - at) (drop at e), length-drop at e)
       (omega arith)
 
 -- ── The walk's world, where scratch has changed between the two and from word 8,192 on ──
@@ -126,7 +127,8 @@ module _ {count : ℕ} {st : State} {e e₁ e' : List ℕ} (free : Free count st
 
 -- ── The code's steps ──
 
-module _ {texts : Texts} {image places words : List ℕ} {st : State} {e : List ℕ} {n args count : ℕ} {slots types : List ℕ} (p : PkgReady texts image places words st e n args count slots types) {end : ℕ} (ee : end ≡ top st + count) where
+module _ {texts : Texts} {image places words : List ℕ} {st : State} {e : List ℕ} {n args count : ℕ} {slots types : List ℕ}
+    (p : PkgReady texts image places words st e n args count slots types) {end : ℕ} (ee : end ≡ top st + count) where
   fits : top st + count ≤ length e
   fits = omega (arith, p.free.between, held_low p.free, p.free.long)
 

@@ -38,7 +38,8 @@ module _ (texts : Texts) (n slot pkg name : ℕ) {image places : List ℕ} {args
       record { of = λ library void. record { step = λ rest. rw (e, w) ((poisons-step n {s = s} {t = t} {u = u} p).step rest) } }
 
   pub group-plain : {at : ℕ} {s' d' m' : List ℕ} {r : Step Answer} → found ≡ C.Plain at
-      → ((library : List Package) (void : ℕ) → Steps (check_call_args (ctx texts library void) n slot name (call_name texts (OfPackage pkg name)) (signature_at words at false) (given_from image args count))
+      → ((library : List Package) (void : ℕ)
+      → Steps (check_call_args (ctx texts library void) n slot name (call_name texts (OfPackage pkg name)) (signature_at words at false) (given_from image args count))
       s t d m u s' t d' m' r)
       → InGroup texts n slot pkg name (given_from image args count) poisoned fs s t d m u s' t d' m' r
   unfolding in_group call_name

@@ -170,8 +170,8 @@ module _ (texts : Texts) (slot : ℕ) (s t : List ℕ) (u : Used) {fs : List Sig
         absurd (omega arith);
   }
 
-  module _ (words : List ℕ) (at : ℕ) (slotted : Bool) {rest : List Signature} (e : fs ≡ signature_at words at slotted ∷ rest) {ret : ℕ} {q : Bool} (er : (f : Bool) → ret ≡ (signature_at words at f).ret)
-      (eq : q ≡ all_return_of (ty_of texts t) (ty_of texts t ret) rest) where
+  module _ (words : List ℕ) (at : ℕ) (slotted : Bool) {rest : List Signature} (e : fs ≡ signature_at words at slotted ∷ rest) {ret : ℕ} {q : Bool}
+      (er : (f : Bool) → ret ≡ (signature_at words at f).ret) (eq : q ≡ all_return_of (ty_of texts t) (ty_of texts t ret) rest) where
     pub common_known : {s' : List ℕ} {r : Step Answer} → q ≡ true → ((t d m : List ℕ) → Steps (set_known slot ret) s t d m u s' t d m r) → CommonReturn texts slot fs s t u s' r
     unfolding common_return tree when
     common_known y k = record {

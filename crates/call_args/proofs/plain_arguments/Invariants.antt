@@ -11,6 +11,8 @@ use Rattle.call_args.proofs.plain_arguments.Given as goal
 abbrev pub invariant-loop-i : goal.invariant-loop-i
 invariant-loop-i l =
     let first = l.initial in
-    SoFar l.texts l.call.n (call_name l.texts l.callee) (signature_at l.signature.words l.signature.at false).params l.image.words l.call.args l.call.count l.slots l.types first.diagnostics first.messages first.used
+    let name = call_name l.texts l.callee in
+    let params = (signature_at l.signature.words l.signature.at false).params in
+    SoFar l.texts l.call.n name params l.image.words l.call.args l.call.count l.slots l.types first.diagnostics first.messages first.used
     l.i l.diagnostics l.messages l.used
     × (length l.diagnostics ≡ length first.diagnostics) × (length l.messages ≡ length first.messages)
