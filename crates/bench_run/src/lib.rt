@@ -7,9 +7,8 @@ ghost use Rattle.refuse.specs.Answer.{inputs_of, buffers_of};
 ghost use Rattle.rows_begin.specs.Beginning.{Runs, Begins};
 ghost use Rattle.printing.specs.Handed.{Benched};
 
-use printing::Printed;
 use rows_begin::Begun;
-use rows_part::Row;
+use rows_part::{Answer, Row};
 use std::io;
 use tok::Texts;
 
@@ -86,9 +85,9 @@ fn begin(
     )
 }
 
-// The printing program: the check of the input's parts, and its rows. It answers what it handed to the system, whose contract leaves open
+// The printing program: the check of the input's parts, and its rows. It answers how much it handed to the system, whose contract leaves open
 // whether it writes it.
-pub fn bench(rt: &impl Print, bytes: &[u8], full: bool) -> io::Result<Printed>
+pub fn bench(rt: &impl Print, bytes: &[u8], full: bool) -> io::Result<Option<usize>>
     ensures { IfOk result (λ printed. Benched bytes.now printed) }
 {
     let mut slots = [0u32; 4_097];
@@ -110,15 +109,16 @@ pub fn bench(rt: &impl Print, bytes: &[u8], full: bool) -> io::Result<Printed>
         script: rows_input::script(bytes),
         library: rows_input::library_text(bytes),
     };
-    printing::print_rows(
-        rt,
-        &texts,
-        &slots,
-        &types,
-        &functions,
-        &diagnostics,
-        &messages,
-        begun,
-        full,
-    )
+    let answer = Answer {
+        texts: &texts,
+        slots: &slots,
+        types: &types,
+        functions: &functions,
+        diagnostics: &diagnostics,
+        messages: &messages,
+        last: begun.last,
+        words: begun.words,
+        count: begun.count,
+    };
+    printing::print_rows(rt, &answer, begun, full)
 }

@@ -65,7 +65,8 @@ module _ (script image text words s f t d m e : List ℕ) where
 
     module _ {st : State} (h : Starts image words s t s₁ t₁ (Ok (tt, st))) where
       walk-visits : {b' : Lent} {v : Visit Answer} {room rows : ℕ} → FreeRows rows st f
-          → Visits (last (ctx_in (texts_of script text) image words) (Known (slot_count image)) (nodes_at image 4 (root_count image))) room rows words st (lent s₁ f t₁ d m e no_more) b' v → WalkEnds inputs before b' v
+          → Visits (last (ctx_in (texts_of script text) image words) (Known (slot_count image)) (nodes_at image 4 (root_count image))) room rows words st (lent s₁ f t₁ d m e no_more) b' v
+          → WalkEnds inputs before b' v
       unfolding visited ctx_of roots_of first_roots
       walk-visits {v = v} g q = record { step = begun h ∙ ap (λ x. next x (λ _. skip)) q.step; well = ends-well v g q.keeps }
 
@@ -79,7 +80,8 @@ module _ (script image text words s f t d m e : List ℕ) where
         unfolding beginning ctx_of
         roots-start = rw h.state (ready-start inputs before accepted (first_state (length (pool_of words))).used (lent s₁ f t₁ d m e no_more) roots-begun refl refl)
 
-        pub walk-roots : {b' : Lent} {v : Visit Answer} {k : ℕ} → k ≡ root_count image → ListVisited (texts_of script text) image words 4 k st (lent s₁ f t₁ d m e no_more) b' v → WalkEnds inputs before b' v
+        pub walk-roots : {b' : Lent} {v : Visit Answer} {k : ℕ} → k ≡ root_count image → ListVisited (texts_of script text) image words 4 k st (lent s₁ f t₁ d m e no_more) b' v
+            → WalkEnds inputs before b' v
         unfolding roots_of first_roots
         walk-roots hk q = walk-visits roots-start.rows (rw hk at q)
 

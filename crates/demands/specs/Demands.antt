@@ -11,9 +11,13 @@ use Rattle.refusals.specs.Inputs.{Inputs, Buffers}
 use Rattle.refusals.specs.Refusals.{refusal_of}
 use Rattle.rules.specs.Check.{Ended, check_of}
 use Rattle.rules.specs.Visited.{visited_slots}
-use Rattle.rules.specs.Promises.{Every, Answered, TableHolds, Demand1, NamesReadWell, NamesWellFormed, VisitedOnce, EachVisitedOnce, message_of, primary_of, MessagesWellFormed, AnsweredClean, HasConcreteType, Clean, Longer, Alike, AnsweredLonger, MorePackages, MoreStatements, Kept, Larger, LargerWithoutStatements, entries_of, old_functions, FunctionsVisited, AgreesTo, RefusedAlike, with_image, ImagePlaceCertain, with_library, LibraryPlaceCertain, PackagesAlone, StatementsAlone, AddsNothing, NothingAdded}
+use Rattle.rules.specs.Promises.{Every, Answered, TableHolds, Demand1, NamesReadWell, NamesWellFormed, VisitedOnce, EachVisitedOnce, message_of, primary_of, MessagesWellFormed}
+use Rattle.rules.specs.Promises.{AnsweredClean, HasConcreteType, Clean, Longer, Alike, AnsweredLonger, MorePackages, MoreStatements, Kept, Larger, LargerWithoutStatements}
+use Rattle.rules.specs.Promises.{entries_of, old_functions, FunctionsVisited, AgreesTo, RefusedAlike, with_image, ImagePlaceCertain, with_library, LibraryPlaceCertain}
+use Rattle.rules.specs.Promises.{PackagesAlone, StatementsAlone, AddsNothing, NothingAdded}
 use Rattle.tworuns.proofs.Larger.{ends}
-use Rattle.accepts.proofs.Demands.{demand_1, names-well_formed, each-visited-once, answered-longer, functions-visited, larger, larger-without-statements, image-place_certain, library-place_certain, packages-alone, statements-alone, nothing-added}
+use Rattle.accepts.proofs.Demands.{demand_1, names-well_formed, each-visited-once, answered-longer, functions-visited, larger, larger-without-statements, image-place_certain}
+use Rattle.accepts.proofs.Demands.{library-place_certain, packages-alone, statements-alone, nothing-added}
 use Rattle.clean.proofs.Clean.{clean}
 use Rattle.clean.proofs.Messages.{messages-well_formed}
 use Rattle.runs.specs.Machine.{Open}

@@ -1,26 +1,13 @@
--- The ways out of `is_done`, a turn of the loop, and the ways out of it. Assumes nothing.
-use Rattle.std.proofs.Common.{◌≡◌, ℕ, ◌+◌, ◌%◌, ◌^◌, ◌<◌, ◌≤◌, Bool, true, false, ◌≢◌, length, sym, refl, ap, ◌∙◌, true≢false, zero-add, arith}
+-- A turn of the loop, and the ways out of it. Assumes nothing.
+use Rattle.std.specs.Prelude.{None, Some}
+use Rattle.std.proofs.Common.{◌≡◌, ℕ, ◌+◌, ◌%◌, ◌^◌, ◌<◌, ◌≤◌, Bool, true, false, length, sym, ap, ◌∙◌, zero-add, arith}
+use Rattle.std.proofs.lemmas.Option.{none-some, same_Some}
 use Rattle.rows_part.specs.declared.Row.{Row}
-use Rattle.rows_part.specs.declared.Row.TheVariants.{Slot, Fn, Diag, End, Refused, Input, Done}
 use Rattle.rows_part.specs.declared.Part.{Part}
 use Rattle.rows_part.specs.Printing.{Answer, row_of, rest_from, part_of, room_at}
 use Rattle.rows_part.specs.PrintingLaws.{part_bytes, room_whole}
 use Rattle.printing.specs.Loop.{is_done, left, turn_nearer, done-left}
 use Rattle.printing.specs.Handed.{Handed}
-
-pub done-is : {row : Row} → row ≡ Done → true ≡ is_done row
-unfolding is_done
-done-is e = rw e
-
-pub more_rows : (row : Row) → row ≢ Done → false ≡ is_done row
-unfolding is_done
-more_rows (Slot i) t = refl
-more_rows (Fn at) t = refl
-more_rows (Diag k) t = refl
-more_rows End t = refl
-more_rows (Refused number place) t = refl
-more_rows Input t = refl
-more_rows Done t = absurd (t refl)
 
 -- a turn of the loop
 pub turn : (a : Answer) (row : Row) (skip : ℕ) {done : Bool} {p : Part} → done ≡ is_done row → done ≡ false → p ≡ part_of 4096 a row skip → left a p.row p.skip < left a row skip
@@ -39,17 +26,13 @@ whole_part a row skip h q = q ∙ ap (λ (n : ℕ). part_of n a row skip) (room_
 pub total_first : (n : ℕ) → (0 + n) % 2 ^ 64 ≡ n % 2 ^ 64
 total_first n = rw (zero-add n)
 
--- a count of 64 bits
-pub total-small : (n : ℕ) {total : ℕ} → total ≡ n % 2 ^ 64 → total % 2 ^ 64 ≡ total
-total-small n e = omega (arith, e)
-
 -- where no row is left
 pub handed-all : (a : Answer) (row first : Row) (skip : ℕ) {done : Bool} {total : ℕ} → done ≡ is_done row → done ≡ true → total % 2 ^ 64 ≡ total
-    → (total + length (rest_from a row skip)) % 2 ^ 64 ≡ length (rest_from a first 0) % 2 ^ 64 → Handed a first (record { bytes = total; whole = true })
+    → (total + length (rest_from a row skip)) % 2 ^ 64 ≡ length (rest_from a first 0) % 2 ^ 64 → Handed a first (Some total)
 handed-all a row first skip e h l t =
     let z = done-left a row skip (sym e ∙ h) in
-    record { all = λ _. omega (arith, t, z, l); cut = λ q. absurd (true≢false q) }
+    record { all = λ n q. let m = same_Some _ _ q in omega (arith, t, z, l, m); cut = λ q. absurd (none-some _ (sym q)) }
 
 -- in a row that is too long
-pub handed-cut : (a : Answer) (row first : Row) (skip : ℕ) {total : ℕ} → 2 ^ 62 ≤ skip → skip ≤ length (row_of a row) → Handed a first (record { bytes = total; whole = false })
-handed-cut a row first skip h l = record { all = λ q. absurd (true≢false (sym q)); cut = λ _. record { row = row; long = omega arith } }
+pub handed-cut : (a : Answer) (row first : Row) (skip : ℕ) → 2 ^ 62 ≤ skip → skip ≤ length (row_of a row) → Handed a first None
+handed-cut a row first skip h l = record { all = λ n q. absurd (none-some _ q); cut = λ _. record { row = row; long = omega arith } }

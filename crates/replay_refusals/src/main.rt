@@ -27,34 +27,18 @@ fn added(sum: u64, x: u32) -> u64
     (sum * 65_599 + u64::from(x)) % 4_294_967_291
 }
 
-fn sum_words(s: &[u32]) -> u64 {
+fn sum<T: Copy>(s: &[T]) -> u64
+where
+    u32: From<T>,
+{
     let mut sum = 0;
-    for i in 0..s.len() {
-        sum = added(sum, s[i]);
-    }
-    sum
-}
-
-fn sum_bytes(s: &[u8]) -> u64 {
-    let mut sum = 0;
-    for i in 0..s.len() {
-        sum = added(sum, tok::byte_at(s, i));
+    for x in s {
+        sum = added(sum, u32::from(*x));
     }
     sum
 }
 
 // Printing.
-
-fn print_count(rt: &impl Print, n: usize) -> io::Result<()> {
-    commands::print(rt, b" ")?;
-    commands::print_number(rt, n)?;
-    Ok(())
-}
-
-fn print_sum(rt: &impl Print, sum: u64) -> io::Result<()> {
-    commands::print(rt, b" ")?;
-    rt.print(sum)
-}
 
 fn print_sums(
     rt: &impl Print,
@@ -65,30 +49,28 @@ fn print_sums(
     messages: &[u8],
     scratch: &[u32],
 ) -> io::Result<()> {
-    print_sum(rt, sum_words(slots))?;
-    print_sum(rt, sum_words(functions))?;
-    print_sum(rt, sum_words(types))?;
-    print_sum(rt, sum_words(diagnostics))?;
-    print_sum(rt, sum_bytes(messages))?;
-    print_sum(rt, sum_words(scratch))?;
-    commands::print(rt, b"\n")?;
-    Ok(())
+    println!(rt;
+        " {} {} {} {} {} {}",
+        sum(slots),
+        sum(functions),
+        sum(types),
+        sum(diagnostics),
+        sum(messages),
+        sum(scratch)
+    )
 }
 
 fn print_answer(rt: &impl Print, checked: Checked) -> io::Result<()> {
     match checked {
-        Ok(counts) => {
-            commands::print(rt, b" answered")?;
-            print_count(rt, counts.function_words)?;
-            print_count(rt, counts.type_words)?;
-            print_count(rt, counts.diagnostics)?;
-            print_count(rt, counts.message_bytes)?;
-        }
+        Ok(counts) => print!(rt;
+            " answered {} {} {} {}",
+            counts.function_words, counts.type_words, counts.diagnostics, counts.message_bytes
+        ),
         Err(refused) => {
             commands::print_refused(rt, refused.number as usize, refused.place)?;
+            Ok(())
         }
     }
-    Ok(())
 }
 
 // Cases.

@@ -44,7 +44,7 @@ pub fn row_alone(first: Row) -> Begun
 fn narrow(n: usize) -> u32
     ensures { result ≡ narrowed n }
 {
-    n.min(0xFFFF_FFFF) as u32
+    u32::try_from(n).unwrap_or(u32::MAX)
 }
 
 // The rows of what the check answered, of an image with so many slots.

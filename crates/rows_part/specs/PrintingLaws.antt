@@ -22,7 +22,8 @@ use Rattle.rows_part.specs.declared.Row.{Row}
 use Rattle.rows_part.specs.declared.Row.TheVariants.{Slot, Fn, Diag, End, Refused, Input, Done}
 use Rattle.rows_part.specs.declared.Part.{Part}
 use Rattle.rows_part.specs.RowsEnd.{by_order}
-use Rattle.rows_part.specs.Printing.{Answer, answer_in, row_of, diag_from, fn_from, next_of, next_in, first_row, first_of, diags_from, fns_from, slots_from, rest_of, rest_from, part_of, room_at, Prints}
+use Rattle.rows_part.specs.Printing.{Answer, answer_in, row_of, diag_from, fn_from, next_of, next_in, first_row, first_of, diags_from, fns_from, slots_from, rest_of, rest_from}
+use Rattle.rows_part.specs.Printing.{part_of, room_at, Prints}
 
 -- ---- slots
 module _ (t : Texts) (types slots : List ℕ) (v i : ℕ) where

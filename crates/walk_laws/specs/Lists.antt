@@ -29,11 +29,13 @@ use Rattle.walking.specs.Visited.{ctx_in, nodes_at, ListVisit, ListVisited, Node
 -- the list's rule, at its beginning
 abbrev pub listing : Texts → (image words : List ℕ) → (at k : ℕ) → State → Lent → Beginning
 listing T image words at k st b =
-    record { rule = last (ctx_in T image words) (Known (slot_count image)) (nodes_at image at k); room = rooms (nodes_at image at k); rows = rows_all (nodes_at image at k); library = words; st = st; b = b }
+    record { rule = last (ctx_in T image words) (Known (slot_count image)) (nodes_at image at k);
+      room = rooms (nodes_at image at k); rows = rows_all (nodes_at image at k); library = words; st = st; b = b }
 
 -- `left` nodes are left, from word `place` on; the one before them answered `answer`
 pub record Turn (T : Texts) (image places words : List ℕ) (owner at k : ℕ) (st : State) (b : Lent) (place left : ℕ) (answer : Answer) (here : State) (b' : Lent) : Type 0 where
-  pub leads : Leads (listing T image words at k st b) (last (ctx_in T image words) answer (nodes_at image place left)) (rooms (nodes_at image place left)) (rows_all (nodes_at image place left)) here b'
+  pub leads : Leads (listing T image words at k st b) (last (ctx_in T image words) answer (nodes_at image place left))
+      (rooms (nodes_at image place left)) (rows_all (nodes_at image place left)) here b'
   pub visit : ListVisit T image places words owner place left here b'
 
 pub turn-begin : {T : Texts} {image places words : List ℕ} {owner at k void : ℕ} {st : State} {b : Lent} → ListVisit T image places words owner at k st b → void ≡ get_or image 3 0
@@ -61,7 +63,8 @@ module _ {T : Texts} {image places words : List ℕ} {owner at k : ℕ} {st : St
     others : Each (Under owner image) 1 (place + 1) (left - 1)
     others = record { each = λ i m. let z : place + 1 * (i + 1) ≡ place + 1 + 1 * i = omega arith in rw z at (h.visit.nodes.each (i + 1) (omega (arith, m))) }
 
-    first-room : Ready T image places words (room (tree_of image part) + rooms (nodes_at image (place + 1) (left - 1))) (rows (tree_of image part) + rows_all (nodes_at image (place + 1) (left - 1))) here b'
+    first-room : Ready T image places words (room (tree_of image part) + rooms (nodes_at image (place + 1) (left - 1)))
+        (rows (tree_of image part) + rows_all (nodes_at image (place + 1) (left - 1))) here b'
     first-room = rw e (ready-less (omega arith) (omega arith) (nodes-room place l 0 0 (ready-less (omega arith) (omega arith) h.visit.ready)))
 
     all-fresh : Fresh (visited_from (tree_of image (get_or image place 0)) ++ visited_among (nodes_at image (place + 1) (left - 1))) b'.slots

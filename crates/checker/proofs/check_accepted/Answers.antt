@@ -3,4 +3,6 @@ use Rattle.ending.proofs.Ends.{accepted-ends}
 use Rattle.checker.proofs.check_accepted.Goals as goal
 
 pub returns : goal.returns
-returns c = accepted-ends c.walk-visit.ensures c.requires c.walk-visit.auto.slots c.walk-visit.auto.functions c.walk-visit.auto.types c.walk-visit.auto.diagnostics c.walk-visit.auto.messages c.walk-visit.auto.scratch (c.finish.ensures _)
+returns c =
+    let kept = c.walk-visit.auto in
+    accepted-ends c.walk-visit.ensures c.requires kept.slots kept.functions kept.types kept.diagnostics kept.messages kept.scratch (c.finish.ensures _)

@@ -3,10 +3,8 @@ use Rattle.std.proofs.Common.{arith}
 use Rattle.printing.proofs.Ways.{part_room, whole_part}
 use Rattle.printing.proofs.print_part.Goals as goal
 
--- src/lib.rt:77:11
-pub slice_bounds-print-end : goal.slice_bounds-print-end
-slice_bounds-print-end g c = omega (arith, part_room _ _ _ (whole_part _ _ _ c.requires c.write_part-part.ensures.answer), c.write_part-part.auto)
+pub slice_bounds-write_all-end : goal.slice_bounds-write_all-end
+slice_bounds-write_all-end g c = omega (arith, part_room _ _ _ (whole_part _ _ _ c.requires c.write_part-part.ensures.answer), c.write_part-part.auto)
 
--- src/lib.rt:43:1
 pub returns : goal.returns
 returns g c = whole_part _ _ _ c.requires c.write_part-part.ensures.answer

@@ -1,6 +1,6 @@
-use Rattle.std.proofs.Common.{arith}
+use Rattle.std.proofs.Common.{refl, arith}
 use Rattle.printing.specs.Loop.{turn-total, turn-within}
-use Rattle.printing.proofs.Ways.{turn, total_first, total-small, handed-all, handed-cut}
+use Rattle.printing.proofs.Ways.{turn, total_first, handed-all, handed-cut}
 use Rattle.printing.proofs.print_rows.Goals as goal
 
 pub loop-begun-init : goal.loop-begun-init
@@ -15,7 +15,7 @@ loop-begun-smaller-in_ok-print_between g c =
 
 pub loop-begun-preserved-in_ok-print_between : goal.loop-begun-preserved-in_ok-print_between
 loop-begun-preserved-in_ok-print_between g c =
-    (turn-within _ _ _ c.in_ok-part.ensures c.loop-begun.invariant.0, turn-total _ _ _ _ c.in_ok-part.ensures c.wrapping_add_usize-total.ensures.value c.loop-begun.invariant.1, total-small _ c.wrapping_add_usize-total.ensures.value)
+    (turn-within _ _ _ c.in_ok-part.ensures c.loop-begun.invariant.0, turn-total _ _ _ _ c.in_ok-part.ensures refl c.loop-begun.invariant.1, omega arith)
 
 pub loop-begun-smaller : goal.loop-begun-smaller
 loop-begun-smaller g c =
@@ -23,7 +23,7 @@ loop-begun-smaller g c =
 
 pub loop-begun-preserved : goal.loop-begun-preserved
 loop-begun-preserved g c =
-    (turn-within _ _ _ c.in_ok-part.ensures c.loop-begun.invariant.0, turn-total _ _ _ _ c.in_ok-part.ensures c.wrapping_add_usize-total.ensures.value c.loop-begun.invariant.1, total-small _ c.wrapping_add_usize-total.ensures.value)
+    (turn-within _ _ _ c.in_ok-part.ensures c.loop-begun.invariant.0, turn-total _ _ _ _ c.in_ok-part.ensures refl c.loop-begun.invariant.1, omega arith)
 
 pub returns : goal.returns
 returns g c =
