@@ -5,7 +5,7 @@ use mathlib.Core.Bool.{Bool, true, false}
 use Prim.Native.Nat.{ℕ, ◌+◌, ◌*◌, ◌<◌, ◌≤◌, min}
 use native.Mathlib.Omega.{arith}
 use lib.Dec.{leb}
-use lib.ListN.{get_or, set, length, drop}
+use lib.ListN.{get_or, set, length, drop, length-set}
 use lib.Seq.{set-set, set-get_or}
 use borrow.Author.Tests.{le-leb, lt-leb}
 use Rattle.tok.specs.Word.{word_of}
@@ -13,53 +13,53 @@ use Rattle.tok.specs.Text.{Texts}
 use Rattle.tok.specs.Step.{Step, Refusal, ok, refused, refusal, when}
 use Rattle.ptype.specs.Add.{Buffer, buffer, overwrite, write, append, add_type, add_wrap}
 use Rattle.std.specs.Prelude.{Ok, Err}
+use Rattle.add.specs.declared.AddError.{AddError}
 use Rattle.add.specs.declared.AddError.TheVariants.{Full, TooDeep}
-use Rattle.add.specs.Answer.{Adds}
+use Rattle.add.specs.declared.Arena.{Arena}
+use Rattle.add.specs.Answer.{number_of, buffer_of, Adds}
 use Rattle.add.specs.Parts.{opened, shallow, measured}
 use Rattle.add.specs.Pool.{copy_pool, Copies}
 use Rattle.add.specs.WriteLaws.{write-one}
 
 -- an answer with a word; one that refuses, and leaves the words as they were
-adds-put : {step : Texts → ℕ → Step Buffer Refusal ℕ} {old : List ℕ} {used w u : ℕ} {new : List ℕ}
-    → ((t : Texts) (n : ℕ) → step t n (buffer old used) ≡ ok w (buffer new u)) → Adds step old used (Ok (w, u)) new
-adds-put h = record { result = h; words = λ t n. rw (h t n) }
+module _ {step : Texts → ℕ → Step Buffer Refusal ℕ} {a a' : Arena} (g : a'.words.ghost_name ≡ a.words.ghost_name) {l : List ℕ} (e : a'.words.now ≡ l)
+    (k : length l ≡ length a.words.now) where
+  adds-put : {w u : ℕ} → a'.used ≡ u → ((t : Texts) (n : ℕ) → step t n (buffer_of a) ≡ ok w (buffer l u)) → Adds step a (Ok w) a'
+  adds-put eu h = record { grows = record { lent = g; keeps = ap length e ∙ k; result = λ t n. rw (e, eu) (h t n) }; words = λ t n. rw (h t n) e }
 
-adds-full : {step : Texts → ℕ → Step Buffer Refusal ℕ} {old : List ℕ} {used : ℕ}
-    → ((t : Texts) (n : ℕ) → step t n (buffer old used) ≡ refused (refusal 7 n)) → Adds step old used (Err Full) old
-adds-full h = record { result = h; words = λ t n. rw (h t n) }
+  adds-err : {x : AddError} → l ≡ a.words.now → ((t : Texts) (n : ℕ) → step t n (buffer_of a) ≡ refused (refusal (number_of x) n)) → Adds step a (Err x) a'
+  adds-err o h = record { grows = record { lent = g; keeps = ap length e ∙ k; result = h }; words = λ t n. rw (h t n) (e ∙ o) }
 
-adds-deep : {step : Texts → ℕ → Step Buffer Refusal ℕ} {old : List ℕ} {used : ℕ}
-    → ((t : Texts) (n : ℕ) → step t n (buffer old used) ≡ refused (refusal 8 n)) → Adds step old used (Err TooDeep) old
-adds-deep h = record { result = h; words = λ t n. rw (h t n) }
-
-module _ (l : List ℕ) (used kind inner : ℕ) {room : ℕ} (hr : room ≡ min (length l) 8192) where
-  pub wrap-full : room ≤ used → Adds (λ t n. add_wrap t n kind inner) l used (Err Full) l
+module _ (a : Arena) (kind inner : ℕ) {room : ℕ} (hr : room ≡ min (length a.words.now) 8192) where
+  pub wrap-full : {a' : Arena} → a'.words.ghost_name ≡ a.words.ghost_name → a'.words.now ≡ a.words.now → room ≤ a.used → Adds (λ t n. add_wrap t n kind inner) a (Err Full) a'
   unfolding add_wrap add_type when
-  wrap-full h = adds-full (λ t n. rw (lt-leb (used + 1) (min (length l) 8192) (omega arith)))
+  wrap-full g e h = adds-err g e refl refl (λ t n. rw (lt-leb (a.used + 1) (min (length a.words.now) 8192) (omega arith)))
 
-  module _ {word : ℕ} {q : Bool} (h : used < room) (hw : word ≡ word_of kind used) (hq : (t : Texts) → q ≡ shallow t (set l used inner) word) where
-    wrap-is : (t : Texts) (n : ℕ) → add_wrap t n kind inner (buffer l used) ≡ when q (λ _. ok word (buffer (set l used inner) (used + 1))) (λ _. refused (refusal 8 n)) (buffer l used)
+  module _ {word : ℕ} {q : Bool} (h : a.used < room) (hw : word ≡ word_of kind a.used) (hq : (t : Texts) → q ≡ shallow t (set a.words.now a.used inner) word) where
+    wrap-is : (t : Texts) (n : ℕ) → add_wrap t n kind inner (buffer_of a)
+        ≡ when q (λ _. ok word (buffer (set a.words.now a.used inner) (a.used + 1))) (λ _. refused (refusal 8 n)) (buffer_of a)
     unfolding add_wrap add_type when append
-    wrap-is t n = rw (le-leb (used + 1) (min (length l) 8192) (omega arith), write-one, ← hw, ← hq t)
+    wrap-is t n = rw (le-leb (a.used + 1) (min (length a.words.now) 8192) (omega arith), write-one, ← hw, ← hq t)
 
-    pub wrap-put : q ≡ true → Adds (λ t n. add_wrap t n kind inner) l used (Ok (word, (used + 1))) (set l used inner)
+    pub wrap-put : {a' : Arena} → a'.words.ghost_name ≡ a.words.ghost_name → q ≡ true → a'.words.now ≡ set a.words.now a.used inner → a'.used ≡ a.used + 1 → Adds (λ t n. add_wrap t n kind inner) a (Ok word) a'
     unfolding when
-    wrap-put e = adds-put (λ t n. wrap-is t n ∙ rw e)
+    wrap-put g p e eu = adds-put g e (length-set _ _ _) eu (λ t n. wrap-is t n ∙ rw p)
 
-    pub wrap-deep : q ≡ false → Adds (λ t n. add_wrap t n kind inner) l used (Err TooDeep) (set (set l used inner) used (get_or l used 0))
+    pub wrap-deep : {a' : Arena} → a'.words.ghost_name ≡ a.words.ghost_name → q ≡ false → a'.words.now ≡ set (set a.words.now a.used inner) a.used (get_or a.words.now a.used 0)
+        → Adds (λ t n. add_wrap t n kind inner) a (Err TooDeep) a'
     unfolding when
-    wrap-deep e = rw (set-set, set-get_or) (adds-deep (λ t n. wrap-is t n ∙ rw e))
+    wrap-deep g p e = adds-err g (e ∙ rw (set-set, set-get_or)) refl refl (λ t n. wrap-is t n ∙ rw p)
 
-module _ (l : List ℕ) (used fields : ℕ) {room : ℕ} {q : Bool} (hr : room ≡ min (length l) 8192) (hq : q ≡ leb (used + (1 + 2 * fields)) room) where
-  pub open_full : q ≡ false → Adds (λ t n. opened n fields) l used (Err Full) l
+module _ (a : Arena) (fields : ℕ) {room : ℕ} {q : Bool} (hr : room ≡ min (length a.words.now) 8192) (hq : q ≡ leb (a.used + (1 + 2 * fields)) room)
+    {a' : Arena} (g : a'.words.ghost_name ≡ a.words.ghost_name) where
+  pub open_full : a'.words.now ≡ a.words.now → q ≡ false → Adds (λ t n. opened n fields) a (Err Full) a'
   unfolding opened when
-  open_full e = adds-full (λ t n. rw (← hr, ← hq, e))
+  open_full e p = adds-err g e refl refl (λ t n. rw (← hr, ← hq, p))
 
-  pub open_put : {word : ℕ} → q ≡ true → word ≡ word_of 8 used → Adds (λ t n. opened n fields) l used (Ok (word, (used + 1 + 2 * fields))) (set l used fields)
+  pub open_put : {word : ℕ} → q ≡ true → word ≡ word_of 8 a.used → a'.words.now ≡ set a.words.now a.used fields → a'.used ≡ a.used + (1 + 2 * fields)
+      → Adds (λ t n. opened n fields) a (Ok word) a'
   unfolding opened when
-  open_put e hw =
-      let z : used + (1 + 2 * fields) ≡ used + 1 + 2 * fields = omega arith in
-      adds-put (λ t n. rw (← hr, ← hq, e, write-one, ← hw, z))
+  open_put p hw e eu = adds-put g e (length-set _ _ _) eu (λ t n. rw (← hr, ← hq, p, write-one, ← hw))
 
 module _ (l : List ℕ) (w u : ℕ) {q : Bool} (hq : (t : Texts) → q ≡ shallow t l w) (t : Texts) (n : ℕ) where
   pub close_put : q ≡ true → measured t n w (buffer l u) ≡ ok w (buffer l u)

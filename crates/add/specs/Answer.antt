@@ -1,9 +1,10 @@
 -- What an answer of adding a type means. Definitions.
-use Rattle.std.specs.Prelude.{◌≡◌, List, ℕ, Result as Answered, Ok, Err}
+use Rattle.std.specs.Prelude.{◌≡◌, List, ℕ, length, Result as Answered, Ok, Err}
 use Rattle.tok.specs.Text.{Texts}
 use Rattle.tok.specs.Step.{Result, ok, refused, Step, Refusal, refusal}
 use Rattle.ptype.specs.Add.{Buffer, buffer}
 use Rattle.add.specs.declared.AddError.{AddError}
+use Rattle.add.specs.declared.Arena.{Arena}
 use Rattle.add.specs.declared.AddError.TheVariants.{Full, TooDeep}
 
 -- the new type's word, and how many words are used with it
@@ -25,7 +26,23 @@ abbrev pub words_after : {A : Type 0} → (old : List ℕ) → Result Buffer Ref
 words_after old (ok a b) = b.words
 words_after old (refused e) = old
 
--- One step, of any texts and any node, on the words `old` of which `used` are used: its answer r, and every word of the buffer after it.
-pub record Adds (step : Texts → (n : ℕ) → Step Buffer Refusal ℕ) (old : List ℕ) (used : ℕ) (r : Added) (new : List ℕ) : Type 0 where
-  pub result : (t : Texts) (n : ℕ) → step t n (buffer old used) ≡ result_of n r new
-  pub words : (t : Texts) (n : ℕ) → new ≡ words_after old (step t n (buffer old used))
+-- the arena's words, and how many of them are used
+abbrev pub buffer_of : Arena → Buffer
+buffer_of a = buffer a.words.now a.used
+
+-- what an arena answers, with how many words it then uses
+abbrev pub answer_of : Answered ℕ AddError → (used : ℕ) → Added
+answer_of (Ok w) u = Ok (w, u)
+answer_of (Err e) u = Err e
+
+-- Steps, of any texts and any node, on an arena: their answer r, and the arena after them, to which the same words are lent. Where they are
+-- refused, the rules leave open what the words hold ("Reading the promises", 1).
+pub record Grows (steps : Texts → (n : ℕ) → Step Buffer Refusal ℕ) (a : Arena) (r : Answered ℕ AddError) (a' : Arena) : Type 0 where
+  pub lent : a'.words.ghost_name ≡ a.words.ghost_name
+  pub keeps : length a'.words.now ≡ length a.words.now
+  pub result : (t : Texts) (n : ℕ) → steps t n (buffer_of a) ≡ result_of n (answer_of r a'.used) a'.words.now
+
+-- One step: that, and every word after it.
+pub record Adds (step : Texts → (n : ℕ) → Step Buffer Refusal ℕ) (a : Arena) (r : Answered ℕ AddError) (a' : Arena) : Type 0 where
+  pub grows : Grows step a r a'
+  pub words : (t : Texts) (n : ℕ) → a'.words.now ≡ words_after a.words.now (step t n (buffer_of a))

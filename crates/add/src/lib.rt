@@ -2,12 +2,13 @@
 // A buffer is lent whole, with how many of its words are used. A word past the end reads as 0, and none is stored there.
 #![tactic(auto)]
 
-ghost use Rattle.std.specs.Prelude.{◌≡◌, List, [], ◌∷◌, ℕ, ◌+◌, ◌*◌, ◌<◌, ◌^◌, min, leb, length, set, replicate};
+ghost use Rattle.std.specs.Prelude.{◌≡◌, List, [], ◌∷◌, ℕ, ◌+◌, ◌*◌, ◌<◌, ◌^◌, min, leb, length, set, take, replicate};
 ghost use Rattle.tok.specs.Word.{word_of};
 ghost use Rattle.tok.specs.Text.{Texts};
-ghost use Rattle.ptype.specs.Add.{buffer, add_wrap, write};
+ghost use Rattle.ptype.specs.Add.{add_wrap, write};
 ghost use Rattle.ptype.specs.Marks.{Depths};
-ghost use Rattle.add.specs.Answer.{result_of, Adds};
+ghost use Rattle.add.specs.Answer.{buffer_of, answer_of, result_of, Adds};
+ghost use Rattle.ptype.specs.TypeKind.{number_of_type};
 ghost use Rattle.add.specs.Parts.{opened, shallow, measured};
 ghost use Rattle.add.specs.Pool.{is_type, pool_types, all_shallow, Copies};
 ghost use Rattle.add.specs.ShallowBy.{ShallowFound, shallow_found, shallow_by, all_shallow_by, RightAnswer};
@@ -24,19 +25,25 @@ pub enum AddError {
 // The new type's word and how many words are used with it.
 pub type Added = Result<(u32, usize), AddError>;
 
-// How many words can be used: those lent, and at most 8,192.
+// "At most 8,192 words of the types buffer .. are used."
+const MOST_WORDS: usize = 8192;
+
+// "Type depth 32 (a type with nothing inside is 1)."
+pub const MOST_LEVELS: usize = 32;
+
+// How many words can be used: of those lent, at most so many.
 fn type_room(types: &[u32]) -> usize
     ensures { result ≡ min (length types.now) 8192 }
 {
-    types.len().min(8192)
+    types.len().min(MOST_WORDS)
 }
 
 // The word of a type of a kind that stands at an index.
-pub fn word_of(kind: u32, at: usize) -> u32
-    requires { (kind < 16) × (at < 2 ^ 28) }
-    ensures { result ≡ word_of kind at }
+pub fn word_of(kind: TypeKind, at: usize) -> u32
+    requires { at < 2 ^ 28 }
+    ensures { result ≡ word_of (number_of_type kind) at }
 {
-    kind * 0x1000_0000 + (at as u32)
+    kind.number() * 0x1000_0000 + (at as u32)
 }
 
 // Stores a word, where there is room.
@@ -52,40 +59,7 @@ fn store(words: &mut [u32], at: usize, w: u32)
 pub fn is_shallow(types: &[u32], w: u32) -> bool
     ensures { (t : Texts) → result ≡ shallow t types.now w }
 {
-    ptype::depth(types, w) <= 32
-}
-
-// Adds an Option (6) or an Array (7) of the type `inner`.
-fn add_wrap(types: &mut [u32], used: usize, kind: u32, inner: u32) -> Added
-    requires { kind < 16 }
-    ensures { Adds (λ t n. add_wrap t n kind inner) types.old used result types.new }
-{
-    if used >= type_room(types) {
-        return Err(AddError::Full);
-    }
-    let old = types[used];
-    types[used] = inner;
-    let word = word_of(kind, used);
-    if is_shallow(types, word) {
-        Ok((word, used + 1))
-    } else {
-        types[used] = old;
-        Err(AddError::TooDeep)
-    }
-}
-
-// Adds an Option of the type `inner`.
-pub fn add_option(types: &mut [u32], used: usize, inner: u32) -> Added
-    ensures { Adds (λ t n. add_wrap t n 6 inner) types.old used result types.new }
-{
-    add_wrap(types, used, TypeKind::Option.number(), inner)
-}
-
-// Adds an Array of the type `inner`.
-pub fn add_array(types: &mut [u32], used: usize, inner: u32) -> Added
-    ensures { Adds (λ t n. add_wrap t n 7 inner) types.old used result types.new }
-{
-    add_wrap(types, used, TypeKind::Array.number(), inner)
+    ptype::depth(types, w) <= MOST_LEVELS
 }
 
 // Whether a Record of so many fields has room after the words used.
@@ -95,16 +69,106 @@ fn record_fits(room: usize, used: usize, fields: usize) -> bool
     used < room && fields <= (room - used - 1) / 2
 }
 
-// Adds a Record of so many fields: room for all of it, and the count. Its pairs are set after that, and then it is closed.
-pub fn open_record(types: &mut [u32], used: usize, fields: usize) -> Added
-    ensures { Adds (λ t n. opened n fields) types.old used result types.new }
-{
-    if record_fits(type_room(types), used, fields) {
-        types[used] = fields as u32;
-        let word = word_of(TypeKind::Record.number(), used);
-        Ok((word, used + 1 + 2 * fields))
-    } else {
-        Err(AddError::Full)
+// The types buffer, and how many of its words are used: where the Rust allocates types (ptype.rs: arena).
+#[derive(Drop)]
+pub struct Arena<'a> {
+    pub words: &'a mut [u32],
+    pub used: usize,
+}
+
+impl<'a> Arena<'a> {
+    // The lent words, of which so many are used.
+    pub fn new(words: &'a mut [u32], used: usize) -> Arena<'a>
+        ensures same_words { result.words.ghost_name ≡ words.entry.ghost_name }
+        ensures as_used { (result.words.now ≡ words.old) × (result.used ≡ used) }
+    {
+        Arena { words, used }
+    }
+
+    // What was answered, with how many words are used now.
+    pub fn answer(&self, added: Result<u32, AddError>) -> Added
+        ensures { result ≡ answer_of added self.now.used }
+    {
+        Ok((added?, self.used))
+    }
+
+    // Its first `n` words, or all where there are fewer.
+    pub fn first(&self, n: usize) -> &[u32]
+        ensures { result.now ≡ take n self.now.words.now }
+    {
+        &self.words[..n.min(self.words.len())]
+    }
+
+    // How many words can be used.
+    fn room(&self) -> usize
+        ensures { result ≡ min (length self.now.words.now) 8192 }
+    {
+        type_room(self.words)
+    }
+
+    // Whether a type is at most 32 deep.
+    fn is_shallow(&self, word: u32) -> bool
+        ensures { (t : Texts) → result ≡ shallow t self.now.words.now word }
+    {
+        is_shallow(self.words, word)
+    }
+
+    // Adds a type of a kind that holds another one, of the type `inner`: an Option or an Array.
+    pub fn add_wrap(&mut self, kind: TypeKind, inner: u32) -> Result<u32, AddError>
+        ensures { Adds (λ t n. add_wrap t n (number_of_type kind) inner) self.old result self.new }
+    {
+        let at = self.used;
+        if at >= self.room() {
+            return Err(AddError::Full);
+        }
+        let old = self.words[at];
+        self.words[at] = inner;
+        let word = word_of(kind, at);
+        if !self.is_shallow(word) {
+            self.words[at] = old;
+            return Err(AddError::TooDeep);
+        }
+        self.used += 1;
+        Ok(word)
+    }
+
+    // Adds an Option of the type `inner`.
+    pub fn add_option(&mut self, inner: u32) -> Result<u32, AddError>
+        ensures { Adds (λ t n. add_wrap t n 6 inner) self.old result self.new }
+    {
+        self.add_wrap(TypeKind::Option, inner)
+    }
+
+    // Adds an Array of the type `inner`.
+    pub fn add_array(&mut self, inner: u32) -> Result<u32, AddError>
+        ensures { Adds (λ t n. add_wrap t n 7 inner) self.old result self.new }
+    {
+        self.add_wrap(TypeKind::Array, inner)
+    }
+
+    // Adds a Record of so many fields: room for all of it, and the count. Its pairs are set after that, and then it is closed.
+    pub fn open_record(&mut self, fields: usize) -> Result<u32, AddError>
+        ensures { Adds (λ t n. opened n fields) self.old result self.new }
+    {
+        if record_fits(self.room(), self.used, fields) {
+            let word = word_of(TypeKind::Record, self.used);
+            self.words[self.used] = fields as u32;
+            self.used += 1 + 2 * fields;
+            Ok(word)
+        } else {
+            Err(AddError::Full)
+        }
+    }
+
+    // Measures a Record whose pairs are all set.
+    pub fn close_record(&self, word: u32) -> Result<u32, AddError>
+        ensures { (t : Texts) (n : ℕ) → measured t n word (buffer_of self.now) ≡ result_of n (answer_of result self.now.used) self.now.words.now }
+    {
+        if self.is_shallow(word) {
+            Ok(word)
+        } else {
+            Err(AddError::TooDeep)
+        }
     }
 }
 
@@ -116,16 +180,6 @@ pub fn set_pair(types: &mut [u32], at: usize, name: u32, ty: u32)
         types[at] = name;
         store(types, at + 1, ty);
     }
-}
-
-// Measures a Record whose pairs are all set.
-pub fn close_record(types: &[u32], word: u32, used: usize) -> Added
-    ensures { (t : Texts) (n : ℕ) → measured t n word (buffer types.now used) ≡ result_of n result types.now }
-{
-    if !is_shallow(types, word) {
-        return Err(AddError::TooDeep);
-    }
-    Ok((word, used))
 }
 
 // Copies the pool to the front of the buffer, and says whether there was room (7).
@@ -144,7 +198,7 @@ pub fn copy_pool(types: &mut [u32], pool: &[u32]) -> bool
 fn is_type(w: u32) -> bool
     ensures { result ≡ is_type w }
 {
-    matches!(tok::kind(w), 1..=11)
+    !matches!(TypeKind::of(w), TypeKind::None)
 }
 
 // Whether a type is at most 32 deep by the depths that are marked of field lists (`ptype::depth_known`): where the marks are right, that is so, and
@@ -153,7 +207,7 @@ pub fn is_shallow_known(types: &[u32], w: u32, known: &mut [u8]) -> bool
     ensures { let T : List ℕ = types.now in let K : List ℕ = known.old in let a : ShallowFound = shallow_found result known.new in
         (shallow_by T w K ≡ a) × RightAnswer T K (λ t. shallow t T w) a }
 {
-    ptype::depth_known(types, w, known) <= 32
+    ptype::depth_known(types, w, known) <= MOST_LEVELS
 }
 
 // Whether a word of the pool is a type at most 32 deep by what is marked, or no type.

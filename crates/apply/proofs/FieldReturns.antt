@@ -1,6 +1,6 @@
 -- Each return of `apply_fields`, over variables for what the calls gave: by the fields that are left; and the pairs that are set. By
 -- unfolding the definitions, the laws of a Record added in parts, and those of sizes. Assumes nothing.
-use Rattle.std.specs.Prelude.{Ok, Err}
+use Rattle.std.specs.Prelude.{Result as Answered, Ok, Err}
 use mathlib.Core.Path.{◌≡◌, refl, sym, ap, ◌∙◌}
 use mathlib.Core.List.{List, [], ◌∷◌}
 use Prim.Native.Nat.{ℕ, ◌+◌, ◌-◌, ◌*◌, ◌≤◌, ◌<◌, ◌^◌}
@@ -10,12 +10,14 @@ use lib.ListN.{get_or, length, take}
 use lib.Seq.{take-take}
 use Rattle.tok.specs.Word.{payload_of}
 use Rattle.tok.specs.Text.{Texts}
-use Rattle.tok.specs.Step.{Result, ok, refused, Step, Refusal, next, return}
+use Rattle.tok.specs.Step.{ok, Step, Refusal, next, return}
 use Rattle.ptype.proofs.UnfoldLaws.{one_less}
-use Rattle.ptype.specs.Add.{Buffer, buffer, write}
+use Rattle.ptype.specs.Add.{Buffer, write}
 use Rattle.ptype.specs.Slots.{Binding}
 use Rattle.add.specs.declared.AddError.{AddError}
-use Rattle.add.specs.Answer.{Added, result_of}
+use Rattle.add.specs.declared.Arena.{Arena}
+use Rattle.add.specs.Answer.{buffer_of, Grows, Adds}
+use Rattle.add.specs.Goes.{Goes, goes_all, goes_next}
 use Rattle.add.specs.Parts.{opened, paired, record_from}
 use Rattle.add.specs.WriteLaws.{write_nil, write-append, length-write}
 use Rattle.apply.specs.Apply.{apply_pairs, apply_within, only}
@@ -24,15 +26,6 @@ use Rattle.apply.specs.Sizes.{sizes_of, size_within, word_before, pairs_after}
 use Rattle.apply.specs.SizeLaws.{OpenedAt, opened-at, AllSized, pairs-sized, within-sized}
 use Rattle.apply.specs.Setting.{Setting}
 use Rattle.apply.proofs.Returns.{front-write}
-
--- In the loop: the steps of all fields are those of the fields that are left, with pairs put before theirs.
-pub record Goes (whole rest : Result Buffer Refusal (List ℕ)) : Type 0 where
-  pub before : List ℕ → List ℕ
-  pub is : whole ≡ next rest (λ others. return (before others))
-
-pub goes-all : (r : Result Buffer Refusal (List ℕ)) → Goes r r
-goes-all (ok pairs b) = record { before = λ others. others; is = refl }
-goes-all (refused e) = record { before = λ others. others; is = refl }
 
 module _ (T : Texts) (n : ℕ) (bs : List Binding) (old : List ℕ) (deep : ℕ) where
   abbrev go : ℕ → Step Buffer Refusal ℕ
@@ -43,124 +36,125 @@ module _ (T : Texts) (n : ℕ) (bs : List Binding) (old : List ℕ) (deep : ℕ)
   steps at left = apply_pairs go (only old) at left
 
   -- the front stays as it was, and as much as was used is used
-  pub front_kept : (base : ℕ) (l : List ℕ) (u x : ℕ) (a : Added) (l₁ : List ℕ) {p : ℕ × ℕ} → base ≤ u → go x (buffer l u) ≡ result_of n a l₁ → a ≡ Ok p → (take base l₁ ≡ take base l) × (u ≤ p.1)
-  front_kept base l u x a l₁ {p} h g e =
-      let grown = within_grows T n bs (only old) deep x (buffer l u) p.0 (buffer l₁ p.1) (g ∙ rw e) in
-      (sym (take-take base u l₁ h) ∙ ap (take base) (sym grown.front.front) ∙ take-take base u l h, grown.more)
+  front_kept : (base : ℕ) (b : Buffer) (x : ℕ) {w : ℕ} {b₁ : Buffer} → base ≤ b.used → go x b ≡ ok w b₁ → (take base b₁.words ≡ take base b.words) × (b.used ≤ b₁.used)
+  front_kept base b x {w} {b₁} h g =
+      let grown = within_grows T n bs (only old) deep x b w b₁ g in
+      (sym (take-take base b.used b₁.words h) ∙ ap (take base) (sym grown.front.front) ∙ take-take base b.used b.words h, grown.more)
 
-  module _ {whole : Result Buffer Refusal (List ℕ)} (here : ℕ) (l : List ℕ) (u : ℕ) {left x : ℕ} (h : Goes whole (steps here left (buffer l u)))
-      (d : left ≡ 0 → ⊥) (ex : x ≡ get_or old (here + 1) 0) (a : Added) (l₁ : List ℕ) (g : go x (buffer l u) ≡ result_of n a l₁) where
-    first-is : steps here left (buffer l u) ≡ next (result_of n a l₁) (λ new s. next (steps (here + 2) (left - 1) s) (λ others. return (get_or old here 0 ∷ new ∷ others)))
+  module _ (here : ℕ) (b : Buffer) {left x : ℕ} (d : left ≡ 0 → ⊥) (ex : x ≡ get_or old (here + 1) 0) where
+    first-is : steps here left b ≡ next (go x b) (λ new s. next (steps (here + 2) (left - 1) s) (λ others. return (get_or old here 0 ∷ new ∷ others)))
     unfolding apply_pairs
-    first-is = ap (λ m. steps here m (buffer l u)) (one_less d) ∙ rw (← ex, g)
+    first-is = ap (λ m. steps here m b) (one_less d) ∙ rw (← ex)
 
-    pub goes-next : {p : ℕ × ℕ} → a ≡ Ok p → Goes whole (steps (here + 2) (left - 1) (buffer l₁ p.1))
-    goes-next {p} e = by (steps (here + 2) (left - 1) (buffer l₁ p.1)) refl
-      where
-        by : (r : Result Buffer Refusal (List ℕ)) → steps (here + 2) (left - 1) (buffer l₁ p.1) ≡ r → Goes whole (steps (here + 2) (left - 1) (buffer l₁ p.1))
-        by (ok others b) q = record { before = λ rest. h.before (get_or old here 0 ∷ p.0 ∷ rest); is = h.is ∙ rw (first-is, e, q) }
-        by (refused x) q = record { before = λ rest. rest; is = h.is ∙ rw (first-is, e, q) }
-
-    pub goes-stop : (at fields used : ℕ) (l₀ : List ℕ) {e : AddError} → whole ≡ steps at fields (buffer l₀ used) → a ≡ Err e
-        → record_from n fields 0 (steps at fields) (buffer l₀ used) ≡ result_of n (Err e) l₁
-    unfolding record_from
-    goes-stop at fields used l₀ w o = rw (← w, h.is, first-is, o)
-
-  -- After the loop: the pairs are those that go by the words used, and the Record is opened.
-  module _ (at fields used : ℕ) (l₀ : List ℕ) (here : ℕ) (l : List ℕ) (u : ℕ) {left : ℕ} (h : Goes (steps at fields (buffer l₀ used)) (steps here left (buffer l u))) (z : left ≡ 0) where
-    whole_is : steps at fields (buffer l₀ used) ≡ ok (h.before []) (buffer l u)
+  -- After the loop: the pairs are those that go by the words used.
+  module _ (at fields : ℕ) (b b' : Buffer) (here : ℕ) {left : ℕ} (h : Goes (steps at fields b) (steps here left b')) (z : left ≡ 0) where
+    whole_is : steps at fields b ≡ ok (h.before []) b'
     unfolding apply_pairs
     whole_is = h.is ∙ rw z
 
-    sized : AllSized T bs old deep at fields (buffer l₀ used) (h.before []) (buffer l u)
-    sized = pairs-sized T n bs old deep (within-sized T n bs old deep) fields at (buffer l₀ used) (h.before []) (buffer l u) whole_is
+    sized : AllSized T bs old deep at fields b (h.before []) b'
+    sized = pairs-sized T n bs old deep (within-sized T n bs old deep) fields at b (h.before []) b' whole_is
 
-    after_is : steps at fields (buffer l₀ used) ≡ ok (pairs_after T bs old deep used at fields) (buffer l u)
+    after_is : steps at fields b ≡ ok (pairs_after T bs old deep b.used at fields) b'
     after_is = whole_is ∙ rw sized.are
-
-    module _ (r : Added) (l₁ : List ℕ) (o : opened n fields (buffer l u) ≡ result_of n r l₁) where
-      pub open_stop : {e : AddError} → r ≡ Err e → record_from n fields 0 (steps at fields) (buffer l₀ used) ≡ result_of n (Err e) l₁
-      unfolding record_from
-      open_stop e = rw (after_is, o, e)
-
-      module _ {p : ℕ × ℕ} (e : r ≡ Ok p) where
-        at-end : OpenedAt fields u p.0 l l₁
-        at-end = opened-at n fields l u p.0 l₁ p.1 (o ∙ rw e)
-
-        -- the front stays as it was
-        pub open_front : (base : ℕ) → base ≤ u → take base l₁ ≡ take base l
-        open_front base b = rw at-end.after (front-write base u l (fields ∷ []) b)
-
-        pub open_setting : {base words q : ℕ} → base ≤ u → base ≤ words → at + 2 * fields < 2 ^ 40 → q ≡ payload_of p.0 → Setting T bs old deep used at fields (q + 1) base words
-        open_setting b c d hq =
-            let z : payload_of p.0 ≡ u = rw at-end.word (omega (arith, at-end.room)) in
-            record {
-              fits = omega (arith, sized.used, at-end.room);
-              reads = d;
-              writes = omega (arith, at-end.room);
-              past = omega arith;
-              lent = c;
-            }
-
-        pub open_put : {q : ℕ} {l₂ : List ℕ} → q ≡ payload_of p.0 → l₂ ≡ write l₁ (q + 1) (pairs_after T bs old deep used at fields)
-            → record_from n fields 0 (steps at fields) (buffer l₀ used) ≡ ok p.0 (buffer l₂ p.1)
-        unfolding record_from paired
-        open_put hq h₂ =
-            let place : payload_of p.0 + 1 + 2 * 0 ≡ payload_of p.0 + 1 = omega arith in
-            rw (after_is, o, e, h₂, hq, place)
 
 -- ── The loop that puts types for the slots of the fields ──
 
--- where it stands: u words are used, `left` fields from index `here` on are left
-pub record Applying (T : Texts) (bs : List Binding) (deep base : ℕ) (l₀ : List ℕ) (used at fields : ℕ) (l : List ℕ) (u here left : ℕ) : Type 0 where
-  pub goes : (n : ℕ) → Goes (steps T n bs (take base l₀) deep at fields (buffer l₀ used)) (steps T n bs (take base l₀) deep here left (buffer l u))
-  pub front : take base l ≡ take base l₀
-  pub long : length l ≡ length l₀
-  pub past : base ≤ u
+-- where it stands: `left` fields from index `here` on are left
+pub record Applying (T : Texts) (bs : List Binding) (deep base : ℕ) (a₀ : Arena) (at fields : ℕ) (a : Arena) (here left : ℕ) : Type 0 where
+  pub goes : (n : ℕ) → Goes (steps T n bs (take base a₀.words.now) deep at fields (buffer_of a₀)) (steps T n bs (take base a₀.words.now) deep here left (buffer_of a))
+  pub front : take base a.words.now ≡ take base a₀.words.now
+  pub lent : a.words.ghost_name ≡ a₀.words.ghost_name
+  pub keeps : length a.words.now ≡ length a₀.words.now
+  pub past : base ≤ a.used
   pub reads : here + 2 * left < 2 ^ 40
 
-pub applying_all : (T : Texts) (bs : List Binding) (deep base : ℕ) (l : List ℕ) (used at fields : ℕ) {here left : ℕ} → here ≡ at → left ≡ fields → base ≤ used → at + 2 * fields < 2 ^ 40
-    → Applying T bs deep base l used at fields l used here left
-applying_all T bs deep base l used at fields eh el p r = rw (eh, el) record { goes = λ n. goes-all _; front = refl; long = refl; past = p; reads = r }
+pub applying_all : (T : Texts) (bs : List Binding) (deep base : ℕ) (a : Arena) (at fields : ℕ) {here left : ℕ} → here ≡ at → left ≡ fields → base ≤ a.used → at + 2 * fields < 2 ^ 40
+    → Applying T bs deep base a at fields a here left
+applying_all T bs deep base a at fields eh el p r = rw (eh, el) record { goes = λ n. goes_all _; front = refl; lent = refl; keeps = refl; past = p; reads = r }
 
-module _ {T : Texts} {bs : List Binding} {deep base : ℕ} {l₀ : List ℕ} {used at fields : ℕ} {l : List ℕ} {u here left : ℕ} (h : Applying T bs deep base l₀ used at fields l u here left) where
-  module _ (d : left ≡ 0 → ⊥) {x : ℕ} (ex : x ≡ get_or (take base l) (here + 1) 0) (a : Added) (l₁ : List ℕ)
-      (g : (n : ℕ) → apply_within T n bs (only (take base l)) deep x (buffer l u) ≡ result_of n a l₁) where
-    word-old : x ≡ get_or (take base l₀) (here + 1) 0
-    word-old = rw h.front at ex
+-- the steps of the whole Record
+abbrev record-steps : Texts → List Binding → (old : List ℕ) → (deep at fields n : ℕ) → Step Buffer Refusal ℕ
+record-steps T bs old deep at fields n = record_from n fields 0 (steps T n bs old deep at fields)
 
-    step-old : (n : ℕ) → apply_within T n bs (only (take base l₀)) deep x (buffer l u) ≡ result_of n a l₁
-    step-old n = rw h.front at (g n)
+module _ {T : Texts} {bs : List Binding} {deep base : ℕ} {a₀ : Arena} {at fields : ℕ} {a : Arena} {here left : ℕ} (h : Applying T bs deep base a₀ at fields a here left) where
+  module _ (d : left ≡ 0 → ⊥) {x : ℕ} {seen : List ℕ} (es : seen ≡ take base a.words.now) (ex : x ≡ get_or seen (here + 1) 0) where
+    word-old : x ≡ get_or (take base a₀.words.now) (here + 1) 0
+    word-old = ex ∙ ap (λ l. get_or l (here + 1) 0) (es ∙ h.front)
 
-    pub applying_stop : {e : AddError} → a ≡ Err e → (n : ℕ) → record_from n fields 0 (steps T n bs (take base l₀) deep at fields) (buffer l₀ used) ≡ result_of n (Err e) l₁
-    applying_stop o n = goes-stop T n bs (take base l₀) deep here l u (h.goes n) d word-old a l₁ (step-old n) at fields used l₀ refl o
+    step-old : {r : Answered ℕ AddError} {a₁ : Arena} → Grows (λ _ n. apply_within T n bs (only (take base a.words.now)) deep x) a r a₁
+        → Grows (λ _ n. apply_within T n bs (only (take base a₀.words.now)) deep x) a r a₁
+    step-old g = rw h.front at g
 
-    pub applying_next : {p : ℕ × ℕ} {here' left' : ℕ} → here' ≡ here + 2 → left' ≡ left - 1 → a ≡ Ok p → length l₁ ≡ length l → Applying T bs deep base l₀ used at fields l₁ p.1 here' left'
-    applying_next eh el e k =
-        let f = front_kept T 0 bs (take base l₀) deep base l u x a l₁ h.past (step-old 0) e in
+    pub applying_stop : {e : AddError} {a₁ : Arena} → Grows (λ _ n. apply_within T n bs (only (take base a.words.now)) deep x) a (Err e) a₁
+        → Grows (λ _ n. record-steps T bs (take base a₀.words.now) deep at fields n) a₀ (Err e) a₁
+    unfolding record_from
+    applying_stop g = record {
+      lent = g.lent ∙ h.lent;
+      keeps = g.keeps ∙ h.keeps;
+      result = λ _ n. rw ((h.goes n).is, first-is T n bs (take base a₀.words.now) deep here (buffer_of a) d word-old, (step-old g).result T n);
+    }
+
+    pub applying_next : {a₁ : Arena} {w here' left' : ℕ} → here' ≡ here + 2 → left' ≡ left - 1 → Grows (λ _ n. apply_within T n bs (only (take base a.words.now)) deep x) a (Ok w) a₁
+        → Applying T bs deep base a₀ at fields a₁ here' left'
+    applying_next {a₁} {w} eh el g =
+        let old = take base a₀.words.now in
+        let g' = step-old g in
+        let f = front_kept T 0 bs old deep base (buffer_of a) x h.past (g'.result T 0) in
         rw (eh, el) record {
-          goes = λ n. goes-next T n bs (take base l₀) deep here l u (h.goes n) d word-old a l₁ (step-old n) e;
+          goes = λ n. goes_next (steps T n bs old deep (here + 2) (left - 1)) (get_or old here 0) w (buffer_of a₁) (h.goes n)
+              (first-is T n bs old deep here (buffer_of a) d word-old ∙ rw (g'.result T n));
           front = f.0 ∙ h.front;
-          long = k ∙ h.long;
+          lent = g.lent ∙ h.lent;
+          keeps = g.keeps ∙ h.keeps;
           past = omega (arith, h.past, f.1);
           reads = omega (arith, h.reads, d);
         }
 
   -- and after it
-  module _ (z : left ≡ 0) (r : Added) (l₁ : List ℕ) (o : (n : ℕ) → opened n fields (buffer l u) ≡ result_of n r l₁) where
-    pub record_stop : {e : AddError} → r ≡ Err e → (n : ℕ) → record_from n fields 0 (steps T n bs (take base l₀) deep at fields) (buffer l₀ used) ≡ result_of n (Err e) l₁
-    record_stop q n = open_stop T n bs (take base l₀) deep at fields used l₀ here l u (h.goes n) z r l₁ (o n) q
+  module _ (z : left ≡ 0) {a₁ : Arena} where
+    pub record_stop : {e : AddError} → Adds (λ _ n. opened n fields) a (Err e) a₁ → Grows (λ _ n. record-steps T bs (take base a₀.words.now) deep at fields n) a₀ (Err e) a₁
+    unfolding record_from
+    record_stop g = record {
+      lent = g.grows.lent ∙ h.lent;
+      keeps = g.grows.keeps ∙ h.keeps;
+      result = λ _ n. rw (after_is T n bs (take base a₀.words.now) deep at fields (buffer_of a₀) (buffer_of a) here (h.goes n) z, g.grows.result T n);
+    }
 
-    module _ {p : ℕ × ℕ} (e : r ≡ Ok p) where
-      front-old : take base l₁ ≡ take base l₀
-      front-old = open_front T 0 bs (take base l₀) deep at fields used l₀ here l u (h.goes 0) z r l₁ (o 0) e base h.past ∙ h.front
+    module _ {w : ℕ} (g : Adds (λ _ n. opened n fields) a (Ok w) a₁) where
+      at-end : OpenedAt fields a.used w a.words.now a₁.words.now
+      at-end = opened-at 0 fields a.words.now a.used w a₁.words.now a₁.used (g.grows.result T 0)
 
-      pub record_setting : {q : ℕ} → base ≤ length l₁ → at + 2 * fields < 2 ^ 40 → q ≡ payload_of p.0 → Setting T bs (take base l₁) deep used at fields (q + 1) base (length l₁)
-      record_setting c b hq = rw front-old (open_setting T 0 bs (take base l₀) deep at fields used l₀ here l u (h.goes 0) z r l₁ (o 0) e h.past c b hq)
+      front-old : take base a₁.words.now ≡ take base a₀.words.now
+      front-old = rw at-end.after (front-write base a.used a.words.now (fields ∷ []) h.past) ∙ h.front
 
-      pub record_put : {q : ℕ} {l₂ : List ℕ} → q ≡ payload_of p.0 → l₂ ≡ write l₁ (q + 1) (pairs_after T bs (take base l₁) deep used at fields)
-          → (n : ℕ) → record_from n fields 0 (steps T n bs (take base l₀) deep at fields) (buffer l₀ used) ≡ ok p.0 (buffer l₂ p.1)
-      record_put hq h₂ n = open_put T n bs (take base l₀) deep at fields used l₀ here l u (h.goes n) z r l₁ (o n) e hq (rw front-old at h₂)
+      pub record_setting : {q : ℕ} → base ≤ length a₁.words.now → at + 2 * fields < 2 ^ 40 → q ≡ payload_of w
+          → Setting T bs (take base a₁.words.now) deep a₀.used at fields (q + 1) base (length a₁.words.now)
+      record_setting c b hq =
+          let old = take base a₀.words.now in
+          let whole = sized T 0 bs old deep at fields (buffer_of a₀) (buffer_of a) here (h.goes 0) z in
+          let word : payload_of w ≡ a.used = rw at-end.word (omega (arith, at-end.room)) in
+          rw front-old record {
+            fits = omega (arith, whole.used, at-end.room);
+            reads = b;
+            writes = omega (arith, at-end.room);
+            past = omega (arith, h.past);
+            lent = c;
+          }
+
+      pub record_put : {q : ℕ} {a₂ : Arena} → q ≡ payload_of w → a₂.words.ghost_name ≡ a₁.words.ghost_name → a₂.used ≡ a₁.used
+          → a₂.words.now ≡ write a₁.words.now (q + 1) (pairs_after T bs (take base a₁.words.now) deep a₀.used at fields)
+          → Grows (λ _ n. record-steps T bs (take base a₀.words.now) deep at fields n) a₀ (Ok w) a₂
+      unfolding record_from paired
+      record_put {q} hq el eu h₂ =
+          let old = take base a₀.words.now in
+          let place : payload_of w + 1 + 2 * 0 ≡ payload_of w + 1 = omega arith in
+          let e = rw front-old at h₂ in
+          record {
+            lent = el ∙ g.grows.lent ∙ h.lent;
+            keeps = ap length e ∙ length-write a₁.words.now (q + 1) (pairs_after T bs old deep a₀.used at fields) ∙ g.grows.keeps ∙ h.keeps;
+            result = λ _ n. rw (after_is T n bs old deep at fields (buffer_of a₀) (buffer_of a) here (h.goes n) z, g.grows.result T n, e, eu, hq, place);
+          }
 
 -- How many words fields add: the first, and the others.
 module _ (size : ℕ → ℕ) (old : List ℕ) (here left : ℕ) where

@@ -1,6 +1,7 @@
 -- Each return of `slot_type`, `add_wrap` and `apply_within`, over variables for what the calls gave: by the kind of the word.
 -- By unfolding the definitions, and the laws of a Record added in parts. Assumes nothing.
-use Rattle.std.specs.Prelude.{Option as Found, Some, None, Ok, Err, unwrap_or}
+use Rattle.std.specs.Prelude.{Option as Found, Some, None, Result as Answered, Ok, Err, unwrap_or, ◌⊎◌}
+use Rattle.std.proofs.Common.{inl, inr}
 use mathlib.Core.Path.{◌≡◌, refl, sym, ap, ◌∙◌}
 use mathlib.Core.Bool.{Bool, true, false}
 use mathlib.Core.Option.{Option}
@@ -10,18 +11,24 @@ use native.Mathlib.Omega.{arith}
 use lib.ListN.{get_or, length, take}
 use lib.Dec.{leb}
 use lib.Seq.{take-take, take_all, take-length}
-use borrow.Author.Tests.{ne_eqb, eqb-true, leb-true, leb-false}
+use borrow.Author.Tests.{leb-true, leb-false}
 use Rattle.tok.specs.Word.{kind_of, payload_of}
 use Rattle.tok.specs.Text.{Texts, name_bytes}
 use Rattle.tok.specs.Step.{Result, ok, Step, Refusal, next, return}
 use Rattle.ptype.specs.Kinds.{wraps}
+use Rattle.ptype.specs.declared.TypeKind.{TypeKind}
+use Rattle.ptype.specs.declared.TypeKind.TheVariants as type
+use Rattle.ptype.specs.TypeKind.{kind_of_type, number_of_type}
+use Rattle.ptype.specs.TypeKindLaws.{type-number, type-wraps}
 use Rattle.ptype.specs.Words.{inner_word, field_count, unfolded}
 use Rattle.ptype.proofs.UnfoldLaws.{one_less}
 use Rattle.ptype.proofs.GrowLaws.{agree-append}
 use Rattle.ptype.specs.Add.{Buffer, buffer, append, write, add_wrap}
 use Rattle.ptype.specs.Slots.{Binding, bound_to, bound_or, has_bound_slot}
 use Rattle.add.specs.declared.AddError.{AddError}
-use Rattle.add.specs.Answer.{Added, result_of}
+use Rattle.add.specs.declared.Arena.{Arena}
+use Rattle.add.specs.Answer.{Added, buffer_of, answer_of, result_of, Grows, Adds}
+use Rattle.add.specs.GrowLaws.{none_grows, grows_of, grows_stop, grows_then}
 use Rattle.add.specs.Parts.{measured, record_from}
 use Rattle.add.specs.StepLaws.{next-ok}
 use Rattle.add.specs.PartsLaws.{record_steps}
@@ -30,9 +37,10 @@ use Rattle.apply.specs.Apply.{apply_pairs, apply_inside, apply_within, apply_wor
 use Rattle.apply.specs.StepLaws.{inside-slot, inside-wrap, inside_record, inside-rest, within-free, within-inside}
 use Rattle.apply.specs.SizeLaws.{slot-stays}
 
--- a kind that holds a type, if it is not Option's, is Array's
-pub array_kind : (k : ℕ) → (k ≡ 6 → ⊥) → wraps k ≡ true → k ≡ 7
-array_kind k d h = eqb-true k 7 (rw (ne_eqb k 6 d) at h)
+-- the number of a kind that holds a type
+pub wrap-number : {x : TypeKind} (k : ℕ) → x ≡ kind_of_type k → (x ≡ type.Option) ⊎ (x ≡ type.Array) → number_of_type x ≡ k
+wrap-number k e (inl p) = ap number_of_type p ∙ sym (type-number k (sym p ∙ e))
+wrap-number k e (inr p) = ap number_of_type p ∙ sym (type-number k (sym p ∙ e))
 
 -- a Record's holds no type of that kind
 pub record_flat : (k : ℕ) → k ≡ 8 → wraps k ≡ false
@@ -86,6 +94,14 @@ apply-start t n bs l used w base e h =
     let o : take base l ≡ take used l = ap (λ m. take m l) e ∙ take-least used l in
     rw o at h
 
+-- on the arena that was made of these words, which are what it leaves
+pub start-given : (t : Texts) (bs : List Binding) (w : ℕ) {l : List ℕ} {used base : ℕ} {a a₁ : Arena} {r : Answered ℕ AddError} {x : Added} {new : List ℕ} → base ≡ min used (length l)
+    → (a.words.now ≡ l) × (a.used ≡ used) → Grows (λ _ n. apply_within t n bs (only (take base a.words.now)) 33 w) a r a₁ → x ≡ answer_of r a₁.used → new ≡ a₁.words.now
+    → (n : ℕ) → apply_word t n bs w (buffer l used) ≡ result_of n x new
+start-given t bs w {l} {used} {base} e m g ex el n =
+    let step = g.result t n in
+    rw (ex, el) (apply-start t n bs l used w base e (rw (m.0, m.1) at step))
+
 -- ── A word, as deep as `deep` says, read from the words `old` ──
 
 module _ (t : Texts) (n : ℕ) (bs : List Binding) (old l : List ℕ) (used w deep : ℕ) where
@@ -116,36 +132,70 @@ module _ (t : Texts) (n : ℕ) (bs : List Binding) (old l : List ℕ) (used w de
         inside_is : Gives (apply_inside t n bs (only old) (apply_within t n bs (only old) (deep - 1)) w (buffer l used))
         inside_is = within-inside t n bs (only old) w (buffer l used) (one_less p) (sym has-is ∙ has)
 
-        module _ {x : ℕ} (hw : wraps k ≡ true) (hx : x ≡ inner_word seen w) (r : Added) (l₁ : List ℕ) (h : apply_within t n bs (only old) (deep - 1) x (buffer l used) ≡ result_of n r l₁) where
-          inner-seen : x ≡ inner_word old w
-          inner-seen = rw eo at hx
-
-          wrap-is : Gives (next (result_of n r l₁) (add_wrap t n k))
-          wrap-is = inside_is ∙ (inside-wrap t n bs (only old) (apply_within t n bs (only old) (deep - 1)) w (buffer l used) hk ns hw ∙ rw (← inner-seen, h))
-
-          pub wrap-stop : {e : AddError} → r ≡ Err e → Gives (result_of n (Err e) l₁)
-          wrap-stop e = wrap-is ∙ rw e
-
-          pub wrap-put : {p : ℕ × ℕ} {y : Result Buffer Refusal ℕ} → r ≡ Ok p → add_wrap t n k p.0 (buffer l₁ p.1) ≡ y → Gives y
-          wrap-put e g = wrap-is ∙ rw e g
+        pub wrap-is : {x : ℕ} → wraps k ≡ true → x ≡ inner_word seen w → Gives (next (apply_within t n bs (only old) (deep - 1) x (buffer l used)) (add_wrap t n k))
+        wrap-is hw hx =
+            inside_is ∙ (inside-wrap t n bs (only old) (apply_within t n bs (only old) (deep - 1)) w (buffer l used) hk ns hw ∙ rw (← (rw eo at hx)))
 
         module _ (nw : wraps k ≡ false) where
-          module _ {x m : ℕ} (r : Added) (l₁ : List ℕ) (e : k ≡ 8) (hx : x ≡ payload_of w) (hm : m ≡ field_count seen w)
-              (h : record_from n m 0 (apply_pairs (apply_within t n bs (only old) (deep - 1)) (only old) (x + 1) m) (buffer l used) ≡ result_of n r l₁) where
-            record_is : Gives (next (result_of n r l₁) (measured t n))
-            record_is =
-                let go = apply_within t n bs (only old) (deep - 1) in
-                let ho : m ≡ field_count old w = rw eo at hm in
-                inside_is
-                ∙ (inside_record t n bs (only old) go w (buffer l used) hk ns nw e
-                ∙ rw (← ho, ← hx)
-                (record_steps t n m (apply_pairs go (only old) (x + 1) m) (buffer l used) (λ pairs b. two-each go (only old) m (x + 1) (buffer l used) pairs b) ∙ ap (λ a. next a (measured t n)) h))
-
-            pub record_refused : {e : AddError} → r ≡ Err e → Gives (result_of n (Err e) l₁)
-            record_refused e = record_is ∙ rw e
-
-            pub record_closed : {p : ℕ × ℕ} {y : Result Buffer Refusal ℕ} → r ≡ Ok p → measured t n p.0 (buffer l₁ p.1) ≡ y → Gives y
-            record_closed e g = record_is ∙ rw e g
+          pub record_is : {x m : ℕ} → k ≡ 8 → x ≡ payload_of w → m ≡ field_count seen w
+              → Gives (next (record_from n m 0 (apply_pairs (apply_within t n bs (only old) (deep - 1)) (only old) (x + 1) m) (buffer l used)) (measured t n))
+          record_is {x} {m} e hx hm =
+              let go = apply_within t n bs (only old) (deep - 1) in
+              let ho : m ≡ field_count old w = rw eo at hm in
+              inside_is
+              ∙ (inside_record t n bs (only old) go w (buffer l used) hk ns nw e
+              ∙ rw (← ho, ← hx)
+              (record_steps t n m (apply_pairs go (only old) (x + 1) m) (buffer l used) (λ pairs b. two-each go (only old) m (x + 1) (buffer l used) pairs b)))
 
           pub apply-rest : (k ≡ 8 → ⊥) → Gives (ok w (buffer l used))
           apply-rest d = inside_is ∙ inside-rest t n bs (only old) (apply_within t n bs (only old) (deep - 1)) w (buffer l used) hk ns nw d
+
+-- ── The same on an arena ──
+
+module _ (t : Texts) (bs : List Binding) (old : List ℕ) (a : Arena) (w deep : ℕ) where
+  abbrev Given : Answered ℕ AddError → Arena → Type 0
+  Given r a' = Grows (λ _ n. apply_within t n bs (only old) deep w) a r a'
+
+  pub none-given : deep ≡ 0 → Given (Ok w) a
+  none-given e = none_grows (λ _ n. apply-none t n bs old a.words.now a.used w deep e)
+
+  module _ {k : ℕ} (p : deep ≡ 0 → ⊥) (hk : k ≡ kind_of w) where
+    pub slot-given : {x : ℕ} → k ≡ 10 → x ≡ bound_or w (bound_to (name_bytes t w) bs) → Given (Ok x) a
+    slot-given e hx = none_grows (λ _ n. apply-slot t n bs old a.words.now a.used w deep p hk e hx)
+
+    module _ {q : Bool} {seen : List ℕ} (eo : seen ≡ old) (ns : k ≡ 10 → ⊥) (hq : q ≡ has_bound_slot bs (unfolded t seen deep w)) where
+      pub free-given : q ≡ false → Given (Ok w) a
+      free-given e = none_grows (λ _ n. apply-free t n bs old a.words.now a.used w deep p hk eo ns hq e)
+
+      module _ (has : q ≡ true) where
+        module _ {x : ℕ} {seen' : List ℕ} {kind : TypeKind} (eo' : seen' ≡ old) (hw : (kind ≡ type.Option) ⊎ (kind ≡ type.Array)) (ek : kind ≡ kind_of_type k) (hx : x ≡ inner_word seen' w) where
+          wrapping : (n : ℕ) → apply_within t n bs (only old) deep w (buffer_of a) ≡ next (apply_within t n bs (only old) (deep - 1) x (buffer_of a)) (add_wrap t n (number_of_type kind))
+          wrapping n =
+              let hx' : x ≡ inner_word seen w = rw (eo, ← eo') hx in
+              rw (wrap-number k ek hw) (wrap-is t n bs old a.words.now a.used w deep p hk eo ns hq has (type-wraps k ek hw) hx')
+
+          pub wrap-stop : {e : AddError} {a₁ : Arena} → Grows (λ _ n. apply_within t n bs (only old) (deep - 1) x) a (Err e) a₁ → Given (Err e) a₁
+          wrap-stop = grows_stop (λ _ n. add_wrap t n (number_of_type kind)) (λ _ n. wrapping n)
+
+          pub wrap-put : {v : ℕ} {r : Answered ℕ AddError} {a₁ a₂ : Arena} → Grows (λ _ n. apply_within t n bs (only old) (deep - 1) x) a (Ok v) a₁
+              → Adds (λ t n. add_wrap t n (number_of_type kind) v) a₁ r a₂ → Given r a₂
+          wrap-put g h = grows_then (λ _ n. add_wrap t n (number_of_type kind)) (λ _ n. wrapping n) g (grows_of t h.grows)
+
+        module _ {x m : ℕ} {seen' : List ℕ} (eo' : seen' ≡ old) (e : k ≡ 8) (hx : x ≡ payload_of w) (hm : m ≡ field_count seen' w) where
+          abbrev fields-steps : (n : ℕ) → Step Buffer Refusal ℕ
+          fields-steps n = record_from n m 0 (apply_pairs (apply_within t n bs (only old) (deep - 1)) (only old) (x + 1) m)
+
+          measuring : (n : ℕ) → apply_within t n bs (only old) deep w (buffer_of a) ≡ next (fields-steps n (buffer_of a)) (measured t n)
+          measuring n =
+              let hm' : m ≡ field_count seen w = rw (eo, ← eo') hm in
+              record_is t n bs old a.words.now a.used w deep p hk eo ns hq has (record_flat k e) e hx hm'
+
+          pub record_refused : {y : AddError} {a₁ : Arena} → Grows (λ _ n. fields-steps n) a (Err y) a₁ → Given (Err y) a₁
+          record_refused = grows_stop (λ _ n. measured t n) (λ _ n. measuring n)
+
+          pub record_closed : {v : ℕ} {r : Answered ℕ AddError} {a₁ : Arena} → Grows (λ _ n. fields-steps n) a (Ok v) a₁
+              → ((T : Texts) (n : ℕ) → measured T n v (buffer_of a₁) ≡ result_of n (answer_of r a₁.used) a₁.words.now) → Given r a₁
+          record_closed g c = grows_then (λ _ n. measured t n) (λ _ n. measuring n) g (record { lent = refl; keeps = refl; result = λ _ n. c t n })
+
+        pub rest-given : wraps k ≡ false → (k ≡ 8 → ⊥) → Given (Ok w) a
+        rest-given nw d = none_grows (λ _ n. apply-rest t n bs old a.words.now a.used w deep p hk eo ns hq has nw d)

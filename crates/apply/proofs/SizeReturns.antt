@@ -3,7 +3,7 @@
 use mathlib.Core.Path.{◌≡◌, refl, sym, ◌∙◌}
 use mathlib.Core.Bool.{Bool, true, false}
 use mathlib.Core.List.{List}
-use Prim.Native.Nat.{ℕ, ◌+◌, ◌-◌, ◌*◌, ◌≤◌, ◌<◌}
+use Prim.Native.Nat.{ℕ, ◌+◌, ◌-◌, ◌*◌, ◌≤◌}
 use native.Mathlib.Omega.{arith}
 use native.Mathlib.Decide.{ℕ_discrete}
 use Rattle.tok.specs.Word.{kind_of, payload_of, word_of}
@@ -14,14 +14,6 @@ use Rattle.ptype.proofs.UnfoldLaws.{one_less}
 use Rattle.ptype.specs.Slots.{Binding, bound_to, bound_or, has_bound_slot}
 use Rattle.apply.specs.Sizes.{sizes_of, size_within, word_before}
 use Rattle.apply.specs.SizeLaws.{size-wrap, size_record, size-rest, word-slot, word_same, word-wrap, word_record, size-free, size-inside, word-level}
-use Rattle.apply.proofs.Returns.{array_kind}
-
--- a kind that holds a type is one of the sixteen
-pub wraps-low : (k : ℕ) → wraps k ≡ true → k < 16
-wraps-low k h = elim (ℕ_discrete k 6) [
-  | yes e ↦ omega arith
-  | no d ↦ omega (arith, array_kind k d h)
-]
 
 module _ (t : Texts) (bs : List Binding) (old : List ℕ) (w deep : ℕ) where
   abbrev size : ℕ

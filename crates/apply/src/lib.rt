@@ -1,20 +1,18 @@
 // Puts types for the slots of a type (ptype.rs: apply_slot_binding).
 #![tactic(auto)]
 
-ghost use Rattle.std.specs.Prelude.{◌≡◌, true, List, ℕ, ◌+◌, ◌*◌, ◌<◌, ◌≤◌, ◌^◌, length, take};
-ghost use Rattle.tok.specs.Word.{kind_of};
+ghost use Rattle.std.specs.Prelude.{◌≡◌, List, ℕ, ◌+◌, ◌*◌, ◌<◌, ◌≤◌, ◌^◌, length, take};
 ghost use Rattle.tok.specs.Text.{Texts, name_bytes};
-ghost use Rattle.ptype.specs.Kinds.{wraps};
-ghost use Rattle.ptype.specs.Add.{buffer, add_wrap, write};
+ghost use Rattle.ptype.specs.Add.{buffer, write};
 ghost use Rattle.ptype.specs.Slots.{Binding, bound_to, bound_or};
-ghost use Rattle.add.specs.Answer.{result_of, Adds};
+ghost use Rattle.add.specs.Answer.{result_of, Grows};
 ghost use Rattle.add.specs.Parts.{record_from};
 ghost use Rattle.slots.specs.Bindings.{bindings_of};
 ghost use Rattle.apply.specs.Apply.{apply_pairs, apply_within, apply_word, only};
 ghost use Rattle.apply.specs.Sizes.{sizes_of, size_within, word_before, pairs_after};
 ghost use Rattle.apply.specs.Setting.{Setting};
 
-use add::{Added, word_of};
+use add::{AddError, Added, Arena, MOST_LEVELS, word_of};
 use ptype::{TypeKind, field_count, field_type, inner};
 use slots::Bindings;
 use tok::{Texts, payload, word_at};
@@ -31,49 +29,51 @@ pub fn apply_slot_binding(
     ensures { ((n : ℕ) → apply_word texts.now n (bindings_of texts.now bindings.now) w (buffer types.old used) ≡ result_of n result types.new) }
 {
     let base = used.min(types.len());
-    apply_within(types, base, used, texts, bindings, w, 33)
+    let mut arena = Arena::new(types, used);
+    let word = apply_within(&mut arena, base, texts, bindings, w, MOST_LEVELS + 1);
+    arena.answer(word)
 }
 
 // The same, as deep as `depth` says. The type is read from the first `base` words, which stay as they are.
 #[cycle(apply_fields_apply_within)]
 fn apply_within(
-    types: &mut [u32],
+    arena: &mut Arena,
     base: usize,
-    used: usize,
     texts: &Texts,
     bindings: &Bindings,
     w: u32,
     depth: usize,
-) -> Added
-    requires { (base ≤ used) × (base ≤ length types.old) }
-    ensures { let bs : List Binding = bindings_of texts.now bindings.now in
-        let old : List ℕ = take base types.old in
-        ((n : ℕ) → apply_within texts.now n bs (only old) depth w (buffer types.old used) ≡ result_of n result types.new) }
+) -> Result<u32, AddError>
+    requires { (base ≤ arena.old.used) × (base ≤ length arena.old.words.now) }
+    ensures { let T : Texts = texts.now in
+        let bs : List Binding = bindings_of T bindings.now in
+        let old : List ℕ = take base arena.old.words.now in
+        Grows (λ _ n. apply_within T n bs (only old) depth w) arena.old result arena.new }
 {
     if depth == 0 {
-        return Ok((w, used));
+        return Ok(w);
     }
     let below = depth - 1;
     let kind = TypeKind::of(w);
     if let TypeKind::Slot = kind {
-        return Ok((slot_type(texts, bindings, w), used));
+        return Ok(slot_type(texts, bindings, w));
     }
-    if !slots::has_bound_slot_within(bindings, &types[..base], texts, w, depth) {
-        return Ok((w, used));
+    if !slots::has_bound_slot_within(bindings, arena.first(base), texts, w, depth) {
+        return Ok(w);
     }
     match kind {
         TypeKind::Option | TypeKind::Array => {
-            let x = inner(&types[..base], w);
-            let (new, u) = apply_within(types, base, used, texts, bindings, x, below)?;
-            add_wrap(types, u, w, new)
+            let x = inner(arena.first(base), w);
+            let new = apply_within(arena, base, texts, bindings, x, below)?;
+            arena.add_wrap(kind, new)
         }
         TypeKind::Record => {
-            let n = field_count(&types[..base], w);
+            let n = field_count(arena.first(base), w);
             let at = payload(w) + 1;
-            let (new, u) = apply_fields(types, base, used, texts, bindings, at, n, below)?;
-            add::close_record(types, new, u)
+            let new = apply_fields(arena, base, texts, bindings, at, n, below)?;
+            arena.close_record(new)
         }
-        _ => Ok((w, used)),
+        _ => Ok(w),
     }
 }
 
@@ -81,31 +81,39 @@ fn apply_within(
 // its pairs are set. They are not kept until then, since the words used say what each of them is.
 #[cycle(apply_fields_apply_within)]
 fn apply_fields(
-    types: &mut [u32],
+    arena: &mut Arena,
     base: usize,
-    used: usize,
     texts: &Texts,
     bindings: &Bindings,
     at: usize,
     fields: usize,
     depth: usize,
-) -> Added
-    requires { ((base ≤ used) × (base ≤ length types.old)) × (at + 2 * fields < 2 ^ 40) }
+) -> Result<u32, AddError>
+    requires { ((base ≤ arena.old.used) × (base ≤ length arena.old.words.now)) × (at + 2 * fields < 2 ^ 40) }
     ensures { let T : Texts = texts.now in
         let bs : List Binding = bindings_of T bindings.now in
-        let old : List ℕ = take base types.old in
-        ((n : ℕ) → record_from n fields 0 (apply_pairs (apply_within T n bs (only old) depth) (only old) at fields) (buffer types.old used) ≡ result_of n result types.new) }
+        let old : List ℕ = take base arena.old.words.now in
+        Grows (λ _ n. record_from n fields 0 (apply_pairs (apply_within T n bs (only old) depth) (only old) at fields)) arena.old result arena.new }
 {
-    let mut u = used;
+    let used = arena.used;
     for i in 0..fields {
-        let x = field_type(&types[..base], at + 2 * i);
-        let (_, more) = apply_within(types, base, u, texts, bindings, x, depth)?;
-        u = more;
+        let x = field_type(arena.first(base), at + 2 * i);
+        apply_within(arena, base, texts, bindings, x, depth)?;
     }
-    let (new, end) = add::open_record(types, u, fields)?;
+    let new = arena.open_record(fields)?;
     let place = payload(new) + 1;
-    set_pairs(types, base, used, texts, bindings, at, fields, depth, place);
-    Ok((new, end))
+    set_pairs(
+        arena.words,
+        base,
+        used,
+        texts,
+        bindings,
+        at,
+        fields,
+        depth,
+        place,
+    );
+    Ok(new)
 }
 
 // Sets the pairs of fields whose types were put after `used` words, from `place` on.
@@ -163,11 +171,8 @@ fn applied_word(
         return w;
     }
     match kind {
-        TypeKind::Option | TypeKind::Array => word_of(tok::kind(w), end - 1),
-        _ => word_of(
-            TypeKind::Record.number(),
-            end - (1 + 2 * field_count(old, w)),
-        ),
+        TypeKind::Option | TypeKind::Array => word_of(kind, end - 1),
+        _ => word_of(TypeKind::Record, end - (1 + 2 * field_count(old, w))),
     }
 }
 
@@ -224,15 +229,4 @@ fn slot_type(texts: &Texts, bindings: &Bindings, slot: u32) -> u32
     ensures { result ≡ bound_or slot (bound_to (name_bytes texts.now slot) (bindings_of texts.now bindings.now)) }
 {
     bindings.bound_to(texts, slot).unwrap_or(slot)
-}
-
-// Adds an Option or an Array, whichever the type `like` is.
-fn add_wrap(types: &mut [u32], used: usize, like: u32, inner: u32) -> Added
-    requires { wraps (kind_of like) ≡ true }
-    ensures { Adds (λ t n. add_wrap t n (kind_of like) inner) types.old used result types.new }
-{
-    match TypeKind::of(like) {
-        TypeKind::Option => add::add_option(types, used, inner),
-        _ => add::add_array(types, used, inner),
-    }
 }

@@ -7,10 +7,10 @@ use Rattle.std.proofs.Common.{sym, ◌∙◌, arith}
 use Rattle.tok.specs.Word.{payload_of}
 use Rattle.tok.specs.Text.{Texts, texts_of}
 use Rattle.tok.specs.Step.{when, ◌>>=◌}
-use Rattle.ptype.specs.Add.{write}
+use Rattle.ptype.specs.Add.{buffer, write}
 use Rattle.places.specs.NodesAt.{NodeReady, part-ready}
 use Rattle.spans.specs.Ready.{ValuesReady}
-use Rattle.add.specs.Answer.{Added, Adds}
+use Rattle.add.specs.Answer.{Added, result_of}
 use Rattle.add.specs.Parts.{opened, paired, shallow, measured}
 use Rattle.add.specs.WriteLaws.{write_nil, write-append}
 use Rattle.rules.specs.declared.Answer.{Answer}
@@ -31,10 +31,10 @@ use Rattle.fields.specs.Parts.{record_of, record_end, record_parts-are}
 
 -- ── A Record is opened ──
 
-module _ (n k : ℕ) (st : State) {t t' : List ℕ} {a : Added} (p : Adds (λ _ n. opened n k) t st.used.types a t') where
+module _ (n k : ℕ) (st : State) {t t' : List ℕ} (a : Added) (p : (T : Texts) (n : ℕ) → opened n k (buffer t st.used.types) ≡ result_of n a t') where
   pub opened-is : {v : Visit ℕ} → v ≡ visit_of st (added_of n st.used a) → (words s f d m e : List ℕ) (o : More)
       → Visits (on_types (opened n k)) 0 0 words st (lent s f t d m e o) (lent s f t' d m e o) v
-  opened-is ev words s f d m e o = rw ev (steps-visits (added-step n (opened n k) a (p.result (texts_of [] []) n)) words f e o)
+  opened-is ev words s f d m e o = rw ev (steps-visits (added-step n (opened n k) a (p (texts_of [] []) n)) words f e o)
 
 -- ── The end of Node::Record ──
 

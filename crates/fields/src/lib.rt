@@ -15,6 +15,7 @@ ghost use Rattle.visit.specs.Within.{Visits};
 ghost use Rattle.fields.specs.Read.{node_value, pairs_read};
 ghost use Rattle.fields.specs.Parts.{record_of, record_end};
 
+use add::Arena;
 use places::Image;
 use rules::Answer;
 use state::Refusal;
@@ -28,8 +29,9 @@ fn open(types: &mut [u32], st: State, n: u32, k: usize) -> Visit<u32>
     ensures { (words s f d m e : List ℕ) (o : More) → Visits (on_types (opened n k)) 0 0 words st (lent s f types.old d m e o) (lent s f types.new d m e o) result }
 {
     let used = st.used;
-    let added = add::open_record(types, used.types, k);
-    visit::answered(st, state::added(n, used, added))
+    let mut arena = Arena::new(types, used.types);
+    let opened = arena.open_record(k);
+    visit::answered(st, state::added(n, used, arena.answer(opened)))
 }
 
 // The end of Node::Record, whose record stands at `at`: its type's word is measured, and is its slot's.

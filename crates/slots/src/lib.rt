@@ -19,6 +19,9 @@ pub struct Bindings<'a> {
     pub count: usize,
 }
 
+// "type depth 32": one level more tells a type that is deeper.
+const LEVELS: usize = 33;
+
 // Why a slot is not bound: it is bound to another type (21), or the type is Void (22); or the lent part is too short for the bindings. What was
 // bound before an error stays.
 #[derive(Clone, Copy, Debug, PartialEq, Eq)]
@@ -105,7 +108,7 @@ pub fn bind_slots(
 ) -> Bind
     ensures { Binds texts.now (bind_slots texts.now types.now (ty_of texts.now types.now expected) provided) bindings.old result bindings.new }
 {
-    bind_within(bindings, types, texts, expected, provided, 33)
+    bind_within(bindings, types, texts, expected, provided, LEVELS)
 }
 
 // The same, as deep as `depth` says.

@@ -1,20 +1,22 @@
 -- Each return of `fields_from_exprs`, over variables for what the calls gave: by the fields that are left; and the pairs that are set. By
 -- unfolding the definitions, the laws of a Record added in parts, and that of sizes. Assumes nothing.
 use Rattle.std.specs.Prelude.{Ok, Err}
-use mathlib.Core.Path.{◌≡◌, refl, sym, ◌∙◌}
+use mathlib.Core.Path.{◌≡◌, refl, sym, ap, ◌∙◌}
 use mathlib.Core.List.{List, [], ◌∷◌}
 use Prim.Native.Nat.{ℕ, zero, suc, ◌+◌, ◌-◌, ◌*◌, ◌≤◌}
 use native.Mathlib.Omega.{arith}
 use lib.ListN.{get_or, length}
 use Rattle.tok.specs.Word.{payload_of}
-use Rattle.tok.specs.Text.{Texts}
-use Rattle.tok.specs.Step.{Result, ok, refused, Step, Refusal, next, return}
-use Rattle.ptype.specs.Add.{Buffer, buffer, write}
+use Rattle.tok.specs.Text.{Texts, texts_of}
+use Rattle.tok.specs.Step.{Result, ok, Step, Refusal, next, return}
+use Rattle.ptype.specs.Add.{Buffer, write}
 use Rattle.add.specs.declared.AddError.{AddError}
-use Rattle.add.specs.Answer.{Added, result_of}
+use Rattle.add.specs.declared.Arena.{Arena}
+use Rattle.add.specs.Answer.{buffer_of, Grows}
+use Rattle.add.specs.Goes.{Goes, goes_all, goes_next}
 use Rattle.add.specs.Parts.{opened, paired, record_from}
 use Rattle.add.specs.StepLaws.{next-ok}
-use Rattle.add.specs.WriteLaws.{write_nil, write-append}
+use Rattle.add.specs.WriteLaws.{write_nil, write-append, length-write}
 use Rattle.ast.specs.TypeExpr.{TypeExpr, TypeFields, type_of, type_fields_from}
 use Rattle.ast.specs.TypeFrom.{type_from, fields_from_exprs}
 use Rattle.places.specs.Levels.{levels_of, most_levels}
@@ -23,15 +25,6 @@ use Rattle.type_expr.specs.Ready.{PartReady, FieldsReady}
 use Rattle.type_expr.specs.TypesAt.{first-ready, rest-ready}
 use Rattle.type_expr.specs.Sizes.{size_of, sizes_of, word_before, pairs_after}
 use Rattle.type_expr.specs.SizeLaws.{opened-room, size-fields, fields-none, fields-first, sizes_none, sizes_first}
-
--- In the loop: the steps of all fields are those of the fields that are left, with pairs put before theirs.
-pub record Goes (whole rest : Result Buffer Refusal (List ℕ)) : Type 0 where
-  pub before : List ℕ → List ℕ
-  pub is : whole ≡ next rest (λ others. return (before others))
-
-pub goes-all : (r : Result Buffer Refusal (List ℕ)) → Goes r r
-goes-all (ok pairs b) = record { before = λ others. others; is = refl }
-goes-all (refused e) = record { before = λ others. others; is = refl }
 
 module _ (go : ℕ → TypeExpr) (image : List ℕ) (T : Texts) (n : ℕ) where
   -- the steps of `left` fields from word `at` on
@@ -51,54 +44,26 @@ module _ (go : ℕ → TypeExpr) (image : List ℕ) (T : Texts) (n : ℕ) where
       let l : get_or image at 0 ∷ x.0 ∷ y.0 ≡ pairs = cc y.3 in
       rw (← l) (omega (arith, two-each left (at + 2) x.1 y.0 y.1 y.2))
 
-  module _ {whole : Result Buffer Refusal (List ℕ)} (here : ℕ) (l : List ℕ) (u : ℕ) {left x : ℕ} (h : Goes whole (steps here left (buffer l u)))
-      (d : left ≡ 0 → ⊥) (ex : x ≡ get_or image (here + 1) 0) (a : Added) (l₁ : List ℕ) (g : type_from T n (go x) (buffer l u) ≡ result_of n a l₁) where
-    first-is : steps here left (buffer l u) ≡ next (result_of n a l₁) (λ new s. next (steps (here + 2) (left - 1) s) (λ others. return (get_or image here 0 ∷ new ∷ others)))
+  module _ (here : ℕ) (b : Buffer) {left x : ℕ} (d : left ≡ 0 → ⊥) (ex : x ≡ get_or image (here + 1) 0) where
+    pub first-is : steps here left b ≡ next (type_from T n (go x) b) (λ new s. next (steps (here + 2) (left - 1) s) (λ others. return (get_or image here 0 ∷ new ∷ others)))
     unfolding fields_from_exprs
-    first-is = rw (fields-first go image here d, ← ex, g)
+    first-is = rw (fields-first go image here d, ← ex)
 
-    pub goes-next : {p : ℕ × ℕ} → a ≡ Ok p → Goes whole (steps (here + 2) (left - 1) (buffer l₁ p.1))
-    goes-next {p} e = by (steps (here + 2) (left - 1) (buffer l₁ p.1)) refl
-      where
-        by : (r : Result Buffer Refusal (List ℕ)) → steps (here + 2) (left - 1) (buffer l₁ p.1) ≡ r → Goes whole (steps (here + 2) (left - 1) (buffer l₁ p.1))
-        by (ok others b) q = record { before = λ rest. h.before (get_or image here 0 ∷ p.0 ∷ rest); is = h.is ∙ rw (first-is, e, q) }
-        by (refused x) q = record { before = λ rest. rest; is = h.is ∙ rw (first-is, e, q) }
+    pub goes-next : {whole : Result Buffer Refusal (List ℕ)} {w : ℕ} {b₁ : Buffer} → Goes whole (steps here left b) → type_from T n (go x) b ≡ ok w b₁ → Goes whole (steps (here + 2) (left - 1) b₁)
+    goes-next {w = w} {b₁ = b₁} h g = goes_next (steps (here + 2) (left - 1)) (get_or image here 0) w b₁ h (first-is ∙ rw g)
 
-    pub goes-stop : (at fields used : ℕ) (l₀ : List ℕ) {e : AddError} → whole ≡ steps at fields (buffer l₀ used) → a ≡ Err e
-        → record_from n fields 0 (steps at fields) (buffer l₀ used) ≡ result_of n (Err e) l₁
-    unfolding record_from
-    goes-stop at fields used l₀ w o = rw (← w, h.is, first-is, o)
+-- After the loop: the pairs are those that go by the words used, and the Record is opened.
+module _ (T : Texts) (n : ℕ) (image : List ℕ) (at fields : ℕ) (b b' : Buffer) (here : ℕ) {left : ℕ}
+    (h : Goes (steps (type_of image) image T n at fields b) (steps (type_of image) image T n here left b')) (z : left ≡ 0) where
+  whole_is : steps (type_of image) image T n at fields b ≡ ok (h.before []) b'
+  unfolding fields_from_exprs
+  whole_is = h.is ∙ rw (fields-none (type_of image) image here z)
 
-  -- After the loop: the pairs are those that go by the words used, and the Record is opened.
-  module _ (at fields used : ℕ) (l₀ : List ℕ) (here : ℕ) (l : List ℕ) (u : ℕ) {left : ℕ} (h : Goes (steps at fields (buffer l₀ used)) (steps here left (buffer l u))) (z : left ≡ 0) where
-    abbrev all : TypeFields
-    all = type_fields_from go image at fields
+  used-after : b'.used ≡ b.used + sizes_of (type_fields_from (type_of image) image at fields)
+  used-after = (size-fields T n (type_fields_from (type_of image) image at fields) b (h.before []) b' whole_is).used
 
-    whole_is : steps at fields (buffer l₀ used) ≡ ok (h.before []) (buffer l u)
-    unfolding fields_from_exprs
-    whole_is = h.is ∙ rw (fields-none go image here z)
-
-    pub used-after : u ≡ used + sizes_of all
-    used-after = (size-fields T n all (buffer l₀ used) (h.before []) (buffer l u) whole_is).used
-
-    after_is : steps at fields (buffer l₀ used) ≡ ok (pairs_after used all) (buffer l u)
-    after_is = whole_is ∙ rw (size-fields T n all (buffer l₀ used) (h.before []) (buffer l u) whole_is).are
-
-    module _ (r : Added) (l₁ : List ℕ) (o : opened n fields (buffer l u) ≡ result_of n r l₁) where
-      pub open_stop : {e : AddError} → r ≡ Err e → record_from n fields 0 (steps at fields) (buffer l₀ used) ≡ result_of n (Err e) l₁
-      unfolding record_from
-      open_stop e = rw (after_is, o, e)
-
-      module _ {p : ℕ × ℕ} (e : r ≡ Ok p) where
-        pub open_room : used + sizes_of all ≤ 8192
-        open_room = omega (arith, used-after, opened-room n fields l u p.0 (buffer l₁ p.1) (o ∙ rw e))
-
-        pub open_put : {q : ℕ} {l₂ : List ℕ} → q ≡ payload_of p.0 → l₂ ≡ write l₁ (q + 1) (pairs_after used all)
-            → record_from n fields 0 (steps at fields) (buffer l₀ used) ≡ ok p.0 (buffer l₂ p.1)
-        unfolding record_from paired
-        open_put hq h₂ =
-            let place : payload_of p.0 + 1 + 2 * 0 ≡ payload_of p.0 + 1 = omega arith in
-            rw (after_is, o, e, h₂, hq, place)
+  after_is : steps (type_of image) image T n at fields b ≡ ok (pairs_after b.used (type_fields_from (type_of image) image at fields)) b'
+  after_is = whole_is ∙ rw (size-fields T n (type_fields_from (type_of image) image at fields) b (h.before []) b' whole_is).are
 
 -- ── Where the loops stand: `left` fields from word `here` on are left of `fields` from word `at` on ──
 
@@ -106,37 +71,70 @@ module _ (go : ℕ → TypeExpr) (image : List ℕ) (T : Texts) (n : ℕ) where
 abbrev fields_at : (image : List ℕ) → (at left : ℕ) → TypeFields
 fields_at image at left = type_fields_from (type_of image) image at left
 
--- the types of those before are added, and u words are used
-pub record Building (image places : List ℕ) (owner : ℕ) (l₀ : List ℕ) (used at fields : ℕ) (l : List ℕ) (u here left : ℕ) : Type 0 where
-  pub goes : (T : Texts) (n : ℕ) → Goes (steps (type_of image) image T n at fields (buffer l₀ used)) (steps (type_of image) image T n here left (buffer l u))
+-- the types of those before are added
+pub record Building (image places : List ℕ) (owner : ℕ) (a₀ : Arena) (at fields : ℕ) (a : Arena) (here left : ℕ) : Type 0 where
+  pub goes : (T : Texts) (n : ℕ) → Goes (steps (type_of image) image T n at fields (buffer_of a₀)) (steps (type_of image) image T n here left (buffer_of a))
   pub ready : FieldsReady image places owner here left
-  pub long : length l ≡ length l₀
+  pub lent : a.words.ghost_name ≡ a₀.words.ghost_name
+  pub keeps : length a.words.now ≡ length a₀.words.now
   pub most : most_levels (fields_at image here left) ≤ most_levels (fields_at image at fields)
 
-pub building_all : {image places : List ℕ} {owner : ℕ} (l : List ℕ) (used : ℕ) {at fields here left : ℕ} → here ≡ at → left ≡ fields → FieldsReady image places owner at fields
-    → Building image places owner l used at fields l used here left
-building_all l used eh el r = rw (eh, el) record { goes = λ T n. goes-all _; ready = r; long = refl; most = omega arith }
+pub building_all : {image places : List ℕ} {owner : ℕ} (a : Arena) {at fields here left : ℕ} → here ≡ at → left ≡ fields → FieldsReady image places owner at fields
+    → Building image places owner a at fields a here left
+building_all a eh el r = rw (eh, el) record { goes = λ T n. goes_all _; ready = r; lent = refl; keeps = refl; most = omega arith }
 
-module _ {image places : List ℕ} {owner : ℕ} {l₀ : List ℕ} {used at fields : ℕ} {l : List ℕ} {u here left : ℕ} (h : Building image places owner l₀ used at fields l u here left)
-    (d : left ≡ 0 → ⊥) {x : ℕ} (ex : x ≡ get_or image (here + 1) 0) where
-  pub building_part : PartReady image places owner x
-  building_part = first-ready h.ready d ex
+-- the steps of the whole Record
+abbrev record-steps : (image : List ℕ) → (at fields : ℕ) → Texts → (n : ℕ) → Step Buffer Refusal ℕ
+record-steps image at fields T n = record_from n fields 0 (steps (type_of image) image T n at fields)
 
-  pub building_levels : levels_of (type_of image x) ≤ most_levels (fields_at image at fields)
-  building_levels = omega (arith, h.most, most-first (type_of image) image here left d ex)
+module _ {image places : List ℕ} {owner : ℕ} {a₀ : Arena} {at fields : ℕ} {a : Arena} {here left : ℕ} (h : Building image places owner a₀ at fields a here left) where
+  module _ (d : left ≡ 0 → ⊥) {x : ℕ} (ex : x ≡ get_or image (here + 1) 0) where
+    pub building_part : PartReady image places owner x
+    building_part = first-ready h.ready d ex
 
-  module _ (a : Added) (l₁ : List ℕ) (g : (T : Texts) (n : ℕ) → type_from T n (type_of image x) (buffer l u) ≡ result_of n a l₁) where
-    pub building_stop : {e : AddError} → a ≡ Err e → (T : Texts) (n : ℕ) → record_from n fields 0 (steps (type_of image) image T n at fields) (buffer l₀ used) ≡ result_of n (Err e) l₁
-    building_stop o T n = goes-stop (type_of image) image T n here l u (h.goes T n) d ex a l₁ (g T n) at fields used l₀ refl o
+    pub building_levels : levels_of (type_of image x) ≤ most_levels (fields_at image at fields)
+    building_levels = omega (arith, h.most, most-first (type_of image) image here left d ex)
 
-    pub building_next : {p : ℕ × ℕ} {here' left' : ℕ} → here' ≡ here + 2 → left' ≡ left - 1 → a ≡ Ok p → length l₁ ≡ length l
-        → Building image places owner l₀ used at fields l₁ p.1 here' left'
-    building_next eh el e k = rw (eh, el) record {
-      goes = λ T n. goes-next (type_of image) image T n here l u (h.goes T n) d ex a l₁ (g T n) e;
-      ready = rest-ready h.ready d;
-      long = k ∙ h.long;
-      most = omega (arith, h.most, most-first (type_of image) image here left d ex);
-    }
+    module _ {a₁ : Arena} where
+      pub building_stop : {e : AddError} → Grows (λ T n. type_from T n (type_of image x)) a (Err e) a₁ → Grows (record-steps image at fields) a₀ (Err e) a₁
+      unfolding record_from
+      building_stop g = record {
+        lent = g.lent ∙ h.lent;
+        keeps = g.keeps ∙ h.keeps;
+        result = λ T n. rw ((h.goes T n).is, first-is (type_of image) image T n here (buffer_of a) d ex, g.result T n);
+      }
+
+      pub building_next : {w here' left' : ℕ} → here' ≡ here + 2 → left' ≡ left - 1 → Grows (λ T n. type_from T n (type_of image x)) a (Ok w) a₁
+          → Building image places owner a₀ at fields a₁ here' left'
+      building_next eh el g = rw (eh, el) record {
+        goes = λ T n. goes-next (type_of image) image T n here (buffer_of a) d ex (h.goes T n) (g.result T n);
+        ready = rest-ready h.ready d;
+        lent = g.lent ∙ h.lent;
+        keeps = g.keeps ∙ h.keeps;
+        most = omega (arith, h.most, most-first (type_of image) image here left d ex);
+      }
+
+  module _ (z : left ≡ 0) {a₁ : Arena} where
+    pub record_stop : {e : AddError} → Grows (λ T n. opened n fields) a (Err e) a₁ → Grows (record-steps image at fields) a₀ (Err e) a₁
+    unfolding record_from
+    record_stop g = record { lent = g.lent ∙ h.lent; keeps = g.keeps ∙ h.keeps; result = λ T n. rw (after_is T n image at fields (buffer_of a₀) (buffer_of a) here (h.goes T n) z, g.result T n) }
+
+    module _ {w : ℕ} (g : Grows (λ T n. opened n fields) a (Ok w) a₁) where
+      pub record_room : a₀.used + sizes_of (fields_at image at fields) ≤ 8192
+      record_room =
+          let T = texts_of [] [] in
+          omega (arith, used-after T 0 image at fields (buffer_of a₀) (buffer_of a) here (h.goes T 0) z, opened-room 0 fields a.words.now a.used w (buffer_of a₁) (g.result T 0))
+
+      pub record_put : {q : ℕ} {a₂ : Arena} → q ≡ payload_of w → a₂.words.ghost_name ≡ a₁.words.ghost_name → a₂.used ≡ a₁.used
+          → a₂.words.now ≡ write a₁.words.now (q + 1) (pairs_after a₀.used (fields_at image at fields)) → Grows (record-steps image at fields) a₀ (Ok w) a₂
+      unfolding record_from paired
+      record_put {q} hq el eu h₂ =
+          let place : payload_of w + 1 + 2 * 0 ≡ payload_of w + 1 = omega arith in
+          record {
+            lent = el ∙ g.lent ∙ h.lent;
+            keeps = ap length h₂ ∙ length-write a₁.words.now (q + 1) (pairs_after a₀.used (fields_at image at fields)) ∙ g.keeps ∙ h.keeps;
+            result = λ T n. rw (after_is T n image at fields (buffer_of a₀) (buffer_of a) here (h.goes T n) z, g.result T n, h₂, eu, hq, place);
+          }
 
 -- the sizes of those before are summed
 pub record Summing (image places : List ℕ) (owner at fields sum here left : ℕ) : Type 0 where

@@ -1,5 +1,5 @@
 -- Each return of `type_token`, `type_from_type_expr`, `type_size` and `type_word`, over variables for what the calls gave: by the kind of the record. Assumes nothing.
-use Rattle.std.specs.Prelude.{Ok, Err}
+use Rattle.std.specs.Prelude.{Result as Answered, Ok, Err}
 use mathlib.Core.Path.{◌≡◌, refl, sym, ap, ◌∙◌}
 use mathlib.Core.List.{List}
 use Prim.Native.Nat.{ℕ, ◌+◌, ◌-◌, ◌*◌, ◌/◌}
@@ -13,10 +13,12 @@ use Rattle.ast.specs.Kinds.{kind_of_expr}
 use Rattle.ast.specs.KindLaws.{expr-number}
 use Rattle.tok.specs.Word.{kind_of, payload_of, word_of}
 use Rattle.tok.specs.Text.{Texts}
-use Rattle.tok.specs.Step.{Result, ok, Refusal, next}
-use Rattle.ptype.specs.Add.{Buffer, buffer, add_wrap}
+use Rattle.tok.specs.Step.{Step, Refusal, next}
+use Rattle.ptype.specs.Add.{Buffer, add_wrap}
 use Rattle.add.specs.declared.AddError.{AddError}
-use Rattle.add.specs.Answer.{Added, result_of}
+use Rattle.add.specs.declared.Arena.{Arena}
+use Rattle.add.specs.Answer.{buffer_of, answer_of, result_of, Grows}
+use Rattle.add.specs.GrowLaws.{none_grows, grows_stop, grows_then}
 use Rattle.add.specs.Parts.{measured, record_from}
 use Rattle.add.specs.PartsLaws.{record_steps}
 use Rattle.ast.specs.TypeExpr.{type_of, type_token, type_fields_from}
@@ -58,52 +60,58 @@ module _ {image places : List ℕ} {t at : ℕ} (r : TypeReady image places t) (
 
   -- ── The type ──
 
-  module _ (T : Texts) (n : ℕ) (l : List ℕ) (used : ℕ) where
-    pub from-atom : {x y : ℕ} → k ≡ 0 → y ≡ get_or image (at + 2) 0 → x ≡ word_of y 0 → type_from T n (type_of image t) (buffer l used) ≡ ok x (buffer l used)
+  -- its steps
+  abbrev from : Texts → (n : ℕ) → Step Buffer Refusal ℕ
+  from T n = type_from T n (type_of image t)
+
+  abbrev fields-steps : (m : ℕ) → Texts → (n : ℕ) → Step Buffer Refusal (List ℕ)
+  fields-steps m T n = fields_from_exprs T n (type_fields_from (type_of image) image (at + 2) m)
+
+  module _ {a : Arena} where
+    pub from-atom : {x y : ℕ} → k ≡ 0 → y ≡ get_or image (at + 2) 0 → x ≡ word_of y 0 → Grows from a (Ok x) a
     unfolding type_from
-    from-atom q ey ex = rw (type-atom r ea eh ek q, ex, ey)
+    from-atom q ey ex = none_grows (λ T n. rw (type-atom r ea eh ek q, ex, ey))
 
-    pub from-foreign : {x y : ℕ} → k ≡ 1 → y ≡ get_or image (at + 1) 0 → x ≡ word_of 9 (payload_of y) → type_from T n (type_of image t) (buffer l used) ≡ ok x (buffer l used)
+    pub from-foreign : {x y : ℕ} → k ≡ 1 → y ≡ get_or image (at + 1) 0 → x ≡ word_of 9 (payload_of y) → Grows from a (Ok x) a
     unfolding type_from
-    from-foreign q ey ex = rw (type-foreign r ea eh ek q, ex, ey)
+    from-foreign q ey ex = none_grows (λ T n. rw (type-foreign r ea eh ek q, ex, ey))
 
-    module _ {long m : ℕ} (a : Added) (l₁ : List ℕ) (q : k ≡ 4) (el : long ≡ payload_of h) (em : m ≡ (long - 2) / 2)
-        (g : record_from n m 0 (fields_from_exprs T n (type_fields_from (type_of image) image (at + 2) m)) (buffer l used) ≡ result_of n a l₁) where
-      record_is : type_from T n (type_of image t) (buffer l used) ≡ next (result_of n a l₁) (measured T n)
-      unfolding type_from
-      record_is =
-          rw (type_record_lem r ea eh ek el q, ← em)
-          (record_steps T n m (fields_from_exprs T n (type_fields_from (type_of image) image (at + 2) m)) (buffer l used) (λ pairs b. two-each (type_of image) image T n m (at + 2) (buffer l used) pairs b)
-          ∙ ap (λ x. next x (measured T n)) g)
+  module _ {long m : ℕ} (q : k ≡ 4) (el : long ≡ payload_of h) (em : m ≡ (long - 2) / 2) where
+    record_is : (a : Arena) (T : Texts) (n : ℕ) → from T n (buffer_of a) ≡ next (record_from n m 0 (fields-steps m T n) (buffer_of a)) (measured T n)
+    unfolding type_from
+    record_is a T n =
+        rw (type_record_lem r ea eh ek el q, ← em)
+        (record_steps T n m (fields-steps m T n) (buffer_of a) (λ pairs b. two-each (type_of image) image T n m (at + 2) (buffer_of a) pairs b))
 
-      pub record_refused : {e : AddError} → a ≡ Err e → type_from T n (type_of image t) (buffer l used) ≡ result_of n (Err e) l₁
-      record_refused e = record_is ∙ rw e
+    pub record_refused : {a a₁ : Arena} {e : AddError} → Grows (λ T n. record_from n m 0 (fields-steps m T n)) a (Err e) a₁ → Grows from a (Err e) a₁
+    record_refused {a} = grows_stop (λ T n. measured T n) (record_is a)
 
-      pub record_closed : {p : ℕ × ℕ} {y : Result Buffer Refusal ℕ} → a ≡ Ok p → measured T n p.0 (buffer l₁ p.1) ≡ y → type_from T n (type_of image t) (buffer l used) ≡ y
-      record_closed e p = record_is ∙ rw e p
+    pub record_closed : {a a₁ : Arena} {w : ℕ} {y : Answered ℕ AddError} → Grows (λ T n. record_from n m 0 (fields-steps m T n)) a (Ok w) a₁
+        → ((T : Texts) (n : ℕ) → measured T n w (buffer_of a₁) ≡ result_of n (answer_of y a₁.used) a₁.words.now) → Grows from a y a₁
+    record_closed {a} g c = grows_then (λ T n. measured T n) (record_is a) g (record { lent = refl; keeps = refl; result = c })
 
-    module _ {i : ℕ} (ei : i ≡ get_or image (at + 1) 0) (a : Added) (l₁ : List ℕ) (g : type_from T n (type_of image i) (buffer l used) ≡ result_of n a l₁) where
-      option_is : k ≡ 2 → type_from T n (type_of image t) (buffer l used) ≡ next (result_of n a l₁) (add_wrap T n 6)
-      unfolding type_from
-      option_is q = rw (type-option r ea eh ek q, ← ei, g)
+  module _ {i : ℕ} (ei : i ≡ get_or image (at + 1) 0) where
+    option_is : (a : Arena) → k ≡ 2 → (T : Texts) (n : ℕ) → from T n (buffer_of a) ≡ next (type_from T n (type_of image i) (buffer_of a)) (add_wrap T n 6)
+    unfolding type_from
+    option_is a q T n = rw (type-option r ea eh ek q, ← ei)
 
-      array-is : k ≡ 3 → type_from T n (type_of image t) (buffer l used) ≡ next (result_of n a l₁) (add_wrap T n 7)
-      unfolding type_from
-      array-is q = rw (type-array r ea eh ek q, ← ei, g)
+    array-is : (a : Arena) → k ≡ 3 → (T : Texts) (n : ℕ) → from T n (buffer_of a) ≡ next (type_from T n (type_of image i) (buffer_of a)) (add_wrap T n 7)
+    unfolding type_from
+    array-is a q T n = rw (type-array r ea eh ek q, ← ei)
 
-      module _ (q : k ≡ 2) where
-        pub option-stop : {e : AddError} → a ≡ Err e → type_from T n (type_of image t) (buffer l used) ≡ result_of n (Err e) l₁
-        option-stop e = option_is q ∙ rw e
+    module _ (q : k ≡ 2) where
+      pub option-stop : {a a₁ : Arena} {e : AddError} → Grows (λ T n. type_from T n (type_of image i)) a (Err e) a₁ → Grows from a (Err e) a₁
+      option-stop {a} = grows_stop (λ T n. add_wrap T n 6) (option_is a q)
 
-        pub option-put : {v : ℕ × ℕ} {y : Result Buffer Refusal ℕ} → a ≡ Ok v → add_wrap T n 6 v.0 (buffer l₁ v.1) ≡ y → type_from T n (type_of image t) (buffer l used) ≡ y
-        option-put e p = option_is q ∙ rw e p
+      pub option-put : {a a₁ : Arena} {w : ℕ} {y : Answered ℕ AddError} {a₂ : Arena} → Grows (λ T n. type_from T n (type_of image i)) a (Ok w) a₁ → Grows (λ T n. add_wrap T n 6 w) a₁ y a₂ → Grows from a y a₂
+      option-put {a} = grows_then (λ T n. add_wrap T n 6) (option_is a q)
 
-      module _ (q : k ≡ 3) where
-        pub array-stop : {e : AddError} → a ≡ Err e → type_from T n (type_of image t) (buffer l used) ≡ result_of n (Err e) l₁
-        array-stop e = array-is q ∙ rw e
+    module _ (q : k ≡ 3) where
+      pub array-stop : {a a₁ : Arena} {e : AddError} → Grows (λ T n. type_from T n (type_of image i)) a (Err e) a₁ → Grows from a (Err e) a₁
+      array-stop {a} = grows_stop (λ T n. add_wrap T n 7) (array-is a q)
 
-        pub array-put : {v : ℕ × ℕ} {y : Result Buffer Refusal ℕ} → a ≡ Ok v → add_wrap T n 7 v.0 (buffer l₁ v.1) ≡ y → type_from T n (type_of image t) (buffer l used) ≡ y
-        array-put e p = array-is q ∙ rw e p
+      pub array-put : {a a₁ : Arena} {w : ℕ} {y : Answered ℕ AddError} {a₂ : Arena} → Grows (λ T n. type_from T n (type_of image i)) a (Ok w) a₁ → Grows (λ T n. add_wrap T n 7 w) a₁ y a₂ → Grows from a y a₂
+      array-put {a} = grows_then (λ T n. add_wrap T n 7) (array-is a q)
 
   -- ── How many words it adds, and its word ──
 

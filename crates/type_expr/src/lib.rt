@@ -5,9 +5,9 @@
 ghost use Rattle.std.specs.Prelude.{◌≡◌, ℕ, ◌+◌, ◌<◌, ◌≤◌, ◌^◌};
 ghost use Rattle.tok.specs.Word.{word_of, payload_of};
 ghost use Rattle.tok.specs.Text.{Texts};
-ghost use Rattle.tok.specs.Step.{Result, Refusal, next};
-ghost use Rattle.ptype.specs.Add.{Buffer, buffer, write, add_record};
-ghost use Rattle.add.specs.Answer.{result_of};
+ghost use Rattle.tok.specs.Step.{next};
+ghost use Rattle.ptype.specs.Add.{buffer, write, add_record};
+ghost use Rattle.add.specs.Answer.{result_of, Grows};
 ghost use Rattle.add.specs.Parts.{record_from};
 ghost use Rattle.ast.specs.TypeExpr.{TypeFields, type_of, type_token, type_fields_from};
 ghost use Rattle.ast.specs.TypeFrom.{type_from, fields_from_exprs};
@@ -16,7 +16,7 @@ ghost use Rattle.type_expr.specs.Ready.{TypeReady, FieldsReady};
 ghost use Rattle.type_expr.specs.Onward.{Onward};
 ghost use Rattle.type_expr.specs.Sizes.{size_of, sizes_of, word_before, pairs_after};
 
-use add::{AddError, Added, word_of};
+use add::{AddError, Added, Arena, MOST_LEVELS, word_of};
 use ast::ExprKind;
 use places::Image;
 use ptype::TypeKind;
@@ -42,7 +42,15 @@ pub fn type_token(image: &Image, t: u32) -> u32
 fn foreign_word(token: u32) -> u32
     ensures { result ≡ word_of 9 (payload_of token) }
 {
-    word_of(TypeKind::Foreign.number(), payload(token))
+    word_of(TypeKind::Foreign, payload(token))
+}
+
+// The word of a type with nothing inside, by the number of its kind.
+fn plain_word(kind: u32) -> u32
+    requires { kind ≤ 5 }
+    ensures { result ≡ word_of kind 0 }
+{
+    word_of(TypeKind::from(kind), 0)
 }
 
 // Adds the type of a type expression, what is inside it first. Where it is refused, the rules leave open what the buffer holds.
@@ -52,58 +60,49 @@ pub fn type_from_type_expr(types: &mut [u32], used: usize, image: &Image, t: u32
     requires { TypeReady image.now.words image.now.places t }
     ensures { (T : Texts) (n : ℕ) → type_from T n (type_of image.now.words t) (buffer types.old used) ≡ result_of n result types.new }
 {
-    let mut u = used;
+    let mut arena = Arena::new(types, used);
     let mut here = t;
-    while image.type_levels(here) > 33 {
-        (here, u) = deep_part(types, u, image, here)?;
+    while image.type_levels(here) > MOST_LEVELS + 1 {
+        here = deep_part(&mut arena, image, here)?;
     }
-    build(types, u, image, here)
+    let word = build(&mut arena, image, here);
+    arena.answer(word)
 }
 
-// Of a type of more than 33 levels, the number of the first part of more than 32, and how many words are used before it; or why a type before
-// it is not added.
-fn deep_part(
-    types: &mut [u32],
-    used: usize,
-    image: &Image,
-    t: u32,
-) -> Result<(u32, usize), AddError>
+// Of a type of more than 33 levels, the number of the first part of more than 32; what stands before the part is added. Or why that is not added.
+fn deep_part(arena: &mut Arena, image: &Image, t: u32) -> Result<u32, AddError>
     requires { TypeReady image.now.words image.now.places t × (33 < levels_of (type_of image.now.words t)) }
-    ensures { let whole : Texts → ℕ → Result Buffer Refusal ℕ = λ T n. type_from T n (type_of image.now.words t) (buffer types.old used) in
-        Onward image.now.words image.now.places t whole result types.new }
+    ensures { Onward image.now.words image.now.places t (λ T n. type_from T n (type_of image.now.words t)) arena.old result arena.new }
 {
     let at = image.type_place(t);
     let head = image.word_at(at);
     match ExprKind::of(head) {
         ExprKind::Record => {
             let fields = (payload(head) - 2) / 2;
-            deep_field(types, used, image, t, at + 2, fields)
+            deep_field(arena, image, t, at + 2, fields)
         }
-        _ => Ok((image.word_at(at + 1), used)),
+        _ => Ok(image.word_at(at + 1)),
     }
 }
 
-// The same of the fields of the type `owner`: the types of those before the part are added.
+// The same of the fields of the type `owner`, which stand from word `at` on.
 fn deep_field(
-    types: &mut [u32],
-    used: usize,
+    arena: &mut Arena,
     image: &Image,
     owner: u32,
     at: usize,
     fields: usize,
-) -> Result<(u32, usize), AddError>
+) -> Result<u32, AddError>
     requires { FieldsReady image.now.words image.now.places owner at fields × (32 < most_levels (type_fields_from (type_of image.now.words) image.now.words at fields)) }
     ensures { let fs : TypeFields = type_fields_from (type_of image.now.words) image.now.words at fields in
-        let whole : Texts → ℕ → Result Buffer Refusal ℕ = λ T n. next (fields_from_exprs T n fs (buffer types.old used)) (add_record T n) in
-        Onward image.now.words image.now.places owner whole result types.new }
+        Onward image.now.words image.now.places owner (λ T n b. next (fields_from_exprs T n fs b) (add_record T n)) arena.old result arena.new }
 {
-    let mut u = used;
     for i in 0..fields {
         let t = image.word_at(at + 2 * i + 1);
-        if image.type_levels(t) > 32 {
-            return Ok((t, u));
+        if image.type_levels(t) > MOST_LEVELS {
+            return Ok(t);
         }
-        (_, u) = build(types, u, image, t)?;
+        build(arena, image, t)?;
     }
     // not reached: one of the fields has more than 32 levels
     Err(AddError::TooDeep)
@@ -111,27 +110,27 @@ fn deep_field(
 
 // Adds the type of a type expression of at most 33 levels. It calls itself once for each level.
 #[cycle(build_fields_from_exprs)]
-fn build(types: &mut [u32], used: usize, image: &Image, t: u32) -> Added
+fn build(arena: &mut Arena, image: &Image, t: u32) -> Result<u32, AddError>
     requires { TypeReady image.now.words image.now.places t × (levels_of (type_of image.now.words t) ≤ 33) }
-    ensures { (T : Texts) (n : ℕ) → type_from T n (type_of image.now.words t) (buffer types.old used) ≡ result_of n result types.new }
+    ensures { Grows (λ T n. type_from T n (type_of image.now.words t)) arena.old result arena.new }
 {
     let at = image.type_place(t);
     let head = image.word_at(at);
     match ExprKind::of(head) {
-        ExprKind::Atom => Ok((word_of(image.word_at(at + 2), 0), used)),
-        ExprKind::Foreign => Ok((foreign_word(image.word_at(at + 1)), used)),
+        ExprKind::Atom => Ok(plain_word(image.word_at(at + 2))),
+        ExprKind::Foreign => Ok(foreign_word(image.word_at(at + 1))),
         ExprKind::Record => {
             let fields = (payload(head) - 2) / 2;
-            let (new, u) = fields_from_exprs(types, used, image, t, at + 2, fields)?;
-            add::close_record(&types[..], new, u)
+            let word = fields_from_exprs(arena, image, t, at + 2, fields)?;
+            arena.close_record(word)
         }
         ExprKind::Option => {
-            let (inner, u) = build(types, used, image, image.word_at(at + 1))?;
-            add::add_option(types, u, inner)
+            let inner = build(arena, image, image.word_at(at + 1))?;
+            arena.add_option(inner)
         }
         _ => {
-            let (inner, u) = build(types, used, image, image.word_at(at + 1))?;
-            add::add_array(types, u, inner)
+            let inner = build(arena, image, image.word_at(at + 1))?;
+            arena.add_array(inner)
         }
     }
 }
@@ -140,24 +139,31 @@ fn build(types: &mut [u32], used: usize, image: &Image, t: u32) -> Added
 // opened, and then its pairs are set. They are not kept until then, since the words used say what each of them is.
 #[cycle(build_fields_from_exprs)]
 fn fields_from_exprs(
-    types: &mut [u32],
-    used: usize,
+    arena: &mut Arena,
     image: &Image,
     owner: u32,
     at: usize,
     fields: usize,
-) -> Added
+) -> Result<u32, AddError>
     requires { FieldsReady image.now.words image.now.places owner at fields × (most_levels (type_fields_from (type_of image.now.words) image.now.words at fields) ≤ 32) }
     ensures { let fs : TypeFields = type_fields_from (type_of image.now.words) image.now.words at fields in
-        ((T : Texts) (n : ℕ) → record_from n fields 0 (fields_from_exprs T n fs) (buffer types.old used) ≡ result_of n result types.new) }
+        Grows (λ T n. record_from n fields 0 (fields_from_exprs T n fs)) arena.old result arena.new }
 {
-    let mut u = used;
+    let used = arena.used;
     for i in 0..fields {
-        (_, u) = build(types, u, image, image.word_at(at + 2 * i + 1))?;
+        build(arena, image, image.word_at(at + 2 * i + 1))?;
     }
-    let (new, end) = add::open_record(types, u, fields)?;
-    set_pairs(types, used, image, owner, at, fields, payload(new) + 1);
-    Ok((new, end))
+    let word = arena.open_record(fields)?;
+    set_pairs(
+        arena.words,
+        used,
+        image,
+        owner,
+        at,
+        fields,
+        payload(word) + 1,
+    );
+    Ok(word)
 }
 
 // Sets the pairs of fields whose types were added after `used` words, from `place` on.
@@ -193,14 +199,14 @@ fn type_word(image: &Image, end: usize, t: u32) -> u32
     let at = image.type_place(t);
     let head = image.word_at(at);
     match ExprKind::of(head) {
-        ExprKind::Atom => word_of(image.word_at(at + 2), 0),
+        ExprKind::Atom => plain_word(image.word_at(at + 2)),
         ExprKind::Foreign => foreign_word(image.word_at(at + 1)),
         ExprKind::Record => {
             let fields = (payload(head) - 2) / 2;
-            word_of(TypeKind::Record.number(), end - (1 + 2 * fields))
+            word_of(TypeKind::Record, end - (1 + 2 * fields))
         }
-        ExprKind::Option => word_of(TypeKind::Option.number(), end - 1),
-        _ => word_of(TypeKind::Array.number(), end - 1),
+        ExprKind::Option => word_of(TypeKind::Option, end - 1),
+        _ => word_of(TypeKind::Array, end - 1),
     }
 }
 

@@ -7,7 +7,7 @@
 // of their functions, structs and enums first. So its state is one number beside the buffers.
 #![tactic(auto)]
 
-use add::{AddError, Added};
+use add::{AddError, Added, Arena};
 use display::{Full, Writer};
 use slots::{Bind, BindError, Bindings};
 use std::io;
@@ -90,8 +90,8 @@ fn part<'a>(words: &'a [u32], told: u32) -> &'a [u32] {
 
 fn sum(text: &[u8], n: usize) -> usize {
     let mut s = 0usize;
-    for i in 0..n {
-        s = s % 4294967291 * 31 + tok::byte_at(text, i) as usize;
+    for b in &text[..n.min(text.len())] {
+        s = s % 4294967291 * 31 + *b as usize;
     }
     s
 }
@@ -310,13 +310,15 @@ fn grow(
     w: u32,
     used: usize,
 ) -> Added {
-    match operation {
-        Operation::Option => add::add_option(types, used, w),
-        Operation::Array => add::add_array(types, used, w),
-        Operation::Open => add::open_record(types, used, w as usize),
-        Operation::Close => add::close_record(types, w, used),
-        _ => apply::apply_slot_binding(types, used, texts, bindings, w),
-    }
+    let mut arena = Arena::new(types, used);
+    let added = match operation {
+        Operation::Option => arena.add_option(w),
+        Operation::Array => arena.add_array(w),
+        Operation::Open => arena.open_record(w as usize),
+        Operation::Close => arena.close_record(w),
+        _ => return apply::apply_slot_binding(arena.words, used, texts, bindings, w),
+    };
+    arena.answer(added)
 }
 
 // Adds to the words that are lent, and tells of it where a word is given.

@@ -17,6 +17,7 @@ ghost use Rattle.state.specs.declared.Used.{Used};
 ghost use Rattle.state.specs.World.{Steps, with_answer};
 ghost use Rattle.values.specs.Answers.{found_of, member_of, alias, compare_branch};
 
+use add::Arena;
 use operators::{set_known, store};
 use ptype::{TypeKind, contains_unknown, same_type};
 use rules::Answer;
@@ -209,8 +210,9 @@ pub fn array_of(
         return Ok((Answer::Poison, used));
     }
     let element = word_at(slots, f as usize);
-    let added = add::add_array(types, used.types, element);
-    let (word, used) = state::added(n, used, added)?;
+    let mut arena = Arena::new(types, used.types);
+    let added = arena.add_array(element);
+    let (word, used) = state::added(n, used, arena.answer(added))?;
     set_known(slots, used, slot, word)
 }
 

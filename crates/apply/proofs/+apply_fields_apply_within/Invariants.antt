@@ -15,4 +15,4 @@ decreases-apply_within l = l.depth * 2
 abbrev pub invariant-apply_fields-loop-i : goal.invariant-apply_fields-loop-i
 invariant-apply_fields-loop-i l =
     let bound = bindings_of l.texts l.bindings in
-    Applying l.texts bound l.depth l.base l.initial.types l.used l.at l.fields l.types l.u (l.at + 2 * l.i) (l.fields - l.i)
+    Applying l.texts bound l.depth l.base l.initial.arena l.at l.fields l.arena (l.at + 2 * l.i) (l.fields - l.i)

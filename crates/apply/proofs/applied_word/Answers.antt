@@ -3,6 +3,7 @@ use mathlib.Core.Path.{refl, ◌∙◌}
 use native.Mathlib.Omega.{arith}
 use Rattle.ptype.specs.TypeKindLaws.{type-number, type-not, type-wraps, type-flat}
 use Rattle.slots.specs.Bindings.{bindings_of}
+use Rattle.apply.proofs.Returns.{wrap-number}
 use Rattle.apply.proofs.SizeReturns.{record_least, none-word, slot-word, same_word, wrap-word, record_word}
 use Rattle.apply.proofs.applied_word.Goals as goal
 
@@ -18,13 +19,13 @@ returns-then-size-eq0 c = same_word _ _ _ _ _ _ _ c.if-depth-eq0.false refl (typ
 pub returns-in-Option : goal.returns-in-Option
 returns-in-Option c =
     let no_slot = type-not _ c.of-kind.ensures c.in_default.not-Slot in
-    wrap-word _ _ _ _ _ _ _ c.if-depth-eq0.false refl no_slot c.if-size-eq0.false (type-wraps _ c.of-kind.ensures c.in-Option.is) (rw c.kind.ensures at c.word_of.ensures)
+    wrap-word _ _ _ _ _ _ _ c.if-depth-eq0.false refl no_slot c.if-size-eq0.false (type-wraps _ c.of-kind.ensures c.in-Option.is) (rw (wrap-number _ c.of-kind.ensures c.in-Option.is) at c.word_of.ensures)
 
 pub returns-in_default-kind : goal.returns-in_default-kind
 returns-in_default-kind c =
     let no_slot = type-not _ c.of-kind.ensures c.in_default.not-Slot in
     let flat = type-flat _ c.of-kind.ensures c.in_default-kind.not-Option c.in_default-kind.not-Array in
-    record_word _ _ _ _ _ _ _ c.if-depth-eq0.false refl no_slot c.if-size-eq0.false flat c.field_count.ensures (rw c.number.ensures at c.word_of-in_default-kind.ensures)
+    record_word _ _ _ _ _ _ _ c.if-depth-eq0.false refl no_slot c.if-size-eq0.false flat c.field_count.ensures c.word_of-in_default-kind.ensures
 
 pub overflow_sub-end-in_default-kind : goal.overflow_sub-end-in_default-kind
 overflow_sub-end-in_default-kind c =

@@ -15,4 +15,4 @@ decreases-fields_from_exprs l = let I = l.image.now.words in
 
 abbrev pub invariant-fields_from_exprs-loop-i : goal.invariant-fields_from_exprs-loop-i
 invariant-fields_from_exprs-loop-i l =
-    Building l.image.words l.image.places l.owner l.initial.types l.used l.at l.fields l.types l.u (l.at + 2 * l.i) (l.fields - l.i)
+    Building l.image.words l.image.places l.owner l.initial.arena l.at l.fields l.arena (l.at + 2 * l.i) (l.fields - l.i)

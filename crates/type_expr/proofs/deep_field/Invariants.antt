@@ -5,4 +5,4 @@ use Rattle.type_expr.proofs.DeepReturns.{Before}
 use Rattle.type_expr.proofs.deep_field.Given as goal
 
 abbrev pub invariant-loop-i : goal.invariant-loop-i
-invariant-loop-i l = Before l.image.words l.image.places l.owner l.initial.types l.used l.at l.fields l.types l.u (l.at + 2 * l.i) (l.fields - l.i)
+invariant-loop-i l = Before l.image.words l.image.places l.owner l.initial.arena l.at l.fields l.arena (l.at + 2 * l.i) (l.fields - l.i)

@@ -1,28 +1,25 @@
 use Rattle.std.proofs.lemmas.Result.{err_from_is_err_and}
-use mathlib.Core.Path.{◌∙◌}
 use native.Mathlib.Omega.{arith}
 use Rattle.type_expr.specs.LevelLaws.{levels-there}
-use Rattle.type_expr.proofs.DeepReturns.{same-all, same_stop, same_next}
+use Rattle.type_expr.proofs.DeepReturns.{same-all, same_stop, same_next, same_end}
 use borrow.Author.Rules.{rules}
 use Rattle.type_expr.proofs.type_from_type_expr.Goals as goal
 
-pub loop-types-init : goal.loop-types-init
-loop-types-init c = same-all _ _ c.requires
+pub loop-arena-init : goal.loop-arena-init
+loop-arena-init c = same-all _ c.requires
 
 pub returns-in_err-here : goal.returns-in_err-here
 returns-in_err-here c =
     let p = err_from_is_err_and c.from_residual.result c.from_residual.ensures.1 in
-    rw (p.1, p.2)
-    (λ T n. same_stop c.loop-types.invariant c.deep_part.result c.deep_part.new.types c.deep_part.ensures c.in_err-here.was T n)
+    rw (p.1, p.2) (same_stop c.loop-arena.invariant c.new-arena.ensures.as_used c.in_err-here.ensures)
 
-pub loop-types-preserved : goal.loop-types-preserved
-loop-types-preserved c =
-    same_next c.loop-types.invariant c.deep_part.result c.deep_part.new.types c.deep_part.ensures c.in_ok-here.was (search rules)
+pub loop-arena-preserved : goal.loop-arena-preserved
+loop-arena-preserved c = same_next c.loop-arena.invariant c.in_ok-here.ensures
 
-pub build-requires : goal.build-requires
-build-requires c =
-    let r = c.loop-types.invariant.ready in
+pub build-word-requires : goal.build-word-requires
+build-word-requires c =
+    let r = c.loop-arena.invariant.ready in
     (r, omega (arith, levels-there r c.type_levels.ensures))
 
 pub returns : goal.returns
-returns c = λ T n. c.loop-types.invariant.is T n ∙ c.build.ensures T n
+returns c = same_end c.loop-arena.invariant c.new-arena.ensures.as_used c.build-word.ensures c.answer.ensures (search rules)

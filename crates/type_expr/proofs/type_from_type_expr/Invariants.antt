@@ -3,8 +3,8 @@
 use Rattle.type_expr.proofs.DeepReturns.{Same}
 use Rattle.type_expr.proofs.type_from_type_expr.Given as goal
 
-abbrev pub invariant-loop-types : goal.invariant-loop-types
-invariant-loop-types l = Same l.image.words l.image.places l.t l.initial.types l.used l.types l.u l.here
+abbrev pub invariant-loop-arena : goal.invariant-loop-arena
+invariant-loop-arena l = Same l.image.words l.image.places l.t l.initial.arena l.arena l.here
 
-abbrev pub decreases-loop-types : goal.decreases-loop-types
-decreases-loop-types l = l.here
+abbrev pub decreases-loop-arena : goal.decreases-loop-arena
+decreases-loop-arena l = l.here

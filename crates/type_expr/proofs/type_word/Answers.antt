@@ -2,18 +2,18 @@
 use mathlib.Core.Path.{refl}
 use native.Mathlib.Omega.{arith}
 use Rattle.ast.specs.KindLaws.{expr-number, expr-not}
-use Rattle.type_expr.specs.TypesAt.{words-there, two-words, atom-kind}
+use Rattle.type_expr.specs.TypesAt.{words-there, two-words, atom-low}
 use Rattle.type_expr.proofs.Returns.{size_record, size-option, size-inner, word-atom, word-foreign, word_record, word-option, word-array}
 use Rattle.type_expr.proofs.type_word.Goals as goal
 
 pub overflow_add-at : goal.overflow_add-at
 overflow_add-at c = omega (arith, words-there c.requires.0 c.type_place-at.ensures)
 
-pub word_of-requires : goal.word_of-requires
-word_of-requires c = (atom-kind c.requires.0 c.type_place-at.ensures c.word_at-head.ensures refl (expr-number _ c.in-Atom.ensures) c.word_at.ensures, omega arith)
+pub plain_word-requires : goal.plain_word-requires
+plain_word-requires c = atom-low c.requires.0 c.type_place-at.ensures c.word_at-head.ensures refl (expr-number _ c.in-Atom.ensures) c.word_at.ensures
 
 pub returns-in-Atom : goal.returns-in-Atom
-returns-in-Atom c = word-atom c.requires.0 c.type_place-at.ensures c.word_at-head.ensures refl _ (expr-number _ c.in-Atom.ensures) c.word_at.ensures c.word_of.ensures
+returns-in-Atom c = word-atom c.requires.0 c.type_place-at.ensures c.word_at-head.ensures refl _ (expr-number _ c.in-Atom.ensures) c.word_at.ensures c.plain_word.ensures
 
 pub overflow_add-at-in-Foreign : goal.overflow_add-at-in-Foreign
 overflow_add-at-in-Foreign c = omega (arith, words-there c.requires.0 c.type_place-at.ensures)
@@ -30,14 +30,14 @@ overflow_sub-end c = omega (arith, c.requires.1, size_record c.requires.0 c.type
 
 pub returns-in-Record : goal.returns-in-Record
 returns-in-Record c =
-    word_record c.requires.0 c.type_place-at.ensures c.word_at-head.ensures refl _ (expr-number _ c.in-Record.ensures) c.payload.ensures refl (rw c.number.ensures at c.word_of-in-Record.ensures)
+    word_record c.requires.0 c.type_place-at.ensures c.word_at-head.ensures refl _ (expr-number _ c.in-Record.ensures) c.payload.ensures refl c.word_of.ensures
 
 pub overflow_sub-end-in-Option : goal.overflow_sub-end-in-Option
 overflow_sub-end-in-Option c = omega (arith, c.requires.1, size-option c.requires.0 c.type_place-at.ensures c.word_at-head.ensures refl refl (expr-number _ c.in-Option.ensures))
 
 pub returns-in-Option : goal.returns-in-Option
 returns-in-Option c =
-    word-option c.requires.0 c.type_place-at.ensures c.word_at-head.ensures refl _ (expr-number _ c.in-Option.ensures) (rw c.number-in-Option.ensures at c.word_of-in-Option.ensures)
+    word-option c.requires.0 c.type_place-at.ensures c.word_at-head.ensures refl _ (expr-number _ c.in-Option.ensures) c.word_of-in-Option.ensures
 
 pub overflow_sub-end-in_default : goal.overflow_sub-end-in_default
 overflow_sub-end-in_default c =
@@ -48,4 +48,4 @@ overflow_sub-end-in_default c =
 pub returns-in_default : goal.returns-in_default
 returns-in_default c =
     word-array c.requires.0 c.type_place-at.ensures c.word_at-head.ensures refl _ (expr-not _ c.of.ensures c.in_default.not-Atom) (expr-not _ c.of.ensures c.in_default.not-Foreign)
-    (expr-not _ c.of.ensures c.in_default.not-Record) (expr-not _ c.of.ensures c.in_default.not-Option) (rw c.number-in_default.ensures at c.word_of-in_default.ensures)
+    (expr-not _ c.of.ensures c.in_default.not-Record) (expr-not _ c.of.ensures c.in_default.not-Option) c.word_of-in_default.ensures
