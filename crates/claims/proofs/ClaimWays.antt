@@ -6,6 +6,10 @@ use mathlib.Core.Option.{Option, none, some}
 use mathlib.Core.List.{List, [], ◌∷◌}
 use native.Mathlib.Omega.{arith}
 use lib.ListN.{length}
+use Rattle.std.specs.Prelude.{Result, Ok, Err, ⊤}
+use Rattle.std.specs.Result.{is_err, result_or}
+use Rattle.reader.specs.declared.Fault.{Fault}
+use Rattle.reader.specs.Reading.{offending}
 use Rattle.ast.specs.Image.{word_at, node_count, root_count, record_length}
 use Rattle.ast.specs.Outline.{Outline}
 use Rattle.ast.specs.Claims.{count_from, slots_owned}
@@ -122,3 +126,21 @@ pub whole : (image : List ℕ) (nodes slots : List Bool) {n r : ℕ} {o : Option
     → o ≡ claims_by nodes slots 0 (parts_from image 1 4 r) (outlines_from image 0 n)
     → o ≡ claims_by nodes slots 0 (parts_from image 1 4 (root_count image)) (outlines_from image 0 (node_count image))
 whole image nodes slots en er e = e ∙ ap₂ (λ k m. claims_by nodes slots 0 (parts_from image 1 4 m) (outlines_from image 0 k)) en er
+
+-- ── Faults ──
+
+module _ {E : Type 0} where
+  pub none-twice : (r : Result ⊤ E) (f : Fault) {x : ⊤} → ◌≡◌ {A = Result ⊤ Fault} (Ok x) (result_or r (Err f)) → is_err r ≡ false
+  none-twice (Ok y) f e = refl
+  none-twice (Err t) f e = cc
+
+  pub one-twice : (r : Result ⊤ E) (f g : Fault) → ◌≡◌ {A = Result ⊤ Fault} (Err g) (result_or r (Err f)) → (is_err r ≡ true) × (g ≡ f)
+  one-twice (Ok y) f g e = cc
+  one-twice (Err t) f g e = (refl, cc)
+
+  -- the roots are the last
+  pub roots-last : {image roots : List ℕ} {n : ℕ} {nodes₀ slots₀ nodes slots : List Bool} {at i : ℕ} → ToClaim image roots n nodes₀ slots₀ nodes slots at i
+      → {nodes' : List Bool} → n ≤ i → (r : Result ⊤ E) → Marking nodes roots nodes' (is_err r)
+      → offending (result_or r (Err (record { 0 = n }))) ≡ claims_by nodes₀ slots₀ 0 roots (outlines_from image 0 n)
+  roots-last h l (Ok x) m = roots-end h l m refl
+  roots-last h l (Err t) m = roots-stop h l m refl

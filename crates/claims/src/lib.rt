@@ -131,15 +131,10 @@ fn claims_by(words: &[u32], nodes: &mut [bool], slots: &mut [bool]) -> Result<()
     let roots = word_at(words, 2) as usize;
     let mut at = 4 + roots;
     for i in 0..n {
-        if mark_node(words, at, nodes, slots).is_err() {
-            return Err(Fault(i));
-        }
+        mark_node(words, at, nodes, slots).or(Err(Fault(i)))?;
         at = node_parts::after(words, at);
     }
-    if mark_words(words, 4, roots, nodes).is_err() {
-        return Err(Fault(n));
-    }
-    Ok(())
+    mark_words(words, 4, roots, nodes).or(Err(Fault(n)))
 }
 
 // The second claimant of a node or slot, nodes rising, then N for roots; if there is none the image is accepted.
