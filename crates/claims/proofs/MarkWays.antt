@@ -7,8 +7,6 @@ use native.Mathlib.Nat.{not-suc-le-zero}
 use native.Mathlib.Omega.{arith}
 use lib.ListN.{length, get_or, set, length-set, get_or-eq_default}
 use lib.Seq.{set_out}
-use lib.Dec.{eqb}
-use borrow.Author.Tests.{eq-eqb, ne_eqb}
 use Rattle.tok.specs.Word.{kind_of, payload_of}
 use Rattle.ast.specs.Image.{word_at, record_kind}
 use Rattle.ast.specs.Claims.{count_from}
@@ -20,17 +18,17 @@ use Rattle.claims.specs.Marks.{mark_all, marked, Marking}
 
 -- ── One list after another ──
 
-marked_append : (m xs ys : List ℕ) → marked m (xs ++ ys) ≡ (marked m xs || marked (mark_all m xs) ys)
+marked_append : (m : List Bool) (xs ys : List ℕ) → marked m (xs ++ ys) ≡ (marked m xs || marked (mark_all m xs) ys)
 unfolding marked mark_all
 marked_append m [] ys = refl
-marked_append m (x ∷ xs) ys = rw (marked_append (set m x 1) xs ys) (sym (or_assoc (eqb (get_or m x 0) 1) (marked (set m x 1) xs) (marked (mark_all (set m x 1) xs) ys)))
+marked_append m (x ∷ xs) ys = rw (marked_append (set m x true) xs ys) (sym (or_assoc (get_or m x false) (marked (set m x true) xs) (marked (mark_all (set m x true) xs) ys)))
 
-mark_all-append : (m xs ys : List ℕ) → mark_all m (xs ++ ys) ≡ mark_all (mark_all m xs) ys
+mark_all-append : (m : List Bool) (xs ys : List ℕ) → mark_all m (xs ++ ys) ≡ mark_all (mark_all m xs) ys
 unfolding mark_all
 mark_all-append m [] ys = refl
-mark_all-append m (x ∷ xs) ys = mark_all-append (set m x 1) xs ys
+mark_all-append m (x ∷ xs) ys = mark_all-append (set m x true) xs ys
 
-module _ {m xs a : List ℕ} {b : Bool} (h : Marking m xs a b) where
+module _ {m : List Bool} {xs : List ℕ} {a : List Bool} {b : Bool} (h : Marking m xs a b) where
   -- a number that is marked already ends all
   pub stop : (ys : List ℕ) → b ≡ true → Marking m (xs ++ ys) a true
   stop ys t =
@@ -40,7 +38,7 @@ module _ {m xs a : List ℕ} {b : Bool} (h : Marking m xs a b) where
         long = h.long;
       }
 
-  pub more : {ys after : List ℕ} {r : Bool} → b ≡ false → Marking a ys after r → Marking m (xs ++ ys) after r
+  pub more : {ys : List ℕ} {after : List Bool} {r : Bool} → b ≡ false → Marking a ys after r → Marking m (xs ++ ys) after r
   more {ys} f k =
       record {
         found = k.found ∙ ap (λ l. marked l ys) (h.kept f) ∙ sym (marked_append m xs ys ∙ rw (sym h.found ∙ f) refl);
@@ -48,14 +46,14 @@ module _ {m xs a : List ℕ} {b : Bool} (h : Marking m xs a b) where
         long = k.long ∙ h.long;
       }
 
-pub no_number : (m : List ℕ) → Marking m [] m false
+pub no_number : (m : List Bool) → Marking m [] m false
 unfolding marked mark_all
 no_number m = record { found = refl; kept = λ _. refl; long = refl }
 
 -- ── One number ──
 
-module _ (m : List ℕ) (x : ℕ) where
-  one-by : (b : Bool) → eqb (get_or m x 0) 1 ≡ b → marked m (x ∷ []) ≡ b
+module _ (m : List Bool) (x : ℕ) where
+  one-by : (b : Bool) → get_or m x false ≡ b → marked m (x ∷ []) ≡ b
   unfolding marked
   one-by true e = rw e refl
   one-by false e = rw e refl
@@ -64,31 +62,31 @@ module _ (m : List ℕ) (x : ℕ) where
   unfolding mark_all
   past h =
       record {
-        found = sym (one-by false (rw (get_or-eq_default m 0 h) refl));
-        kept = λ _. sym (set_out m x 1 h);
+        found = sym (one-by false (get_or-eq_default m false h));
+        kept = λ _. sym (set_out m x true h);
         long = refl;
       }
 
-  pub again : get_or m x 0 ≡ 1 → Marking m (x ∷ []) m true
-  again e = record { found = sym (one-by true (eq-eqb _ 1 e)); kept = λ e. absurd (true≢false e); long = refl }
+  pub again : get_or m x false ≡ true → Marking m (x ∷ []) m true
+  again e = record { found = sym (one-by true e); kept = λ e. absurd (true≢false e); long = refl }
 
-  pub first : (get_or m x 0 ≡ 1 → ⊥) → Marking m (x ∷ []) (set m x 1) false
+  pub first : get_or m x false ≡ false → Marking m (x ∷ []) (set m x true) false
   unfolding mark_all
-  first d = record { found = sym (one-by false (ne_eqb _ 1 d)); kept = λ _. refl; long = length-set m x 1 }
+  first e = record { found = sym (one-by false e); kept = λ _. refl; long = length-set m x true }
 
 -- ── The numbers in a run of words ──
 
 -- `left` numbers are left, the next in word i
-pub record ToMark (words : List ℕ) (step from count : ℕ) (before marks : List ℕ) (i left : ℕ) : Type 0 where
+pub record ToMark (words : List ℕ) (step from count : ℕ) (before marks : List Bool) (i left : ℕ) : Type 0 where
   pub long : length marks ≡ length before
   pub place : i + 2 * left ≤ from + 2 * count
-  pub rest : (after : List ℕ) (r : Bool) → Marking marks (parts_from words step i left) after r → Marking before (parts_from words step from count) after r
+  pub rest : (after : List Bool) (r : Bool) → Marking marks (parts_from words step i left) after r → Marking before (parts_from words step from count) after r
 
-pub to_mark : {words : List ℕ} {step from count : ℕ} {marks : List ℕ} → ToMark words step from count marks marks from count
+pub to_mark : {words : List ℕ} {step from count : ℕ} {marks : List Bool} → ToMark words step from count marks marks from count
 to_mark = record { long = refl; place = omega arith; rest = λ after r m. m }
 
-module _ {words : List ℕ} {step from count : ℕ} {before marks : List ℕ} {i left : ℕ} (h : ToMark words step from count before marks i left) where
-  module _ {w : ℕ} {marks' : List ℕ} {b : Bool} (l : 0 < left) (e : w ≡ word_at words i) (m : Marking marks (w ∷ []) marks' b) where
+module _ {words : List ℕ} {step from count : ℕ} {before marks : List Bool} {i left : ℕ} (h : ToMark words step from count before marks i left) where
+  module _ {w : ℕ} {marks' : List Bool} {b : Bool} (l : 0 < left) (e : w ≡ word_at words i) (m : Marking marks (w ∷ []) marks' b) where
     pub run-stop : b ≡ true → Marking before (parts_from words step from count) marks' true
     run-stop t = h.rest marks' true (rw (parts_next words step i left l, ← e) (stop m _ t))
 
@@ -116,16 +114,16 @@ unfolding count_from
 count_none x zero l = refl
 count_none x (suc k) l = absurd (not-suc-le-zero l)
 
-pub record CountToMark (from count : ℕ) (before marks : List ℕ) (x left : ℕ) : Type 0 where
+pub record CountToMark (from count : ℕ) (before marks : List Bool) (x left : ℕ) : Type 0 where
   pub long : length marks ≡ length before
   pub place : x + left ≤ from + count
-  pub rest : (after : List ℕ) (r : Bool) → Marking marks (count_from x left) after r → Marking before (count_from from count) after r
+  pub rest : (after : List Bool) (r : Bool) → Marking marks (count_from x left) after r → Marking before (count_from from count) after r
 
-pub count-to_mark : {from count : ℕ} {marks : List ℕ} → CountToMark from count marks marks from count
+pub count-to_mark : {from count : ℕ} {marks : List Bool} → CountToMark from count marks marks from count
 count-to_mark = record { long = refl; place = omega arith; rest = λ after r m. m }
 
-module _ {from count : ℕ} {before marks : List ℕ} {x left : ℕ} (h : CountToMark from count before marks x left) where
-  module _ {marks' : List ℕ} {b : Bool} (l : 0 < left) (m : Marking marks (x ∷ []) marks' b) where
+module _ {from count : ℕ} {before marks : List Bool} {x left : ℕ} (h : CountToMark from count before marks x left) where
+  module _ {marks' : List Bool} {b : Bool} (l : 0 < left) (m : Marking marks (x ∷ []) marks' b) where
     pub count-stop : b ≡ true → Marking before (count_from from count) marks' true
     count-stop t = h.rest marks' true (rw (count_next x left l) (stop m _ t))
 
@@ -144,20 +142,20 @@ module _ {from count : ℕ} {before marks : List ℕ} {x left : ℕ} (h : CountT
 -- ── The cases of a Match ──
 
 -- k cases are left, the next at word `at`
-pub record CasesToMark (words : List ℕ) (end from count : ℕ) (before marks : List ℕ) (at k : ℕ) : Type 0 where
+pub record CasesToMark (words : List ℕ) (end from count : ℕ) (before marks : List Bool) (at k : ℕ) : Type 0 where
   pub long : length marks ≡ length before
   pub left : CasesLeft words count at k
-  pub rest : (after : List ℕ) (r : Bool) → Marking marks (case_parts words end at k) after r → Marking before (case_parts words end from count) after r
+  pub rest : (after : List Bool) (r : Bool) → Marking marks (case_parts words end at k) after r → Marking before (case_parts words end from count) after r
 
-pub cases-to_mark : {words : List ℕ} {end from count : ℕ} {marks : List ℕ} → from ≤ length words + 3 → CasesToMark words end from count marks marks from count
+pub cases-to_mark : {words : List ℕ} {end from count : ℕ} {marks : List Bool} → from ≤ length words + 3 → CasesToMark words end from count marks marks from count
 cases-to_mark h = record { long = refl; left = cases-first _ _ _ h; rest = λ after r m. m }
 
-module _ {words : List ℕ} {end from count : ℕ} {before marks : List ℕ} {at k : ℕ} (h : CasesToMark words end from count before marks at k) where
-  module _ {c : ℕ} {marks₁ : List ℕ} {b₁ : Bool} (l : 0 < k) (ec : c ≡ word_at words (at + 1)) (m₁ : Marking marks (c ∷ []) marks₁ b₁) where
+module _ {words : List ℕ} {end from count : ℕ} {before marks : List Bool} {at k : ℕ} (h : CasesToMark words end from count before marks at k) where
+  module _ {c : ℕ} {marks₁ : List Bool} {b₁ : Bool} (l : 0 < k) (ec : c ≡ word_at words (at + 1)) (m₁ : Marking marks (c ∷ []) marks₁ b₁) where
     pub condition-stop : b₁ ≡ true → Marking before (case_parts words end from count) marks₁ true
     condition-stop t = h.rest marks₁ true (rw (cases_next words end at k l, ← ec) (stop m₁ _ t))
 
-    module _ {n : ℕ} {marks₂ : List ℕ} {b₂ : Bool} (f₁ : b₁ ≡ false) (en : n ≡ word_at words (at + 2)) (m₂ : Marking marks₁ (parts_from words 1 (at + 3) n) marks₂ b₂) where
+    module _ {n : ℕ} {marks₂ : List Bool} {b₂ : Bool} (f₁ : b₁ ≡ false) (en : n ≡ word_at words (at + 2)) (m₂ : Marking marks₁ (parts_from words 1 (at + 3) n) marks₂ b₂) where
       pub body-stop : b₂ ≡ true → Marking before (case_parts words end from count) marks₂ true
       body-stop t = h.rest marks₂ true (rw (cases_next words end at k l, ← ec, ← en) (more m₁ f₁ (stop m₂ _ t)))
 
@@ -170,18 +168,18 @@ module _ {words : List ℕ} {end from count : ℕ} {before marks : List ℕ} {at
             rest = λ after r m. h.rest after r (rw (cases_next words end at k l, ← ec, ← en) (more m₁ f₁ (more m₂ f₂ m)));
           }
 
-  pub default_end : {n : ℕ} {after : List ℕ} {r : Bool} → k ≤ 0 → n ≡ end - (at + 1) → Marking marks (parts_from words 1 (at + 1) n) after r
+  pub default_end : {n : ℕ} {after : List Bool} {r : Bool} → k ≤ 0 → n ≡ end - (at + 1) → Marking marks (parts_from words 1 (at + 1) n) after r
       → Marking before (case_parts words end from count) after r
   default_end l e m = h.rest _ _ (rw (cases_none words end at k l, ← e) m)
 
 -- ── The parts of a node ──
 
 module _ (image : List ℕ) (at : ℕ) where
-  pub no-parts-past : (marks : List ℕ) → length image ≤ at → Marking marks (parts_at image at) marks false
+  pub no-parts-past : (marks : List Bool) → length image ≤ at → Marking marks (parts_at image at) marks false
   unfolding parts_at parts_by_kind
   no-parts-past marks h = rw (get_or-eq_default image 0 h, parts_at) (no_number marks)
 
-  module _ {head k : ℕ} {marks after : List ℕ} {r : Bool} (eh : head ≡ word_at image at) (ek : k ≡ kind_of head) where
+  module _ {head k : ℕ} {marks after : List Bool} {r : Bool} (eh : head ≡ word_at image at) (ek : k ≡ kind_of head) where
     pub match-parts : (long count : ℕ) → k ≡ 6 → long ≡ payload_of head → count ≡ word_at image (at + 2) → Marking marks (case_parts image (at + long) (at + 3) count) after r
         → Marking marks (parts_at image at) after r
     unfolding parts_at parts_by_kind

@@ -1,9 +1,9 @@
 -- Marks tell the same as lists of what is claimed: on an accepted image the fault found by marks is that of refusal 4. Assumes nothing.
 use Prim.Native.Nat.{ℕ, zero, suc, ◌+◌, ◌≤◌, ◌<◌}
-use Rattle.std.specs.Prelude.{Bool, true, false, cond, ◌≡◌, List, [], ◌∷◌, ◌++◌, length, get_or, set, replicate}
+use Rattle.std.specs.Prelude.{Bool, true, false, ◌≡◌, List, [], ◌∷◌, ◌++◌, length, get_or, set, replicate}
 use Rattle.std.proofs.Math.Bool.{◌||◌, or_assoc}
 use Rattle.std.proofs.Math.Path.{refl, ap₂}
-use Rattle.std.proofs.Common.{sym, ap, ◌∙◌, arith, get_or-set_same}
+use Rattle.std.proofs.Common.{sym, ◌∙◌, arith, get_or-set_same}
 use Rattle.std.proofs.Math.Decide.{ℕ_discrete}
 use Rattle.std.proofs.Math.ListN.{length-set}
 use Rattle.std.proofs.lemmas.List.{length-replicate, get_or-replicate}
@@ -20,13 +20,9 @@ use Rattle.node_parts.specs.Faults.{fault-same}
 use Rattle.claims.specs.Marks.{mark_all, marked, claims_marked, claims_by, claims_of, claims_in}
 
 -- a mark for each number below `most` that is taken
-pub record MarksOf (most : ℕ) (marks taken : List ℕ) : Type 0 where
+pub record MarksOf (most : ℕ) (marks : List Bool) (taken : List ℕ) : Type 0 where
   pub long : length marks ≡ most
-  pub each : (x : ℕ) → x < most → get_or marks x 0 ≡ cond (among x taken) 1 0
-
-bit_eqb : (b : Bool) → eqb (cond b 1 0) 1 ≡ b
-bit_eqb true = refl
-bit_eqb false = refl
+  pub each : (x : ℕ) → x < most → get_or marks x false ≡ among x taken
 
 or_both : (a b c : Bool) → (a || (b || c)) ≡ (b || (a || c))
 or_both true true c = refl
@@ -45,31 +41,31 @@ moved x y xs taken = rw (among-append y xs taken, among-append y xs (x ∷ taken
 
 module _ {most : ℕ} where
   -- a number more
-  marks_add : {marks taken : List ℕ} (x : ℕ) → x < most → MarksOf most marks taken → MarksOf most (set marks x 1) (x ∷ taken)
+  marks_add : {marks : List Bool} {taken : List ℕ} (x : ℕ) → x < most → MarksOf most marks taken → MarksOf most (set marks x true) (x ∷ taken)
   unfolding among
   marks_add {marks} {taken} x h m =
       record {
-        long = length-set marks x 1 ∙ m.long;
+        long = length-set marks x true ∙ m.long;
         each = λ y l. elim (ℕ_discrete y x) [
-          | yes e ↦ rw (e, eq-eqb x x refl) (get_or-set_same marks x 1 0 (rw m.long h))
-          | no d ↦ get_or-set_other marks x y 1 0 d ∙ m.each y l ∙ rw (ne_eqb y x d) refl
+          | yes e ↦ rw (e, eq-eqb x x refl) (get_or-set_same marks x true false (rw m.long h))
+          | no d ↦ get_or-set_other marks x y true false d ∙ m.each y l ∙ rw (ne_eqb y x d) refl
         ];
       }
 
   -- only what is taken matters, not how it is listed
-  marks-same : {marks taken other : List ℕ} → ((x : ℕ) → among x other ≡ among x taken) → MarksOf most marks taken → MarksOf most marks other
-  marks-same s m = record { long = m.long; each = λ x l. m.each x l ∙ ap (λ b. cond b 1 0) (sym (s x)) }
+  marks-same : {marks : List Bool} {taken other : List ℕ} → ((x : ℕ) → among x other ≡ among x taken) → MarksOf most marks taken → MarksOf most marks other
+  marks-same s m = record { long = m.long; each = λ x l. m.each x l ∙ sym (s x) }
 
-  marks-all : {xs : List ℕ} {marks taken : List ℕ} → Below most xs → MarksOf most marks taken → MarksOf most (mark_all marks xs) (xs ++ taken)
+  marks-all : {xs : List ℕ} {marks : List Bool} {taken : List ℕ} → Below most xs → MarksOf most marks taken → MarksOf most (mark_all marks xs) (xs ++ taken)
   unfolding mark_all
   marks-all no-parts m = m
   marks-all {taken = taken} (part {p = x} {ps = xs} h b) m = marks-same (λ y. moved x y xs taken) (marks-all b (marks_add x h m))
 
-  pub marked-twice : {xs : List ℕ} {marks taken : List ℕ} → Below most xs → MarksOf most marks taken → marked marks xs ≡ twice taken xs
+  pub marked-twice : {xs : List ℕ} {marks : List Bool} {taken : List ℕ} → Below most xs → MarksOf most marks taken → marked marks xs ≡ twice taken xs
   unfolding marked twice
   marked-twice no-parts m = refl
   marked-twice {marks = marks} {taken} (part {p = x} {ps = xs} h b) m =
-      ap₂ ◌||◌ (ap (λ v. eqb v 1) (m.each x h) ∙ bit_eqb (among x taken)) (marked-twice b (marks_add x h m))
+      ap₂ ◌||◌ (m.each x h) (marked-twice b (marks_add x h m))
 
 -- ── All nodes, then the roots ──
 
@@ -82,7 +78,7 @@ pub data AllSmall : List Outline → Type 0 where
   no-nodes : AllSmall []
   node : {o : Outline} {os : List Outline} → Small o → AllSmall os → AllSmall (o ∷ os)
 
-claims-same : {os : List Outline} {nodes slots claimed owned : List ℕ} (i : ℕ) (roots : List ℕ) → Below 2048 roots → AllSmall os → MarksOf 2048 nodes claimed → MarksOf 4096 slots owned
+claims-same : {os : List Outline} {nodes slots : List Bool} {claimed owned : List ℕ} (i : ℕ) (roots : List ℕ) → Below 2048 roots → AllSmall os → MarksOf 2048 nodes claimed → MarksOf 4096 slots owned
     → claims_by nodes slots i roots os ≡ claims_from claimed owned i roots os
 unfolding claims_by claims_from claims_marked claims_twice
 claims-same i roots r no-nodes m s = fault-same _ _ i _ _ (marked-twice r m) refl
@@ -90,9 +86,9 @@ claims-same i roots r (node o os) m s =
     fault-same _ _ i _ _ (ap₂ ◌||◌ (marked-twice o.parts m) (marked-twice o.slots s)) (claims-same (i + 1) roots r os (marks-all o.parts m) (marks-all o.slots s))
 
 -- no marks, and nothing taken
-marks-none : (most : ℕ) → MarksOf most (replicate most 0) []
+marks-none : (most : ℕ) → MarksOf most (replicate most false) []
 unfolding among
-marks-none most = record { long = length-replicate most 0; each = λ x h. get_or-replicate most x 0 0 h }
+marks-none most = record { long = length-replicate most false; each = λ x h. get_or-replicate most x false false h }
 
 -- ── Of an accepted image ──
 

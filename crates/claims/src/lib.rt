@@ -2,6 +2,7 @@
 #![tactic(auto)]
 
 ghost use Rattle.std.specs.Prelude.{◌≡◌, [], ◌∷◌, ◌+◌, ◌*◌, ◌^◌, ◌≤◌, ◌<◌, length};
+ghost use Rattle.std.specs.Result.{is_err};
 ghost use Rattle.reader.specs.Reading.{offending};
 ghost use Rattle.ast.specs.Image.{node_count, root_count};
 ghost use Rattle.ast.specs.Claims.{count_from};
@@ -13,41 +14,41 @@ use node_parts::Run;
 use reader::Fault;
 use tok::word_at;
 
-// Marks. Each function says whether a number was marked already, and ends at the first that was.
+// A number is marked already.
+#[derive(Clone, Copy)]
+struct Twice;
+
+// Marks. Each function ends at the first number that was marked already.
 
 // One number. Past the end nothing is marked.
-fn mark(marks: &mut [u8], x: usize) -> bool
-    ensures { Marking marks.old (x ∷ []) marks.new result }
+fn mark(marks: &mut [bool], x: usize) -> Result<(), Twice>
+    ensures { Marking marks.old (x ∷ []) marks.new (is_err result) }
 {
     if x >= marks.len() {
-        return false;
+        return Ok(());
     }
-    if marks[x] == 1 {
-        return true;
+    if marks[x] {
+        return Err(Twice);
     }
-    marks[x] = 1;
-    false
+    marks[x] = true;
+    Ok(())
 }
 
 // The numbers in a run of words.
-fn mark_run(words: &[u32], run: Run, marks: &mut [u8]) -> bool
+fn mark_run(words: &[u32], run: Run, marks: &mut [bool]) -> Result<(), Twice>
     requires { (run.step ≤ 2) × (run.from + 2 * run.count < 2 ^ 63) }
-    ensures { Marking marks.old (parts_from words.now run.step run.from run.count) marks.new result }
+    ensures { Marking marks.old (parts_from words.now run.step run.from run.count) marks.new (is_err result) }
 {
-    let mut i = run.from;
-    for _ in 0..run.count {
-        if mark(marks, word_at(words, i) as usize) {
-            return true;
-        }
-        i += run.step;
+    for k in 0..run.count {
+        mark(marks, run.number(words, k) as usize)?;
     }
-    false
+    Ok(())
 }
 
 // n words, one after the other.
-fn mark_words(words: &[u32], from: usize, n: usize, marks: &mut [u8]) -> bool
+fn mark_words(words: &[u32], from: usize, n: usize, marks: &mut [bool]) -> Result<(), Twice>
     requires { from + 2 * n < 2 ^ 63 }
-    ensures { Marking marks.old (parts_from words.now 1 from n) marks.new result }
+    ensures { Marking marks.old (parts_from words.now 1 from n) marks.new (is_err result) }
 {
     mark_run(
         words,
@@ -61,30 +62,32 @@ fn mark_words(words: &[u32], from: usize, n: usize, marks: &mut [u8]) -> bool
 }
 
 // The conditions and bodies of `count` cases of a Match, and its default, whose last word stands before `end`.
-fn mark_cases(words: &[u32], from: usize, count: usize, end: usize, marks: &mut [u8]) -> bool
+fn mark_cases(
+    words: &[u32],
+    from: usize,
+    count: usize,
+    end: usize,
+    marks: &mut [bool],
+) -> Result<(), Twice>
     requires { (from ≤ length words.now + 3) × (count < 2 ^ 32) × (end < 2 ^ 62) }
-    ensures { Marking marks.old (case_parts words.now end from count) marks.new result }
+    ensures { Marking marks.old (case_parts words.now end from count) marks.new (is_err result) }
 {
     let mut at = from;
     for _ in 0..count {
-        if mark(marks, word_at(words, at + 1) as usize) {
-            return true;
-        }
+        mark(marks, word_at(words, at + 1) as usize)?;
         let n = word_at(words, at + 2) as usize;
-        if mark_words(words, at + 3, n, marks) {
-            return true;
-        }
+        mark_words(words, at + 3, n, marks)?;
         at = at + 3 + n;
     }
     mark_words(words, at + 1, end.saturating_sub(at + 1), marks)
 }
 
 // The parts of the node at a place.
-fn mark_parts(words: &[u32], at: usize, marks: &mut [u8]) -> bool
-    ensures { Marking marks.old (parts_at words.now at) marks.new result }
+fn mark_parts(words: &[u32], at: usize, marks: &mut [bool]) -> Result<(), Twice>
+    ensures { Marking marks.old (parts_at words.now at) marks.new (is_err result) }
 {
     if at >= words.len() {
-        return false;
+        return Ok(());
     }
     let head = word_at(words, at);
     match NodeKind::of(head) {
@@ -97,31 +100,30 @@ fn mark_parts(words: &[u32], at: usize, marks: &mut [u8]) -> bool
 }
 
 // n numbers from the first on.
-fn mark_count(first: usize, n: usize, marks: &mut [u8]) -> bool
+fn mark_count(first: usize, n: usize, marks: &mut [bool]) -> Result<(), Twice>
     requires { first + n < 2 ^ 63 }
-    ensures { Marking marks.old (count_from first n) marks.new result }
+    ensures { Marking marks.old (count_from first n) marks.new (is_err result) }
 {
     for x in first..first + n {
-        if mark(marks, x) {
-            return true;
-        }
+        mark(marks, x)?;
     }
-    false
+    Ok(())
 }
 
 // Claims.
 
 // What the node at a place claims: its parts, and its slot with one after it per argument.
-fn mark_node(words: &[u32], at: usize, nodes: &mut [u8], slots: &mut [u8]) -> bool
-    ensures { Claiming words.now at nodes.old slots.old nodes.new slots.new result }
+fn mark_node(words: &[u32], at: usize, nodes: &mut [bool], slots: &mut [bool]) -> Result<(), Twice>
+    ensures { Claiming words.now at nodes.old slots.old nodes.new slots.new (is_err result) }
 {
     let slot = node_parts::slot(words, at) as usize;
     let n = node_parts::arguments(words, at) as usize;
-    mark_parts(words, at, nodes) || mark_count(slot, n + 1, slots)
+    mark_parts(words, at, nodes)?;
+    mark_count(slot, n + 1, slots)
 }
 
 // All nodes, then the roots, with marks for what is claimed before.
-fn claims_by(words: &[u32], nodes: &mut [u8], slots: &mut [u8]) -> Result<(), Fault>
+fn claims_by(words: &[u32], nodes: &mut [bool], slots: &mut [bool]) -> Result<(), Fault>
     ensures { offending result ≡ claims_by nodes.old slots.old 0 (parts_from words.now 1 4 (root_count words.now))
         (outlines_from words.now 0 (node_count words.now)) }
 {
@@ -129,22 +131,17 @@ fn claims_by(words: &[u32], nodes: &mut [u8], slots: &mut [u8]) -> Result<(), Fa
     let roots = word_at(words, 2) as usize;
     let mut at = 4 + roots;
     for i in 0..n {
-        if mark_node(words, at, nodes, slots) {
-            return Err(Fault(i));
-        }
+        mark_node(words, at, nodes, slots).or(Err(Fault(i)))?;
         at = node_parts::after(words, at);
     }
-    if mark_words(words, 4, roots, nodes) {
-        return Err(Fault(n));
-    }
-    Ok(())
+    mark_words(words, 4, roots, nodes).or(Err(Fault(n)))
 }
 
 // The second claimant of a node or slot, nodes rising, then N for roots; if there is none the image is accepted.
 pub fn claims(words: &[u32]) -> Result<(), Fault>
     ensures { offending result ≡ claims_in words.now }
 {
-    let mut nodes = [0u8; 2048];
-    let mut slots = [0u8; 4096];
+    let mut nodes = [false; 2048];
+    let mut slots = [false; 4096];
     claims_by(words, &mut nodes, &mut slots)
 }

@@ -1,36 +1,22 @@
-use mathlib.Core.Path.{◌∙◌}
-use Rattle.claims.proofs.ClaimWays.{to_claim, claim_stop, claim_more, roots-stop, roots-end, whole}
+use mathlib.Core.Path.{ap, ◌∙◌}
+use mathlib.Core.Option.{some}
+use Rattle.std.proofs.lemmas.Result.{err_from_is_err_and}
+use Rattle.reader.specs.declared.Fault.{Fault}
+use Rattle.reader.specs.Reading.{offending}
+use Rattle.claims.proofs.ClaimWays.{to_claim, claim_stop, claim_more, whole, none-twice, one-twice, roots-last}
 use Rattle.claims.proofs.claims_by.Goals as goal
 
 pub loop-i-init : goal.loop-i-init
 loop-i-init c = to_claim _ _ _ _ _ _ c.word_at-roots.ensures
 
-pub shape_of-nodes-then-mark_node : goal.shape_of-nodes-then-mark_node
-shape_of-nodes-then-mark_node c = c.mark_node.ensures.long-nodes ∙ c.loop-i.invariant.long-nodes
-
-pub shape_of-slots-then-mark_node : goal.shape_of-slots-then-mark_node
-shape_of-slots-then-mark_node c = c.mark_node.ensures.long-slots ∙ c.loop-i.invariant.long-slots
-
-pub returns-then-mark_node : goal.returns-then-mark_node
-returns-then-mark_node c = whole _ _ _ c.word_at-n.ensures c.word_at-roots.ensures (claim_stop c.loop-i.invariant c.loop-i-test.true c.mark_node.ensures c.if-mark_node.true)
+pub returns-in_err-or : goal.returns-in_err-or
+returns-in_err-or c =
+    let p = err_from_is_err_and c.from_residual.result c.from_residual.ensures.1 in
+    let t = one-twice _ _ _ c.in_err-or.ensures in
+    rw (p.1, p.2) (ap (λ (f : Fault). some f.0) t.1 ∙ whole _ _ _ c.word_at-n.ensures c.word_at-roots.ensures (claim_stop c.loop-i.invariant c.loop-i-test.true c.mark_node.ensures t.0))
 
 pub loop-i-preserved : goal.loop-i-preserved
-loop-i-preserved c = claim_more c.loop-i.invariant c.loop-i-test.true c.mark_node.ensures c.if-mark_node.false c.after-at.ensures
-
-pub shape_of-nodes-then-mark_words : goal.shape_of-nodes-then-mark_words
-shape_of-nodes-then-mark_words c = c.mark_words.ensures.long ∙ c.loop-i.invariant.long-nodes
-
-pub shape_of-slots-then-mark_words : goal.shape_of-slots-then-mark_words
-shape_of-slots-then-mark_words c = c.loop-i.invariant.long-slots
-
-pub returns-then-mark_words : goal.returns-then-mark_words
-returns-then-mark_words c = whole _ _ _ c.word_at-n.ensures c.word_at-roots.ensures (roots-stop c.loop-i.invariant c.loop-i-test.false c.mark_words.ensures c.if-mark_words.true)
-
-pub shape_of-nodes : goal.shape_of-nodes
-shape_of-nodes c = c.mark_words.ensures.long ∙ c.loop-i.invariant.long-nodes
-
-pub shape_of-slots : goal.shape_of-slots
-shape_of-slots c = c.loop-i.invariant.long-slots
+loop-i-preserved c = claim_more c.loop-i.invariant c.loop-i-test.true c.mark_node.ensures (none-twice _ _ c.in_ok-or.ensures) c.after-at.ensures
 
 pub returns : goal.returns
-returns c = whole _ _ _ c.word_at-n.ensures c.word_at-roots.ensures (roots-end c.loop-i.invariant c.loop-i-test.false c.mark_words.ensures c.if-mark_words.false)
+returns c = ap offending c.or-2.ensures ∙ whole _ _ _ c.word_at-n.ensures c.word_at-roots.ensures (roots-last c.loop-i.invariant c.loop-i-test.false _ c.mark_words.ensures)

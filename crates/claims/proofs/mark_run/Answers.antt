@@ -1,26 +1,25 @@
-use mathlib.Core.Path.{◌∙◌}
+use mathlib.Core.Path.{refl}
 use native.Mathlib.Omega.{arith}
 use native.Mathlib.Nat.{sub-zero}
+use Rattle.std.proofs.lemmas.Result.{err_from_is_err_and}
+use Rattle.node_parts.specs.Lists.{place-first, place-next}
 use Rattle.claims.proofs.MarkWays.{to_mark, run-stop, run_more, run_end}
 use Rattle.claims.proofs.mark_run.Goals as goal
 
-pub loop-init : goal.loop-init
-loop-init c = rw sub-zero to_mark
+pub loop-k-init : goal.loop-k-init
+loop-k-init c = rw (sub-zero, place-first c.args.run) to_mark
 
-pub shape_of-marks-then-mark : goal.shape_of-marks-then-mark
-shape_of-marks-then-mark c = c.mark.ensures.long ∙ c.loop.invariant.long
+pub returns-in_err-mark : goal.returns-in_err-mark
+returns-in_err-mark c =
+    let p = err_from_is_err_and c.from_residual.result c.from_residual.ensures.1 in
+    rw p.1 (run-stop c.loop-k.invariant (omega arith) c.number.ensures c.in_err-mark.ensures refl)
 
-pub returns-then-mark : goal.returns-then-mark
-returns-then-mark c = run-stop c.loop.invariant (omega arith) c.word_at.ensures c.mark.ensures c.if-mark.true
-
-pub overflow_add-i : goal.overflow_add-i
-overflow_add-i c = omega (arith, c.loop.invariant.place)
-
-pub loop-preserved : goal.loop-preserved
-loop-preserved c = run_more c.loop.invariant (omega arith) c.word_at.ensures c.mark.ensures (omega arith) c.requires.0 c.if-mark.false
+pub loop-k-preserved : goal.loop-k-preserved
+loop-k-preserved c =
+    rw (← place-next c.args.run c.loop-k.k) (run_more c.loop-k.invariant (omega arith) c.number.ensures c.in_ok-mark.ensures (omega arith) c.requires.0 refl)
 
 pub shape_of-marks : goal.shape_of-marks
-shape_of-marks c = c.loop.invariant.long
+shape_of-marks c = c.loop-k.invariant.long
 
 pub returns : goal.returns
-returns c = run_end c.loop.invariant (omega arith)
+returns c = run_end c.loop-k.invariant (omega arith)
