@@ -1,8 +1,9 @@
 -- What the answers of finding entries stand for. Definitions.
 use Rattle.std.specs.Prelude.{ℕ, ◌+◌, ◌-◌, ◌≤◌, ◌≡◌, Bool, true, false, List, [], ◌∷◌, length, Option, Some, None}
 use Rattle.tok.specs.Text.{Texts}
-use Rattle.library.specs.Package.{Signature, group_of}
+use Rattle.library.specs.Package.{Signature, Function, group_of}
 use Rattle.library.specs.Signatures.{signature_at, entries_from}
+use Rattle.library.specs.EntryList.{Entries}
 use Rattle.library.specs.declared.Entry.{Entry}
 
 -- how many words stand between an entry's name and its argument count: "its group name, a flag (1 has slots, 0 not), argument count" in the
@@ -10,6 +11,10 @@ use Rattle.library.specs.declared.Entry.{Entry}
 abbrev pub flag_words : (flagged : Bool) → ℕ
 flag_words true = 1
 flag_words false = 0
+
+-- the functions that some entries are
+abbrev pub functions_in : Entries → List Function
+functions_in e = entries_from e.words (flag_words e.flagged) e.from e.count
 
 -- the signature of an entry of a name, and those of its others: among `left` entries from word `next` on
 abbrev pub entries_of : Texts → (name words : List ℕ) → (flags : ℕ) → Option Entry → List Signature

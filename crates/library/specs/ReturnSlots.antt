@@ -20,21 +20,20 @@ use Rattle.library.specs.Each.{Each}
 use Rattle.library.specs.TypeWords.{TypeWord, either_true}
 use Rattle.library.specs.PoolRead.{PoolFine}
 use Rattle.library.specs.PoolTrees.{pool_ty-named}
-use Rattle.library.specs.SlotSums.{zeros, get_d_zeros, length-zeros}
-use Rattle.library.specs.SlotMarks.{mark_all, spread, any_marked, is_slot, any_slot_of}
-use Rattle.library.specs.SlotReach.{slots-reached}
+use Rattle.library.specs.SlotMarks.{unmarked, mark_all, spread, any_marked, is_slot, any_slot_of}
+use Rattle.library.specs.SlotReach.{get_or-unmarked, length-unmarked, slots-reached}
 
 -- whether a name is that of a slot of some words: one of them, or a marked word of the pool
-unfoldable pub among_marked : Texts → (types ws marks : List ℕ) → (name : List ℕ) → Bool
+unfoldable pub among_marked : Texts → (types ws : List ℕ) → (marks : List Bool) → (name : List ℕ) → Bool
 among_marked texts types ws marks name = any_slot_of texts name ws || any_marked marks (λ i. is_slot texts name (get_or types i 0)) (length types)
 
 -- a word is a slot whose name is not among those
-unfoldable pub missing : Texts → (types ws marks : List ℕ) → (w : ℕ) → Bool
+unfoldable pub missing : Texts → (types ws : List ℕ) → (marks : List Bool) → (w : ℕ) → Bool
 missing texts types ws marks w = eqb (kind_of w) 10 && not (among_marked texts types ws marks (name_bytes texts w))
 
 -- the marks that are reached from some types
-abbrev pub reached_from : (types ws : List ℕ) → List ℕ
-reached_from types ws = spread types (length types) (mark_all types ws (zeros 8192))
+abbrev pub reached_from : (types ws : List ℕ) → List Bool
+reached_from types ws = spread types (length types) (mark_all types ws (unmarked 8192))
 
 -- "a slot of the return type stands in some argument", found by marks: a return type that is a slot is asked for itself, another for its
 -- marked slots
@@ -82,19 +81,19 @@ mutual
 
 -- ── Marks ──
 
-pub record Witness (marks : List ℕ) (test : ℕ → Bool) (i : ℕ) : Type 0 where
+pub record Witness (marks : List Bool) (test : ℕ → Bool) (i : ℕ) : Type 0 where
   pub at : ℕ
   pub below : at < i
-  pub marked : eqb (get_or marks at 0) 1 ≡ true
+  pub marked : get_or marks at false ≡ true
   pub holds : test at ≡ true
 
-module _ (marks : List ℕ) (test : ℕ → Bool) where
+module _ (marks : List Bool) (test : ℕ → Bool) where
   any_witness : (i : ℕ) → any_marked marks test i ≡ true → Witness marks test i
   unfolding any_marked
   any_witness zero e = absurd (false≢true e)
-  any_witness (suc i) e = elim (either_true (eqb (get_or marks i 0) 1 && test i) _ e) [
+  any_witness (suc i) e = elim (either_true (get_or marks i false && test i) _ e) [
     | inl h ↦
-        let b = (and-eq-true_iff (eqb (get_or marks i 0) 1) (test i)).0 h in
+        let b = (and-eq-true_iff (get_or marks i false) (test i)).0 h in
         record { at = i; below = omega arith; marked = b.0; holds = b.1 }
     | inr h ↦
         let w = any_witness i h in
@@ -106,7 +105,7 @@ module _ (marks : List ℕ) (test : ℕ → Bool) where
   any_some zero w = absurd (omega (arith, w.below))
   any_some (suc i) w = elim (ℕ_discrete w.at i) [
     | yes e ↦ rw (← e, w.marked, w.holds) refl
-    | no d ↦ rw (any_some i (record { at = w.at; below = omega (arith, w.below); marked = w.marked; holds = w.holds })) (or-true (eqb (get_or marks i 0) 1 && test i))
+    | no d ↦ rw (any_some i (record { at = w.at; below = omega (arith, w.below); marked = w.marked; holds = w.holds })) (or-true (get_or marks i false && test i))
   ]
 
 -- ── The return type ──
@@ -115,7 +114,7 @@ module _ (t : Texts) (types : List ℕ) (fine : PoolFine (pool_in t types)) (roo
   among-is : (ws : List ℕ) (name : List ℕ) → Each (TypeWord (pool_in t types) (length types)) ws
       → among_marked t types ws (reached_from types ws) name ≡ name_among name (slot_names_of (pool_in t types) ws)
   unfolding among_marked
-  among-is ws name h = slots-reached (pool_in t types) name fine ws (zeros 8192) h (get_d_zeros 8192) (rw (length-zeros 8192) room)
+  among-is ws name h = slots-reached (pool_in t types) name fine ws (unmarked 8192) h (get_or-unmarked 8192) (rw (length-unmarked 8192) room)
 
   module _ (args : List ℕ) (ret : ℕ) (good : Each (TypeWord (pool_in t types) (length types)) args) (goodRet : TypeWord (pool_in t types) (length types) ret) where
     -- a return type that holds no slot

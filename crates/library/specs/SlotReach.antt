@@ -9,7 +9,7 @@ use Rattle.std.proofs.Math.Bool.{Bool, true, false, or_assoc, or-false}
 use mathlib.Core.List.{List, [], ◌∷◌, ◌++◌}
 use native.Mathlib.Omega.{arith}
 use Rattle.std.proofs.Math.Decide.{ℕ_discrete}
-use Rattle.std.proofs.Math.ListN.{length, get_or, length-set}
+use Rattle.std.proofs.Math.ListN.{length, get_or, length-set, length-replicate}
 use Rattle.std.proofs.Math.Seq.{get_or-set_same, get_or-set_other}
 use borrow.Author.Tests.{ne_eqb}
 use Rattle.tok.specs.Word.{kind_of, payload_of}
@@ -24,7 +24,7 @@ use Rattle.library.specs.Each.{Each}
 use Rattle.library.specs.TypeWords.{TypeWord, good_type-true}
 use Rattle.library.specs.PoolRead.{PoolFine}
 use Rattle.library.specs.PoolTrees.{type-refers, pool_backward, pool_ty-plain, pool_ty-wrap, pool_ty_record, pool_ty-named}
-use Rattle.library.specs.SlotMarks.{mark_fields, mark_inside, mark_all, spread, any_marked, is_slot, any_slot_of}
+use Rattle.library.specs.SlotMarks.{unmarked, mark_fields, mark_inside, mark_all, spread, any_marked, is_slot, any_slot_of}
 
 -- ── Marks ──
 
@@ -42,22 +42,22 @@ swap false false c = refl
 
 module _ (test : ℕ → Bool) where
   -- only the marks below the index matter
-  any_same : (marks marks' : List ℕ) (i : ℕ) → ((j : ℕ) → j < i → get_or marks j 0 ≡ get_or marks' j 0) → any_marked marks test i ≡ any_marked marks' test i
+  any_same : (marks marks' : List Bool) (i : ℕ) → ((j : ℕ) → j < i → get_or marks j false ≡ get_or marks' j false) → any_marked marks test i ≡ any_marked marks' test i
   unfolding any_marked
   any_same marks marks' zero h = refl
   any_same marks marks' (suc i) h = rw (h i (omega arith), any_same marks marks' i (λ j l. h j (omega arith))) refl
 
   -- one more mark
-  any_set : (marks : List ℕ) (q i : ℕ) → q < i → i ≤ length marks → any_marked (set marks q 1) test i ≡ (test q || any_marked marks test i)
+  any_set : (marks : List Bool) (q i : ℕ) → q < i → i ≤ length marks → any_marked (set marks q true) test i ≡ (test q || any_marked marks test i)
   unfolding any_marked
   any_set marks q zero l h = absurd (omega arith)
   any_set marks q (suc i) l h = elim (ℕ_discrete q i) [
     | yes e ↦
-        rw (← e, get_or-set_same marks q 1 0 (omega arith), any_same (set marks q 1) marks q (λ j b. get_or-set_other marks q j 1 0 (λ d. omega arith)))
-        (sym (again (test q) (eqb (get_or marks q 0) 1) (any_marked marks test q)))
+        rw (← e, get_or-set_same marks q true false (omega arith), any_same (set marks q true) marks q (λ j b. get_or-set_other marks q j true false (λ d. omega arith)))
+        (sym (again (test q) (get_or marks q false) (any_marked marks test q)))
     | no d ↦
-        rw (get_or-set_other marks q i 1 0 (λ e. d (sym e)), any_set marks q i (omega arith) (omega arith))
-        (swap (eqb (get_or marks i 0) 1 && test i) (test q) (any_marked marks test i))
+        rw (get_or-set_other marks q i true false (λ e. d (sym e)), any_set marks q i (omega arith) (omega arith))
+        (swap (get_or marks i false && test i) (test q) (any_marked marks test i))
   ]
 
   -- marks on a list's fields
@@ -65,48 +65,59 @@ module _ (test : ℕ → Bool) where
   any_field at zero = false
   any_field at (suc n) = test at || any_field (at + 2) n
 
-  any_fields : (n : ℕ) (marks : List ℕ) (at i : ℕ) → at + 2 * n < i + 2 → i ≤ length marks
+  any_fields : (n : ℕ) (marks : List Bool) (at i : ℕ) → at + 2 * n < i + 2 → i ≤ length marks
       → any_marked (mark_fields marks at n) test i ≡ (any_field at n || any_marked marks test i)
   unfolding mark_fields any_field
   any_fields zero marks at i l h = refl
   any_fields (suc n) marks at i l h =
-      any_fields n (set marks at 1) (at + 2) i (omega arith) (rw length-set h)
+      any_fields n (set marks at true) (at + 2) i (omega arith) (rw length-set h)
       ∙ rw (any_set marks at i (omega arith) h) refl
       ∙ swap (any_field (at + 2) n) (test at) (any_marked marks test i)
       ∙ sym (or_assoc (test at) (any_field (at + 2) n) (any_marked marks test i))
 
+-- no marks
+pub get_or-unmarked : (n j : ℕ) → get_or (unmarked n) j false ≡ false
+unfolding unmarked
+get_or-unmarked zero j = refl
+get_or-unmarked (suc n) zero = refl
+get_or-unmarked (suc n) (suc j) = get_or-unmarked n j
+
+pub length-unmarked : (n : ℕ) → length (unmarked n) ≡ n
+unfolding unmarked
+length-unmarked n = length-replicate {A = Bool} n false
+
 -- marks keep their number, and stay as they are from the word's own index on
-pub length-mark_fields : (n : ℕ) (marks : List ℕ) (at : ℕ) → length (mark_fields marks at n) ≡ length marks
+pub length-mark_fields : (n : ℕ) (marks : List Bool) (at : ℕ) → length (mark_fields marks at n) ≡ length marks
 unfolding mark_fields
 length-mark_fields zero marks at = refl
-length-mark_fields (suc n) marks at = length-mark_fields n (set marks at 1) (at + 2) ∙ length-set marks at 1
+length-mark_fields (suc n) marks at = length-mark_fields n (set marks at true) (at + 2) ∙ length-set marks at true
 
-kept-fields : (n : ℕ) (marks : List ℕ) (at j : ℕ) → at + 2 * n < j + 2 → get_or (mark_fields marks at n) j 0 ≡ get_or marks j 0
+kept-fields : (n : ℕ) (marks : List Bool) (at j : ℕ) → at + 2 * n < j + 2 → get_or (mark_fields marks at n) j false ≡ get_or marks j false
 unfolding mark_fields
 kept-fields zero marks at j l = refl
-kept-fields (suc n) marks at j l = kept-fields n (set marks at 1) (at + 2) j (omega arith) ∙ get_or-set_other marks at j 1 0 (λ e. omega arith)
+kept-fields (suc n) marks at j l = kept-fields n (set marks at true) (at + 2) j (omega arith) ∙ get_or-set_other marks at j true false (λ e. omega arith)
 
-pub length-mark_inside : (types : List ℕ) (w : ℕ) (marks : List ℕ) → length (mark_inside types w marks) ≡ length marks
+pub length-mark_inside : (types : List ℕ) (w : ℕ) (marks : List Bool) → length (mark_inside types w marks) ≡ length marks
 unfolding mark_inside
 length-mark_inside types w marks = by (wraps (kind_of w)) (eqb (kind_of w) 8)
   where
-    by : (a b : Bool) → length (cond a (set marks (payload_of w) 1) (cond b (mark_fields marks (payload_of w + 2) (field_count types w)) marks)) ≡ length marks
-    by true b = length-set marks (payload_of w) 1
+    by : (a b : Bool) → length (cond a (set marks (payload_of w) true) (cond b (mark_fields marks (payload_of w + 2) (field_count types w)) marks)) ≡ length marks
+    by true b = length-set marks (payload_of w) true
     by false true = length-mark_fields (field_count types w) marks (payload_of w + 2)
     by false false = refl
 
-pub length-mark_all : (types ws marks : List ℕ) → length (mark_all types ws marks) ≡ length marks
+pub length-mark_all : (types ws : List ℕ) (marks : List Bool) → length (mark_all types ws marks) ≡ length marks
 unfolding mark_all
 length-mark_all types [] marks = refl
 length-mark_all types (w ∷ ws) marks = length-mark_all types ws (mark_inside types w marks) ∙ length-mark_inside types w marks
 
 -- by shape
-module _ (types : List ℕ) (w : ℕ) (marks : List ℕ) where
+module _ (types : List ℕ) (w : ℕ) (marks : List Bool) where
   inside-plain : Plain (kind_of w) → mark_inside types w marks ≡ marks
   unfolding mark_inside
   inside-plain h = rw (h.no_wrap, ne_eqb (kind_of w) 8 h.no_record) refl
 
-  inside-wrap : wraps (kind_of w) ≡ true → mark_inside types w marks ≡ set marks (payload_of w) 1
+  inside-wrap : wraps (kind_of w) ≡ true → mark_inside types w marks ≡ set marks (payload_of w) true
   unfolding mark_inside
   inside-wrap h = rw h refl
 
@@ -118,12 +129,12 @@ module _ (types : List ℕ) (w : ℕ) (marks : List ℕ) where
   unfolding mark_inside
   inside-named h = elim (one_of 9 10 (kind_of w) h) [ inl e ↦ rw e refl | inr e ↦ rw e refl ]
 
-  kept-inside : (own j : ℕ) → Refers types own w → own ≤ j → get_or (mark_inside types w marks) j 0 ≡ get_or marks j 0
+  kept-inside : (own j : ℕ) → Refers types own w → own ≤ j → get_or (mark_inside types w marks) j false ≡ get_or marks j false
   kept-inside own j r l = elim (shape (kind_of w)) [
     | is_plain h ↦ rw (inside-plain h) refl
     | is_wrap h ↦
         let b = r.to_inner h in
-        rw (inside-wrap h) (get_or-set_other marks (payload_of w) j 1 0 (λ e. omega arith))
+        rw (inside-wrap h) (get_or-set_other marks (payload_of w) j true false (λ e. omega arith))
     | is_record h ↦
         let b = r.to_fields h in
         rw (inside_record h) (kept-fields (field_count types w) marks (payload_of w + 2) j (omega arith))
@@ -193,7 +204,7 @@ module _ (p : Pool) (name : List ℕ) where
           rw (pool_ty_record p w (pool_backward fine) refers h, stands-fields (field_count p.words w) (payload_of w + 1), e) refl
 
       -- Marking the words inside stands for the same slots as a mark on the word itself, if it is no slot.
-      pub any_inside : (marks : List ℕ) → own ≤ length marks
+      pub any_inside : (marks : List Bool) → own ≤ length marks
           → (is_slot p.texts name w || any_marked (mark_inside p.words w marks) stands_at own) ≡ (stands w || any_marked marks stands_at own)
       any_inside marks room = elim (shape (kind_of w)) [
         | is_plain h ↦ rw (stands_plain w h, not-slot w (plain-not-slot _ h), inside-plain p.words w marks h) refl
@@ -208,7 +219,7 @@ module _ (p : Pool) (name : List ℕ) where
       ]
 
     -- a marked word of the pool, of whatever kind
-    at_index : (i : ℕ) → i < p.size → (marks : List ℕ) → i ≤ length marks
+    at_index : (i : ℕ) → i < p.size → (marks : List Bool) → i ≤ length marks
         → (slot_at i || any_marked (mark_inside p.words (pool_word p i) marks) stands_at i) ≡ (stands_at i || any_marked marks stands_at i)
     at_index i l marks room = elim (fine.each i l).kinds [
       | inl k ↦ flat (record { no_wrap = rw k refl; no_record = λ e. omega arith; no_name = rw k refl })
@@ -221,60 +232,60 @@ module _ (p : Pool) (name : List ℕ) where
         flat : Plain (kind_of (pool_word p i)) → (slot_at i || any_marked (mark_inside p.words (pool_word p i) marks) stands_at i) ≡ (stands_at i || any_marked marks stands_at i)
         flat h = rw (stands_plain (pool_word p i) h, not-slot (pool_word p i) (plain-not-slot _ h), inside-plain p.words (pool_word p i) marks h) refl
 
-    kept_at : (i j : ℕ) → i < p.size → i ≤ j → (marks : List ℕ) → get_or (mark_inside p.words (pool_word p i) marks) j 0 ≡ get_or marks j 0
+    kept_at : (i j : ℕ) → i < p.size → i ≤ j → (marks : List Bool) → get_or (mark_inside p.words (pool_word p i) marks) j false ≡ get_or marks j false
     kept_at i j l m marks = kept-inside p.words (pool_word p i) marks i j ((pool_backward fine).each i l) m
 
     -- one step down
-    step : (i : ℕ) (marks : List ℕ) → List ℕ
-    step i marks = cond (eqb (get_or marks i 0) 1) (mark_inside p.words (pool_word p i) marks) marks
+    step : (i : ℕ) (marks : List Bool) → List Bool
+    step i marks = cond (get_or marks i false) (mark_inside p.words (pool_word p i) marks) marks
 
-    length-step : (i : ℕ) (marks : List ℕ) → length (step i marks) ≡ length marks
+    length-step : (i : ℕ) (marks : List Bool) → length (step i marks) ≡ length marks
     unfolding step
-    length-step i marks = by (eqb (get_or marks i 0) 1)
+    length-step i marks = by (get_or marks i false)
       where
         by : (b : Bool) → length (cond b (mark_inside p.words (pool_word p i) marks) marks) ≡ length marks
         by true = length-mark_inside p.words (pool_word p i) marks
         by false = refl
 
-    kept_step : (i j : ℕ) → i < p.size → i ≤ j → (marks : List ℕ) → get_or (step i marks) j 0 ≡ get_or marks j 0
+    kept_step : (i j : ℕ) → i < p.size → i ≤ j → (marks : List Bool) → get_or (step i marks) j false ≡ get_or marks j false
     unfolding step
-    kept_step i j l m marks = by (eqb (get_or marks i 0) 1)
+    kept_step i j l m marks = by (get_or marks i false)
       where
-        by : (b : Bool) → get_or (cond b (mark_inside p.words (pool_word p i) marks) marks) j 0 ≡ get_or marks j 0
+        by : (b : Bool) → get_or (cond b (mark_inside p.words (pool_word p i) marks) marks) j false ≡ get_or marks j false
         by true = kept_at i j l m marks
         by false = refl
 
-    any_step : (i : ℕ) → i < p.size → (marks : List ℕ) → i ≤ length marks
-        → (eqb (get_or marks i 0) 1 && slot_at i || any_marked (step i marks) stands_at i) ≡ (eqb (get_or marks i 0) 1 && stands_at i || any_marked marks stands_at i)
+    any_step : (i : ℕ) → i < p.size → (marks : List Bool) → i ≤ length marks
+        → (get_or marks i false && slot_at i || any_marked (step i marks) stands_at i) ≡ (get_or marks i false && stands_at i || any_marked marks stands_at i)
     unfolding step
-    any_step i l marks room = by (eqb (get_or marks i 0) 1)
+    any_step i l marks room = by (get_or marks i false)
       where
         by : (b : Bool) → (b && slot_at i || any_marked (cond b (mark_inside p.words (pool_word p i) marks) marks) stands_at i) ≡ (b && stands_at i || any_marked marks stands_at i)
         by true = at_index i l marks room
         by false = refl
 
-    spread-suc : (i : ℕ) (marks : List ℕ) → spread p.words (suc i) marks ≡ spread p.words i (step i marks)
+    spread-suc : (i : ℕ) (marks : List Bool) → spread p.words (suc i) marks ≡ spread p.words i (step i marks)
     unfolding spread step
     spread-suc i marks = refl
 
-    kept-spread : (i j : ℕ) → i ≤ p.size → i ≤ j → (marks : List ℕ) → get_or (spread p.words i marks) j 0 ≡ get_or marks j 0
+    kept-spread : (i j : ℕ) → i ≤ p.size → i ≤ j → (marks : List Bool) → get_or (spread p.words i marks) j false ≡ get_or marks j false
     unfolding spread step
     kept-spread zero j l m marks = refl
     kept-spread (suc i) j l m marks = kept-spread i j (omega arith) (omega arith) (step i marks) ∙ kept_step i j (omega arith) (omega arith) marks
 
     -- After the spread the marked slots are those that stood in the marked types.
-    any_spread : (i : ℕ) → i ≤ p.size → (marks : List ℕ) → i ≤ length marks → any_marked (spread p.words i marks) slot_at i ≡ any_marked marks stands_at i
+    any_spread : (i : ℕ) → i ≤ p.size → (marks : List Bool) → i ≤ length marks → any_marked (spread p.words i marks) slot_at i ≡ any_marked marks stands_at i
     unfolding any_marked
     any_spread zero l marks room = refl
     any_spread (suc i) l marks room =
         ap (λ s. any_marked s slot_at (suc i)) (spread-suc i marks)
-        ∙ ap (λ b. eqb b 1 && slot_at i || any_marked (spread p.words i (step i marks)) slot_at i)
+        ∙ ap (λ b. b && slot_at i || any_marked (spread p.words i (step i marks)) slot_at i)
         (kept-spread i i (omega arith) (omega arith) (step i marks) ∙ kept_step i i (omega arith) (omega arith) marks)
-        ∙ ap (λ b. eqb (get_or marks i 0) 1 && slot_at i || b) (any_spread i (omega arith) (step i marks) (rw length-step (omega arith)))
+        ∙ ap (λ b. get_or marks i false && slot_at i || b) (any_spread i (omega arith) (step i marks) (rw length-step (omega arith)))
         ∙ any_step i (omega arith) marks (omega arith)
 
     -- marking some types
-    any_all : (ws marks : List ℕ) → Each (TypeWord p p.size) ws → p.size ≤ length marks
+    any_all : (ws : List ℕ) (marks : List Bool) → Each (TypeWord p p.size) ws → p.size ≤ length marks
         → (any_slot_of p.texts name ws || any_marked (mark_all p.words ws marks) stands_at p.size)
         ≡ (name_among name (slot_names_of p ws) || any_marked marks stands_at p.size)
     unfolding any_slot_of mark_all slot_names_of name_among Each
@@ -290,13 +301,13 @@ module _ (p : Pool) (name : List ℕ) where
         ∙ sym (or_assoc (stands w) n m)
         ∙ ap (λ b. b || m) (sym (among-append name (slot_names (pool_ty p w)) (slot_names_of p ws)))
 
-  any_none : (test : ℕ → Bool) (marks : List ℕ) → ((j : ℕ) → get_or marks j 0 ≡ 0) → (i : ℕ) → any_marked marks test i ≡ false
+  any_none : (test : ℕ → Bool) (marks : List Bool) → ((j : ℕ) → get_or marks j false ≡ false) → (i : ℕ) → any_marked marks test i ≡ false
   unfolding any_marked
   any_none test marks h zero = refl
   any_none test marks h (suc i) = rw (h i, any_none test marks h i) refl
 
   -- THE LAW: from no marks, the slots of some types are those words that are slots themselves and those that the marks reach.
-  pub slots-reached : PoolFine p → (ws marks : List ℕ) → Each (TypeWord p p.size) ws → ((j : ℕ) → get_or marks j 0 ≡ 0) → p.size ≤ length marks
+  pub slots-reached : PoolFine p → (ws : List ℕ) (marks : List Bool) → Each (TypeWord p p.size) ws → ((j : ℕ) → get_or marks j false ≡ false) → p.size ≤ length marks
       → (any_slot_of p.texts name ws || any_marked (spread p.words p.size (mark_all p.words ws marks)) slot_at p.size) ≡ name_among name (slot_names_of p ws)
   slots-reached fine ws marks h z room =
       ap (λ b. any_slot_of p.texts name ws || b) (any_spread fine p.size (omega arith) (mark_all p.words ws marks) (rw length-mark_all room))

@@ -6,12 +6,13 @@ use mathlib.Core.List.{List, [], ◌∷◌}
 use native.Mathlib.Omega.{arith}
 use lib.ListN.{length}
 use Rattle.tok.specs.Text.{Texts, name_bytes, same_bytes}
-use Rattle.library.specs.declared.Candidate.{Candidate}
+use Rattle.library.specs.declared.Entry.{Entry}
 use Rattle.std.specs.Prelude.{Option as Answer, Some, None}
 use Rattle.std.specs.Option.{is_some}
-use Rattle.library.specs.Package.{Signature, Function, function_at, functions_from, group_of}
+use Rattle.library.specs.Package.{Signature, Function, group_of}
+use Rattle.library.specs.Signatures.{signature_at}
+use Rattle.library.specs.Entries.{entries_of, Finds}
 use Rattle.library.specs.PackageRecords.{any_function, same_group}
-use Rattle.library.specs.Access.{candidates}
 
 -- a group's functions are all that its tests look at
 unfoldable pub any_slots : List Signature → Bool
@@ -44,49 +45,39 @@ module _ (t : Texts) (group : ℕ) where
       by true e = refl
       by false e = e
 
--- whether one is of the group
-module _ (t : Texts) (group : ℕ) (words : List ℕ) (from k : ℕ) {name : List ℕ} (en : name ≡ name_bytes t group) (r : Answer Candidate)
-    (h : group_of t name (functions_from words from k) ≡ candidates t name words r) where
-  met_by : any_function (same_group t group) (functions_from words from k) ≡ is_met (candidates t name words r)
-  met_by = met_in_lem t group (functions_from words from k) ∙ ap is_met (ap (λ n. group_of t n (functions_from words from k)) (sym en) ∙ h)
+-- what is found of some functions, first or after others, stands for those of the group
+module _ (t : Texts) (group : ℕ) (fs : List Function) {name : List ℕ} (en : name ≡ name_bytes t group) (words : List ℕ) (flags : ℕ) where
+  abbrev found : Answer Entry → List Signature
+  found r = entries_of t name words flags r
 
-  pub met-is : is_some r ≡ any_function (same_group t group) (functions_from words from k)
-  unfolding is_met
-  met-is = sym (met_by ∙ by r)
-    where
-      by : (o : Answer Candidate) → is_met (candidates t name words o) ≡ is_some o
-      by (Some f) = refl
-      by None = refl
+  module _ (r : Answer Entry) (h : group_of t name fs ≡ found r) where
+    pub met-is : is_some r ≡ any_function (same_group t group) fs
+    unfolding is_met
+    met-is = sym (met_in_lem t group fs ∙ ap is_met (ap (λ n. group_of t n fs) (sym en) ∙ h) ∙ by r)
+      where
+        by : (o : Answer Entry) → is_met (found o) ≡ is_some o
+        by (Some f) = refl
+        by None = refl
 
--- The loop over the candidates: those from `at` on are left.
-pub record SlotsLeft (t : Texts) (group : ℕ) (words : List ℕ) (from k : ℕ) (name : List ℕ) (at left : ℕ) : Type 0 where
-  pub rest : any_function (λ f. same_group t group f && f.sig.with_slots) (functions_from words from k) ≡ any_slots (group_of t name (functions_from words at left))
+    pub slots-begin : any_function (λ f. same_group t group f && f.sig.with_slots) fs ≡ any_slots (found r)
+    slots-begin = slots_in_lem t group fs ∙ ap any_slots (ap (λ n. group_of t n fs) (sym en) ∙ h)
 
-module _ {t : Texts} {group : ℕ} {words : List ℕ} {from k : ℕ} {name : List ℕ} where
-  pub slots-begin : name ≡ name_bytes t group → SlotsLeft t group words from k name from k
-  slots-begin en = record { rest = slots_in_lem t group (functions_from words from k) ∙ ap (λ n. any_slots (group_of t n (functions_from words from k))) (sym en) }
+-- The loop over what is found: no entry so far has slots.
+module _ (t : Texts) (name words : List ℕ) (flags : ℕ) (r : Answer Entry) where
+  pub slots-over : r ≡ None → false ≡ any_slots (entries_of t name words flags r)
+  unfolding any_slots
+  slots-over e = rw e refl
 
-  module _ {at left : ℕ} (h : SlotsLeft t group words from k name at left) (r : Answer Candidate)
-      (c : group_of t name (functions_from words at left) ≡ candidates t name words r) where
-    pub slots-over : r ≡ None → false ≡ any_function (λ f. same_group t group f && f.sig.with_slots) (functions_from words from k)
-    unfolding any_slots
-    slots-over e = sym (h.rest ∙ ap any_slots (c ∙ ap (candidates t name words) e))
+  module _ (e : Entry) (is : r ≡ Some e) where
+    pub slots-yes : e.slotted ≡ true → true ≡ any_slots (entries_of t name words flags r)
+    unfolding any_slots signature_at
+    slots-yes y = rw (is, y) refl
 
-    module _ (f : Candidate) (e : r ≡ Some f) {s : Bool} (es : s ≡ (function_at words f.at).sig.with_slots) where
-      taken : any_function (λ f. same_group t group f && f.sig.with_slots) (functions_from words from k)
-          ≡ ((function_at words f.at).sig.with_slots || any_slots (group_of t name (functions_from words f.next f.left)))
-      unfolding any_slots
-      taken = h.rest ∙ ap any_slots (c ∙ ap (candidates t name words) e)
+    module _ (next : Answer Entry) (h : Finds t name words flags e.next e.left next) where
+      pub slots-next : e.slotted ≡ false → any_slots (entries_of t name words flags r) ≡ any_slots (entries_of t name words flags next)
+      unfolding any_slots signature_at
+      slots-next n = rw (is, n) (ap any_slots h.is)
 
-      pub slots-yes : s ≡ true → true ≡ any_function (λ f. same_group t group f && f.sig.with_slots) (functions_from words from k)
-      slots-yes y = sym (taken ∙ rw (sym es ∙ y) refl)
-
-      pub slots_next : s ≡ false → SlotsLeft t group words from k name f.next f.left
-      slots_next n = record { rest = taken ∙ rw (sym es ∙ n) refl }
-
-    -- each turn takes one candidate
-    pub slots-fewer : (f : Candidate) → r ≡ Some f
-        → length (group_of t name (functions_from words f.next f.left)) < length (group_of t name (functions_from words at left))
-    slots-fewer f e =
-        let l : length (group_of t name (functions_from words at left)) ≡ length ((function_at words f.at).sig ∷ group_of t name (functions_from words f.next f.left)) = ap length (c ∙ ap (candidates t name words) e) in
-        omega arith
+      -- each turn takes one
+      pub slots-fewer : length (entries_of t name words flags next) < length (entries_of t name words flags r)
+      slots-fewer = rw (is, ← h.is) (omega arith)

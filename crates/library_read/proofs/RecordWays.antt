@@ -15,9 +15,8 @@ use borrow.Author.Tests.{eq-eqb}
 use Rattle.tok.specs.Name.{good_name, in_library}
 use Rattle.tok.specs.Step.{Result, ok, refused, next, ◌>>=◌, return}
 use Rattle.tok.specs.Reader.{Cursor, Read, word, owing, many}
-use Rattle.reader.specs.declared.Place.{Place}
 use Rattle.reader.specs.declared.Fault.{Fault}
-use Rattle.reader.specs.Reading.{standing, next_word, onward, gave}
+use Rattle.reader.specs.Reading.{Reader, standing, next_word, onward, gave, Same, Comes}
 use Rattle.reader.specs.Laws.{owed, onward-return, onward_then, onward_last}
 use Rattle.reader.specs.Reads.{Within, Reads, reads_word, onward-place, onward-shown, onward-within, gave-there}
 use Rattle.reader.specs.Many.{many_more, many_faulted}
@@ -28,181 +27,203 @@ use Rattle.library.specs.Each.{Each}
 use Rattle.library.specs.TypeWords.{TypeWord}
 use Rattle.library.specs.SlotMarks.{types_in}
 use Rattle.library.specs.Package.{Param, param, Function, function, signature, Package, pkg, params_from, function_at, function_end, functions_from, functions_end, packages_from}
+use Rattle.library.specs.Signatures.{entries_from}
+use Rattle.library.specs.EntryLaws.{entries-library}
 use Rattle.library.specs.PackageRecords.{any_function, same_group, good_group, good_flag, good_signature_type, argument, good_return, function_record, function_records, package_record}
 use Rattle.library.specs.PackagesRead.{ParamFine, GroupFine, FunctionsShown, argument-reads, arguments-reads, function-reads, functions-reads, package_at, package_end, package_reads, packages-reads}
 use Rattle.library_read.specs.Ready.{Placed}
 use Rattle.library_groups.specs.Kept.{GroupsKept}
 use Rattle.library_read.proofs.SignatureWays.{types-of-pairs, fine-types}
 
+-- the words stay the same over two readings
+same-then : (from mid : Reader) (to : rust.Result Reader Fault) → mid.words ≡ from.words → Same mid to → Same from to
+same-then from mid (Ok to) e f = f ∙ e
+same-then from mid (Err fault) e f = tt
+
 -- ── Arguments ──
 
-module _ (p : Pool) (words : List ℕ) (flag : ℕ) where
-  pub argument-by : (from c : Place) (to : rust.Result Place Fault) (w : ℕ) (good : Bool)
-      → onward words from (word (good_name in_library p.texts.library)) ≡ gave words (next_word words from) (Ok c)
-      → w ≡ next_word words c → good ≡ good_signature_type p flag w → onward words c (word (λ _. good)) ≡ gave words (next_word words c) to
-      → onward words from (argument p flag) ≡ gave words (param (get_or words from.at 0) (get_or words (from.at + 1) 0)) to
+module _ (p : Pool) (flag : ℕ) where
+  pub argument-by : (from c : Reader) (to : rust.Result Reader Fault) (w : ℕ) (good : Bool)
+      → Comes from (word (good_name in_library p.texts.library)) (next_word from) (Ok c)
+      → w ≡ next_word c → good ≡ good_signature_type p flag w → Comes c (word (λ _. good)) (next_word c) to
+      → Comes from (argument p flag) (param (next_word from) (get_or from.words (from.at + 1) 0)) to
   unfolding argument gave
-  argument-by from c to w good e ew eg f =
-      gave-there words to _ (param (next_word words from) w) (from.at + 2) _ (argument-reads p words flag from.at from.least)
-      (rw e (onward_last words (param (next_word words from)) w to _ (owed (good_signature_type p flag) (λ _. 0) words c to w 0 good ew eg refl f)))
+  argument-by from c to w good e ew eg f = (
+    gave-there to _ (param (next_word from) w) (from.at + 2) _ (argument-reads p from.words flag from.at from.least)
+        (rw e.0 (onward_last (param (next_word from)) w to _ (owed (good_signature_type p flag) (λ _. 0) c to w 0 good ew eg refl f.0))),
+    same-then from c to e.1 f.1,
+  )
 
 -- The loop over the arguments: i of them are read.
-pub record ArgumentsRead (p : Pool) (words : List ℕ) (flag : ℕ) (from to : Place) (i : ℕ) : Type 0 where
-  pub so_far : onward words from (many i (argument p flag)) ≡ gave words (params_from words from.at i) (Ok to)
+pub record ArgumentsRead (p : Pool) (flag : ℕ) (from to : Reader) (i : ℕ) : Type 0 where
+  pub so_far : Comes from (many i (argument p flag)) (params_from from.words from.at i) (Ok to)
 
-module _ {p : Pool} {words : List ℕ} {flag : ℕ} {from : Place} where
-  pub arguments-begin : ArgumentsRead p words flag from from 0
+module _ {p : Pool} {flag : ℕ} {from : Reader} where
+  pub arguments-begin : ArgumentsRead p flag from from 0
   unfolding many params_from
-  arguments-begin = record { so_far = onward-return words from [] }
+  arguments-begin = record { so_far = (onward-return from [], refl) }
 
-  module _ {to : Place} {i : ℕ} (h : ArgumentsRead p words flag from to i) (a : Param) where
-    pub arguments-turn : (next : Place) → onward words to (argument p flag) ≡ gave words a (Ok next) → ArgumentsRead p words flag from next (i + 1)
+  module _ {to : Reader} {i : ℕ} (h : ArgumentsRead p flag from to i) (a : Param) where
+    pub arguments-turn : (next : Reader) → Comes to (argument p flag) a (Ok next) → ArgumentsRead p flag from next (i + 1)
     arguments-turn next e = record {
-      so_far = rw (add-one i)
-          (gave-there words (Ok next) _ _ (from.at + 2 * suc i) _
-          (arguments-reads p words flag (suc i) from.at from.least _ refl (λ z. absurd (omega arith)))
-          (many_more (argument p flag) words from to i (params_from words from.at i) h.so_far a next e));
+      so_far = (
+        rw (add-one i)
+            (gave-there (Ok next) _ _ (from.at + 2 * suc i) _
+            (arguments-reads p from.words flag (suc i) from.at from.least _ refl (λ z. absurd (omega arith)))
+            (many_more (argument p flag) from to i (params_from from.words from.at i) h.so_far.0 a next e.0)),
+        e.1 ∙ h.so_far.1,
+      );
     }
 
-    pub arguments-stop : (fault : Fault) (count : ℕ) → i < count → onward words to (argument p flag) ≡ gave words a (Err fault)
-        → onward words from (many count (argument p flag)) ≡ gave words (params_from words from.at count) (Err fault)
-    arguments-stop fault count l e = many_faulted (argument p flag) words from to i (params_from words from.at i) h.so_far a fault count _ l e
+    pub arguments-stop : (fault : Fault) (count : ℕ) → i < count → Comes to (argument p flag) a (Err fault)
+        → Comes from (many count (argument p flag)) (params_from from.words from.at count) (Err fault)
+    arguments-stop fault count l e = (many_faulted (argument p flag) from to i (params_from from.words from.at i) h.so_far.0 a fault count _ l e.0, tt)
 
-  pub arguments-done : {to : Place} {i : ℕ} → ArgumentsRead p words flag from to i → (count : ℕ) → i ≡ count
-      → onward words from (many count (argument p flag)) ≡ gave words (params_from words from.at count) (Ok to)
+  pub arguments-done : {to : Reader} {i : ℕ} → ArgumentsRead p flag from to i → (count : ℕ) → i ≡ count
+      → Comes from (many count (argument p flag)) (params_from from.words from.at count) (Ok to)
   arguments-done h count e = rw (← e) h.so_far
 
 -- ── A function ──
 
-module _ (p : Pool) (words : List ℕ) where
+module _ (p : Pool) where
   -- where the arguments were read, they are fine, and their types those of the pairs
-  module _ (flag count : ℕ) (d e f : Place) (a : ℕ) (m : ℕ)
-      (counted : onward words d (owing (λ _. true) (λ k. m * k)) ≡ gave words a (Ok e))
-      (read : onward words e (many count (argument p flag)) ≡ gave words (params_from words e.at count) (Ok f)) where
-    count-reads : Reads words (get_or words d.at 0) (d.at + 1) (true ≡ true) (onward words d (owing (λ _. true) (λ k. m * k)))
-    count-reads = reads_word (λ _. true) (λ k. m * k) words d.at d.least
+  module _ (flag count : ℕ) (d e f : Reader) (a : ℕ) (m : ℕ)
+      (counted : Comes d (owing (λ _. true) (λ k. m * k)) a (Ok e))
+      (read : Comes e (many count (argument p flag)) (params_from e.words e.at count) (Ok f)) where
+    count-reads : Reads d.words (get_or d.words d.at 0) (d.at + 1) (true ≡ true) (onward d (owing (λ _. true) (λ k. m * k)))
+    count-reads = reads_word (λ _. true) (λ k. m * k) d.words d.at d.least
 
     start-is : e.at ≡ d.at + 1
-    start-is = onward-place _ _ count-reads counted
+    start-is = onward-place _ _ count-reads counted.0
 
-    start-within : Within words e.at
-    start-within = subst (Within words) (sym start-is) (onward-within _ _ count-reads counted)
+    start-within : Within e.words e.at
+    start-within = rw (counted.1, start-is) (onward-within _ _ count-reads counted.0)
 
-    all-reads : Reads words (params_from words e.at count) (e.at + 2 * count) (Each (ParamFine p (eqb flag 1)) (params_from words e.at count)) (onward words e (many count (argument p flag)))
-    all-reads = arguments-reads p words flag count e.at e.least _ refl (λ _. start-within)
+    all-reads : Reads e.words (params_from e.words e.at count) (e.at + 2 * count) (Each (ParamFine p (eqb flag 1)) (params_from e.words e.at count)) (onward e (many count (argument p flag)))
+    all-reads = arguments-reads p e.words flag count e.at e.least _ refl (λ _. start-within)
 
     -- where they end
     types-end : f.at ≡ e.at + 2 * count
-    types-end = onward-place _ _ all-reads read
+    types-end = onward-place _ _ all-reads read.0
 
-    types-within : Within words (e.at + 2 * count)
-    types-within = onward-within _ _ all-reads read
+    types-within : Within e.words (e.at + 2 * count)
+    types-within = onward-within _ _ all-reads read.0
 
     -- they stand after two words and more: the group and the flag
-    types-low : (c : Place) (g : Bool) → onward words c (word (λ _. g)) ≡ gave words (next_word words c) (Ok d) → 2 ≤ e.at
+    types-low : (c : Reader) (g : Bool) → onward c (word (λ _. g)) ≡ gave (next_word c) (Ok d) → 2 ≤ e.at
     types-low c g k =
-        let flagged : d.at ≡ c.at + 1 = onward-place _ _ (reads_word (λ _. g) (λ _. 0) words c.at c.least) k in
+        let flagged : d.at ≡ c.at + 1 = onward-place _ _ (reads_word (λ _. g) (λ _. 0) c.words c.at c.least) k in
         omega (arith, start-is)
 
-    types_are : types_in (take (2 * count) (drop e.at words)) ≡ map (λ a. a.type) (params_from words e.at count)
-    types_are = types-of-pairs words count e.at types-within.in_list
+    types_are : types_in (take (2 * count) (drop e.at e.words)) ≡ map (λ a. a.type) (params_from e.words e.at count)
+    types_are = types-of-pairs e.words count e.at types-within.in_list
 
-    types-fine : Each (TypeWord p p.size) (types_in (take (2 * count) (drop e.at words)))
-    types-fine = rw types_are (fine-types p (eqb flag 1) _ (onward-shown _ _ all-reads read))
+    types-fine : Each (TypeWord p p.size) (types_in (take (2 * count) (drop e.at e.words)))
+    types-fine = rw types_are (fine-types p (eqb flag 1) _ (onward-shown _ _ all-reads read.0))
 
   -- what the rule on groups says of a function's first two words, where it is known to hold
-  module _ (before : List Function) (from : Place) {kept : Bool} (fine : kept ≡ true → GroupFine p before (function_at words from.at)) (group : ℕ)
-      (eg : group ≡ next_word words from) where
+  module _ (before : List Function) (from : Reader) {kept : Bool} (fine : kept ≡ true → GroupFine p before (function_at from.words from.at)) (group : ℕ)
+      (eg : group ≡ next_word from) where
     pub others-kept : kept ≡ true → any_function (λ f. same_group p.texts group f && f.sig.with_slots) before ≡ false
     unfolding function_at
     others-kept y = rw eg (fine y).others
 
-    pub own-kept : (c : Place) (flag : ℕ) (g₁ : Bool) → onward words from (word (λ _. g₁)) ≡ gave words (next_word words from) (Ok c) → flag ≡ next_word words c
+    pub own-kept : (c : Reader) (flag : ℕ) (g₁ : Bool) → Comes from (word (λ _. g₁)) (next_word from) (Ok c) → flag ≡ next_word c
         → kept ≡ true → flag ≡ 1 → any_function (same_group p.texts group) before ≡ false
     unfolding function_at
     own-kept c flag g₁ k1 ef y f =
-        let there : c.at ≡ from.at + 1 = onward-place _ _ (reads_word (λ _. g₁) (λ _. 0) words from.at from.least) k1 in
-        let w : get_or words (from.at + 1) 0 ≡ 1 = ap (λ n. get_or words n 0) (sym there) ∙ sym ef ∙ f in
+        let there : c.at ≡ from.at + 1 = onward-place _ _ (reads_word (λ _. g₁) (λ _. 0) from.words from.at from.least) k1.0 in
+        let w : get_or from.words (from.at + 1) 0 ≡ 1 = rw (← there, ← k1.1) (sym ef ∙ f) in
         rw eg ((fine y).own (eq-eqb _ 1 w))
 
   -- a function's words one after the other: where one offends, the function does
-  module _ (before : List Function) (from : Place) (group : ℕ) (g₁ : Bool) (e₁ : group ≡ next_word words from) (h₁ : g₁ ≡ good_group p before group) where
-    abbrev FunctionIs : rust.Result Place Fault → Type 0
-    FunctionIs to = onward words from (function_record p before) ≡ gave words (function_at words from.at) to
+  module _ (before : List Function) (from : Reader) (group : ℕ) (g₁ : Bool) (e₁ : group ≡ next_word from) (h₁ : g₁ ≡ good_group p before group) where
+    abbrev FunctionIs : rust.Result Reader Fault → Type 0
+    FunctionIs to = Comes from (function_record p before) (function_at from.words from.at) to
 
-    abbrev GroupIs : rust.Result Place Fault → Type 0
-    GroupIs to = onward words from (word (λ _. g₁)) ≡ gave words (next_word words from) to
+    abbrev GroupIs : rust.Result Reader Fault → Type 0
+    GroupIs to = Comes from (word (λ _. g₁)) (next_word from) to
 
-    group-read : (to : rust.Result Place Fault) → GroupIs to → onward words from (word (good_group p before)) ≡ gave words group to
-    group-read to k = owed (good_group p before) (λ _. 0) words from to group 0 g₁ e₁ h₁ refl k
+    group-read : (to : rust.Result Reader Fault) → GroupIs to → onward from (word (good_group p before)) ≡ gave group to
+    group-read to k = owed (good_group p before) (λ _. 0) from to group 0 g₁ e₁ h₁ refl k.0
 
     pub group_stops : (fault : Fault) → GroupIs (Err fault) → FunctionIs (Err fault)
     unfolding function_record gave
-    group_stops fault k = rw (group-read (Err fault) k) refl
+    group_stops fault k = (rw (group-read (Err fault) k) refl, tt)
 
-    module _ (c : Place) (k₁ : GroupIs (Ok c)) (flag : ℕ) (g₂ : Bool) (e₂ : flag ≡ next_word words c) (h₂ : g₂ ≡ good_flag p before group flag) where
-      abbrev FlagIs : rust.Result Place Fault → Type 0
-      FlagIs to = onward words c (word (λ _. g₂)) ≡ gave words (next_word words c) to
+    module _ (c : Reader) (k₁ : GroupIs (Ok c)) (flag : ℕ) (g₂ : Bool) (e₂ : flag ≡ next_word c) (h₂ : g₂ ≡ good_flag p before group flag) where
+      abbrev FlagIs : rust.Result Reader Fault → Type 0
+      FlagIs to = Comes c (word (λ _. g₂)) (next_word c) to
 
-      flag-read : (to : rust.Result Place Fault) → FlagIs to → onward words c (word (good_flag p before group)) ≡ gave words flag to
-      flag-read to k = owed (good_flag p before group) (λ _. 0) words c to flag 0 g₂ e₂ h₂ refl k
+      flag-read : (to : rust.Result Reader Fault) → FlagIs to → onward c (word (good_flag p before group)) ≡ gave flag to
+      flag-read to k = owed (good_flag p before group) (λ _. 0) c to flag 0 g₂ e₂ h₂ refl k.0
 
       pub flag_stops : (fault : Fault) → FlagIs (Err fault) → FunctionIs (Err fault)
       unfolding function_record gave
-      flag_stops fault k = rw (group-read (Ok c) k₁, flag-read (Err fault) k) refl
+      flag_stops fault k = (rw (group-read (Ok c) k₁, flag-read (Err fault) k) refl, tt)
 
-      module _ (d : Place) (k₂ : FlagIs (Ok d)) (count n : ℕ) (e₃ : count ≡ next_word words d) (en : n ≡ count) where
-        abbrev CountIs : rust.Result Place Fault → Type 0
-        CountIs to = onward words d (owing (λ _. true) (λ _. 2 * n)) ≡ gave words (next_word words d) to
+      module _ (d : Reader) (k₂ : FlagIs (Ok d)) (count n : ℕ) (e₃ : count ≡ next_word d) (en : n ≡ count) where
+        abbrev CountIs : rust.Result Reader Fault → Type 0
+        CountIs to = Comes d (owing (λ _. true) (λ _. 2 * n)) (next_word d) to
 
-        count-read : (to : rust.Result Place Fault) → CountIs to → onward words d (owing (λ _. true) (λ k. 2 * k)) ≡ gave words count to
-        count-read to k = owed (λ _. true) (λ k. 2 * k) words d to count (2 * n) true e₃ refl (ap (λ k. 2 * k) en) k
+        count-read : (to : rust.Result Reader Fault) → CountIs to → onward d (owing (λ _. true) (λ k. 2 * k)) ≡ gave count to
+        count-read to k = owed (λ _. true) (λ k. 2 * k) d to count (2 * n) true e₃ refl (ap (λ k. 2 * k) en) k.0
 
         pub count_stops : (fault : Fault) → CountIs (Err fault) → FunctionIs (Err fault)
         unfolding function_record gave
-        count_stops fault k = rw (group-read (Ok c) k₁, flag-read (Ok d) k₂, count-read (Err fault) k) refl
+        count_stops fault k = (rw (group-read (Ok c) k₁, flag-read (Ok d) k₂, count-read (Err fault) k) refl, tt)
 
-        module _ (e : Place) (k₃ : CountIs (Ok e)) where
-          abbrev ArgumentsAre : rust.Result Place Fault → Type 0
-          ArgumentsAre to = onward words e (many count (argument p flag)) ≡ gave words (params_from words e.at count) to
+        module _ (e : Reader) (k₃ : CountIs (Ok e)) where
+          abbrev ArgumentsAre : rust.Result Reader Fault → Type 0
+          ArgumentsAre to = Comes e (many count (argument p flag)) (params_from e.words e.at count) to
 
           pub arguments_stop : (fault : Fault) → ArgumentsAre (Err fault) → FunctionIs (Err fault)
           unfolding function_record gave
-          arguments_stop fault k = rw (group-read (Ok c) k₁, flag-read (Ok d) k₂, count-read (Ok e) k₃, k) refl
+          arguments_stop fault k = (rw (group-read (Ok c) k₁, flag-read (Ok d) k₂, count-read (Ok e) k₃, k.0) refl, tt)
 
-          pub function-by : (f : Place) → ArgumentsAre (Ok f) → (to : rust.Result Place Fault) (ret : ℕ) (g₃ : Bool) (pairs : List ℕ)
-              → ret ≡ next_word words f → pairs ≡ take (2 * count) (drop e.at words)
-              → (Each (TypeWord p p.size) (types_in pairs) → Placed words (types_in pairs) ret e.at f.at
-              → g₃ ≡ (good_signature_type p flag ret && return_stands p (types_in pairs) ret))
-              → onward words f (word (λ _. g₃)) ≡ gave words (next_word words f) to → FunctionIs to
-          unfolding function_record good_return gave
-          function-by f k₄ to ret g₃ pairs e₅ ep h₅ k₅ =
-              gave-there words to _ (function group (signature (params_from words e.at count) ret (eqb flag 1))) (function_end words from.at) _ (function-reads p words before from.at from.least)
-              (rw (group-read (Ok c) k₁, flag-read (Ok d) k₂, count-read (Ok e) k₃, k₄)
-              (onward_last words (λ w. function group (signature (params_from words e.at count) w (eqb flag 1))) ret to _
-              (owed (good_return p flag (params_from words e.at count)) (λ _. 0) words f to ret 0 g₃ e₅ good refl k₅)))
-            where
-              types-are : types_in pairs ≡ map (λ b. b.type) (params_from words e.at count)
-              types-are = ap types_in ep ∙ types_are flag count d e f count 2 (count-read (Ok e) k₃) k₄
+          module _ (f : Reader) (k₄ : ArgumentsAre (Ok f)) where
+            pub first-words : e.words ≡ from.words
+            first-words = k₃.1 ∙ k₂.1 ∙ k₁.1
 
-              placed : Placed words (types_in pairs) ret e.at f.at
-              placed =
-                  let ends = types-end flag count d e f count 2 (count-read (Ok e) k₃) k₄ in
-                  let w = types-within flag count d e f count 2 (count-read (Ok e) k₃) k₄ in
-                  record {
-                    count = count;
-                    types_are = types-are;
-                    ret-is = e₅;
-                    ends = ends;
-                    low = types-low flag count d e f count 2 (count-read (Ok e) k₃) k₄ c g₂ k₂;
-                    high = omega (arith, ends, w.in_most);
-                    within = omega (arith, ends, w.in_list);
-                  }
+            counted : Comes d (owing (λ _. true) (λ k. 2 * k)) count (Ok e)
+            counted = (count-read (Ok e) k₃, k₃.1)
 
-              good : g₃ ≡ good_return p flag (params_from words e.at count) ret
-              good =
-                  h₅ (subst (λ x. Each (TypeWord p p.size) (types_in x)) (sym ep) (types-fine flag count d e f count 2 (count-read (Ok e) k₃) k₄)) placed
-                  ∙ ap (λ ts. good_signature_type p flag ret && return_stands p ts ret) types-are
+            pub function-by : (to : rust.Result Reader Fault) (ret : ℕ) (g₃ : Bool) (pairs : List ℕ)
+                → ret ≡ next_word f → pairs ≡ take (2 * count) (drop e.at e.words)
+                → (Each (TypeWord p p.size) (types_in pairs) → Placed from.words (types_in pairs) ret e.at f.at
+                → g₃ ≡ (good_signature_type p flag ret && return_stands p (types_in pairs) ret))
+                → Comes f (word (λ _. g₃)) (next_word f) to → FunctionIs to
+            unfolding function_record good_return gave
+            function-by to ret g₃ pairs e₅ ep h₅ k₅ = (
+              gave-there to _ (function group (signature (params_from e.words e.at count) ret (eqb flag 1))) (function_end from.words from.at) _ (function-reads p from.words before from.at from.least)
+                  (rw (group-read (Ok c) k₁, flag-read (Ok d) k₂, count-read (Ok e) k₃, k₄.0)
+                  (onward_last (λ w. function group (signature (params_from e.words e.at count) w (eqb flag 1))) ret to _
+                  (owed (good_return p flag (params_from e.words e.at count)) (λ _. 0) f to ret 0 g₃ e₅ good refl k₅.0))),
+              same-then from f to (k₄.1 ∙ first-words) k₅.1,
+            )
+              where
+                types-are : types_in pairs ≡ map (λ b. b.type) (params_from e.words e.at count)
+                types-are = ap types_in ep ∙ types_are flag count d e f count 2 counted k₄
+
+                placed : Placed e.words (types_in pairs) ret e.at f.at
+                placed =
+                    let ends = types-end flag count d e f count 2 counted k₄ in
+                    let w = types-within flag count d e f count 2 counted k₄ in
+                    record {
+                      count = count;
+                      types_are = types-are;
+                      ret-is = rw (← k₄.1) e₅;
+                      ends = ends;
+                      low = types-low flag count d e f count 2 counted k₄ c g₂ k₂.0;
+                      high = omega (arith, ends, w.in_most);
+                      within = omega (arith, ends, w.in_list);
+                    }
+
+                good : g₃ ≡ good_return p flag (params_from e.words e.at count) ret
+                good =
+                    h₅ (subst (λ x. Each (TypeWord p p.size) (types_in x)) (sym ep) (types-fine flag count d e f count 2 counted k₄))
+                    (subst (λ ws. Placed ws (types_in pairs) ret e.at f.at) first-words placed)
+                    ∙ ap (λ ts. good_signature_type p flag ret && return_stands p ts ret) types-are
 
 -- ── Functions ──
 
@@ -234,94 +255,110 @@ module _ (p : Pool) where
       by (refused z) e h = e
 
 -- The loop over the functions: k of them are read, and the next stands where they end.
-pub record FunctionsRead (p : Pool) (words : List ℕ) (from to : Place) (k : ℕ) : Type 0 where
-  pub so_far : onward words from (function_records p k []) ≡ gave words (functions_from words from.at k) (Ok to)
-  pub place : to.at ≡ functions_end words from.at k
+pub record FunctionsRead (p : Pool) (from to : Reader) (k : ℕ) : Type 0 where
+  pub so_far : onward from (function_records p k []) ≡ gave (functions_from from.words from.at k) (Ok to)
+  pub same : to.words ≡ from.words
+  pub place : to.at ≡ functions_end from.words from.at k
 
-module _ {p : Pool} {words : List ℕ} {from : Place} where
-  pub functions-begin : FunctionsRead p words from from 0
+module _ {p : Pool} {from : Reader} where
+  pub functions-begin : FunctionsRead p from from 0
   unfolding function_records functions_from functions_end
-  functions-begin = record { so_far = onward-return words from []; place = refl }
+  functions-begin = record { so_far = onward-return from []; same = refl; place = refl }
 
-  module _ {to : Place} {k : ℕ} (h : FunctionsRead p words from to k) (f : Function) where
-    so_many : onward words from (function_records p (suc k) []) ≡ onward words to (◌>>=◌ (function_record p (functions_from words from.at k)) (λ f. return (functions_from words from.at k ++ (f ∷ []))))
-    so_many = functions-suc p k [] (standing words from.at from.least) ∙ onward_then words from (function_records p k []) (one_more p) (functions_from words from.at k) to h.so_far
+  module _ {to : Reader} {k : ℕ} (h : FunctionsRead p from to k) (f : Function) where
+    so_many : onward from (function_records p (suc k) []) ≡ onward to (◌>>=◌ (function_record p (functions_from from.words from.at k)) (λ f. return (functions_from from.words from.at k ++ (f ∷ []))))
+    so_many = functions-suc p k [] (standing from.words from.at from.least) ∙ onward_then from (function_records p k []) (one_more p) (functions_from from.words from.at k) to h.so_far
 
-    pub functions-turn : (next : Place) → onward words to (function_record p (functions_from words from.at k)) ≡ gave words f (Ok next) → FunctionsRead p words from next (k + 1)
-    functions-turn next e = record { so_far = rw (add-one k) read; place = rw (add-one k) (onward-place _ _ reads_all read) }
+    -- the next is read beside those before it
+    abbrev FunctionCame : rust.Result Reader Fault → Type 0
+    FunctionCame r = Comes to (function_record p (entries_from from.words 1 from.at k)) f r
+
+    function_came : (r : rust.Result Reader Fault) → FunctionCame r → onward to (function_record p (functions_from from.words from.at k)) ≡ gave f r
+    function_came r e = rw (← entries-library from.words k from.at) e.0
+
+    pub functions-turn : (next : Reader) → FunctionCame (Ok next) → FunctionsRead p from next (k + 1)
+    functions-turn next e = record { so_far = rw (add-one k) read; same = e.1 ∙ h.same; place = rw (add-one k) (onward-place _ _ reads_all read) }
       where
-        reads_all : Reads words (functions_from words from.at (suc k)) (functions_end words from.at (suc k))
-            (FunctionsShown p [] (functions_from words from.at (suc k))) (onward words from (function_records p (suc k) []))
-        reads_all = functions-reads p words (suc k) [] from.at from.least (λ z. absurd (omega arith))
+        reads_all : Reads from.words (functions_from from.words from.at (suc k)) (functions_end from.words from.at (suc k))
+            (FunctionsShown p [] (functions_from from.words from.at (suc k))) (onward from (function_records p (suc k) []))
+        reads_all = functions-reads p from.words (suc k) [] from.at from.least (λ z. absurd (omega arith))
 
-        read : onward words from (function_records p (suc k) []) ≡ gave words (functions_from words from.at (suc k)) (Ok next)
-        read = gave-there words (Ok next) _ _ _ _ reads_all (so_many ∙ onward_last words _ f (Ok next) _ e)
+        read : onward from (function_records p (suc k) []) ≡ gave (functions_from from.words from.at (suc k)) (Ok next)
+        read = gave-there (Ok next) _ _ _ _ reads_all (so_many ∙ onward_last _ f (Ok next) _ (function_came (Ok next) e))
 
-    pub functions-faulted : (fault : Fault) (count : ℕ) → k < count → onward words to (function_record p (functions_from words from.at k)) ≡ gave words f (Err fault)
-        → onward words from (function_records p count []) ≡ gave words (functions_from words from.at count) (Err fault)
+    pub functions-faulted : (fault : Fault) (count : ℕ) → k < count → FunctionCame (Err fault)
+        → Comes from (function_records p count []) (functions_from from.words from.at count) (Err fault)
     unfolding gave
     functions-faulted fault count l e =
-        functions-stop p (suc k) count l [] fault.0 (standing words from.at from.least) (so_many ∙ onward_last words _ f (Err fault) _ e)
+        (functions-stop p (suc k) count l [] fault.0 (standing from.words from.at from.least) (so_many ∙ onward_last _ f (Err fault) _ (function_came (Err fault) e)), tt)
 
-  module _ {to : Place} {k : ℕ} (h : FunctionsRead p words from to k) where
+  module _ {to : Reader} {k : ℕ} (h : FunctionsRead p from to k) where
     -- what is known of the rule on groups, as the next function is asked
-    pub functions-kept : (t : Texts) (types : List ℕ) (r : ℕ) → p ≡ pool_in t types → GroupsKept t words from.at r
-        → to.at < r → GroupFine p (functions_from words from.at k) (function_at words to.at)
-    functions-kept t types r ep g l = rw (h.place, ep) (g.each types k (omega (arith, h.place)))
+    pub functions-kept : (t : Texts) (types : List ℕ) (r : ℕ) → p ≡ pool_in t types → GroupsKept t from.words from.at r
+        → to.at < r → GroupFine p (entries_from from.words 1 from.at k) (function_at to.words to.at)
+    functions-kept t types r ep g l = rw (entries-library from.words k from.at, h.same, h.place, ep) (g.each types k (omega (arith, h.place)))
 
-    pub functions-done : (count : ℕ) → k ≡ count → onward words from (function_records p count []) ≡ gave words (functions_from words from.at count) (Ok to)
-    functions-done count e = rw (← e) h.so_far
+    pub functions-done : (count : ℕ) → k ≡ count → Comes from (function_records p count []) (functions_from from.words from.at count) (Ok to)
+    functions-done count e = rw (← e) (h.so_far, h.same)
 
 -- ── Packages ──
 
-module _ (p : Pool) (words : List ℕ) (from c : Place) (named : onward words from (word (good_name in_library p.texts.library)) ≡ gave words (next_word words from) (Ok c))
-    (count n : ℕ) (ec : count ≡ next_word words c) (en : n ≡ count) where
-  abbrev PackageIs : rust.Result Place Fault → Type 0
-  PackageIs to = onward words from (package_record p) ≡ gave words (package_at words from.at) to
+module _ (p : Pool) (from c : Reader) (named : Comes from (word (good_name in_library p.texts.library)) (next_word from) (Ok c))
+    (count n : ℕ) (ec : count ≡ next_word c) (en : n ≡ count) where
+  abbrev PackageIs : rust.Result Reader Fault → Type 0
+  PackageIs to = Comes from (package_record p) (package_at from.words from.at) to
 
-  abbrev FunctionCountIs : rust.Result Place Fault → Type 0
-  FunctionCountIs to = onward words c (owing (λ _. true) (λ _. 4 * n)) ≡ gave words (next_word words c) to
+  abbrev FunctionCountIs : rust.Result Reader Fault → Type 0
+  FunctionCountIs to = Comes c (owing (λ _. true) (λ _. 4 * n)) (next_word c) to
 
-  function_count-read : (to : rust.Result Place Fault) → FunctionCountIs to → onward words c (owing (λ _. true) (λ k. 4 * k)) ≡ gave words count to
-  function_count-read to k = owed (λ _. true) (λ k. 4 * k) words c to count (4 * n) true ec refl (ap (λ k. 4 * k) en) k
+  function_count-read : (to : rust.Result Reader Fault) → FunctionCountIs to → onward c (owing (λ _. true) (λ k. 4 * k)) ≡ gave count to
+  function_count-read to k = owed (λ _. true) (λ k. 4 * k) c to count (4 * n) true ec refl (ap (λ k. 4 * k) en) k.0
 
   pub function_count_stops : (fault : Fault) → FunctionCountIs (Err fault) → PackageIs (Err fault)
   unfolding package_record gave
-  function_count_stops fault k = rw (named, function_count-read (Err fault) k) refl
+  function_count_stops fault k = (rw (named.0, function_count-read (Err fault) k) refl, tt)
 
-  pub package_by : (d : Place) (to : rust.Result Place Fault) → FunctionCountIs (Ok d)
-      → onward words d (function_records p count []) ≡ gave words (functions_from words d.at count) to → PackageIs to
-  unfolding package_record gave
-  package_by d to f g =
-      gave-there words to _ (pkg (next_word words from) (functions_from words d.at count)) (package_end words from.at) _ (package_reads p words from.at from.least)
-      (rw (named, function_count-read (Ok d) f) (onward_last words (pkg (next_word words from)) (functions_from words d.at count) to _ g))
+  module _ (d : Reader) (f : FunctionCountIs (Ok d)) where
+    pub functions-words : d.words ≡ from.words
+    functions-words = f.1 ∙ named.1
 
-pub name_stops : (p : Pool) (words : List ℕ) (from : Place) (fault : Fault) → onward words from (word (good_name in_library p.texts.library)) ≡ gave words (next_word words from) (Err fault)
-    → onward words from (package_record p) ≡ gave words (package_at words from.at) (Err fault)
+    pub package_by : (to : rust.Result Reader Fault) → Comes d (function_records p count []) (functions_from d.words d.at count) to → PackageIs to
+    unfolding package_record gave
+    package_by to g = (
+      gave-there to _ (pkg (next_word from) (functions_from d.words d.at count)) (package_end from.words from.at) _ (package_reads p from.words from.at from.least)
+          (rw (named.0, function_count-read (Ok d) f) (onward_last (pkg (next_word from)) (functions_from d.words d.at count) to _ g.0)),
+      same-then from d to functions-words g.1,
+    )
+
+pub name_stops : (p : Pool) (from : Reader) (fault : Fault) → Comes from (word (good_name in_library p.texts.library)) (next_word from) (Err fault)
+    → Comes from (package_record p) (package_at from.words from.at) (Err fault)
 unfolding package_record gave
-name_stops p words from fault k = rw k refl
+name_stops p from fault k = (rw k.0 refl, tt)
 
 -- The loop over the packages: i of them are read.
-pub record PackagesDone (p : Pool) (words : List ℕ) (from to : Place) (i : ℕ) : Type 0 where
-  pub so_far : onward words from (many i (package_record p)) ≡ gave words (packages_from words from.at i) (Ok to)
+pub record PackagesDone (p : Pool) (from to : Reader) (i : ℕ) : Type 0 where
+  pub so_far : Comes from (many i (package_record p)) (packages_from from.words from.at i) (Ok to)
 
-module _ {p : Pool} {words : List ℕ} {from : Place} where
-  pub packages-begin : PackagesDone p words from from 0
+module _ {p : Pool} {from : Reader} where
+  pub packages-begin : PackagesDone p from from 0
   unfolding many packages_from
-  packages-begin = record { so_far = onward-return words from [] }
+  packages-begin = record { so_far = (onward-return from [], refl) }
 
-  module _ {to : Place} {i : ℕ} (h : PackagesDone p words from to i) (a : Package) where
-    pub packages-turn : (next : Place) → onward words to (package_record p) ≡ gave words a (Ok next) → PackagesDone p words from next (i + 1)
+  module _ {to : Reader} {i : ℕ} (h : PackagesDone p from to i) (a : Package) where
+    pub packages-turn : (next : Reader) → Comes to (package_record p) a (Ok next) → PackagesDone p from next (i + 1)
     packages-turn next e = record {
-      so_far = rw (add-one i)
-          (gave-there words (Ok next) _ _ _ _ (packages-reads p words (suc i) from.at from.least (λ z. absurd (omega arith)))
-          (many_more (package_record p) words from to i (packages_from words from.at i) h.so_far a next e));
+      so_far = (
+        rw (add-one i)
+            (gave-there (Ok next) _ _ _ _ (packages-reads p from.words (suc i) from.at from.least (λ z. absurd (omega arith)))
+            (many_more (package_record p) from to i (packages_from from.words from.at i) h.so_far.0 a next e.0)),
+        e.1 ∙ h.so_far.1,
+      );
     }
 
-    pub packages-faulted : (fault : Fault) (count : ℕ) → i < count → onward words to (package_record p) ≡ gave words a (Err fault)
-        → onward words from (many count (package_record p)) ≡ gave words (packages_from words from.at count) (Err fault)
-    packages-faulted fault count l e = many_faulted (package_record p) words from to i (packages_from words from.at i) h.so_far a fault count _ l e
+    pub packages-faulted : (fault : Fault) (count : ℕ) → i < count → Comes to (package_record p) a (Err fault)
+        → Comes from (many count (package_record p)) (packages_from from.words from.at count) (Err fault)
+    packages-faulted fault count l e = (many_faulted (package_record p) from to i (packages_from from.words from.at i) h.so_far.0 a fault count _ l e.0, tt)
 
-  pub packages-done : {to : Place} {i : ℕ} → PackagesDone p words from to i → (count : ℕ) → i ≡ count
-      → onward words from (many count (package_record p)) ≡ gave words (packages_from words from.at count) (Ok to)
+  pub packages-done : {to : Reader} {i : ℕ} → PackagesDone p from to i → (count : ℕ) → i ≡ count
+      → Comes from (many count (package_record p)) (packages_from from.words from.at count) (Ok to)
   packages-done h count e = rw (← e) h.so_far

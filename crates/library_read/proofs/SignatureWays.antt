@@ -39,9 +39,9 @@ module _ (t : Texts) (types sums : List ℕ) (ready : Ready t types sums) (flag 
       good : good_type p (length types) w ≡ true
       good = sym er ∙ not-false r y
 
-      pub type-plain : {s : Bool} → (flag ≡ 1 → ⊥) → s ≡ slot_by (λ j. get_or sums j 0) types w → not s ≡ good_signature_type p flag w
+      pub type-plain : {s : Bool} → eqb flag 1 ≡ false → s ≡ slot_by (λ j. get_or sums j 0) types w → not s ≡ good_signature_type p flag w
       unfolding good_signature_type no_slot
-      type-plain d e = rw (good, ne_eqb flag 1 d) (ap not (slot-told good e))
+      type-plain d e = rw (good, d) (ap not (slot-told good e))
 
   -- ── The return type ──
 

@@ -2,11 +2,11 @@
 // said of the packages holds where it was accepted and its slots are counted, `Ready`.
 #![tactic(auto)]
 
-ghost use Rattle.std.specs.Prelude.{◌≡◌, true, false, ◌&&◌, List, [], map, ℕ, ◌+◌, ◌*◌, length, get_or, take, drop};
-ghost use Rattle.tok.specs.Text.{texts_of};
+ghost use Rattle.std.specs.Prelude.{◌≡◌, true, false, ◌&&◌, List, [], ℕ, ◌+◌, ◌*◌, length, get_or, take, drop, eqb};
 ghost use Rattle.tok.specs.Reader.{many};
-ghost use Rattle.reader.specs.Reading.{onward, gave, offending};
-ghost use Rattle.library.specs.Pool.{pool_at, pool_in};
+ghost use Rattle.reader.specs.Reading.{next_word, Comes, offending};
+ghost use Rattle.library.specs.Pool.{pool_at};
+ghost use Rattle.library.specs.Entries.{functions_in};
 ghost use Rattle.library.specs.Slots.{return_stands};
 ghost use Rattle.library.specs.SlotMarks.{types_in};
 ghost use Rattle.library.specs.Each.{Each};
@@ -15,115 +15,55 @@ ghost use Rattle.library.specs.Package.{param, params_from, function_at, functio
 ghost use Rattle.library.specs.PackagesRead.{GroupFine, package_at};
 ghost use Rattle.library.specs.PackageRecords.{any_function, same_group, good_group, good_flag, good_signature_type, argument, function_record, function_records, package_record};
 ghost use Rattle.library.specs.LibraryFault.{library_fault};
-ghost use Rattle.library_read.specs.Ready.{Ready, Ordered, Placed};
+ghost use Rattle.library_read.specs.Ready.{Counted, counted, pool, PoolReads, Ready, OrderedIn, Placed};
 
-use reader::{Fault, Place};
+use library::Entries;
+use reader::{Fault, Reader};
+use std::marker::Model;
 use tok::Texts;
 
 // Groups and flags.
 
-// Whether one of the k functions from a place on is of a group.
-fn group_met(texts: &Texts, words: &[u32], from: usize, k: usize, group: u32) -> bool
-    ensures { result ≡ any_function (same_group texts.now group) (functions_from words.now from k) }
+// Whether one of some functions is of a group.
+fn group_met(texts: &Texts, functions: &Entries, group: u32) -> bool
+    ensures { result ≡ any_function (same_group texts.now group) (functions_in functions.now) }
 {
     let name = tok::name_bytes(texts, group);
-    library::find_candidate(texts, words, from, k, name).is_some()
+    functions.find(texts, name).is_some()
 }
 
 // Whether one of them has slots.
-fn group_slotted(texts: &Texts, words: &[u32], from: usize, k: usize, group: u32) -> bool
-    ensures { result ≡ any_function (λ f. same_group texts.now group f && f.sig.with_slots) (functions_from words.now from k) }
+fn group_slotted(texts: &Texts, functions: &Entries, group: u32) -> bool
+    ensures { result ≡ any_function (λ f. same_group texts.now group f && f.sig.with_slots) (functions_in functions.now) }
 {
     let name = tok::name_bytes(texts, group);
-    let mut at = from;
-    let mut left = k;
-    while let Some(found) = library::find_candidate(texts, words, at, left, name) {
-        if library::with_slots(words, found.at) {
+    let mut found = functions.find(texts, name);
+    while let Some(entry) = found {
+        if entry.slotted {
             return true;
         }
-        at = found.next;
-        left = found.left;
+        found = functions.after(entry).find(texts, name);
     }
     false
 }
 
-// The group name of a function after k functions of its package: none of its group has flag 1. `kept`: the rule is known to hold.
+// The group name of a function after those before it in its package: none of its group has flag 1. `kept`: the rule is known to hold.
 #[tactic(auto, unfolding(library::specs::PackageRecords::good_group))]
-fn good_group(texts: &Texts, words: &[u32], from: usize, k: usize, kept: bool, group: u32) -> bool
-    ensures { ((size : ℕ) (types : List ℕ) → (kept ≡ true → any_function (λ f. same_group texts.now group f && f.sig.with_slots) (functions_from words.now from k) ≡ false)
-        → result ≡ good_group (pool_at texts.now size types) (functions_from words.now from k) group) }
+fn good_group(texts: &Texts, before: &Entries, kept: bool, group: u32) -> bool
+    ensures { ((size : ℕ) (types : List ℕ) → (kept ≡ true → any_function (λ f. same_group texts.now group f && f.sig.with_slots) (functions_in before.now) ≡ false)
+        → result ≡ good_group (pool_at texts.now size types) (functions_in before.now) group) }
 {
     tok::good_name(tok::Source::Library, texts.library, group)
-        && (kept || !group_slotted(texts, words, from, k, group))
+        && (kept || !group_slotted(texts, before, group))
 }
 
 // Its flag: 1 only where none is of its group.
 #[tactic(auto, unfolding(library::specs::PackageRecords::good_flag))]
-fn good_flag(
-    texts: &Texts,
-    words: &[u32],
-    from: usize,
-    k: usize,
-    kept: bool,
-    group: u32,
-    flag: u32,
-) -> bool
-    ensures { ((size : ℕ) (types : List ℕ) → (kept ≡ true → flag ≡ 1 → any_function (same_group texts.now group) (functions_from words.now from k) ≡ false)
-        → result ≡ good_flag (pool_at texts.now size types) (functions_from words.now from k) group flag) }
+fn good_flag(texts: &Texts, before: &Entries, kept: bool, group: u32, flag: u32) -> bool
+    ensures { ((size : ℕ) (types : List ℕ) → (kept ≡ true → flag ≡ 1 → any_function (same_group texts.now group) (functions_in before.now) ≡ false)
+        → result ≡ good_flag (pool_at texts.now size types) (functions_in before.now) group flag) }
 {
-    flag == 0 || flag == 1 && (kept || !group_met(texts, words, from, k, group))
-}
-
-// Signatures.
-
-// A type of a signature: it refers into the pool, and holds a slot only under flag 1.
-#[tactic(auto, unfolding(library::specs::PackageRecords::good_signature_type))]
-fn good_signature_type(library: &[u8], pool: &[u32], sums: &[u16], flag: u32, w: u32) -> bool
-    ensures { (script : List ℕ) → Ready (texts_of script library.now) pool.now sums.now
-        → result ≡ good_signature_type (pool_in (texts_of script library.now) pool.now) flag w }
-{
-    library_pool::good_type(library, pool, pool.len(), w)
-        && (flag == 1 || !library_slots::has_slot(pool, sums, w))
-}
-
-// An argument: its name and its type.
-#[tactic(auto, unfolding(library::specs::PackageRecords::argument, reader::specs::Reading::gave))]
-fn argument(
-    library: &[u8],
-    words: &[u32],
-    pool: &[u32],
-    sums: &[u16],
-    flag: u32,
-    from: Place,
-) -> Result<Place, Fault>
-    ensures { (script : List ℕ) → Ready (texts_of script library.now) pool.now sums.now
-        → onward words.now from (argument (pool_in (texts_of script library.now) pool.now) flag)
-        ≡ gave words.now (param (get_or words.now from.at 0) (get_or words.now (from.at + 1) 0)) result }
-{
-    let at = library_pool::name(library, words, from)?;
-    let w = reader::next_word(words, at);
-    reader::word(words, at, good_signature_type(library, pool, sums, flag, w))
-}
-
-// All arguments.
-fn arguments(
-    library: &[u8],
-    words: &[u32],
-    pool: &[u32],
-    sums: &[u16],
-    flag: u32,
-    count: u32,
-    from: Place,
-) -> Result<Place, Fault>
-    ensures { (script : List ℕ) → Ready (texts_of script library.now) pool.now sums.now
-        → onward words.now from (many count (argument (pool_in (texts_of script library.now) pool.now) flag))
-        ≡ gave words.now (params_from words.now from.at count) result }
-{
-    let mut to = from;
-    for _ in 0..count {
-        to = argument(library, words, pool, sums, flag, to)?;
-    }
-    Ok(to)
+    flag == 0 || flag == 1 && (kept || !group_met(texts, before, group))
 }
 
 // The words of `count` pairs from a place on, as far as the list goes.
@@ -135,143 +75,184 @@ fn pairs_at(words: &[u32], at: usize, count: u32) -> &[u32]
     &words[start..end]
 }
 
-// A return type: a type of the signature, whose slots stand in the arguments. The arguments' pairs stand from place `first` on, it at `end`.
-fn good_return(
-    texts: &Texts,
-    pool: &[u32],
-    sums: &[u16],
-    order: &[u16],
-    flag: u32,
-    pairs: &[u32],
-    w: u32,
-    first: usize,
-    end: usize,
-) -> bool
-    ensures { ((words : List ℕ) → Ready texts.now pool.now sums.now → Ordered texts.now words pool.now order.now (length order.now)
-        → Each (TypeWord (pool_in texts.now pool.now) (length pool.now)) (types_in pairs.now) → Placed words (types_in pairs.now) w first end
-        → result ≡ (good_signature_type (pool_in texts.now pool.now) flag w && return_stands (pool_in texts.now pool.now) (types_in pairs.now) w)) }
-{
-    good_signature_type(texts.library, pool, sums, flag, w)
-        && (!library_slots::has_slot(pool, sums, w)
-            || library_slots::return_stands(texts, pool, pairs, w, order, first, end))
+// What the packages are read with: the texts, the words of the pool, which is accepted, how many of them hold a slot before each index, and
+// the places of the library's slots in the order of their names, or none.
+#[derive(Drop)]
+struct Pool<'a> {
+    texts: &'a Texts<'a>,
+    words: &'a [u32],
+    sums: &'a [u16],
+    order: &'a [u16],
 }
 
-// Records.
+impl<'a> Model for Pool<'a> {
+    ghost Value = { Counted };
 
-// A function after k functions of its package, the first of which stands at `start`. `kept`: the rule on groups is known to hold of it.
-fn function_record(
-    texts: &Texts,
-    words: &[u32],
-    pool: &[u32],
-    sums: &[u16],
-    order: &[u16],
-    start: usize,
-    k: usize,
-    kept: bool,
-    from: Place,
-) -> Result<Place, Fault>
-    ensures { (Ready texts.now pool.now sums.now → Ordered texts.now words.now pool.now order.now (length order.now)
-        → (kept ≡ true → GroupFine (pool_in texts.now pool.now) (functions_from words.now start k) (function_at words.now from.at))
-        → onward words.now from (function_record (pool_in texts.now pool.now) (functions_from words.now start k))
-        ≡ gave words.now (function_at words.now from.at) result) }
-{
-    let group = reader::next_word(words, from);
-    let good = good_group(texts, words, start, k, kept, group);
-    let at = reader::word(words, from, good)?;
-    let flag = reader::next_word(words, at);
-    let good = good_flag(texts, words, start, k, kept, group, flag);
-    let at = reader::word(words, at, good)?;
-    let count = reader::next_word(words, at);
-    let args = reader::owing(words, at, true, 2 * count as usize)?;
-    let end = arguments(texts.library, words, pool, sums, flag, count, args)?;
-    let w = reader::next_word(words, end);
-    let pairs = pairs_at(words, args.at, count);
-    let good = good_return(texts, pool, sums, order, flag, pairs, w, args.at, end.at);
-    reader::word(words, end, good)
+    ghost view = { λ p. counted p.texts.now p.words.now p.sums.now p.order.now };
+
+    ghost invariant = { λ p. Ready p.texts.now p.words.now p.sums.now };
 }
 
-// All functions of a package.
-fn function_records(
-    texts: &Texts,
-    words: &[u32],
-    pool: &[u32],
-    sums: &[u16],
-    order: &[u16],
-    count: u32,
-    from: Place,
-) -> Result<Place, Fault>
-    ensures { (Ready texts.now pool.now sums.now → Ordered texts.now words.now pool.now order.now (length order.now)
-        → onward words.now from (function_records (pool_in texts.now pool.now) count [])
-        ≡ gave words.now (functions_from words.now from.at count) result) }
-{
-    let start = from.at;
-    let end = count as usize;
-    let kept = library_groups::kept_up_to(texts, words, start, end);
-    let mut to = from;
-    for k in 0..end {
-        let known = to.at < kept;
-        to = function_record(texts, words, pool, sums, order, start, k, known, to)?;
+impl<'a> Pool<'a> {
+    // A type of a signature: it refers into the pool, and holds a slot only where the function has slots.
+    #[tactic(auto, unfolding(library::specs::PackageRecords::good_signature_type))]
+    fn good_signature_type(&self, slotted: bool, w: u32) -> bool
+        ensures { (flag : ℕ) → slotted ≡ eqb flag 1 → result ≡ good_signature_type (pool self.now) flag w }
+    {
+        let texts = self.texts;
+        library_pool::good_type(texts.library, self.words, self.words.len(), w)
+            && (slotted || !library_slots::has_slot(self.words, self.sums, w))
     }
-    Ok(to)
-}
 
-// A package.
-fn package_record(
-    texts: &Texts,
-    words: &[u32],
-    pool: &[u32],
-    sums: &[u16],
-    order: &[u16],
-    from: Place,
-) -> Result<Place, Fault>
-    ensures { (Ready texts.now pool.now sums.now → Ordered texts.now words.now pool.now order.now (length order.now)
-        → onward words.now from (package_record (pool_in texts.now pool.now))
-        ≡ gave words.now (package_at words.now from.at) result) }
-{
-    let at = library_pool::name(texts.library, words, from)?;
-    let count = reader::next_word(words, at);
-    let at = reader::owing(words, at, true, 4 * count as usize)?;
-    function_records(texts, words, pool, sums, order, count, at)
-}
-
-// All packages.
-fn packages(
-    texts: &Texts,
-    words: &[u32],
-    pool: &[u32],
-    sums: &[u16],
-    order: &[u16],
-    count: u32,
-    from: Place,
-) -> Result<Place, Fault>
-    ensures { (Ready texts.now pool.now sums.now → Ordered texts.now words.now pool.now order.now (length order.now)
-        → onward words.now from (many count (package_record (pool_in texts.now pool.now)))
-        ≡ gave words.now (packages_from words.now from.at count) result) }
-{
-    let mut to = from;
-    for _ in 0..count {
-        to = package_record(texts, words, pool, sums, order, to)?;
+    // An argument: its name and its type.
+    #[tactic(auto, unfolding(library::specs::PackageRecords::argument, reader::specs::Reading::gave))]
+    fn argument<'b>(&self, slotted: bool, from: Reader<'b>) -> Result<Reader<'b>, Fault>
+        ensures { (flag : ℕ) → slotted ≡ eqb flag 1 → Comes from.entry (argument (pool self.now) flag)
+            (param (next_word from.entry) (get_or from.entry.words (from.entry.at + 1) 0)) result }
+    {
+        let texts = self.texts;
+        let at = library_pool::name(texts.library, from)?;
+        let w = at.next_word();
+        at.word(self.good_signature_type(slotted, w))
     }
-    Ok(to)
+
+    // All arguments.
+    fn arguments<'b>(
+        &self,
+        slotted: bool,
+        count: u32,
+        from: Reader<'b>,
+    ) -> Result<Reader<'b>, Fault>
+        ensures { (flag : ℕ) → slotted ≡ eqb flag 1 → Comes from.entry (many count (argument (pool self.now) flag))
+            (params_from from.entry.words from.entry.at count) result }
+    {
+        let mut to = from;
+        for _ in 0..count {
+            to = self.argument(slotted, to)?;
+        }
+        Ok(to)
+    }
+
+    // A return type: a type of the signature, whose slots stand in the arguments. The arguments' pairs stand from place `first` on, it at `end`.
+    fn good_return(&self, slotted: bool, pairs: &[u32], w: u32, first: usize, end: usize) -> bool
+        ensures { (flag : ℕ) (words : List ℕ) → slotted ≡ eqb flag 1 → OrderedIn words self.now
+            → Each (TypeWord (pool self.now) (length self.now.words)) (types_in pairs.now) → Placed words (types_in pairs.now) w first end
+            → result ≡ (good_signature_type (pool self.now) flag w && return_stands (pool self.now) (types_in pairs.now) w) }
+    {
+        self.good_signature_type(slotted, w)
+            && (!library_slots::has_slot(self.words, self.sums, w)
+                || library_slots::return_stands(
+                    self.texts, self.words, pairs, w, self.order, first, end,
+                ))
+    }
+
+    // A function after those before it in its package. `kept`: the rule on groups is known to hold of it.
+    fn function_record<'b>(
+        &self,
+        before: &Entries,
+        kept: bool,
+        from: Reader<'b>,
+    ) -> Result<Reader<'b>, Fault>
+        ensures { OrderedIn from.entry.words self.now
+            → (kept ≡ true → GroupFine (pool self.now) (functions_in before.now) (function_at from.entry.words from.entry.at))
+            → Comes from.entry (function_record (pool self.now) (functions_in before.now)) (function_at from.entry.words from.entry.at) result }
+    {
+        let group = from.next_word();
+        let good = good_group(self.texts, before, kept, group);
+        let at = from.word(good)?;
+        let flag = at.next_word();
+        let good = good_flag(self.texts, before, kept, group, flag);
+        let at = at.word(good)?;
+        let count = at.next_word();
+        let args = at.owing(true, 2 * count as usize)?;
+        let first = args.at;
+        let pairs = pairs_at(args.words, first, count);
+        let slotted = flag == 1;
+        let end = self.arguments(slotted, count, args)?;
+        let w = end.next_word();
+        let good = self.good_return(slotted, pairs, w, first, end.at);
+        end.word(good)
+    }
+
+    // All functions of a package.
+    fn function_records<'b>(&self, count: u32, from: Reader<'b>) -> Result<Reader<'b>, Fault>
+        ensures { OrderedIn from.entry.words self.now
+            → Comes from.entry (function_records (pool self.now) count []) (functions_from from.entry.words from.entry.at count) result }
+    {
+        let words = from.words;
+        let start = from.at;
+        let end = count as usize;
+        let kept = library_groups::kept_up_to(self.texts, words, start, end);
+        let mut to = from;
+        for k in 0..end {
+            let before = Entries {
+                words,
+                flagged: true,
+                from: start,
+                count: k,
+            };
+            let known = to.at < kept;
+            to = self.function_record(&before, known, to)?;
+        }
+        Ok(to)
+    }
+
+    // A package.
+    fn package_record<'b>(&self, from: Reader<'b>) -> Result<Reader<'b>, Fault>
+        ensures { OrderedIn from.entry.words self.now
+            → Comes from.entry (package_record (pool self.now)) (package_at from.entry.words from.entry.at) result }
+    {
+        let texts = self.texts;
+        let at = library_pool::name(texts.library, from)?;
+        let count = at.next_word();
+        let at = at.owing(true, 4 * count as usize)?;
+        self.function_records(count, at)
+    }
+
+    // All packages.
+    fn packages<'b>(&self, count: u32, from: Reader<'b>) -> Result<Reader<'b>, Fault>
+        ensures { OrderedIn from.entry.words self.now
+            → Comes from.entry (many count (package_record (pool self.now))) (packages_from from.entry.words from.entry.at count) result }
+    {
+        let mut to = from;
+        for _ in 0..count {
+            to = self.package_record(to)?;
+        }
+        Ok(to)
+    }
+}
+
+// The pool length, the package count and the pool: how many packages follow, and the reading before them.
+fn pool_read<'a>(texts: &Texts, words: &'a [u32]) -> Result<(u32, Reader<'a>), Fault>
+    ensures { PoolReads texts.now words.now result }
+{
+    let at = reader::begin(texts.library, words, 2)?;
+    let size = at.next_word();
+    let at = at.owing(true, size as usize)?;
+    let count = at.next_word();
+    let at = at.owing(true, 2 * count as usize)?;
+    let pool = library::pool(words);
+    let at = library_pool::pool_words(texts.library, pool, size, at)?;
+    Ok((count, at))
 }
 
 // The library: pool length, package count, pool, packages, nothing after. Accepted, or the first offending word.
 pub fn library_fault(texts: &Texts, words: &[u32]) -> Result<(), Fault>
     ensures { library_fault texts.now words.now ≡ offending result }
 {
-    let at = reader::begin(texts.library, 2)?;
-    let size = reader::next_word(words, at);
-    let at = reader::owing(words, at, true, size as usize)?;
-    let count = reader::next_word(words, at);
-    let at = reader::owing(words, at, true, 2 * count as usize)?;
+    let (count, at) = pool_read(texts, words)?;
     let pool = library::pool(words);
-    let at = library_pool::pool_words(texts.library, words, pool, size, at)?;
     let mut sums = [0u16; 8193];
     library_slots::slot_sums(pool, &mut sums);
     let mut places = [0u16; 8192];
     let n = library_slots::named_slots(texts, words, pool, &sums, &mut places);
-    let order = &places[..n];
-    let at = packages(texts, words, pool, &sums, order, count, at)?;
-    reader::ends(words, at)?;
+    let pool = Pool {
+        texts,
+        words: pool,
+        sums: &sums,
+        order: &places[..n],
+    };
+    let end = pool.packages(count, at)?;
+    end.ends()?;
     Ok(())
 }

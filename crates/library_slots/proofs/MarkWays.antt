@@ -13,28 +13,28 @@ use Rattle.library.specs.SlotMarks.{mark_fields, mark_inside, mark_all, spread, 
 use Rattle.library.specs.SlotReach.{length-mark_inside}
 
 -- The loop over a list's fields: `left` of them are left, the next at index i.
-pub record FieldsToMark (before marks : List ℕ) (at n i left : ℕ) : Type 0 where
+pub record FieldsToMark (before marks : List Bool) (at n i left : ℕ) : Type 0 where
   pub place : i + 2 * left ≡ at + 2 * n
   pub long : length marks ≡ length before
   pub rest : mark_fields before at n ≡ mark_fields marks i left
 
-pub to_mark : {marks : List ℕ} {at n i left : ℕ} → i ≡ at → left ≡ n → FieldsToMark marks marks at n i left
+pub to_mark : {marks : List Bool} {at n i left : ℕ} → i ≡ at → left ≡ n → FieldsToMark marks marks at n i left
 to_mark e f = record { place = omega arith; long = refl; rest = rw (e, f) refl }
 
-marked_next : (marks : List ℕ) (i n : ℕ) → mark_fields marks i (suc n) ≡ mark_fields (set marks i 1) (i + 2) n
+marked_next : (marks : List Bool) (i n : ℕ) → mark_fields marks i (suc n) ≡ mark_fields (set marks i true) (i + 2) n
 unfolding mark_fields
 marked_next marks i n = refl
 
-nothing-past : (n : ℕ) (marks : List ℕ) (i : ℕ) → length marks ≤ i → mark_fields marks i n ≡ marks
+nothing-past : (n : ℕ) (marks : List Bool) (i : ℕ) → length marks ≤ i → mark_fields marks i n ≡ marks
 unfolding mark_fields
 nothing-past zero marks i l = refl
-nothing-past (suc n) marks i l = rw (set_out marks i 1 l) (nothing-past n marks (i + 2) (omega arith))
+nothing-past (suc n) marks i l = rw (set_out marks i true l) (nothing-past n marks (i + 2) (omega arith))
 
-module _ {before marks : List ℕ} {at n i left : ℕ} (h : FieldsToMark before marks at n i left) where
-  pub to_mark_less : {marks' : List ℕ} {i' left' : ℕ} → left ≡ suc left' → i' ≡ i + 2 → marks' ≡ set marks i 1 → FieldsToMark before marks' at n i' left'
+module _ {before marks : List Bool} {at n i left : ℕ} (h : FieldsToMark before marks at n i left) where
+  pub to_mark_less : {marks' : List Bool} {i' left' : ℕ} → left ≡ suc left' → i' ≡ i + 2 → marks' ≡ set marks i true → FieldsToMark before marks' at n i' left'
   to_mark_less {left' = left'} s f e = record {
     place = omega (arith, h.place);
-    long = ap length e ∙ length-set marks i 1 ∙ h.long;
+    long = ap length e ∙ length-set marks i true ∙ h.long;
     rest = h.rest ∙ ap (mark_fields marks i) s ∙ marked_next marks i left' ∙ rw (e, f) refl;
   }
 
@@ -49,26 +49,26 @@ module _ {before marks : List ℕ} {at n i left : ℕ} (h : FieldsToMark before 
       sym (h.rest ∙ ap (mark_fields marks i) s)
 
 -- one step of the spread keeps the number of marks
-pub length_from : (types : List ℕ) (marks marks' : List ℕ) (i : ℕ)
-    → marks' ≡ cond (eqb (get_or marks i 0) 1) (mark_inside types (get_or types i 0) marks) marks → length marks' ≡ length marks
-length_from types marks marks' i e = ap length e ∙ by (eqb (get_or marks i 0) 1)
+pub length_from : (types : List ℕ) (marks marks' : List Bool) (i : ℕ)
+    → marks' ≡ cond (get_or marks i false) (mark_inside types (get_or types i 0) marks) marks → length marks' ≡ length marks
+length_from types marks marks' i e = ap length e ∙ by (get_or marks i false)
   where
     by : (b : Bool) → length (cond b (mark_inside types (get_or types i 0) marks) marks) ≡ length marks
     by true = length-mark_inside types (get_or types i 0) marks
     by false = refl
 
-spread-next : (types : List ℕ) (i : ℕ) (marks : List ℕ)
-    → spread types (suc i) marks ≡ spread types i (cond (eqb (get_or marks i 0) 1) (mark_inside types (get_or types i 0) marks) marks)
+spread-next : (types : List ℕ) (i : ℕ) (marks : List Bool)
+    → spread types (suc i) marks ≡ spread types i (cond (get_or marks i false) (mark_inside types (get_or types i 0) marks) marks)
 unfolding spread
 spread-next types i marks = refl
 
-pub spread-less : (types before marks marks' : List ℕ) (n i : ℕ) → spread types n before ≡ spread types i marks → 0 < i
-    → marks' ≡ cond (eqb (get_or marks (i - 1) 0) 1) (mark_inside types (get_or types (i - 1) 0) marks) marks → spread types n before ≡ spread types (i - 1) marks'
+pub spread-less : (types : List ℕ) (before marks marks' : List Bool) (n i : ℕ) → spread types n before ≡ spread types i marks → 0 < i
+    → marks' ≡ cond (get_or marks (i - 1) false) (mark_inside types (get_or types (i - 1) 0) marks) marks → spread types n before ≡ spread types (i - 1) marks'
 spread-less types before marks marks' n i h l e =
     let s : i ≡ suc (i - 1) = omega arith in
     h ∙ ap (λ k. spread types k marks) s ∙ spread-next types (i - 1) marks ∙ ap (spread types (i - 1)) (sym e)
 
-pub spread-done : (types before marks : List ℕ) (n i : ℕ) → spread types n before ≡ spread types i marks → i ≤ 0 → marks ≡ spread types n before
+pub spread-done : (types : List ℕ) (before marks : List Bool) (n i : ℕ) → spread types n before ≡ spread types i marks → i ≤ 0 → marks ≡ spread types n before
 unfolding spread
 spread-done types before marks n i h l =
     let s : i ≡ 0 = omega arith in
@@ -91,12 +91,12 @@ types-end (n ∷ []) l = refl
 types-end (n ∷ t ∷ xs) l = absurd (omega arith)
 
 -- The loop over the pairs: those of `left` are left.
-pub record TypesToMark (types before marks pairs left : List ℕ) : Type 0 where
+pub record TypesToMark (types : List ℕ) (before marks : List Bool) (pairs left : List ℕ) : Type 0 where
   pub long : length marks ≡ length before
   pub rest : mark_all types (types_in pairs) before ≡ mark_all types (types_in left) marks
 
-module _ {types before pairs marks left : List ℕ} (h : TypesToMark types before marks pairs left) where
-  pub types_more : (pair rest : List ℕ) {marks' : List ℕ} → left ≡ pair ++ rest → length pair ≡ 2 → marks' ≡ mark_inside types (get_or pair 1 0) marks
+module _ {types : List ℕ} {before marks : List Bool} {pairs left : List ℕ} (h : TypesToMark types before marks pairs left) where
+  pub types_more : (pair rest : List ℕ) {marks' : List Bool} → left ≡ pair ++ rest → length pair ≡ 2 → marks' ≡ mark_inside types (get_or pair 1 0) marks
       → TypesToMark types before marks' pairs rest
   unfolding mark_all
   types_more pair rest e l f = record {

@@ -9,8 +9,7 @@ use lib.Dec.{eqb}
 use borrow.Author.Tests.{eq-eqb, ne_eqb}
 use Rattle.tok.specs.Word.{kind_of}
 use Rattle.tok.specs.Text.{Texts, name_bytes}
-use Rattle.library.specs.SlotSums.{zeros}
-use Rattle.library.specs.SlotMarks.{mark_inside, mark_all, spread, any_marked, is_slot, any_slot_of, types_in}
+use Rattle.library.specs.SlotMarks.{unmarked, mark_inside, mark_all, spread, any_marked, is_slot, any_slot_of, types_in}
 use Rattle.tok.proofs.TextLaws.{eq_same_bytes}
 use Rattle.library.specs.ReturnSlots.{among_marked, missing, stands_by, any_some}
 use Rattle.library_slots.proofs.MarkWays.{types-next, types-end}
@@ -35,26 +34,26 @@ module _ (t : Texts) (name pairs left : List ℕ) (h : any_slot_of t name (types
 -- ── Among marks ──
 
 -- none from index i on is marked and passes the test
-module _ (marks : List ℕ) (test : ℕ → Bool) (n i : ℕ) (h : any_marked marks test n ≡ any_marked marks test i) where
-  marked_next : 0 < i → any_marked marks test i ≡ (eqb (get_or marks (i - 1) 0) 1 && test (i - 1) || any_marked marks test (i - 1))
+module _ (marks : List Bool) (test : ℕ → Bool) (n i : ℕ) (h : any_marked marks test n ≡ any_marked marks test i) where
+  marked_next : 0 < i → any_marked marks test i ≡ (get_or marks (i - 1) false && test (i - 1) || any_marked marks test (i - 1))
   unfolding any_marked
   marked_next l =
       let s : i ≡ suc (i - 1) = omega arith in
       ap (any_marked marks test) s
 
-  module _ (l : 0 < i) {m : ℕ} (em : m ≡ get_or marks (i - 1) 0) where
-    pub marks-found : {r : Bool} → m ≡ 1 → r ≡ test (i - 1) → r ≡ true → true ≡ any_marked marks test n
+  module _ (l : 0 < i) {m : Bool} (em : m ≡ get_or marks (i - 1) false) where
+    pub marks-found : {r : Bool} → m ≡ true → r ≡ test (i - 1) → r ≡ true → true ≡ any_marked marks test n
     marks-found e er y = sym (h ∙ marked_next l ∙ rw (← em, e, sym er ∙ y) refl)
 
-    pub marks-fails : {r : Bool} → m ≡ 1 → r ≡ test (i - 1) → r ≡ false → any_marked marks test n ≡ any_marked marks test (i - 1)
+    pub marks-fails : {r : Bool} → m ≡ true → r ≡ test (i - 1) → r ≡ false → any_marked marks test n ≡ any_marked marks test (i - 1)
     marks-fails e er f = h ∙ marked_next l ∙ rw (← em, e, sym er ∙ f) refl
 
-    pub marks-past : (m ≡ 1 → ⊥) → any_marked marks test n ≡ any_marked marks test (i - 1)
-    marks-past d = h ∙ marked_next l ∙ rw (← em, ne_eqb m 1 d) refl
+    pub marks-past : m ≡ false → any_marked marks test n ≡ any_marked marks test (i - 1)
+    marks-past d = h ∙ marked_next l ∙ rw (← em, d) refl
 
     -- a word that fails the test
     pub marks-not : test (i - 1) ≡ false → any_marked marks test n ≡ any_marked marks test (i - 1)
-    marks-not f = h ∙ marked_next l ∙ rw (f, and-false (eqb (get_or marks (i - 1) 0) 1)) refl
+    marks-not f = h ∙ marked_next l ∙ rw (f, and-false (get_or marks (i - 1) false)) refl
 
   pub marks-none : i ≤ 0 → false ≡ any_marked marks test n
   unfolding any_marked
@@ -65,19 +64,19 @@ module _ (marks : List ℕ) (test : ℕ → Bool) (n i : ℕ) (h : any_marked ma
 -- ── The arguments' slots and the return type's ──
 
 -- a slot that the arguments reach is among theirs
-self-marked : (t : Texts) (types ws marks : List ℕ) (i : ℕ) → i < length types → get_or marks i 0 ≡ 1 → eqb (kind_of (get_or types i 0)) 10 ≡ true
+self-marked : (t : Texts) (types ws : List ℕ) (marks : List Bool) (i : ℕ) → i < length types → get_or marks i false ≡ true → eqb (kind_of (get_or types i 0)) 10 ≡ true
     → among_marked t types ws marks (name_bytes t (get_or types i 0)) ≡ true
 unfolding among_marked is_slot
 self-marked t types ws marks i l e k =
     rw (any_some marks (λ j. is_slot t (name_bytes t (get_or types i 0)) (get_or types j 0)) (length types) (record {
       at = i;
       below = l;
-      marked = eq-eqb _ _ e;
+      marked = e;
       holds = rw (k, eq_same_bytes (name_bytes t (get_or types i 0)) _ refl) refl;
     }))
     (or-true (any_slot_of t (name_bytes t (get_or types i 0)) ws))
 
-pub not-missing : (t : Texts) (types ws marks : List ℕ) (i : ℕ) {m : ℕ} → i < length types → m ≡ get_or marks i 0 → m ≡ 1 → missing t types ws marks (get_or types i 0) ≡ false
+pub not-missing : (t : Texts) (types ws : List ℕ) (marks : List Bool) (i : ℕ) {m : Bool} → i < length types → m ≡ get_or marks i false → m ≡ true → missing t types ws marks (get_or types i 0) ≡ false
 unfolding missing
 not-missing t types ws marks i l em e = by (eqb (kind_of (get_or types i 0)) 10) refl
   where
@@ -85,16 +84,16 @@ not-missing t types ws marks i l em e = by (eqb (kind_of (get_or types i 0)) 10)
     by true k = rw (self-marked t types ws marks i l (sym em ∙ e) k) refl
     by false k = refl
 
-module _ (t : Texts) (types args : List ℕ) (ret : ℕ) {k : ℕ} (ek : k ≡ kind_of ret) {none marked reached : List ℕ}
-    (e0 : none ≡ zeros 8192) (e1 : marked ≡ mark_all types args none) (e2 : reached ≡ spread types (length types) marked) where
-  reached-is : reached ≡ spread types (length types) (mark_all types args (zeros 8192))
+module _ (t : Texts) (types args : List ℕ) (ret : ℕ) {k : ℕ} (ek : k ≡ kind_of ret) {none marked reached : List Bool}
+    (e0 : none ≡ unmarked 8192) (e1 : marked ≡ mark_all types args none) (e2 : reached ≡ spread types (length types) marked) where
+  reached-is : reached ≡ spread types (length types) (mark_all types args (unmarked 8192))
   reached-is = e2 ∙ ap (spread types (length types)) (e1 ∙ ap (mark_all types args) e0)
 
   pub return-slot : {r : Bool} → k ≡ 10 → r ≡ among_marked t types args reached (name_bytes t ret) → r ≡ stands_by t types args ret
   unfolding stands_by
   return-slot e er = er ∙ rw (reached-is, ← ek, e) refl
 
-  pub return-other : {r : Bool} {none' marked' reached' : List ℕ} → (k ≡ 10 → ⊥) → none' ≡ zeros 8192 → marked' ≡ mark_inside types ret none'
+  pub return-other : {r : Bool} {none' marked' reached' : List Bool} → (k ≡ 10 → ⊥) → none' ≡ unmarked 8192 → marked' ≡ mark_inside types ret none'
       → reached' ≡ spread types (length types) marked' → r ≡ any_marked reached' (λ i. missing t types args reached (get_or types i 0)) (length types)
       → not r ≡ stands_by t types args ret
   unfolding stands_by mark_all

@@ -9,8 +9,7 @@ use lib.ListN.{length, get_or, replicate, take, drop, get_or-append}
 use Rattle.std.proofs.Common.{get_or-take, get_or-drop, length-take-le, length-drop}
 use Rattle.tok.specs.Word.{kind_of}
 use Rattle.tok.specs.Text.{Texts, name_bytes}
-use Rattle.library.specs.SlotSums.{zeros}
-use Rattle.library.specs.SlotMarks.{mark_inside, mark_all, spread, any_marked}
+use Rattle.library.specs.SlotMarks.{unmarked, mark_inside, mark_all, spread, any_marked}
 use Rattle.library.specs.ReturnSlots.{among_marked, missing, reached_from}
 use Rattle.library_slots.proofs.NameWays.{return-slot, return-other}
 use Rattle.name_order.specs.Order.{place_in, Listed, Grouped, Grouping, GroupEnd}
@@ -106,14 +105,14 @@ told_there {test} {order} {at} {end} {r} l m h = record {
 
 -- ── The return type ──
 
-pub zeros-are : replicate 8192 0 ≡ zeros 8192
-unfolding zeros
-zeros-are = refl
+pub unmarked-are : replicate 8192 false ≡ unmarked 8192
+unfolding unmarked
+unmarked-are = refl
 
 -- the marks as the code sets them
-module _ (t : Texts) (types args : List ℕ) (ret : ℕ) (order : List ℕ) (n first end : ℕ) (r : Bool) (none marked reached none' marked' reached' : List ℕ)
-    (e0 : none ≡ zeros 8192) (e1 : marked ≡ mark_all types args none) (e2 : reached ≡ spread types (length types) marked)
-    (f0 : none' ≡ zeros 8192) (f1 : marked' ≡ mark_inside types ret none') (f2 : reached' ≡ spread types (length types) marked') where
+module _ (t : Texts) (types args : List ℕ) (ret : ℕ) (order : List ℕ) (n first end : ℕ) (r : Bool) (none marked reached none' marked' reached' : List Bool)
+    (e0 : none ≡ unmarked 8192) (e1 : marked ≡ mark_all types args none) (e2 : reached ≡ spread types (length types) marked)
+    (f0 : none' ≡ unmarked 8192) (f1 : marked' ≡ mark_inside types ret none') (f2 : reached' ≡ spread types (length types) marked') where
   reached-args : reached ≡ reached_from types args
   reached-args = e2 ∙ ap (spread types (length types)) (e1 ∙ ap (mark_all types args) e0)
 

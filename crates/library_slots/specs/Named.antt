@@ -11,18 +11,18 @@ unfoldable pub of_pairs : (first end p : ℕ) → Bool
 of_pairs first end p = ltb first p && (ltb p end && eqb ((p - first) % 2) 1)
 
 -- it is a marked word of the pool
-unfoldable pub in_pool : (size : ℕ) → (marks : List ℕ) → (p : ℕ) → Bool
-in_pool size marks p = leb 2 p && (ltb (p - 2) size && eqb (get_or marks (p - 2) 0) 1)
+unfoldable pub in_pool : (size : ℕ) → (marks : List Bool) → (p : ℕ) → Bool
+in_pool size marks p = leb 2 p && (ltb (p - 2) size && get_or marks (p - 2) false)
 
 -- an argument reaches it; the return type does, which stands at `end`
-unfoldable pub argued : (size : ℕ) → (args : List ℕ) → (first end p : ℕ) → Bool
+unfoldable pub argued : (size : ℕ) → (args : List Bool) → (first end p : ℕ) → Bool
 argued size args first end p = of_pairs first end p || in_pool size args p
 
-unfoldable pub wanted : (size : ℕ) → (marks : List ℕ) → (end p : ℕ) → Bool
+unfoldable pub wanted : (size : ℕ) → (marks : List Bool) → (end p : ℕ) → Bool
 wanted size marks end p = eqb p end || in_pool size marks p
 
 -- the one or the other
-abbrev pub reached : (returned : Bool) → (size : ℕ) → (marks : List ℕ) → (first end p : ℕ) → Bool
+abbrev pub reached : (returned : Bool) → (size : ℕ) → (marks : List Bool) → (first end p : ℕ) → Bool
 reached true size marks first end p = wanted size marks end p
 reached false size marks first end p = argued size marks first end p
 

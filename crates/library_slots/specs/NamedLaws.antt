@@ -19,9 +19,8 @@ use Rattle.library.specs.Each.{Each}
 use Rattle.library.specs.TypeWords.{TypeWord, either_true}
 use Rattle.library.specs.PoolRead.{PoolFine}
 use Rattle.library.specs.Package.{params_from}
-use Rattle.library.specs.SlotSums.{zeros, get_d_zeros, length-zeros}
-use Rattle.library.specs.SlotMarks.{any_marked, is_slot, any_slot_of}
-use Rattle.library.specs.SlotReach.{slots-reached}
+use Rattle.library.specs.SlotMarks.{unmarked, any_marked, is_slot, any_slot_of}
+use Rattle.library.specs.SlotReach.{get_or-unmarked, length-unmarked, slots-reached}
 use Rattle.library.specs.ReturnSlots.{among_marked, reached_from, among-missing, all_among_lem, Witness, any_some}
 use Rattle.name_order.specs.Order.{place_in, new_in, name_of, Listed}
 use Rattle.library_slots.specs.Named.{of_pairs, in_pool, Had, Lacks, NamesStand, SlotsListed, SlotsNamed}
@@ -40,12 +39,12 @@ slot-name : (t : Texts) (name : List ℕ) (w : ℕ) → is_slot t name w ≡ tru
 unfolding is_slot
 slot-name t name w h = same_bytes-true _ _ ((and-eq-true_iff (eqb (kind_of w) 10) _).0 h).1
 
-any_witness : (marks : List ℕ) (test : ℕ → Bool) (i : ℕ) → any_marked marks test i ≡ true → Witness marks test i
+any_witness : (marks : List Bool) (test : ℕ → Bool) (i : ℕ) → any_marked marks test i ≡ true → Witness marks test i
 unfolding any_marked
 any_witness marks test zero e = absurd (false≢true e)
-any_witness marks test (suc i) e = elim (either_true (eqb (get_or marks i 0) 1 && test i) _ e) [
+any_witness marks test (suc i) e = elim (either_true (get_or marks i false && test i) _ e) [
   | inl h ↦
-      let b = (and-eq-true_iff (eqb (get_or marks i 0) 1) (test i)).0 h in
+      let b = (and-eq-true_iff (get_or marks i false) (test i)).0 h in
       record { at = i; below = omega arith; marked = b.0; holds = b.1 }
   | inr h ↦
       let w = any_witness marks test i h in
@@ -66,7 +65,7 @@ pub record Selves (t : Texts) (words : List ℕ) (self : ℕ → Bool) (ws : Lis
       → (p : ℕ) × (self p ≡ true) × (2 ≤ p) × (p < length words) × (p ≤ 8192) × (is_slot t name (get_or words p 0) ≡ true)
 
 module _ (t : Texts) (words types order : List ℕ) (n : ℕ) (listed : SlotsListed words order n) (pool : PoolAt words types)
-    (self : ℕ → Bool) (ws marks : List ℕ) (own : Selves t words self ws) where
+    (self : ℕ → Bool) (ws : List ℕ) (marks : List Bool) (own : Selves t words self ws) where
   abbrev test : ℕ → Bool
   test p = self p || in_pool (length types) marks p
 
@@ -135,7 +134,7 @@ module _ (t : Texts) (words types order : List ℕ) (n : ℕ) (listed : SlotsLis
   among-is : (ws : List ℕ) (name : List ℕ) → Each (TypeWord (pool_in t types) (length types)) ws
       → among_marked t types ws (reached_from types ws) name ≡ name_among name (slot_names_of (pool_in t types) ws)
   unfolding among_marked
-  among-is ws name h = slots-reached (pool_in t types) name fine ws (zeros 8192) h (get_d_zeros 8192) (rw (length-zeros 8192) (omega (arith, pool.room)))
+  among-is ws name h = slots-reached (pool_in t types) name fine ws (unmarked 8192) h (get_or-unmarked 8192) (rw (length-unmarked 8192) (omega (arith, pool.room)))
 
   ret-is : (name : List ℕ) → among_marked t types (ret ∷ []) (reached_from types (ret ∷ [])) name ≡ name_among name (slot_names (pool_ty (pool_in t types) ret))
   unfolding slot_names_of Each

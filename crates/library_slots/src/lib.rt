@@ -3,7 +3,7 @@
 // with every level.
 #![tactic(auto)]
 
-ghost use Rattle.std.specs.Prelude.{◌≡◌, cond, List, ℕ, ◌+◌, ◌*◌, ◌≤◌, ◌<◌, ◌^◌, min, length, get_or, set, eqb};
+ghost use Rattle.std.specs.Prelude.{◌≡◌, true, false, cond, List, ℕ, ◌+◌, ◌*◌, ◌≤◌, ◌<◌, ◌^◌, min, length, get_or, set, eqb};
 ghost use Rattle.tok.specs.Word.{kind_of};
 ghost use Rattle.tok.specs.Text.{Texts, name_bytes};
 ghost use Rattle.library.specs.SlotSums.{slot_by, zeros, sums_to};
@@ -61,22 +61,22 @@ pub fn slot_sums(pool: &[u32], sums: &mut [u16; 8193])
 
 // Marks.
 
-fn mark(marks: &mut [u8], i: usize)
-    ensures { marks.new ≡ set marks.old i 1 }
+fn mark(marks: &mut [bool], i: usize)
+    ensures { marks.new ≡ set marks.old i true }
 {
     if i < marks.len() {
-        marks[i] = 1;
+        marks[i] = true;
     }
 }
 
-fn mark_at(marks: &[u8], i: usize) -> u8
-    ensures { result ≡ get_or marks.now i 0 }
+fn is_marked(marks: &[bool], i: usize) -> bool
+    ensures { result ≡ get_or marks.now i false }
 {
-    marks.get(i).copied().unwrap_or(0)
+    marks.get(i).copied().unwrap_or(false)
 }
 
 // The type words of a list of n fields, as far as there are marks.
-fn mark_fields(marks: &mut [u8], at: usize, n: usize)
+fn mark_fields(marks: &mut [bool], at: usize, n: usize)
     requires { at + 2 * n < 2 ^ 40 }
     ensures { marks.new ≡ mark_fields marks.old at n }
 {
@@ -91,7 +91,7 @@ fn mark_fields(marks: &mut [u8], at: usize, n: usize)
 
 // The words that a type word refers to.
 #[tactic(auto, unfolding(library::specs::SlotMarks::mark_inside))]
-fn mark_inside(pool: &[u32], w: u32, marks: &mut [u8])
+fn mark_inside(pool: &[u32], w: u32, marks: &mut [bool])
     ensures { marks.new ≡ mark_inside pool.now w marks.old }
 {
     let q = tok::payload(w);
@@ -103,16 +103,16 @@ fn mark_inside(pool: &[u32], w: u32, marks: &mut [u8])
 }
 
 // The words that a marked pool word refers to.
-fn spread_from(pool: &[u32], i: usize, marks: &mut [u8])
-    ensures { marks.new ≡ cond (eqb (get_or marks.old i 0) 1) (mark_inside pool.now (get_or pool.now i 0) marks.old) marks.old }
+fn spread_from(pool: &[u32], i: usize, marks: &mut [bool])
+    ensures { marks.new ≡ cond (get_or marks.old i false) (mark_inside pool.now (get_or pool.now i 0) marks.old) marks.old }
 {
-    if mark_at(marks, i) == 1 {
+    if is_marked(marks, i) {
         mark_inside(pool, tok::word_at(pool, i), marks);
     }
 }
 
 // All that marked words refer to, from the highest index down: a word refers to smaller indices.
-fn spread(pool: &[u32], marks: &mut [u8])
+fn spread(pool: &[u32], marks: &mut [bool])
     ensures { marks.new ≡ spread pool.now (length pool.now) marks.old }
 {
     for i in (0..pool.len()).rev() {
@@ -121,7 +121,7 @@ fn spread(pool: &[u32], marks: &mut [u8])
 }
 
 // What the types of some pairs refer to.
-fn mark_types(pool: &[u32], pairs: &[u32], marks: &mut [u8])
+fn mark_types(pool: &[u32], pairs: &[u32], marks: &mut [bool])
     ensures { marks.new ≡ mark_all pool.now (types_in pairs.now) marks.old }
 {
     for pair in pairs.chunks_exact(2) {
@@ -152,11 +152,11 @@ fn among_types(texts: &Texts, pairs: &[u32], named: u32) -> bool
 }
 
 // Whether a marked pool word is.
-fn among_marks(texts: &Texts, pool: &[u32], marks: &[u8], named: u32) -> bool
+fn among_marks(texts: &Texts, pool: &[u32], marks: &[bool], named: u32) -> bool
     ensures { result ≡ any_marked marks.now (λ i. is_slot texts.now (name_bytes texts.now named) (get_or pool.now i 0)) (length pool.now) }
 {
     for i in (0..pool.len()).rev() {
-        if mark_at(marks, i) == 1 && is_slot(texts, named, pool[i]) {
+        if is_marked(marks, i) && is_slot(texts, named, pool[i]) {
             return true;
         }
     }
@@ -165,7 +165,7 @@ fn among_marks(texts: &Texts, pool: &[u32], marks: &[u8], named: u32) -> bool
 
 // Whether a slot's name is that of a slot of the arguments.
 #[tactic(auto, unfolding(library::specs::ReturnSlots::among_marked))]
-fn among(texts: &Texts, pool: &[u32], pairs: &[u32], marks: &[u8], named: u32) -> bool
+fn among(texts: &Texts, pool: &[u32], pairs: &[u32], marks: &[bool], named: u32) -> bool
     ensures { result ≡ among_marked texts.now pool.now (types_in pairs.now) marks.now (name_bytes texts.now named) }
 {
     among_types(texts, pairs, named) || among_marks(texts, pool, marks, named)
@@ -173,20 +173,20 @@ fn among(texts: &Texts, pool: &[u32], pairs: &[u32], marks: &[u8], named: u32) -
 
 // Whether a word is a slot that no argument has.
 #[tactic(auto, unfolding(library::specs::ReturnSlots::missing))]
-fn missing(texts: &Texts, pool: &[u32], pairs: &[u32], marks: &[u8], w: u32) -> bool
+fn missing(texts: &Texts, pool: &[u32], pairs: &[u32], marks: &[bool], w: u32) -> bool
     ensures { result ≡ missing texts.now pool.now (types_in pairs.now) marks.now w }
 {
     slot_kind(w) && !among(texts, pool, pairs, marks, w)
 }
 
 // Whether a marked pool word is one. A word that the arguments reach too is none.
-fn any_missing(texts: &Texts, pool: &[u32], pairs: &[u32], args: &[u8], marks: &[u8]) -> bool
+fn any_missing(texts: &Texts, pool: &[u32], pairs: &[u32], args: &[bool], marks: &[bool]) -> bool
     ensures { result ≡ any_marked marks.now (λ i. missing texts.now pool.now (types_in pairs.now) args.now (get_or pool.now i 0))
         (length pool.now) }
 {
     for i in (0..pool.len()).rev() {
-        if mark_at(marks, i) == 1
-            && mark_at(args, i) != 1
+        if is_marked(marks, i)
+            && !is_marked(args, i)
             && missing(texts, pool, pairs, args, pool[i])
         {
             return true;
@@ -207,15 +207,15 @@ fn of_pairs(first: usize, end: usize, p: usize) -> bool
 
 // Whether it is a marked word of a pool of some size, which stands from place 2 on.
 #[tactic(auto, unfolding(crate::specs::Named::in_pool))]
-fn in_pool(size: usize, marks: &[u8], p: usize) -> bool
+fn in_pool(size: usize, marks: &[bool], p: usize) -> bool
     ensures { result ≡ in_pool size marks.now p }
 {
-    p >= 2 && p - 2 < size && mark_at(marks, p - 2) == 1
+    p >= 2 && p - 2 < size && is_marked(marks, p - 2)
 }
 
 // Whether an argument reaches it.
 #[tactic(auto, unfolding(crate::specs::Named::argued))]
-fn argued(size: usize, args: &[u8], first: usize, end: usize, p: usize) -> bool
+fn argued(size: usize, args: &[bool], first: usize, end: usize, p: usize) -> bool
     ensures { result ≡ argued size args.now first end p }
 {
     of_pairs(first, end, p) || in_pool(size, args, p)
@@ -223,14 +223,14 @@ fn argued(size: usize, args: &[u8], first: usize, end: usize, p: usize) -> bool
 
 // Whether the return type does, which stands at `end`.
 #[tactic(auto, unfolding(crate::specs::Named::wanted))]
-fn wanted(size: usize, marks: &[u8], end: usize, p: usize) -> bool
+fn wanted(size: usize, marks: &[bool], end: usize, p: usize) -> bool
     ensures { result ≡ wanted size marks.now end p }
 {
     p == end || in_pool(size, marks, p)
 }
 
 // The one or the other, whose marks are lent.
-fn reached(returned: bool, size: usize, marks: &[u8], first: usize, end: usize, p: usize) -> bool
+fn reached(returned: bool, size: usize, marks: &[bool], first: usize, end: usize, p: usize) -> bool
     ensures { result ≡ reached returned size marks.now first end p }
 {
     if returned {
@@ -245,7 +245,7 @@ fn any_reached(
     group: &[u16],
     returned: bool,
     size: usize,
-    marks: &[u8],
+    marks: &[bool],
     first: usize,
     end: usize,
 ) -> bool
@@ -264,8 +264,8 @@ fn any_reached(
 fn names_stand(
     order: &[u16],
     size: usize,
-    args: &[u8],
-    marks: &[u8],
+    args: &[bool],
+    marks: &[bool],
     first: usize,
     end: usize,
 ) -> bool
@@ -301,10 +301,10 @@ pub fn return_stands(
     ensures { let P : List ℕ = pool.now in
         ReturnAsked texts.now P (types_in pairs.now) ret order.now (length order.now) first end result }
 {
-    let mut args = [0u8; 8192];
+    let mut args = [false; 8192];
     mark_types(pool, pairs, &mut args);
     spread(pool, &mut args);
-    let mut marks = [0u8; 8192];
+    let mut marks = [false; 8192];
     mark_inside(pool, ret, &mut marks);
     spread(pool, &mut marks);
     if order.len() > 0 {

@@ -1,7 +1,8 @@
 -- Functions by their place in a word list, past those that the library's words have too. Definitions.
 use Rattle.std.specs.Prelude.{ℕ, zero, suc, List, [], ◌∷◌}
 use Rattle.library.specs.Package.{Function}
-unfoldable pub use Rattle.library.specs.Signatures.{signature_at, slotted, entry_at, entry_end, entries_from}
+pub use Rattle.library.specs.Signatures.{slotted, entry_end}
+unfoldable pub use Rattle.library.specs.Signatures.{signature_at, entry_at, entries_from}
 
 -- the word after k entries
 unfoldable pub entries_end : List ℕ → (flags at k : ℕ) → ℕ

@@ -1,17 +1,18 @@
-use Rattle.library_read.proofs.GroupWays.{slots-begin, slots-over, slots-yes, slots_next, slots-fewer}
+use Rattle.std.proofs.Common.{◌∙◌, sym}
+use Rattle.library_read.proofs.GroupWays.{slots-begin, slots-over, slots-yes, slots-next, slots-fewer}
 use Rattle.library_read.proofs.group_slotted.Goals as goal
 
 pub loop-found-init : goal.loop-found-init
-loop-found-init c = slots-begin c.name_bytes-name.ensures
+loop-found-init c = slots-begin _ _ _ c.name_bytes-name.ensures _ _ _ c.find-found.ensures.is
 
-pub returns-then-with_slots : goal.returns-then-with_slots
-returns-then-with_slots c = slots-yes c.loop-found.invariant _ c.find_candidate.ensures _ c.in-Some.is c.with_slots.ensures c.if-with_slots.true
+pub returns-then-entry : goal.returns-then-entry
+returns-then-entry c = slots-yes _ _ _ _ _ _ c.in-Some.is c.if-entry.true ∙ sym c.loop-found.invariant
 
 pub loop-found-smaller : goal.loop-found-smaller
-loop-found-smaller c = slots-fewer c.loop-found.invariant _ c.find_candidate.ensures _ c.in-Some.is
+loop-found-smaller c = slots-fewer _ _ _ _ _ _ c.in-Some.is _ (rw c.after.ensures at c.find-found-in-Some.ensures)
 
 pub loop-found-preserved : goal.loop-found-preserved
-loop-found-preserved c = slots_next c.loop-found.invariant _ c.find_candidate.ensures _ c.in-Some.is c.with_slots.ensures c.if-with_slots.false
+loop-found-preserved c = c.loop-found.invariant ∙ slots-next _ _ _ _ _ _ c.in-Some.is _ (rw c.after.ensures at c.find-found-in-Some.ensures) c.if-entry.false
 
 pub returns : goal.returns
-returns c = slots-over c.loop-found.invariant _ c.find_candidate.ensures c.in_default.is
+returns c = slots-over _ _ _ _ _ c.in_default.is ∙ sym c.loop-found.invariant

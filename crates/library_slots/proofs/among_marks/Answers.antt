@@ -2,12 +2,12 @@ use Rattle.library_slots.proofs.NameWays.{marks-found, marks-fails, marks-past, 
 use Rattle.library_slots.proofs.among_marks.Goals as goal
 
 pub returns-then-is_slot : goal.returns-then-is_slot
-returns-then-is_slot c = marks-found _ _ _ _ c.loop-i.invariant c.loop-i-test.true c.mark_at.ensures c.if-mark_at-eq1.true c.is_slot.ensures c.if-is_slot.true
+returns-then-is_slot c = marks-found _ _ _ _ c.loop-i.invariant c.loop-i-test.true c.is_marked.ensures c.if-is_marked.true c.is_slot.ensures c.if-is_slot.true
 
 pub loop-i-preserved : goal.loop-i-preserved
-loop-i-preserved c = elim c.else-mark_at-eq1.branch [
-  | goal.else-mark_at-eq1-via-then-mark_at-eq1+else-is_slot w ↦ marks-fails _ _ _ _ c.loop-i.invariant c.loop-i-test.true c.mark_at.ensures w.if-mark_at-eq1.true w.is_slot.ensures w.if-is_slot.false
-  | goal.else-mark_at-eq1-via-else-mark_at-eq1 w ↦ marks-past _ _ _ _ c.loop-i.invariant c.loop-i-test.true c.mark_at.ensures w.if-mark_at-eq1.false
+loop-i-preserved c = elim c.else-is_marked.branch [
+  | goal.else-is_marked-via-then-is_marked+else-is_slot w ↦ marks-fails _ _ _ _ c.loop-i.invariant c.loop-i-test.true c.is_marked.ensures w.if-is_marked.true w.is_slot.ensures w.if-is_slot.false
+  | goal.else-is_marked-via-else-is_marked w ↦ marks-past _ _ _ _ c.loop-i.invariant c.loop-i-test.true c.is_marked.ensures w.if-is_marked.false
 ]
 
 pub returns : goal.returns
