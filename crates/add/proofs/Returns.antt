@@ -25,10 +25,10 @@ use Rattle.add.specs.WriteLaws.{write-one}
 module _ {step : Texts → ℕ → Step Buffer Refusal ℕ} {a a' : Arena} (g : a'.words.ghost_name ≡ a.words.ghost_name) {l : List ℕ} (e : a'.words.now ≡ l)
     (k : length l ≡ length a.words.now) where
   adds-put : {w u : ℕ} → a'.used ≡ u → ((t : Texts) (n : ℕ) → step t n (buffer_of a) ≡ ok w (buffer l u)) → Adds step a (Ok w) a'
-  adds-put eu h = record { grows = record { lent = g; keeps = ap length e ∙ k; result = λ t n. rw (e, eu) (h t n) }; words = λ t n. rw (h t n) e }
+  adds-put eu h = record { allocates = record { lent = g; keeps = ap length e ∙ k; result = λ t n. rw (e, eu) (h t n) }; words = λ t n. rw (h t n) e }
 
   adds-err : {x : AddError} → l ≡ a.words.now → ((t : Texts) (n : ℕ) → step t n (buffer_of a) ≡ refused (refusal (number_of x) n)) → Adds step a (Err x) a'
-  adds-err o h = record { grows = record { lent = g; keeps = ap length e ∙ k; result = h }; words = λ t n. rw (h t n) (e ∙ o) }
+  adds-err o h = record { allocates = record { lent = g; keeps = ap length e ∙ k; result = h }; words = λ t n. rw (h t n) (e ∙ o) }
 
 module _ (a : Arena) (kind inner : ℕ) {room : ℕ} (hr : room ≡ min (length a.words.now) 8192) where
   pub wrap-full : {a' : Arena} → a'.words.ghost_name ≡ a.words.ghost_name → a'.words.now ≡ a.words.now → room ≤ a.used → Adds (λ t n. add_wrap t n kind inner) a (Err Full) a'
@@ -41,7 +41,8 @@ module _ (a : Arena) (kind inner : ℕ) {room : ℕ} (hr : room ≡ min (length 
     unfolding add_wrap add_type when append
     wrap-is t n = rw (le-leb (a.used + 1) (min (length a.words.now) 8192) (omega arith), write-one, ← hw, ← hq t)
 
-    pub wrap-put : {a' : Arena} → a'.words.ghost_name ≡ a.words.ghost_name → q ≡ true → a'.words.now ≡ set a.words.now a.used inner → a'.used ≡ a.used + 1 → Adds (λ t n. add_wrap t n kind inner) a (Ok word) a'
+    pub wrap-put : {a' : Arena} → a'.words.ghost_name ≡ a.words.ghost_name → q ≡ true → a'.words.now ≡ set a.words.now a.used inner → a'.used ≡ a.used + 1
+        → Adds (λ t n. add_wrap t n kind inner) a (Ok word) a'
     unfolding when
     wrap-put g p e eu = adds-put g e (length-set _ _ _) eu (λ t n. wrap-is t n ∙ rw p)
 

@@ -38,7 +38,8 @@ module _ (types : List ℕ) where
       by true known = refl
       by false known = refl
 
-  pub word-asked : (w : ℕ) (known : List ℕ) {y q : Bool} {known' : List ℕ} → y ≡ is_type w → y ≡ true → shallow_by types w known ≡ shallow_found q known' → all_shallow_by types (w ∷ []) known ≡ shallow_found q known'
+  pub word-asked : (w : ℕ) (known : List ℕ) {y q : Bool} {known' : List ℕ} → y ≡ is_type w → y ≡ true → shallow_by types w known ≡ shallow_found q known'
+      → all_shallow_by types (w ∷ []) known ≡ shallow_found q known'
   unfolding all_shallow_by
   word-asked w known hy e h = rw (← hy, e) (last (shallow_by types w known) ∙ h)
 
@@ -94,7 +95,8 @@ module _ (types : List ℕ) where
   all_sure (w ∷ ws) known = by (is_type w) (all_sure ws)
     where
       by : (y : Bool) → ((k : List ℕ) → RightAnswer types k (λ t. all_shallow t types (pool_types ws)) (all_shallow_by types ws k))
-          → RightAnswer types known (λ t. all_shallow t types (cond y (w ∷ pool_types ws) (pool_types ws))) (cond y (if_shallow (shallow_by types w known) (all_shallow_by types ws)) (all_shallow_by types ws known))
+          → RightAnswer types known (λ t. all_shallow t types (cond y (w ∷ pool_types ws) (pool_types ws)))
+          (cond y (if_shallow (shallow_by types w known) (all_shallow_by types ws)) (all_shallow_by types ws known))
       by true h = both (all_shallow_by types ws) (shallow_by types w known).answer (shallow_by types w known).known (one_sure w known refl) (h (shallow_by types w known).known)
       by false h = h known
 

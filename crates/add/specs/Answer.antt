@@ -37,12 +37,12 @@ answer_of (Err e) u = Err e
 
 -- Steps, of any texts and any node, on an arena: their answer r, and the arena after them, to which the same words are lent. Where they are
 -- refused, the rules leave open what the words hold ("Reading the promises", 1).
-pub record Grows (steps : Texts → (n : ℕ) → Step Buffer Refusal ℕ) (a : Arena) (r : Answered ℕ AddError) (a' : Arena) : Type 0 where
+pub record Allocates (steps : Texts → (n : ℕ) → Step Buffer Refusal ℕ) (a : Arena) (r : Answered ℕ AddError) (a' : Arena) : Type 0 where
   pub lent : a'.words.ghost_name ≡ a.words.ghost_name
   pub keeps : length a'.words.now ≡ length a.words.now
   pub result : (t : Texts) (n : ℕ) → steps t n (buffer_of a) ≡ result_of n (answer_of r a'.used) a'.words.now
 
 -- One step: that, and every word after it.
 pub record Adds (step : Texts → (n : ℕ) → Step Buffer Refusal ℕ) (a : Arena) (r : Answered ℕ AddError) (a' : Arena) : Type 0 where
-  pub grows : Grows step a r a'
+  pub allocates : Allocates step a r a'
   pub words : (t : Texts) (n : ℕ) → a'.words.now ≡ words_after a.words.now (step t n (buffer_of a))

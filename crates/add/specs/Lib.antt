@@ -9,6 +9,6 @@ pub mod PartsLaws
 pub mod PoolLaws
 pub mod Means
 pub mod AddLaws
-pub mod GrowLaws
+pub mod AllocLaws
 pub mod Goes
 pub mod KindLaws

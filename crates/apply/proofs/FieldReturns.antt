@@ -16,7 +16,7 @@ use Rattle.ptype.specs.Add.{Buffer, write}
 use Rattle.ptype.specs.Slots.{Binding}
 use Rattle.add.specs.declared.AddError.{AddError}
 use Rattle.add.specs.declared.Arena.{Arena}
-use Rattle.add.specs.Answer.{buffer_of, Grows, Adds}
+use Rattle.add.specs.Answer.{buffer_of, Allocates, Adds}
 use Rattle.add.specs.Goes.{Goes, goes_all, goes_next}
 use Rattle.add.specs.Parts.{opened, paired, record_from}
 use Rattle.add.specs.WriteLaws.{write_nil, write-append, length-write}
@@ -82,12 +82,12 @@ module _ {T : Texts} {bs : List Binding} {deep base : ℕ} {a₀ : Arena} {at fi
     word-old : x ≡ get_or (take base a₀.words.now) (here + 1) 0
     word-old = ex ∙ ap (λ l. get_or l (here + 1) 0) (es ∙ h.front)
 
-    step-old : {r : Answered ℕ AddError} {a₁ : Arena} → Grows (λ _ n. apply_within T n bs (only (take base a.words.now)) deep x) a r a₁
-        → Grows (λ _ n. apply_within T n bs (only (take base a₀.words.now)) deep x) a r a₁
+    step-old : {r : Answered ℕ AddError} {a₁ : Arena} → Allocates (λ _ n. apply_within T n bs (only (take base a.words.now)) deep x) a r a₁
+        → Allocates (λ _ n. apply_within T n bs (only (take base a₀.words.now)) deep x) a r a₁
     step-old g = rw h.front at g
 
-    pub applying_stop : {e : AddError} {a₁ : Arena} → Grows (λ _ n. apply_within T n bs (only (take base a.words.now)) deep x) a (Err e) a₁
-        → Grows (λ _ n. record-steps T bs (take base a₀.words.now) deep at fields n) a₀ (Err e) a₁
+    pub applying_stop : {e : AddError} {a₁ : Arena} → Allocates (λ _ n. apply_within T n bs (only (take base a.words.now)) deep x) a (Err e) a₁
+        → Allocates (λ _ n. record-steps T bs (take base a₀.words.now) deep at fields n) a₀ (Err e) a₁
     unfolding record_from
     applying_stop g = record {
       lent = g.lent ∙ h.lent;
@@ -95,7 +95,7 @@ module _ {T : Texts} {bs : List Binding} {deep base : ℕ} {a₀ : Arena} {at fi
       result = λ _ n. rw ((h.goes n).is, first-is T n bs (take base a₀.words.now) deep here (buffer_of a) d word-old, (step-old g).result T n);
     }
 
-    pub applying_next : {a₁ : Arena} {w here' left' : ℕ} → here' ≡ here + 2 → left' ≡ left - 1 → Grows (λ _ n. apply_within T n bs (only (take base a.words.now)) deep x) a (Ok w) a₁
+    pub applying_next : {a₁ : Arena} {w here' left' : ℕ} → here' ≡ here + 2 → left' ≡ left - 1 → Allocates (λ _ n. apply_within T n bs (only (take base a.words.now)) deep x) a (Ok w) a₁
         → Applying T bs deep base a₀ at fields a₁ here' left'
     applying_next {a₁} {w} eh el g =
         let old = take base a₀.words.now in
@@ -113,17 +113,17 @@ module _ {T : Texts} {bs : List Binding} {deep base : ℕ} {a₀ : Arena} {at fi
 
   -- and after it
   module _ (z : left ≡ 0) {a₁ : Arena} where
-    pub record_stop : {e : AddError} → Adds (λ _ n. opened n fields) a (Err e) a₁ → Grows (λ _ n. record-steps T bs (take base a₀.words.now) deep at fields n) a₀ (Err e) a₁
+    pub record_stop : {e : AddError} → Adds (λ _ n. opened n fields) a (Err e) a₁ → Allocates (λ _ n. record-steps T bs (take base a₀.words.now) deep at fields n) a₀ (Err e) a₁
     unfolding record_from
     record_stop g = record {
-      lent = g.grows.lent ∙ h.lent;
-      keeps = g.grows.keeps ∙ h.keeps;
-      result = λ _ n. rw (after_is T n bs (take base a₀.words.now) deep at fields (buffer_of a₀) (buffer_of a) here (h.goes n) z, g.grows.result T n);
+      lent = g.allocates.lent ∙ h.lent;
+      keeps = g.allocates.keeps ∙ h.keeps;
+      result = λ _ n. rw (after_is T n bs (take base a₀.words.now) deep at fields (buffer_of a₀) (buffer_of a) here (h.goes n) z, g.allocates.result T n);
     }
 
     module _ {w : ℕ} (g : Adds (λ _ n. opened n fields) a (Ok w) a₁) where
       at-end : OpenedAt fields a.used w a.words.now a₁.words.now
-      at-end = opened-at 0 fields a.words.now a.used w a₁.words.now a₁.used (g.grows.result T 0)
+      at-end = opened-at 0 fields a.words.now a.used w a₁.words.now a₁.used (g.allocates.result T 0)
 
       front-old : take base a₁.words.now ≡ take base a₀.words.now
       front-old = rw at-end.after (front-write base a.used a.words.now (fields ∷ []) h.past) ∙ h.front
@@ -144,16 +144,16 @@ module _ {T : Texts} {bs : List Binding} {deep base : ℕ} {a₀ : Arena} {at fi
 
       pub record_put : {q : ℕ} {a₂ : Arena} → q ≡ payload_of w → a₂.words.ghost_name ≡ a₁.words.ghost_name → a₂.used ≡ a₁.used
           → a₂.words.now ≡ write a₁.words.now (q + 1) (pairs_after T bs (take base a₁.words.now) deep a₀.used at fields)
-          → Grows (λ _ n. record-steps T bs (take base a₀.words.now) deep at fields n) a₀ (Ok w) a₂
+          → Allocates (λ _ n. record-steps T bs (take base a₀.words.now) deep at fields n) a₀ (Ok w) a₂
       unfolding record_from paired
       record_put {q} hq el eu h₂ =
           let old = take base a₀.words.now in
           let place : payload_of w + 1 + 2 * 0 ≡ payload_of w + 1 = omega arith in
           let e = rw front-old at h₂ in
           record {
-            lent = el ∙ g.grows.lent ∙ h.lent;
-            keeps = ap length e ∙ length-write a₁.words.now (q + 1) (pairs_after T bs old deep a₀.used at fields) ∙ g.grows.keeps ∙ h.keeps;
-            result = λ _ n. rw (after_is T n bs old deep at fields (buffer_of a₀) (buffer_of a) here (h.goes n) z, g.grows.result T n, e, eu, hq, place);
+            lent = el ∙ g.allocates.lent ∙ h.lent;
+            keeps = ap length e ∙ length-write a₁.words.now (q + 1) (pairs_after T bs old deep a₀.used at fields) ∙ g.allocates.keeps ∙ h.keeps;
+            result = λ _ n. rw (after_is T n bs old deep at fields (buffer_of a₀) (buffer_of a) here (h.goes n) z, g.allocates.result T n, e, eu, hq, place);
           }
 
 -- How many words fields add: the first, and the others.
@@ -196,11 +196,12 @@ pub record Writing (T : Texts) (bs : List Binding) (deep base : ℕ) (l₀ : Lis
   pub setting : Setting T bs (take base l₀) deep end here left to base (length l₀)
   pub is : write l₀ place (pairs_after T bs (take base l₀) deep used at fields) ≡ write l to (pairs_after T bs (take base l₀) deep end here left)
 
-pub writing_all : {T : Texts} {bs : List Binding} {deep base : ℕ} (l : List ℕ) {used at fields place here left to : ℕ} → here ≡ at → left ≡ fields → to ≡ place → Setting T bs (take base l) deep used at fields place base (length l)
-    → Writing T bs deep base l used at fields place l used here left to
+pub writing_all : {T : Texts} {bs : List Binding} {deep base : ℕ} (l : List ℕ) {used at fields place here left to : ℕ} → here ≡ at → left ≡ fields → to ≡ place
+    → Setting T bs (take base l) deep used at fields place base (length l) → Writing T bs deep base l used at fields place l used here left to
 writing_all l eh el et s = rw (eh, el, et) record { front = refl; long = refl; setting = s; is = refl }
 
-module _ {T : Texts} {bs : List Binding} {deep base : ℕ} {l₀ : List ℕ} {used at fields place : ℕ} {l : List ℕ} {end here left to : ℕ} (h : Writing T bs deep base l₀ used at fields place l end here left to) where
+module _ {T : Texts} {bs : List Binding} {deep base : ℕ} {l₀ : List ℕ} {used at fields place : ℕ} {l : List ℕ} {end here left to : ℕ}
+    (h : Writing T bs deep base l₀ used at fields place l end here left to) where
   pub writing_end : left ≡ 0 → l ≡ write l₀ place (pairs_after T bs (take base l₀) deep used at fields)
   writing_end z = sym (h.is ∙ pairs_end T bs (take base l₀) deep l here end to z)
 
@@ -222,7 +223,8 @@ module _ {T : Texts} {bs : List Binding} {deep base : ℕ} {l₀ : List ℕ} {us
       pub size-ends : end + size ≤ 8192
       size-ends = omega (arith, first, size-old, h.setting.fits)
 
-      pub writing_next : {name w here' left' to' : ℕ} {l' : List ℕ} → here' ≡ here + 2 → left' ≡ left - 1 → to' ≡ to + 2 → name ≡ get_or (take base l) here 0 → w ≡ word_before T bs (take base l) deep (end + size) size x
+      pub writing_next : {name w here' left' to' : ℕ} {l' : List ℕ} → here' ≡ here + 2 → left' ≡ left - 1 → to' ≡ to + 2 → name ≡ get_or (take base l) here 0
+          → w ≡ word_before T bs (take base l) deep (end + size) size x
           → l' ≡ write l to (name ∷ w ∷ []) → Writing T bs deep base l₀ used at fields place l' (end + size) here' left' to'
       writing_next {name} {w} eh el et en ew e = rw (eh, el, et) record {
         front = rw e (front-write base to l (name ∷ w ∷ []) h.setting.past) ∙ h.front;

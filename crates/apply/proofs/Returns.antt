@@ -27,8 +27,8 @@ use Rattle.ptype.specs.Add.{Buffer, buffer, append, write, add_wrap}
 use Rattle.ptype.specs.Slots.{Binding, bound_to, bound_or, has_bound_slot}
 use Rattle.add.specs.declared.AddError.{AddError}
 use Rattle.add.specs.declared.Arena.{Arena}
-use Rattle.add.specs.Answer.{Added, buffer_of, answer_of, result_of, Grows, Adds}
-use Rattle.add.specs.GrowLaws.{none_grows, grows_of, grows_stop, grows_then}
+use Rattle.add.specs.Answer.{Added, buffer_of, answer_of, result_of, Allocates, Adds}
+use Rattle.add.specs.AllocLaws.{allocates_none, allocates_of, allocates_stop, allocates_then}
 use Rattle.add.specs.Parts.{measured, record_from}
 use Rattle.add.specs.StepLaws.{next-ok}
 use Rattle.add.specs.PartsLaws.{record_steps}
@@ -96,7 +96,7 @@ apply-start t n bs l used w base e h =
 
 -- on the arena that was made of these words, which are what it leaves
 pub start-given : (t : Texts) (bs : List Binding) (w : ℕ) {l : List ℕ} {used base : ℕ} {a a₁ : Arena} {r : Answered ℕ AddError} {x : Added} {new : List ℕ} → base ≡ min used (length l)
-    → (a.words.now ≡ l) × (a.used ≡ used) → Grows (λ _ n. apply_within t n bs (only (take base a.words.now)) 33 w) a r a₁ → x ≡ answer_of r a₁.used → new ≡ a₁.words.now
+    → (a.words.now ≡ l) × (a.used ≡ used) → Allocates (λ _ n. apply_within t n bs (only (take base a.words.now)) 33 w) a r a₁ → x ≡ answer_of r a₁.used → new ≡ a₁.words.now
     → (n : ℕ) → apply_word t n bs w (buffer l used) ≡ result_of n x new
 start-given t bs w {l} {used} {base} e m g ex el n =
     let step = g.result t n in
@@ -154,18 +154,18 @@ module _ (t : Texts) (n : ℕ) (bs : List Binding) (old l : List ℕ) (used w de
 
 module _ (t : Texts) (bs : List Binding) (old : List ℕ) (a : Arena) (w deep : ℕ) where
   abbrev Given : Answered ℕ AddError → Arena → Type 0
-  Given r a' = Grows (λ _ n. apply_within t n bs (only old) deep w) a r a'
+  Given r a' = Allocates (λ _ n. apply_within t n bs (only old) deep w) a r a'
 
   pub none-given : deep ≡ 0 → Given (Ok w) a
-  none-given e = none_grows (λ _ n. apply-none t n bs old a.words.now a.used w deep e)
+  none-given e = allocates_none (λ _ n. apply-none t n bs old a.words.now a.used w deep e)
 
   module _ {k : ℕ} (p : deep ≡ 0 → ⊥) (hk : k ≡ kind_of w) where
     pub slot-given : {x : ℕ} → k ≡ 10 → x ≡ bound_or w (bound_to (name_bytes t w) bs) → Given (Ok x) a
-    slot-given e hx = none_grows (λ _ n. apply-slot t n bs old a.words.now a.used w deep p hk e hx)
+    slot-given e hx = allocates_none (λ _ n. apply-slot t n bs old a.words.now a.used w deep p hk e hx)
 
     module _ {q : Bool} {seen : List ℕ} (eo : seen ≡ old) (ns : k ≡ 10 → ⊥) (hq : q ≡ has_bound_slot bs (unfolded t seen deep w)) where
       pub free-given : q ≡ false → Given (Ok w) a
-      free-given e = none_grows (λ _ n. apply-free t n bs old a.words.now a.used w deep p hk eo ns hq e)
+      free-given e = allocates_none (λ _ n. apply-free t n bs old a.words.now a.used w deep p hk eo ns hq e)
 
       module _ (has : q ≡ true) where
         module _ {x : ℕ} {seen' : List ℕ} {kind : TypeKind} (eo' : seen' ≡ old) (hw : (kind ≡ type.Option) ⊎ (kind ≡ type.Array)) (ek : kind ≡ kind_of_type k) (hx : x ≡ inner_word seen' w) where
@@ -174,12 +174,12 @@ module _ (t : Texts) (bs : List Binding) (old : List ℕ) (a : Arena) (w deep : 
               let hx' : x ≡ inner_word seen w = rw (eo, ← eo') hx in
               rw (wrap-number k ek hw) (wrap-is t n bs old a.words.now a.used w deep p hk eo ns hq has (type-wraps k ek hw) hx')
 
-          pub wrap-stop : {e : AddError} {a₁ : Arena} → Grows (λ _ n. apply_within t n bs (only old) (deep - 1) x) a (Err e) a₁ → Given (Err e) a₁
-          wrap-stop = grows_stop (λ _ n. add_wrap t n (number_of_type kind)) (λ _ n. wrapping n)
+          pub wrap-stop : {e : AddError} {a₁ : Arena} → Allocates (λ _ n. apply_within t n bs (only old) (deep - 1) x) a (Err e) a₁ → Given (Err e) a₁
+          wrap-stop = allocates_stop (λ _ n. add_wrap t n (number_of_type kind)) (λ _ n. wrapping n)
 
-          pub wrap-put : {v : ℕ} {r : Answered ℕ AddError} {a₁ a₂ : Arena} → Grows (λ _ n. apply_within t n bs (only old) (deep - 1) x) a (Ok v) a₁
+          pub wrap-put : {v : ℕ} {r : Answered ℕ AddError} {a₁ a₂ : Arena} → Allocates (λ _ n. apply_within t n bs (only old) (deep - 1) x) a (Ok v) a₁
               → Adds (λ t n. add_wrap t n (number_of_type kind) v) a₁ r a₂ → Given r a₂
-          wrap-put g h = grows_then (λ _ n. add_wrap t n (number_of_type kind)) (λ _ n. wrapping n) g (grows_of t h.grows)
+          wrap-put g h = allocates_then (λ _ n. add_wrap t n (number_of_type kind)) (λ _ n. wrapping n) g (allocates_of t h.allocates)
 
         module _ {x m : ℕ} {seen' : List ℕ} (eo' : seen' ≡ old) (e : k ≡ 8) (hx : x ≡ payload_of w) (hm : m ≡ field_count seen' w) where
           abbrev fields-steps : (n : ℕ) → Step Buffer Refusal ℕ
@@ -190,12 +190,12 @@ module _ (t : Texts) (bs : List Binding) (old : List ℕ) (a : Arena) (w deep : 
               let hm' : m ≡ field_count seen w = rw (eo, ← eo') hm in
               record_is t n bs old a.words.now a.used w deep p hk eo ns hq has (record_flat k e) e hx hm'
 
-          pub record_refused : {y : AddError} {a₁ : Arena} → Grows (λ _ n. fields-steps n) a (Err y) a₁ → Given (Err y) a₁
-          record_refused = grows_stop (λ _ n. measured t n) (λ _ n. measuring n)
+          pub record_refused : {y : AddError} {a₁ : Arena} → Allocates (λ _ n. fields-steps n) a (Err y) a₁ → Given (Err y) a₁
+          record_refused = allocates_stop (λ _ n. measured t n) (λ _ n. measuring n)
 
-          pub record_closed : {v : ℕ} {r : Answered ℕ AddError} {a₁ : Arena} → Grows (λ _ n. fields-steps n) a (Ok v) a₁
+          pub record_closed : {v : ℕ} {r : Answered ℕ AddError} {a₁ : Arena} → Allocates (λ _ n. fields-steps n) a (Ok v) a₁
               → ((T : Texts) (n : ℕ) → measured T n v (buffer_of a₁) ≡ result_of n (answer_of r a₁.used) a₁.words.now) → Given r a₁
-          record_closed g c = grows_then (λ _ n. measured t n) (λ _ n. measuring n) g (record { lent = refl; keeps = refl; result = λ _ n. c t n })
+          record_closed g c = allocates_then (λ _ n. measured t n) (λ _ n. measuring n) g (record { lent = refl; keeps = refl; result = λ _ n. c t n })
 
         pub rest-given : wraps k ≡ false → (k ≡ 8 → ⊥) → Given (Ok w) a
-        rest-given nw d = none_grows (λ _ n. apply-rest t n bs old a.words.now a.used w deep p hk eo ns hq has nw d)
+        rest-given nw d = allocates_none (λ _ n. apply-rest t n bs old a.words.now a.used w deep p hk eo ns hq has nw d)

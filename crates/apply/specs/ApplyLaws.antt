@@ -187,10 +187,12 @@ module _ (texts : Texts) (n : ℕ) (f : Filling) (bs : List Binding) where
       where
         by : (q : Bool) → eqb (kind_of w) 10 ≡ q → Applied texts f t b w' b'
         by true z =
-            let s : substitute f t ≡ Option.get_or (f (name_bytes texts w)) t = rw (named-is m p) (if_true (Option.get_or (f (name_bytes texts w)) (named (kind_of w) (name_bytes texts w))) (named (kind_of w) (name_bytes texts w)) (eqb (kind_of w) 10) z) in
+            let s : substitute f t ≡ Option.get_or (f (name_bytes texts w)) t =
+            rw (named-is m p) (if_true (Option.get_or (f (name_bytes texts w)) (named (kind_of w) (name_bytes texts w))) (named (kind_of w) (name_bytes texts w)) (eqb (kind_of w) 10) z) in
             unchanged (rw s (slot-means m (fills.each (name_bytes texts w)))) (sym (inside-slot texts n bs whole (apply_within texts n bs whole deep) w b refl (eqb-true (kind_of w) 10 z)) ∙ e)
         by false z =
-            let s : substitute f t ≡ t = rw (named-is m p) (if_false (Option.get_or (f (name_bytes texts w)) (named (kind_of w) (name_bytes texts w))) (named (kind_of w) (name_bytes texts w)) (eqb (kind_of w) 10) z) in
+            let s : substitute f t ≡ t =
+            rw (named-is m p) (if_false (Option.get_or (f (name_bytes texts w)) (named (kind_of w) (name_bytes texts w))) (named (kind_of w) (name_bytes texts w)) (eqb (kind_of w) 10) z) in
             rest_applied (eqb-false (kind_of w) 10 z) (no_wrap_lem (kind_of w) p) (no-list (kind_of w) p) s
 
     inside_applied : Applied texts f t b w' b'

@@ -31,7 +31,8 @@ use Rattle.apply.specs.ApplyLaws.{FieldsAt, done, more, fields-grown, inner-is, 
 abbrev Grows : (ℕ → Step Buffer Refusal ℕ) → Type 0
 Grows go = (w : ℕ) (b : Buffer) (w' : ℕ) (b' : Buffer) → go w b ≡ ok w' b' → Grown b b'
 
-pairs_grow : (seen : Buffer → List ℕ) (go : ℕ → Step Buffer Refusal ℕ) → Grows go → (left at : ℕ) (b : Buffer) (pairs : List ℕ) (b' : Buffer) → apply_pairs go seen at left b ≡ ok pairs b' → Grown b b'
+pairs_grow : (seen : Buffer → List ℕ) (go : ℕ → Step Buffer Refusal ℕ) → Grows go → (left at : ℕ) (b : Buffer) (pairs : List ℕ) (b' : Buffer)
+    → apply_pairs go seen at left b ≡ ok pairs b' → Grown b b'
 unfolding apply_pairs
 pairs_grow seen go h zero at b pairs b' e = of-answer (λ _ s. Grown b s) e (grown-same b)
 pairs_grow seen go h (suc left) at b pairs b' e =
@@ -89,14 +90,17 @@ module _ (texts : Texts) (n : ℕ) (bs : List Binding) where
   abbrev Same : (deep : ℕ) → Type 0
   Same deep = (w : ℕ) (t : Ty) (b : Buffer) → Means texts b w t → depth_of t < deep → apply_within texts n bs whole deep w b ≡ apply_slot_binding texts n bs t w b
 
-  fields-same : (deep : ℕ) → Same deep → (left : ℕ) {b : Buffer} {at : ℕ} {fs : Fields} → FieldsAt texts b deep at left fs → apply_pairs (apply_within texts n bs whole deep) whole at left b ≡ apply_fields texts n bs fs at b
+  fields-same : (deep : ℕ) → Same deep → (left : ℕ) {b : Buffer} {at : ℕ} {fs : Fields} → FieldsAt texts b deep at left fs
+      → apply_pairs (apply_within texts n bs whole deep) whole at left b ≡ apply_fields texts n bs fs at b
   unfolding apply_pairs apply_slot_binding
   fields-same deep h zero done = refl
   fields-same deep h (suc left) {b = b} (more {at = at} {t = t} {fs = gs} l m d fs) =
       rw (← h (get_or b.words (at + 1) 0) t b m d)
-      (by (λ new s e. fields-same deep h left (fields-grown (within_grows texts n bs whole deep (get_or b.words (at + 1) 0) b new s e) fs)) (apply_within texts n bs whole deep (get_or b.words (at + 1) 0) b) refl)
+      (by (λ new s e. fields-same deep h left (fields-grown (within_grows texts n bs whole deep (get_or b.words (at + 1) 0) b new s e) fs))
+      (apply_within texts n bs whole deep (get_or b.words (at + 1) 0) b) refl)
     where
-      by : ((new : ℕ) (s : Buffer) → apply_within texts n bs whole deep (get_or b.words (at + 1) 0) b ≡ ok new s → apply_pairs (apply_within texts n bs whole deep) whole (at + 2) left s ≡ apply_fields texts n bs gs (at + 2) s)
+      by : ((new : ℕ) (s : Buffer) → apply_within texts n bs whole deep (get_or b.words (at + 1) 0) b ≡ ok new s
+          → apply_pairs (apply_within texts n bs whole deep) whole (at + 2) left s ≡ apply_fields texts n bs gs (at + 2) s)
           → (r : Result Buffer Refusal ℕ) → apply_within texts n bs whole deep (get_or b.words (at + 1) 0) b ≡ r
           → next r (λ new s. next (apply_pairs (apply_within texts n bs whole deep) whole (at + 2) left s) (λ others. return (get_or b.words at 0 ∷ new ∷ others)))
           ≡ next r (λ new s. next (apply_fields texts n bs gs (at + 2) s) (λ others. return (get_or b.words at 0 ∷ new ∷ others)))
@@ -206,7 +210,8 @@ module _ (texts : Texts) (n : ℕ) (bs : List Binding) where
         let x : get_or b₀.words at 0 ≡ get_or b.words at 0 = word-grown at g (omega arith) in
         let y : get_or b₀.words (at + 1) 0 ≡ get_or b.words (at + 1) 0 = word-grown (at + 1) g (omega arith) in
         rw (h (get_or b₀.words (at + 1) 0) t b m g d, y, x)
-        (by (λ new s e. fields_read deep h left fs s (grown-then g (within_grows texts n bs whole deep (get_or b.words (at + 1) 0) b new s e))) (apply_within texts n bs whole deep (get_or b.words (at + 1) 0) b) refl)
+        (by (λ new s e. fields_read deep h left fs s (grown-then g (within_grows texts n bs whole deep (get_or b.words (at + 1) 0) b new s e)))
+        (apply_within texts n bs whole deep (get_or b.words (at + 1) 0) b) refl)
       where
         by : ((new : ℕ) (s : Buffer) → apply_within texts n bs whole deep (get_or b.words (at + 1) 0) b ≡ ok new s
             → apply_pairs (apply_within texts n bs (only b₀.words) deep) (only b₀.words) (at + 2) left s ≡ apply_pairs (apply_within texts n bs whole deep) whole (at + 2) left s)

@@ -5,7 +5,7 @@ ghost use Rattle.std.specs.Prelude.{◌≡◌, List, ℕ, ◌+◌, ◌*◌, ◌<
 ghost use Rattle.tok.specs.Text.{Texts, name_bytes};
 ghost use Rattle.ptype.specs.Add.{buffer, write};
 ghost use Rattle.ptype.specs.Slots.{Binding, bound_to, bound_or};
-ghost use Rattle.add.specs.Answer.{result_of, Grows};
+ghost use Rattle.add.specs.Answer.{result_of, Allocates};
 ghost use Rattle.add.specs.Parts.{record_from};
 ghost use Rattle.slots.specs.Bindings.{bindings_of};
 ghost use Rattle.apply.specs.Apply.{apply_pairs, apply_within, apply_word, only};
@@ -48,7 +48,7 @@ fn apply_within(
     ensures { let T : Texts = texts.now in
         let bs : List Binding = bindings_of T bindings.now in
         let old : List ℕ = take base arena.old.words.now in
-        Grows (λ _ n. apply_within T n bs (only old) depth w) arena.old result arena.new }
+        Allocates (λ _ n. apply_within T n bs (only old) depth w) arena.old result arena.new }
 {
     if depth == 0 {
         return Ok(w);
@@ -93,7 +93,7 @@ fn apply_fields(
     ensures { let T : Texts = texts.now in
         let bs : List Binding = bindings_of T bindings.now in
         let old : List ℕ = take base arena.old.words.now in
-        Grows (λ _ n. record_from n fields 0 (apply_pairs (apply_within T n bs (only old) depth) (only old) at fields)) arena.old result arena.new }
+        Allocates (λ _ n. record_from n fields 0 (apply_pairs (apply_within T n bs (only old) depth) (only old) at fields)) arena.old result arena.new }
 {
     let used = arena.used;
     for i in 0..fields {

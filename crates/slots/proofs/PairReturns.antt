@@ -37,7 +37,8 @@ module _ (t : Texts) (l : List ℕ) (slot : ℕ) {k : ℕ} where
     pub look_hit : {y : ℕ} → q ≡ true → y ≡ get_or l (2 * (k - 1) + 1) 0 → some y ≡ bound_to (name_bytes t slot) (first_pairs t l k)
     look_hit h hy =
         let e : k ≡ suc (k - 1) = omega arith in
-        rw (first_more t l e, hy) (sym (bound-here (name_bytes t slot) (binding (name_bytes t (get_or l (2 * (k - 1)) 0)) (get_or l (2 * (k - 1) + 1) 0)) (first_pairs t l (k - 1)) (rw (← hx, ← hq) h)))
+        let newest = binding (name_bytes t (get_or l (2 * (k - 1)) 0)) (get_or l (2 * (k - 1) + 1) 0) in
+        rw (first_more t l e, hy) (sym (bound-here (name_bytes t slot) newest (first_pairs t l (k - 1)) (rw (← hx, ← hq) h)))
 
     pub look-next : q ≡ false → bound_to (name_bytes t slot) (first_pairs t l k) ≡ bound_to (name_bytes t slot) (first_pairs t l (k - 1))
     look-next h =

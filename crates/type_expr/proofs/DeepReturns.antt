@@ -13,7 +13,7 @@ use Rattle.tok.specs.Step.{Result, ok, refused, Step, Refusal, refusal, next}
 use Rattle.ptype.specs.Add.{Buffer, buffer, add_record}
 use Rattle.add.specs.declared.AddError.{AddError}
 use Rattle.add.specs.declared.Arena.{Arena}
-use Rattle.add.specs.Answer.{Added, number_of, buffer_of, answer_of, result_of, Grows}
+use Rattle.add.specs.Answer.{Added, number_of, buffer_of, answer_of, result_of, Allocates}
 use Rattle.ast.specs.TypeExpr.{type_of, type_fields_from}
 use Rattle.ast.specs.TypeFrom.{type_from, fields_from_exprs}
 use Rattle.places.specs.Levels.{levels_of, most_levels}
@@ -100,7 +100,7 @@ module _ {image places : List ℕ} {owner : ℕ} {a₀ : Arena} {at fields : ℕ
         meets T n (refused y) z = rw ((h.goes T n).is, first-is (type_of image) image T n here (buffer_of a) d ex, z)
 
     module _ (e : levels ≤ 32) {a₁ : Arena} where
-      pub before-stop : {y : AddError} → Grows (λ T n. type_from T n (type_of image x)) a (Err y) a₁ → Onward image places owner whole a₀ (Err y) a₁
+      pub before-stop : {y : AddError} → Allocates (λ T n. type_from T n (type_of image x)) a (Err y) a₁ → Onward image places owner whole a₀ (Err y) a₁
       before-stop g = record {
         lent = g.lent ∙ h.lent;
         keeps = g.keeps ∙ h.keeps;
@@ -108,7 +108,7 @@ module _ {image places : List ℕ} {owner : ℕ} {a₀ : Arena} {at fields : ℕ
         part = λ p z. let y : ◌≡◌ {A = ℕ} 0 1 = cc in absurd (omega arith);
       }
 
-      pub before-next : {w here' left' : ℕ} → here' ≡ here + 2 → left' ≡ left - 1 → Grows (λ T n. type_from T n (type_of image x)) a (Ok w) a₁
+      pub before-next : {w here' left' : ℕ} → here' ≡ here + 2 → left' ≡ left - 1 → Allocates (λ T n. type_from T n (type_of image x)) a (Ok w) a₁
           → Before image places owner a₀ at fields a₁ here' left'
       before-next eh el g = rw (eh, el) record {
         goes = λ T n. goes-next (type_of image) image T n here (buffer_of a) d ex (h.goes T n) (g.result T n);
@@ -189,6 +189,6 @@ module _ {image places : List ℕ} {t : ℕ} {a₀ a : Arena} {here : ℕ} (h : 
         → (T : Texts) (n : ℕ) → type_from T n (type_of image t) (buffer old used) ≡ refused (refusal (number_of e) n)
     same_stop o T n = rw (← m.0, ← m.1) (h.is T n ∙ o.is T n)
 
-    pub same_end : {new : List ℕ} {r : Answered ℕ AddError} {x : Added} → Grows (λ T n. type_from T n (type_of image here)) a r a₁ → x ≡ answer_of r a₁.used → new ≡ a₁.words.now
+    pub same_end : {new : List ℕ} {r : Answered ℕ AddError} {x : Added} → Allocates (λ T n. type_from T n (type_of image here)) a r a₁ → x ≡ answer_of r a₁.used → new ≡ a₁.words.now
         → (T : Texts) (n : ℕ) → type_from T n (type_of image t) (buffer old used) ≡ result_of n x new
     same_end g ex el T n = rw (← m.0, ← m.1, ex, el) (h.is T n ∙ g.result T n)

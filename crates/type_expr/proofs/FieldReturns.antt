@@ -12,7 +12,7 @@ use Rattle.tok.specs.Step.{Result, ok, Step, Refusal, next, return}
 use Rattle.ptype.specs.Add.{Buffer, write}
 use Rattle.add.specs.declared.AddError.{AddError}
 use Rattle.add.specs.declared.Arena.{Arena}
-use Rattle.add.specs.Answer.{buffer_of, Grows}
+use Rattle.add.specs.Answer.{buffer_of, Allocates}
 use Rattle.add.specs.Goes.{Goes, goes_all, goes_next}
 use Rattle.add.specs.Parts.{opened, paired, record_from}
 use Rattle.add.specs.StepLaws.{next-ok}
@@ -96,7 +96,7 @@ module _ {image places : List ℕ} {owner : ℕ} {a₀ : Arena} {at fields : ℕ
     building_levels = omega (arith, h.most, most-first (type_of image) image here left d ex)
 
     module _ {a₁ : Arena} where
-      pub building_stop : {e : AddError} → Grows (λ T n. type_from T n (type_of image x)) a (Err e) a₁ → Grows (record-steps image at fields) a₀ (Err e) a₁
+      pub building_stop : {e : AddError} → Allocates (λ T n. type_from T n (type_of image x)) a (Err e) a₁ → Allocates (record-steps image at fields) a₀ (Err e) a₁
       unfolding record_from
       building_stop g = record {
         lent = g.lent ∙ h.lent;
@@ -104,7 +104,7 @@ module _ {image places : List ℕ} {owner : ℕ} {a₀ : Arena} {at fields : ℕ
         result = λ T n. rw ((h.goes T n).is, first-is (type_of image) image T n here (buffer_of a) d ex, g.result T n);
       }
 
-      pub building_next : {w here' left' : ℕ} → here' ≡ here + 2 → left' ≡ left - 1 → Grows (λ T n. type_from T n (type_of image x)) a (Ok w) a₁
+      pub building_next : {w here' left' : ℕ} → here' ≡ here + 2 → left' ≡ left - 1 → Allocates (λ T n. type_from T n (type_of image x)) a (Ok w) a₁
           → Building image places owner a₀ at fields a₁ here' left'
       building_next eh el g = rw (eh, el) record {
         goes = λ T n. goes-next (type_of image) image T n here (buffer_of a) d ex (h.goes T n) (g.result T n);
@@ -115,18 +115,18 @@ module _ {image places : List ℕ} {owner : ℕ} {a₀ : Arena} {at fields : ℕ
       }
 
   module _ (z : left ≡ 0) {a₁ : Arena} where
-    pub record_stop : {e : AddError} → Grows (λ T n. opened n fields) a (Err e) a₁ → Grows (record-steps image at fields) a₀ (Err e) a₁
+    pub record_stop : {e : AddError} → Allocates (λ T n. opened n fields) a (Err e) a₁ → Allocates (record-steps image at fields) a₀ (Err e) a₁
     unfolding record_from
     record_stop g = record { lent = g.lent ∙ h.lent; keeps = g.keeps ∙ h.keeps; result = λ T n. rw (after_is T n image at fields (buffer_of a₀) (buffer_of a) here (h.goes T n) z, g.result T n) }
 
-    module _ {w : ℕ} (g : Grows (λ T n. opened n fields) a (Ok w) a₁) where
+    module _ {w : ℕ} (g : Allocates (λ T n. opened n fields) a (Ok w) a₁) where
       pub record_room : a₀.used + sizes_of (fields_at image at fields) ≤ 8192
       record_room =
           let T = texts_of [] [] in
           omega (arith, used-after T 0 image at fields (buffer_of a₀) (buffer_of a) here (h.goes T 0) z, opened-room 0 fields a.words.now a.used w (buffer_of a₁) (g.result T 0))
 
       pub record_put : {q : ℕ} {a₂ : Arena} → q ≡ payload_of w → a₂.words.ghost_name ≡ a₁.words.ghost_name → a₂.used ≡ a₁.used
-          → a₂.words.now ≡ write a₁.words.now (q + 1) (pairs_after a₀.used (fields_at image at fields)) → Grows (record-steps image at fields) a₀ (Ok w) a₂
+          → a₂.words.now ≡ write a₁.words.now (q + 1) (pairs_after a₀.used (fields_at image at fields)) → Allocates (record-steps image at fields) a₀ (Ok w) a₂
       unfolding record_from paired
       record_put {q} hq el eu h₂ =
           let place : payload_of w + 1 + 2 * 0 ≡ payload_of w + 1 = omega arith in

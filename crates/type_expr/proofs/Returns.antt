@@ -17,8 +17,8 @@ use Rattle.tok.specs.Step.{Step, Refusal, next}
 use Rattle.ptype.specs.Add.{Buffer, add_wrap}
 use Rattle.add.specs.declared.AddError.{AddError}
 use Rattle.add.specs.declared.Arena.{Arena}
-use Rattle.add.specs.Answer.{buffer_of, answer_of, result_of, Grows}
-use Rattle.add.specs.GrowLaws.{none_grows, grows_stop, grows_then}
+use Rattle.add.specs.Answer.{buffer_of, answer_of, result_of, Allocates}
+use Rattle.add.specs.AllocLaws.{allocates_none, allocates_stop, allocates_then}
 use Rattle.add.specs.Parts.{measured, record_from}
 use Rattle.add.specs.PartsLaws.{record_steps}
 use Rattle.ast.specs.TypeExpr.{type_of, type_token, type_fields_from}
@@ -68,13 +68,13 @@ module _ {image places : List ℕ} {t at : ℕ} (r : TypeReady image places t) (
   fields-steps m T n = fields_from_exprs T n (type_fields_from (type_of image) image (at + 2) m)
 
   module _ {a : Arena} where
-    pub from-atom : {x y : ℕ} → k ≡ 0 → y ≡ get_or image (at + 2) 0 → x ≡ word_of y 0 → Grows from a (Ok x) a
+    pub from-atom : {x y : ℕ} → k ≡ 0 → y ≡ get_or image (at + 2) 0 → x ≡ word_of y 0 → Allocates from a (Ok x) a
     unfolding type_from
-    from-atom q ey ex = none_grows (λ T n. rw (type-atom r ea eh ek q, ex, ey))
+    from-atom q ey ex = allocates_none (λ T n. rw (type-atom r ea eh ek q, ex, ey))
 
-    pub from-foreign : {x y : ℕ} → k ≡ 1 → y ≡ get_or image (at + 1) 0 → x ≡ word_of 9 (payload_of y) → Grows from a (Ok x) a
+    pub from-foreign : {x y : ℕ} → k ≡ 1 → y ≡ get_or image (at + 1) 0 → x ≡ word_of 9 (payload_of y) → Allocates from a (Ok x) a
     unfolding type_from
-    from-foreign q ey ex = none_grows (λ T n. rw (type-foreign r ea eh ek q, ex, ey))
+    from-foreign q ey ex = allocates_none (λ T n. rw (type-foreign r ea eh ek q, ex, ey))
 
   module _ {long m : ℕ} (q : k ≡ 4) (el : long ≡ payload_of h) (em : m ≡ (long - 2) / 2) where
     record_is : (a : Arena) (T : Texts) (n : ℕ) → from T n (buffer_of a) ≡ next (record_from n m 0 (fields-steps m T n) (buffer_of a)) (measured T n)
@@ -83,12 +83,12 @@ module _ {image places : List ℕ} {t at : ℕ} (r : TypeReady image places t) (
         rw (type_record_lem r ea eh ek el q, ← em)
         (record_steps T n m (fields-steps m T n) (buffer_of a) (λ pairs b. two-each (type_of image) image T n m (at + 2) (buffer_of a) pairs b))
 
-    pub record_refused : {a a₁ : Arena} {e : AddError} → Grows (λ T n. record_from n m 0 (fields-steps m T n)) a (Err e) a₁ → Grows from a (Err e) a₁
-    record_refused {a} = grows_stop (λ T n. measured T n) (record_is a)
+    pub record_refused : {a a₁ : Arena} {e : AddError} → Allocates (λ T n. record_from n m 0 (fields-steps m T n)) a (Err e) a₁ → Allocates from a (Err e) a₁
+    record_refused {a} = allocates_stop (λ T n. measured T n) (record_is a)
 
-    pub record_closed : {a a₁ : Arena} {w : ℕ} {y : Answered ℕ AddError} → Grows (λ T n. record_from n m 0 (fields-steps m T n)) a (Ok w) a₁
-        → ((T : Texts) (n : ℕ) → measured T n w (buffer_of a₁) ≡ result_of n (answer_of y a₁.used) a₁.words.now) → Grows from a y a₁
-    record_closed {a} g c = grows_then (λ T n. measured T n) (record_is a) g (record { lent = refl; keeps = refl; result = c })
+    pub record_closed : {a a₁ : Arena} {w : ℕ} {y : Answered ℕ AddError} → Allocates (λ T n. record_from n m 0 (fields-steps m T n)) a (Ok w) a₁
+        → ((T : Texts) (n : ℕ) → measured T n w (buffer_of a₁) ≡ result_of n (answer_of y a₁.used) a₁.words.now) → Allocates from a y a₁
+    record_closed {a} g c = allocates_then (λ T n. measured T n) (record_is a) g (record { lent = refl; keeps = refl; result = c })
 
   module _ {i : ℕ} (ei : i ≡ get_or image (at + 1) 0) where
     option_is : (a : Arena) → k ≡ 2 → (T : Texts) (n : ℕ) → from T n (buffer_of a) ≡ next (type_from T n (type_of image i) (buffer_of a)) (add_wrap T n 6)
@@ -100,18 +100,20 @@ module _ {image places : List ℕ} {t at : ℕ} (r : TypeReady image places t) (
     array-is a q T n = rw (type-array r ea eh ek q, ← ei)
 
     module _ (q : k ≡ 2) where
-      pub option-stop : {a a₁ : Arena} {e : AddError} → Grows (λ T n. type_from T n (type_of image i)) a (Err e) a₁ → Grows from a (Err e) a₁
-      option-stop {a} = grows_stop (λ T n. add_wrap T n 6) (option_is a q)
+      pub option-stop : {a a₁ : Arena} {e : AddError} → Allocates (λ T n. type_from T n (type_of image i)) a (Err e) a₁ → Allocates from a (Err e) a₁
+      option-stop {a} = allocates_stop (λ T n. add_wrap T n 6) (option_is a q)
 
-      pub option-put : {a a₁ : Arena} {w : ℕ} {y : Answered ℕ AddError} {a₂ : Arena} → Grows (λ T n. type_from T n (type_of image i)) a (Ok w) a₁ → Grows (λ T n. add_wrap T n 6 w) a₁ y a₂ → Grows from a y a₂
-      option-put {a} = grows_then (λ T n. add_wrap T n 6) (option_is a q)
+      pub option-put : {a a₁ : Arena} {w : ℕ} {y : Answered ℕ AddError} {a₂ : Arena} → Allocates (λ T n. type_from T n (type_of image i)) a (Ok w) a₁
+          → Allocates (λ T n. add_wrap T n 6 w) a₁ y a₂ → Allocates from a y a₂
+      option-put {a} = allocates_then (λ T n. add_wrap T n 6) (option_is a q)
 
     module _ (q : k ≡ 3) where
-      pub array-stop : {a a₁ : Arena} {e : AddError} → Grows (λ T n. type_from T n (type_of image i)) a (Err e) a₁ → Grows from a (Err e) a₁
-      array-stop {a} = grows_stop (λ T n. add_wrap T n 7) (array-is a q)
+      pub array-stop : {a a₁ : Arena} {e : AddError} → Allocates (λ T n. type_from T n (type_of image i)) a (Err e) a₁ → Allocates from a (Err e) a₁
+      array-stop {a} = allocates_stop (λ T n. add_wrap T n 7) (array-is a q)
 
-      pub array-put : {a a₁ : Arena} {w : ℕ} {y : Answered ℕ AddError} {a₂ : Arena} → Grows (λ T n. type_from T n (type_of image i)) a (Ok w) a₁ → Grows (λ T n. add_wrap T n 7 w) a₁ y a₂ → Grows from a y a₂
-      array-put {a} = grows_then (λ T n. add_wrap T n 7) (array-is a q)
+      pub array-put : {a a₁ : Arena} {w : ℕ} {y : Answered ℕ AddError} {a₂ : Arena} → Allocates (λ T n. type_from T n (type_of image i)) a (Ok w) a₁
+          → Allocates (λ T n. add_wrap T n 7 w) a₁ y a₂ → Allocates from a y a₂
+      array-put {a} = allocates_then (λ T n. add_wrap T n 7) (array-is a q)
 
   -- ── How many words it adds, and its word ──
 

@@ -9,7 +9,8 @@ use Rattle.ast.specs.KindLaws.{expr-number}
 use Rattle.tok.specs.Word.{kind_of, payload_of}
 use Rattle.ptype.proofs.UnfoldLaws.{one_less}
 use Rattle.ast.specs.Image.{type_place, record_kind, record_length}
-use Rattle.ast.specs.TypeExpr.{type_of, AtomType, ForeignType, OptionType, ArrayType, RecordType, type_fields_from, read_atom_type, read_foreign_type, read_option_type, read_array_type, read_record_type}
+use Rattle.ast.specs.TypeExpr.{type_of, AtomType, ForeignType, OptionType, ArrayType, RecordType, type_fields_from}
+use Rattle.ast.specs.TypeExpr.{read_atom_type, read_foreign_type, read_option_type, read_array_type, read_record_type}
 use Rattle.image_laws.specs.Many.{Each}
 use Rattle.image_laws.specs.RecordWords.{Pair, TypeAtomWords, TypeInnerWords, TypeRecordWords}
 use Rattle.image_laws.proofs.TypeLaws.{type-atom-words, type-option-words, type-array-words, type_record_words}

@@ -7,7 +7,7 @@ ghost use Rattle.tok.specs.Word.{word_of, payload_of};
 ghost use Rattle.tok.specs.Text.{Texts};
 ghost use Rattle.tok.specs.Step.{next};
 ghost use Rattle.ptype.specs.Add.{buffer, write, add_record};
-ghost use Rattle.add.specs.Answer.{result_of, Grows};
+ghost use Rattle.add.specs.Answer.{result_of, Allocates};
 ghost use Rattle.add.specs.Parts.{record_from};
 ghost use Rattle.ast.specs.TypeExpr.{TypeFields, type_of, type_token, type_fields_from};
 ghost use Rattle.ast.specs.TypeFrom.{type_from, fields_from_exprs};
@@ -112,7 +112,7 @@ fn deep_field(
 #[cycle(build_fields_from_exprs)]
 fn build(arena: &mut Arena, image: &Image, t: u32) -> Result<u32, AddError>
     requires { TypeReady image.now.words image.now.places t × (levels_of (type_of image.now.words t) ≤ 33) }
-    ensures { Grows (λ T n. type_from T n (type_of image.now.words t)) arena.old result arena.new }
+    ensures { Allocates (λ T n. type_from T n (type_of image.now.words t)) arena.old result arena.new }
 {
     let at = image.type_place(t);
     let head = image.word_at(at);
@@ -147,7 +147,7 @@ fn fields_from_exprs(
 ) -> Result<u32, AddError>
     requires { FieldsReady image.now.words image.now.places owner at fields × (most_levels (type_fields_from (type_of image.now.words) image.now.words at fields) ≤ 32) }
     ensures { let fs : TypeFields = type_fields_from (type_of image.now.words) image.now.words at fields in
-        Grows (λ T n. record_from n fields 0 (fields_from_exprs T n fs)) arena.old result arena.new }
+        Allocates (λ T n. record_from n fields 0 (fields_from_exprs T n fs)) arena.old result arena.new }
 {
     let used = arena.used;
     for i in 0..fields {

@@ -20,6 +20,7 @@ loop-w-preserved c = (
 
 pub returns : goal.returns
 returns c =
-    let e = ap (all_shallow_by c.args.types.now c.args.pool.now) (sym (c.fill.ensures.after (λ y e. omega (arith, e)))) ∙ c.loop-w.invariant.0 ∙ turn_end c.args.types.now c.args.pool.now c.loop-w.w-index _ (omega arith) in
+    let e = ap (all_shallow_by c.args.types.now c.args.pool.now) (sym (c.fill.ensures.after (λ y e. omega (arith, e)))) ∙ c.loop-w.invariant.0
+    ∙ turn_end c.args.types.now c.args.pool.now c.loop-w.w-index _ (omega arith) in
     let z = all-fresh _ _ (length c.args.known.now) e in
     (e, z.0, z.1)

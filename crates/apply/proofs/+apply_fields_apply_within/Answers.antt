@@ -27,7 +27,7 @@ pub apply_fields-set_pairs-requires : goal.apply_fields-set_pairs-requires
 apply_fields-set_pairs-requires t c =
     let v = c.loop-i.invariant in
     let o = c.in_ok-new.ensures in
-    record_setting v (omega arith) o (omega (arith, o.grows.keeps, v.keeps, c.requires.0.1)) c.requires.1 c.payload-place.ensures
+    record_setting v (omega arith) o (omega (arith, o.allocates.keeps, v.keeps, c.requires.0.1)) c.requires.1 c.payload-place.ensures
 
 pub apply_fields-returns : goal.apply_fields-returns
 apply_fields-returns t c = record_put c.loop-i.invariant (omega arith) c.in_ok-new.ensures c.payload-place.ensures refl refl c.set_pairs.ensures

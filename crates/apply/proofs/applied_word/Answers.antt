@@ -19,7 +19,8 @@ returns-then-size-eq0 c = same_word _ _ _ _ _ _ _ c.if-depth-eq0.false refl (typ
 pub returns-in-Option : goal.returns-in-Option
 returns-in-Option c =
     let no_slot = type-not _ c.of-kind.ensures c.in_default.not-Slot in
-    wrap-word _ _ _ _ _ _ _ c.if-depth-eq0.false refl no_slot c.if-size-eq0.false (type-wraps _ c.of-kind.ensures c.in-Option.is) (rw (wrap-number _ c.of-kind.ensures c.in-Option.is) at c.word_of.ensures)
+    let word = rw (wrap-number _ c.of-kind.ensures c.in-Option.is) at c.word_of.ensures in
+    wrap-word _ _ _ _ _ _ _ c.if-depth-eq0.false refl no_slot c.if-size-eq0.false (type-wraps _ c.of-kind.ensures c.in-Option.is) word
 
 pub returns-in_default-kind : goal.returns-in_default-kind
 returns-in_default-kind c =

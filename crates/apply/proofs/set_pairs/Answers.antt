@@ -15,7 +15,9 @@ pub applied_word-new-requires : goal.applied_word-new-requires
 applied_word-new-requires c = (c.applied_size-size.ensures, (omega arith, size-ends c.loop-i.invariant (λ z. omega arith) c.field_type-x.ensures c.applied_size-size.ensures))
 
 pub loop-i-preserved : goal.loop-i-preserved
-loop-i-preserved c = writing_next c.loop-i.invariant (λ z. omega arith) c.field_type-x.ensures c.applied_size-size.ensures (omega arith) (omega arith) (omega arith) c.word_at-name.ensures c.applied_word-new.ensures c.set_pair.ensures
+loop-i-preserved c =
+    writing_next c.loop-i.invariant (λ z. omega arith) c.field_type-x.ensures c.applied_size-size.ensures (omega arith) (omega arith) (omega arith)
+    c.word_at-name.ensures c.applied_word-new.ensures c.set_pair.ensures
 
 pub returns : goal.returns
 returns c = writing_end c.loop-i.invariant (omega arith)

@@ -65,7 +65,7 @@ build-returns-in_err-inner-in-Option t c =
 pub build-returns-in_ok-inner-in-Option : goal.build-returns-in_ok-inner-in-Option
 build-returns-in_ok-inner-in-Option t c =
     let put = option-put c.requires.0 c.type_place-at.ensures c.word_at-head.ensures refl c.word_at-in-Option.ensures (expr-number _ c.in-Option.ensures) in
-    put c.in_ok-inner-in-Option.ensures c.add_option.ensures.grows
+    put c.in_ok-inner-in-Option.ensures c.add_option.ensures.allocates
 
 pub build-overflow_add-at-in_default : goal.build-overflow_add-at-in_default
 build-overflow_add-at-in_default t c = omega (arith, words-there c.requires.0 c.type_place-at.ensures)
@@ -90,7 +90,7 @@ build-returns-in_ok-inner-in_default t c =
     let q = kind-array c.requires.0 c.type_place-at.ensures c.word_at-head.ensures refl (expr-not _ c.of.ensures c.in_default.not-Atom) (expr-not _ c.of.ensures c.in_default.not-Foreign)
     (expr-not _ c.of.ensures c.in_default.not-Record) (expr-not _ c.of.ensures c.in_default.not-Option) in
     let put = array-put c.requires.0 c.type_place-at.ensures c.word_at-head.ensures refl c.word_at-in_default.ensures q in
-    put c.in_ok-inner-in_default.ensures c.add_array.ensures.grows
+    put c.in_ok-inner-in_default.ensures c.add_array.ensures.allocates
 
 pub fields_from_exprs-loop-i-init : goal.fields_from_exprs-loop-i-init
 fields_from_exprs-loop-i-init t c = building_all _ (omega arith) (omega arith) c.requires.0
@@ -112,11 +112,11 @@ fields_from_exprs-loop-i-preserved t c = building_next c.loop-i.invariant (λ z.
 pub fields_from_exprs-returns-in_err-word : goal.fields_from_exprs-returns-in_err-word
 fields_from_exprs-returns-in_err-word t c =
     let p = err_from_is_err_and c.from_residual-in_err-word.result c.from_residual-in_err-word.ensures.1 in
-    rw (p.1, p.2) (record_stop c.loop-i.invariant (omega arith) c.in_err-word.ensures.grows)
+    rw (p.1, p.2) (record_stop c.loop-i.invariant (omega arith) c.in_err-word.ensures.allocates)
 
 pub fields_from_exprs-set_pairs-requires : goal.fields_from_exprs-set_pairs-requires
-fields_from_exprs-set_pairs-requires t c = (c.requires.0, (record_room c.loop-i.invariant (omega arith) c.in_ok-word.ensures.grows, omega (arith, c.payload.ensures)))
+fields_from_exprs-set_pairs-requires t c = (c.requires.0, (record_room c.loop-i.invariant (omega arith) c.in_ok-word.ensures.allocates, omega (arith, c.payload.ensures)))
 
 pub fields_from_exprs-returns : goal.fields_from_exprs-returns
 fields_from_exprs-returns t c =
-    record_put c.loop-i.invariant (omega arith) c.in_ok-word.ensures.grows c.payload.ensures refl refl c.set_pairs.ensures
+    record_put c.loop-i.invariant (omega arith) c.in_ok-word.ensures.allocates c.payload.ensures refl refl c.set_pairs.ensures
