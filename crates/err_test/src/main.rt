@@ -16,24 +16,17 @@ const DIAGNOSTIC: u32 = 13;
 
 // Reading the input.
 
-// The words from a place on, as many as there is room for.
-fn fill(out: &mut [u32], s: &[u8], at: usize) {
-    for i in 0..out.len() {
-        out[i] = little_endian(s, at % 65_536 + 4 * (i % 65_536));
+// The words of a slice's bytes, as many as there is room for.
+fn fill(out: &mut [u32], s: &[u8]) {
+    for (w, bytes) in out.iter_mut().zip(s.chunks_exact(4)) {
+        *w = little_endian(bytes, 0);
     }
 }
 
 // The part of a slice that starts at a place, as long as told or as there is.
-fn bytes_in<'a>(s: &'a [u8], at: usize, len: usize) -> &'a [u8] {
-    let start = at.min(s.len());
-    let end = start + len.min(s.len() - start);
-    &s[start..end]
-}
-
-fn words_in<'a>(s: &'a [u32], at: usize, len: usize) -> &'a [u32] {
-    let start = at.min(s.len());
-    let end = start + len.min(s.len() - start);
-    &s[start..end]
+fn part<T>(s: &[T], at: usize, len: usize) -> &[T] {
+    let rest = &s[at.min(s.len())..];
+    &rest[..len.min(rest.len())]
 }
 
 // Cases.
@@ -50,17 +43,16 @@ struct Case {
     g: u32,
 }
 
-fn case_at(cases: &[u32], k: usize) -> Case {
-    let at = 8 * (k % 65_536);
+fn case_of(words: &[u32]) -> Case {
     Case {
-        code: tok::word_at(cases, at),
-        a: tok::word_at(cases, at + 1),
-        b: tok::word_at(cases, at + 2),
-        c: tok::word_at(cases, at + 3),
-        d: tok::word_at(cases, at + 4),
-        e: tok::word_at(cases, at + 5),
-        f: tok::word_at(cases, at + 6),
-        g: tok::word_at(cases, at + 7),
+        code: tok::word_at(words, 0),
+        a: tok::word_at(words, 1),
+        b: tok::word_at(words, 2),
+        c: tok::word_at(words, 3),
+        d: tok::word_at(words, 4),
+        e: tok::word_at(words, 5),
+        f: tok::word_at(words, 6),
+        g: tok::word_at(words, 7),
     }
 }
 
@@ -81,17 +73,17 @@ fn callee(pkg: u32, name: u32) -> CallName {
 
 fn of_values(
     diagnostics: &mut [u32],
-    rest: &mut [u8],
+    messages: &mut [u8],
     counts: Counts,
     types: &[u32],
     texts: &Texts,
     c: Case,
 ) -> Option<Counts> {
     match c.code {
-        1 => err_values::empty_array(diagnostics, rest, counts, c.a),
+        1 => err_values::empty_array(diagnostics, messages, counts, c.a),
         2 => err_values::members_differ(
             diagnostics,
-            rest,
+            messages,
             counts,
             types,
             texts,
@@ -99,67 +91,87 @@ fn of_values(
             c.c,
             c.d,
         ),
-        4 => err_values::unsupported(diagnostics, rest, counts, types, texts, c.a, c.b, c.c),
-        5 => err_values::incompatible(diagnostics, rest, counts, types, texts, c.a, c.b, c.c, c.d),
-        6 => err_values::bad_unary(diagnostics, rest, counts, types, texts, c.a, c.b, c.c),
-        _ => of_casts_and_fields(diagnostics, rest, counts, types, texts, c),
+        4 => err_values::unsupported(diagnostics, messages, counts, types, texts, c.a, c.b, c.c),
+        5 => err_values::incompatible(
+            diagnostics,
+            messages,
+            counts,
+            types,
+            texts,
+            c.a,
+            c.b,
+            c.c,
+            c.d,
+        ),
+        6 => err_values::bad_unary(diagnostics, messages, counts, types, texts, c.a, c.b, c.c),
+        _ => of_casts_and_fields(diagnostics, messages, counts, types, texts, c),
     }
 }
 
 fn of_casts_and_fields(
     diagnostics: &mut [u32],
-    rest: &mut [u8],
+    messages: &mut [u8],
     counts: Counts,
     types: &[u32],
     texts: &Texts,
     c: Case,
 ) -> Option<Counts> {
     match c.code {
-        10 => err_values::redundant_cast(diagnostics, rest, counts, types, texts, c.a, c.b),
-        11 => err_values::bad_cast(diagnostics, rest, counts, types, texts, c.a, c.b, c.c),
-        12 => err_values::no_record(diagnostics, rest, counts, types, texts, c.a, c.b),
-        13 => err_values::no_field(diagnostics, rest, counts, types, texts, c.a, c.b),
-        _ => of_names(diagnostics, rest, counts, types, texts, c),
+        10 => err_values::redundant_cast(diagnostics, messages, counts, types, texts, c.a, c.b),
+        11 => err_values::bad_cast(diagnostics, messages, counts, types, texts, c.a, c.b, c.c),
+        12 => err_values::no_record(diagnostics, messages, counts, types, texts, c.a, c.b),
+        13 => err_values::no_field(diagnostics, messages, counts, types, texts, c.a, c.b),
+        _ => of_names(diagnostics, messages, counts, types, texts, c),
     }
 }
 
 fn of_names(
     diagnostics: &mut [u32],
-    rest: &mut [u8],
+    messages: &mut [u8],
     counts: Counts,
     types: &[u32],
     texts: &Texts,
     c: Case,
 ) -> Option<Counts> {
     match c.code {
-        3 => err_names::no_binding(diagnostics, rest, counts, texts, c.a),
-        7 => err_names::let_void(diagnostics, rest, counts, c.a),
-        8 => err_names::defined_already(diagnostics, rest, counts, texts, c.a),
-        9 => err_names::bad_return(diagnostics, rest, counts, types, texts, c.a, c.b, c.c, c.d),
-        _ => of_matches_and_imports(diagnostics, rest, counts, types, texts, c),
+        3 => err_names::no_binding(diagnostics, messages, counts, texts, c.a),
+        7 => err_names::let_void(diagnostics, messages, counts, c.a),
+        8 => err_names::defined_already(diagnostics, messages, counts, texts, c.a),
+        9 => err_names::bad_return(
+            diagnostics,
+            messages,
+            counts,
+            types,
+            texts,
+            c.a,
+            c.b,
+            c.c,
+            c.d,
+        ),
+        _ => of_matches_and_imports(diagnostics, messages, counts, types, texts, c),
     }
 }
 
 fn of_matches_and_imports(
     diagnostics: &mut [u32],
-    rest: &mut [u8],
+    messages: &mut [u8],
     counts: Counts,
     types: &[u32],
     texts: &Texts,
     c: Case,
 ) -> Option<Counts> {
     match c.code {
-        23 => err_names::bad_condition(diagnostics, rest, counts, types, texts, c.a, c.b),
-        24 => err_names::match_cases(diagnostics, rest, counts, types, texts, c.a, c.b, c.c),
-        25 => err_names::empty_import(diagnostics, rest, counts, c.a),
-        26 => err_names::no_import(diagnostics, rest, counts, texts, c.a),
-        _ => of_arguments(diagnostics, rest, counts, types, texts, c),
+        23 => err_names::bad_condition(diagnostics, messages, counts, types, texts, c.a, c.b),
+        24 => err_names::match_cases(diagnostics, messages, counts, types, texts, c.a, c.b, c.c),
+        25 => err_names::empty_import(diagnostics, messages, counts, c.a),
+        26 => err_names::no_import(diagnostics, messages, counts, texts, c.a),
+        _ => of_arguments(diagnostics, messages, counts, types, texts, c),
     }
 }
 
 fn of_arguments(
     diagnostics: &mut [u32],
-    rest: &mut [u8],
+    messages: &mut [u8],
     counts: Counts,
     types: &[u32],
     texts: &Texts,
@@ -169,7 +181,7 @@ fn of_arguments(
     match c.code {
         20 => err_arguments::arg_mismatch(
             diagnostics,
-            rest,
+            messages,
             counts,
             types,
             texts,
@@ -181,7 +193,7 @@ fn of_arguments(
         ),
         21 => err_arguments::slot_conflict(
             diagnostics,
-            rest,
+            messages,
             counts,
             types,
             texts,
@@ -191,27 +203,35 @@ fn of_arguments(
             c.d,
             c.e,
         ),
-        22 => err_arguments::slot_void(diagnostics, rest, counts, texts, at, callee(c.d, c.e), c.c),
+        22 => err_arguments::slot_void(
+            diagnostics,
+            messages,
+            counts,
+            texts,
+            at,
+            callee(c.d, c.e),
+            c.c,
+        ),
         _ => None,
     }
 }
 
 fn of_calls(
     diagnostics: &mut [u32],
-    rest: &mut [u8],
+    messages: &mut [u8],
     counts: Counts,
     types: &[u32],
     texts: &Texts,
     c: Case,
 ) -> Option<Counts> {
     match c.code {
-        14 => err_calls::call_through_field(diagnostics, rest, counts, c.a),
-        15 => err_calls::missing_package(diagnostics, rest, counts, texts, c.a),
-        16 => err_calls::undefined_in_package(diagnostics, rest, counts, texts, c.a, c.b),
-        17 => err_calls::undefined_own(diagnostics, rest, counts, texts, c.a),
+        14 => err_calls::call_through_field(diagnostics, messages, counts, c.a),
+        15 => err_calls::missing_package(diagnostics, messages, counts, texts, c.a),
+        16 => err_calls::undefined_in_package(diagnostics, messages, counts, texts, c.a, c.b),
+        17 => err_calls::undefined_own(diagnostics, messages, counts, texts, c.a),
         19 => err_calls::argument_count(
             diagnostics,
-            rest,
+            messages,
             counts,
             texts,
             c.a,
@@ -219,39 +239,11 @@ fn of_calls(
             c.b as usize,
             c.c as usize,
         ),
-        _ => of_values(diagnostics, rest, counts, types, texts, c),
+        _ => of_values(diagnostics, messages, counts, types, texts, c),
     }
 }
 
 fn of_groups(
-    diagnostics: &mut [u32],
-    rest: &mut [u8],
-    counts: Counts,
-    types: &[u32],
-    texts: &Texts,
-    words: &[u32],
-    lists: &[u32],
-    c: Case,
-) -> Option<Counts> {
-    match c.code {
-        18 => err_calls::no_specialisation(
-            diagnostics,
-            rest,
-            counts,
-            types,
-            texts,
-            c.a,
-            callee(c.b, c.c),
-            words_in(lists, c.d as usize, c.e as usize),
-            words,
-            words_in(lists, c.f as usize, c.g as usize),
-        ),
-        _ => of_calls(diagnostics, rest, counts, types, texts, c),
-    }
-}
-
-// A case, written into the rest of the messages.
-fn written(
     diagnostics: &mut [u32],
     messages: &mut [u8],
     counts: Counts,
@@ -261,17 +253,21 @@ fn written(
     lists: &[u32],
     c: Case,
 ) -> Option<Counts> {
-    let free = err_text::first_free(messages, counts);
-    of_groups(
-        diagnostics,
-        &mut messages[free..],
-        counts,
-        types,
-        texts,
-        words,
-        lists,
-        c,
-    )
+    match c.code {
+        18 => err_calls::no_specialisation_at(
+            diagnostics,
+            messages,
+            counts,
+            types,
+            texts,
+            c.a,
+            callee(c.b, c.c),
+            part(lists, c.d as usize, c.e as usize),
+            words,
+            part(lists, c.f as usize, c.g as usize),
+        ),
+        _ => of_calls(diagnostics, messages, counts, types, texts, c),
+    }
 }
 
 // Printing.
@@ -285,55 +281,29 @@ fn print_word(rt: &impl Print, w: u32) -> io::Result<()> {
     print(rt, b" ")
 }
 
-fn print_diagnostic(
-    rt: &impl Print,
-    diagnostics: &[u32],
-    messages: &[u8],
-    k: usize,
-) -> io::Result<()> {
-    let at = 6 * (k % 65_536);
-    let start = tok::word_at(diagnostics, at + 3) as usize;
-    let len = tok::word_at(diagnostics, at + 4) as usize;
-    let primary = tok::word_at(diagnostics, at + 5) as usize;
-    let head = tok::word_at(diagnostics, at);
+fn print_diagnostic(rt: &impl Print, record: &[u32], messages: &[u8]) -> io::Result<()> {
+    let start = tok::word_at(record, 3) as usize;
+    let len = tok::word_at(record, 4) as usize;
+    let primary = tok::word_at(record, 5) as usize;
+    let head = tok::word_at(record, 0);
     if tok::kind(head) != DIAGNOSTIC {
         return print(rt, b"no diagnostic\n");
     }
     print(rt, b"diag ")?;
     print_word(rt, head % 0x1000_0000)?;
-    print_word(rt, tok::word_at(diagnostics, at + 1))?;
-    print_word(rt, tok::word_at(diagnostics, at + 2))?;
-    print(rt, bytes_in(messages, start, len))?;
+    print_word(rt, tok::word_at(record, 1))?;
+    print_word(rt, tok::word_at(record, 2))?;
+    print(rt, part(messages, start, len))?;
     print(rt, b"\n")?;
     if primary != 0 {
         print(rt, b"primary ")?;
-        print(rt, bytes_in(messages, start + len, primary))?;
+        print(rt, part(messages, start + len, primary))?;
         print(rt, b"\n")?;
     }
     Ok(())
 }
 
-fn print_all(
-    rt: &impl Print,
-    diagnostics: &[u32],
-    messages: &[u8],
-    count: usize,
-) -> io::Result<()> {
-    for k in 0..count {
-        print_diagnostic(rt, diagnostics, messages, k)?;
-    }
-    Ok(())
-}
-
-// The counts after a case; a case that is refused says so.
-fn after(rt: &impl Print, r: Option<Counts>, counts: Counts) -> io::Result<Counts> {
-    let Some(c) = r else {
-        print(rt, b"refused 9\n")?;
-        return Ok(counts);
-    };
-    Ok(c)
-}
-
+// The cases, one after the other, and then what was told; a case that is refused says so.
 fn run(
     rt: &impl Print,
     diagnostics: &mut [u32],
@@ -343,23 +313,27 @@ fn run(
     words: &[u32],
     lists: &[u32],
     cases: &[u32],
-    count: usize,
 ) -> io::Result<()> {
     let mut counts = Counts {
         diagnostics: 0,
         bytes: 0,
     };
-    for k in 0..count {
-        let c = case_at(cases, k);
-        let r = written(diagnostics, messages, counts, types, texts, words, lists, c);
-        counts = after(rt, r, counts)?;
+    for case in cases.chunks_exact(8) {
+        let c = case_of(case);
+        match of_groups(diagnostics, messages, counts, types, texts, words, lists, c) {
+            Some(told) => counts = told,
+            None => print(rt, b"refused 9\n")?,
+        }
     }
-    print_all(rt, diagnostics, messages, counts.diagnostics)
+    for record in diagnostics.chunks_exact(6).take(counts.diagnostics) {
+        print_diagnostic(rt, record, messages)?;
+    }
+    Ok(())
 }
 
 // What a row of refusal 9 begins with. One literal with places in it, since a check pays for each.
 fn begin(rt: &impl Print, at: usize, len: usize, n: u32) -> io::Result<()> {
-    print(rt, bytes_in(b"words bytes diagnostics limit ", at, len))?;
+    print(rt, part(b"words bytes diagnostics limit ", at, len))?;
     print_word(rt, n)
 }
 
@@ -369,17 +343,11 @@ fn room(rt: &impl Print, words: usize, bytes: usize, told: usize, used: usize) -
     let mut messages = [0u8; 70_000];
     let last = words.min(2000);
     let end = bytes.min(70_000);
-    let free = used.min(end);
     let counts = Counts {
         diagnostics: told,
         bytes: used,
     };
-    let r = err_values::empty_array(
-        &mut diagnostics[0..last],
-        &mut messages[free..end],
-        counts,
-        0,
-    );
+    let r = err_values::empty_array(&mut diagnostics[..last], &mut messages[..end], counts, 0);
     let Some(_) = r else {
         return print(rt, b"refused\n");
     };
@@ -418,30 +386,29 @@ fn parts(rt: &impl Print, input: &[u8]) -> io::Result<()> {
     let lists = little_endian(input, 16) as usize;
     let cases = little_endian(input, 20) as usize;
     let mut w = [0u32; 2048];
-    fill(&mut w, input, 24 + script + library);
+    fill(&mut w, part(input, 24 + script + library, LARGE));
     let mut diagnostics = [0u32; 1536];
     let mut messages = [0u8; LARGE];
     let texts = Texts {
-        script: bytes_in(input, 24, script),
-        library: bytes_in(input, 24 + script, library),
+        script: part(input, 24, script),
+        library: part(input, 24 + script, library),
     };
     run(
         rt,
         &mut diagnostics,
         &mut messages,
-        words_in(&w, 0, types),
+        part(&w, 0, types),
         &texts,
-        words_in(&w, types, words),
-        words_in(&w, types + words, lists),
-        words_in(&w, types + words + lists, cases),
-        cases / 8,
+        part(&w, types, words),
+        part(&w, types + words, lists),
+        part(&w, types + words + lists, cases),
     )
 }
 
 fn main(rt: HostRuntime) -> io::Result<()> {
     let mut input = [0u8; LARGE];
     let n = commands::read_full(&rt, &mut input)?;
-    parts(&rt, bytes_in(&input, 0, n))?;
+    parts(&rt, part(&input, 0, n))?;
     room_lent(&rt)?;
     room_at_limits(&rt)
 }
