@@ -144,6 +144,7 @@ fn match_span(image: &Image, n: u32, at: usize, end: usize) -> Span
 
 // The span of a node of a kind that has a list, whose record stands at `at` and begins with the word `head`.
 #[cycle(cover_cases_cover_nodes_cover_values_list_span_match_span_span_of)]
+#[tactic(auto, using(crate::proofs::ListsAt::room))]
 fn list_span(image: &Image, n: u32, at: usize, head: u32) -> Span
     requires { ListReady image.now.words image.now.places n at head }
     ensures { result ≡ span_of (tree_of image.now.words n) }

@@ -140,15 +140,6 @@ span_of-list_span-requires t c =
     let listed = listed-left _ c.of.ensures small n.not-Atom n.not-Ident n.not-Bin n.not-Unary n.not-Let n.not-Field n.not-Cast in
     (omega (arith, c.decreases), record { ready = c.requires; place = c.node_place-at.ensures; word = c.word_at-head.ensures; listed = listed })
 
-pub span_of-returns-in_default : goal.span_of-returns-in_default
-span_of-returns-in_default t c = c.list_span.ensures
-
-pub list_span-overflow_add-at : goal.list_span-overflow_add-at
-list_span-overflow_add-at t c = omega (arith, room c.requires.ready c.requires.place c.requires.word refl c.payload-long.ensures)
-
-pub list_span-overflow_add-at-in-Fn : goal.list_span-overflow_add-at-in-Fn
-list_span-overflow_add-at-in-Fn t c = omega (arith, room c.requires.ready c.requires.place c.requires.word refl c.payload-long.ensures)
-
 pub list_span-overflow_mul-words : goal.list_span-overflow_mul-words
 list_span-overflow_mul-words t c =
     let long = fn-long c.requires.ready c.requires.place c.requires.word refl c.payload-long.ensures (node-number _ c.in-Fn.ensures) c.word_at-in-Fn.ensures in
@@ -156,11 +147,6 @@ list_span-overflow_mul-words t c =
 
 pub list_span-overflow_add-words : goal.list_span-overflow_add-words
 list_span-overflow_add-words t c =
-    let long = fn-long c.requires.ready c.requires.place c.requires.word refl c.payload-long.ensures (node-number _ c.in-Fn.ensures) c.word_at-in-Fn.ensures in
-    omega (arith, room c.requires.ready c.requires.place c.requires.word refl c.payload-long.ensures, long)
-
-pub list_span-overflow_add-at-in-Fn-2 : goal.list_span-overflow_add-at-in-Fn-2
-list_span-overflow_add-at-in-Fn-2 t c =
     let long = fn-long c.requires.ready c.requires.place c.requires.word refl c.payload-long.ensures (node-number _ c.in-Fn.ensures) c.word_at-in-Fn.ensures in
     omega (arith, room c.requires.ready c.requires.place c.requires.word refl c.payload-long.ensures, long)
 
@@ -177,25 +163,13 @@ list_span-returns-in-Fn t c =
     span-fn c.requires.ready c.requires.place c.requires.word refl c.word_at.ensures c.token_span-first.ensures c.payload-long.ensures
     (node-number _ c.in-Fn.ensures) c.word_at-in-Fn.ensures c.cover_nodes.ensures
 
-pub list_span-overflow_add-at-in-Match : goal.list_span-overflow_add-at-in-Match
-list_span-overflow_add-at-in-Match t c = omega (arith, room c.requires.ready c.requires.place c.requires.word refl c.payload-long.ensures)
-
 pub list_span-match_span-requires : goal.list_span-match_span-requires
 list_span-match_span-requires t c = (omega (arith, c.decreases), match-ready c.requires.ready c.requires.place c.requires.word refl c.payload-long.ensures (node-number _ c.in-Match.ensures))
-
-pub list_span-returns-in-Match : goal.list_span-returns-in-Match
-list_span-returns-in-Match t c = c.match_span.ensures
-
-pub list_span-overflow_add-at-in-Call : goal.list_span-overflow_add-at-in-Call
-list_span-overflow_add-at-in-Call t c = omega (arith, room c.requires.ready c.requires.place c.requires.word refl c.payload-long.ensures)
 
 pub list_span-span_of-target-requires : goal.list_span-span_of-target-requires
 list_span-span_of-target-requires t c =
     let p = call-target c.requires.ready c.requires.place c.requires.word refl c.payload-long.ensures (node-number _ c.in-Call.ensures) c.word_at-in-Call.ensures in
     (omega (arith, c.decreases, p.under), p.ready)
-
-pub list_span-overflow_add-at-in-Call-2 : goal.list_span-overflow_add-at-in-Call-2
-list_span-overflow_add-at-in-Call-2 t c = omega (arith, room c.requires.ready c.requires.place c.requires.word refl c.payload-long.ensures)
 
 pub list_span-overflow_sub-long-in-Call : goal.list_span-overflow_sub-long-in-Call
 list_span-overflow_sub-long-in-Call t c = call_long c.requires.ready c.requires.place c.requires.word refl c.payload-long.ensures (node-number _ c.in-Call.ensures)
@@ -208,9 +182,6 @@ pub list_span-returns-in-Call : goal.list_span-returns-in-Call
 list_span-returns-in-Call t c =
     span-call c.requires.ready c.requires.place c.requires.word refl c.payload-long.ensures (node-number _ c.in-Call.ensures) c.word_at-in-Call.ensures
     c.span_of-target.ensures c.cover_nodes-in-Call.ensures
-
-pub list_span-overflow_add-at-in-Import : goal.list_span-overflow_add-at-in-Import
-list_span-overflow_add-at-in-Import t c = omega (arith, room c.requires.ready c.requires.place c.requires.word refl c.payload-long.ensures)
 
 pub list_span-overflow_sub-long-in-Import : goal.list_span-overflow_sub-long-in-Import
 list_span-overflow_sub-long-in-Import t c = import_long c.requires.ready c.requires.place c.requires.word refl c.payload-long.ensures (node-number _ c.in-Import.ensures)
@@ -225,15 +196,6 @@ list_span-returns-in-Import t c =
     span_import c.requires.ready c.requires.place c.requires.word refl c.word_at.ensures c.token_span-first.ensures c.payload-long.ensures
     (node-number _ c.in-Import.ensures) c.cover_tokens.ensures
 
-pub list_span-overflow_add-at-in-Extern : goal.list_span-overflow_add-at-in-Extern
-list_span-overflow_add-at-in-Extern t c = omega (arith, room c.requires.ready c.requires.place c.requires.word refl c.payload-long.ensures)
-
-pub list_span-overflow_add-at-in-Extern-2 : goal.list_span-overflow_add-at-in-Extern-2
-list_span-overflow_add-at-in-Extern-2 t c = omega (arith, room c.requires.ready c.requires.place c.requires.word refl c.payload-long.ensures)
-
-pub list_span-overflow_add-at-in-Extern-3 : goal.list_span-overflow_add-at-in-Extern-3
-list_span-overflow_add-at-in-Extern-3 t c = omega (arith, room c.requires.ready c.requires.place c.requires.word refl c.payload-long.ensures)
-
 pub list_span-cover_externs-requires : goal.list_span-cover_externs-requires
 list_span-cover_externs-requires t c =
     extern-ready c.requires.ready c.requires.place c.requires.word refl c.payload-long.ensures (node-number _ c.in-Extern.ensures) c.word_at-in-Extern-2.ensures
@@ -242,9 +204,6 @@ pub list_span-returns-in-Extern : goal.list_span-returns-in-Extern
 list_span-returns-in-Extern t c =
     span-extern c.requires.ready c.requires.place c.requires.word refl c.word_at.ensures c.token_span-first.ensures (node-number _ c.in-Extern.ensures)
     c.word_at-in-Extern.ensures c.token_span.ensures c.cover_spans-named.ensures c.word_at-in-Extern-2.ensures c.cover_externs.ensures
-
-pub list_span-overflow_add-at-in-Record : goal.list_span-overflow_add-at-in-Record
-list_span-overflow_add-at-in-Record t c = omega (arith, room c.requires.ready c.requires.place c.requires.word refl c.payload-long.ensures)
 
 pub list_span-overflow_sub-long-in-Record : goal.list_span-overflow_sub-long-in-Record
 list_span-overflow_sub-long-in-Record t c = record_long c.requires.ready c.requires.place c.requires.word refl c.payload-long.ensures (node-number _ c.in-Record.ensures)
@@ -257,9 +216,6 @@ pub list_span-returns-in-Record : goal.list_span-returns-in-Record
 list_span-returns-in-Record t c =
     span_record c.requires.ready c.requires.place c.requires.word refl c.word_at.ensures c.token_span-first.ensures c.payload-long.ensures
     (node-number _ c.in-Record.ensures) c.cover_values.ensures
-
-pub list_span-overflow_add-at-in_default : goal.list_span-overflow_add-at-in_default
-list_span-overflow_add-at-in_default t c = omega (arith, room c.requires.ready c.requires.place c.requires.word refl c.payload-long.ensures)
 
 pub list_span-overflow_sub-long-in_default : goal.list_span-overflow_sub-long-in_default
 list_span-overflow_sub-long-in_default t c =
