@@ -9,7 +9,9 @@ use Rattle.display.proofs.EveryLaws.{every-start, every-turn, every-end}
 use Rattle.display.proofs.show_every.Goals as goal
 
 pub loop-done-init : goal.loop-done-init
-loop-done-init c = let e = every-start (ty_of c.args.texts.now c.args.types.now) c.args.words.now c.args.first c.args.step c.args.count in grind writing
+loop-done-init c =
+    let e = every-start (ty_of c.args.texts.now c.args.types.now) c.args.words.now c.args.first c.args.step c.args.count in
+    grind writing
 
 pub overflow_mul-step : goal.overflow_mul-step
 overflow_mul-step c = let m = mul-le-mul_right c.loop-done.done c.requires.0 in omega (arith, m, c.requires)
@@ -19,15 +21,27 @@ overflow_add-first c = let m = mul-le-mul_right c.loop-done.done c.requires.0 in
 
 pub returns-in_err-put_separator : goal.returns-in_err-put_separator
 unfolding text
-returns-in_err-put_separator c = let e = every-turn (ty_of c.args.texts.now c.args.types.now) c.args.words.now (c.args.first + c.args.step * c.loop-done.done) c.args.step {count = c.args.count} {done = c.loop-done.done} (omega arith) refl in grind writing
+returns-in_err-put_separator c =
+    let e = every-turn (ty_of c.args.texts.now c.args.types.now) c.args.words.now
+        (c.args.first + c.args.step * c.loop-done.done) c.args.step {count = c.args.count} {done = c.loop-done.done} (omega arith) refl in
+    grind writing
 
 pub returns-in_err-show_type : goal.returns-in_err-show_type
 unfolding text
-returns-in_err-show_type c = let e = every-turn (ty_of c.args.texts.now c.args.types.now) c.args.words.now (c.args.first + c.args.step * c.loop-done.done) c.args.step {count = c.args.count} {done = c.loop-done.done} (omega arith) c.word_at.ensures in grind writing
+returns-in_err-show_type c =
+    let e = every-turn (ty_of c.args.texts.now c.args.types.now) c.args.words.now
+        (c.args.first + c.args.step * c.loop-done.done) c.args.step {count = c.args.count} {done = c.loop-done.done} (omega arith) c.word_at.ensures in
+    grind writing
 
 pub loop-done-preserved : goal.loop-done-preserved
 unfolding text
-loop-done-preserved c = let e = every-turn (ty_of c.args.texts.now c.args.types.now) c.args.words.now (c.args.first + c.args.step * c.loop-done.done) c.args.step {count = c.args.count} {done = c.loop-done.done} (omega arith) c.word_at.ensures in grind writing
+loop-done-preserved c =
+    let e = every-turn (ty_of c.args.texts.now c.args.types.now) c.args.words.now
+        (c.args.first + c.args.step * c.loop-done.done) c.args.step {count = c.args.count} {done = c.loop-done.done} (omega arith) c.word_at.ensures in
+    grind writing
 
 pub returns : goal.returns
-returns c = let e = every-end (ty_of c.args.texts.now c.args.types.now) c.args.words.now (c.args.first + c.args.step * c.loop-done.done) c.args.step {count = c.args.count} {done = c.loop-done.done} (omega arith) in grind writing
+returns c =
+    let e = every-end (ty_of c.args.texts.now c.args.types.now) c.args.words.now
+        (c.args.first + c.args.step * c.loop-done.done) c.args.step {count = c.args.count} {done = c.loop-done.done} (omega arith) in
+    grind writing
