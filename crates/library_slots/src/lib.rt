@@ -197,89 +197,85 @@ fn any_missing(texts: &Texts, pool: &[u32], pairs: &[u32], args: &[bool], marks:
 
 // Names in order: slots are compared once for a library, and not for each function.
 
-// Whether the word at a place is the type of a pair, where pairs stand from `first` up to `end`.
-#[tactic(auto, unfolding(crate::specs::Named::of_pairs))]
-fn of_pairs(first: usize, end: usize, p: usize) -> bool
-    ensures { result ≡ of_pairs first end p }
-{
-    first < p && p < end && (p - first) % 2 == 1
-}
-
-// Whether it is a marked word of a pool of some size, which stands from place 2 on.
-#[tactic(auto, unfolding(crate::specs::Named::in_pool))]
-fn in_pool(size: usize, marks: &[bool], p: usize) -> bool
-    ensures { result ≡ in_pool size marks.now p }
-{
-    p >= 2 && p - 2 < size && is_marked(marks, p - 2)
-}
-
-// Whether an argument reaches it.
-#[tactic(auto, unfolding(crate::specs::Named::argued))]
-fn argued(size: usize, args: &[bool], first: usize, end: usize, p: usize) -> bool
-    ensures { result ≡ argued size args.now first end p }
-{
-    of_pairs(first, end, p) || in_pool(size, args, p)
-}
-
-// Whether the return type does, which stands at `end`.
-#[tactic(auto, unfolding(crate::specs::Named::wanted))]
-fn wanted(size: usize, marks: &[bool], end: usize, p: usize) -> bool
-    ensures { result ≡ wanted size marks.now end p }
-{
-    p == end || in_pool(size, marks, p)
-}
-
-// The one or the other, whose marks are lent.
-fn reached(returned: bool, size: usize, marks: &[bool], first: usize, end: usize, p: usize) -> bool
-    ensures { result ≡ reached returned size marks.now first end p }
-{
-    if returned {
-        wanted(size, marks, end, p)
-    } else {
-        argued(size, marks, first, end, p)
-    }
-}
-
-// Whether it reaches one of a group.
-fn any_reached(
-    group: &[u16],
-    returned: bool,
+// What an argument or a return type reaches: marked words of the pool of `size` words, which stand from place 2 on, and its own words: the
+// arguments' pairs stand from place `first` up to `end`, the return type at `end`.
+#[derive(Clone, Copy)]
+struct Reach<'a> {
     size: usize,
-    marks: &[bool],
+    marks: &'a [bool],
     first: usize,
     end: usize,
-) -> bool
-    ensures { Told (reached returned size marks.now first end) group.now 0 (length group.now) result }
-{
-    for entry in group {
-        let p = name_order::place_of(*entry);
-        if reached(returned, size, marks, first, end, p) {
-            return true;
+}
+
+impl<'a> Reach<'a> {
+    // Whether the word at a place is the type of a pair.
+    #[tactic(auto, unfolding(crate::specs::Named::of_pairs))]
+    fn of_pairs(&self, p: usize) -> bool
+        ensures { result ≡ of_pairs self.now.first self.now.end p }
+    {
+        self.first < p && p < self.end && (p - self.first) % 2 == 1
+    }
+
+    // Whether it is a marked word of the pool.
+    #[tactic(auto, unfolding(crate::specs::Named::in_pool))]
+    fn in_pool(&self, p: usize) -> bool
+        ensures { result ≡ in_pool self.now.size self.now.marks.now p }
+    {
+        p >= 2 && p - 2 < self.size && is_marked(self.marks, p - 2)
+    }
+
+    // Whether an argument reaches it.
+    #[tactic(auto, unfolding(crate::specs::Named::argued))]
+    fn argued(&self, p: usize) -> bool
+        ensures { result ≡ argued self.now.size self.now.marks.now self.now.first self.now.end p }
+    {
+        self.of_pairs(p) || self.in_pool(p)
+    }
+
+    // Whether the return type does.
+    #[tactic(auto, unfolding(crate::specs::Named::wanted))]
+    fn wanted(&self, p: usize) -> bool
+        ensures { result ≡ wanted self.now.size self.now.marks.now self.now.end p }
+    {
+        p == self.end || self.in_pool(p)
+    }
+
+    // The one or the other, whose marks are lent.
+    fn reached(&self, returned: bool, p: usize) -> bool
+        ensures { result ≡ reached returned self.now.size self.now.marks.now self.now.first self.now.end p }
+    {
+        if returned {
+            self.wanted(p)
+        } else {
+            self.argued(p)
         }
     }
-    false
+
+    // Whether it reaches one of a group.
+    fn any_reached(&self, group: &[u16], returned: bool) -> bool
+        ensures { Told (reached returned self.now.size self.now.marks.now self.now.first self.now.end) group.now 0 (length group.now) result }
+    {
+        for entry in group {
+            let p = name_order::place_of(*entry);
+            if self.reached(returned, p) {
+                return true;
+            }
+        }
+        false
+    }
 }
 
 // Whether each name that the return type reaches is one that an argument reaches: group by group.
-fn names_stand(
-    order: &[u16],
-    size: usize,
-    args: &[bool],
-    marks: &[bool],
-    first: usize,
-    end: usize,
-) -> bool
+fn names_stand(order: &[u16], args: &Reach, ret: &Reach) -> bool
     ensures { let n : ℕ = length order.now in
         (t : Texts) (words : List ℕ) → Grouped t words order.now n
-        → NamesStand t words order.now n (argued size args.now first end) (wanted size marks.now end) result }
+        → NamesStand t words order.now n (argued args.now.size args.now.marks.now args.now.first args.now.end) (wanted ret.now.size ret.now.marks.now ret.now.end) result }
 {
     let mut at = 0;
     while at < order.len() {
         let next = name_order::group_end(order, at);
         let group = &order[at..next];
-        if any_reached(group, true, size, marks, first, end)
-            && !any_reached(group, false, size, args, first, end)
-        {
+        if ret.any_reached(group, true) && !args.any_reached(group, false) {
             return false;
         }
         at = next;
@@ -308,7 +304,17 @@ pub fn return_stands(
     mark_inside(pool, ret, &mut marks);
     spread(pool, &mut marks);
     if order.len() > 0 {
-        names_stand(order, pool.len(), &args, &marks, first, end)
+        let args = Reach {
+            size: pool.len(),
+            marks: &args,
+            first,
+            end,
+        };
+        let ret = Reach {
+            marks: &marks,
+            ..args
+        };
+        names_stand(order, &args, &ret)
     } else if slot_kind(ret) {
         among(texts, pool, pairs, &args, ret)
     } else {

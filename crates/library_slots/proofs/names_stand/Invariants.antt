@@ -7,7 +7,7 @@ use Rattle.library_slots.proofs.NamedWays.{StandsTo}
 use Rattle.library_slots.proofs.names_stand.Given as goal
 
 abbrev pub invariant-loop-at : goal.invariant-loop-at
-invariant-loop-at l = StandsTo l.order (length l.order) (argued l.size l.args l.first l.end) (wanted l.size l.marks l.end) l.at
+invariant-loop-at l = StandsTo l.order (length l.order) (argued l.args.size l.args.marks.now l.args.first l.args.end) (wanted l.ret.size l.ret.marks.now l.ret.end) l.at
 
 abbrev pub decreases-loop-at : goal.decreases-loop-at
 decreases-loop-at l = length l.order - l.at
