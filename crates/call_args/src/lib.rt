@@ -1,4 +1,4 @@
-// Typechecker::check_call_args, of a function without slots: argument count, each argument, the return type.
+// What a call carries, and Typechecker::check_call_args of a function without slots: argument count, each argument, the return type.
 // The buffers are lent in one order: slots, types, diagnostics, messages; then the two texts, the image and the places of its records.
 #![tactic(auto)]
 

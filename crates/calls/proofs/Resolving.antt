@@ -1,17 +1,15 @@
 -- The call once its arguments are visited: what its callees ask for, and its returns. Assumes nothing.
 use Prim.Native.Nat.{ℕ, ◌+◌, ◌≤◌}
 use native.Mathlib.Omega.{arith}
-use native.Mathlib.Decide.{ℕ_discrete}
-use mathlib.Core.Path.{◌≡◌, refl, sym, ap, ◌∙◌}
-use mathlib.Core.Bool.{Bool, true≢false}
+use mathlib.Core.Path.{◌≡◌, refl}
+use mathlib.Core.Bool.{Bool}
 use mathlib.Core.List.{List}
 use lib.ListN.{get_or}
 use Rattle.tok.specs.Text.{Texts}
-use Rattle.tok.specs.Word.{kind_of}
 use Rattle.library.specs.Package.{Function, Package}
 use Rattle.rules.specs.declared.Answer.{Answer}
 use Rattle.rules.specs.Promises.{Every}
-use Rattle.rules.specs.Calls.{package_function, resolve_call, resolve_pkg_call}
+use Rattle.rules.specs.Calls.{own_function, package_function, resolve_call, resolve_pkg_call}
 use Rattle.tworuns.specs.Walk.{every_map}
 use Rattle.places.specs.NodesAt.{words-call}
 use Rattle.spans.specs.Ready.{NodesReady}
@@ -26,7 +24,7 @@ use Rattle.visit.specs.Within.{Visits}
 use Rattle.visiting.specs.Then.{visits-most}
 use Rattle.ready.specs.Asked.{call-nodes, own-ready}
 use Rattle.ready.specs.Meant.{SignatureMeant, package_meant, arguments-meant}
-use Rattle.calls.specs.Callees.{callee_at, is_through_field, call_end, target-low, callee_own, inner-low, callee_package, callee_field}
+use Rattle.calls.specs.Callees.{callee_at, call_end}
 use Rattle.calls.specs.CallVisits.{Resolvable}
 
 -- ── What the callees ask for ──
@@ -61,30 +59,15 @@ module _ {T : Texts} {image places words : List ℕ} {n at count : ℕ} {st : St
 
   -- ── The returns ──
 
-  module _ {t p h k slot : ℕ} (es : slot ≡ get_or image (at + 1) 0) (et : t ≡ get_or image (at + 2) 0) (ep : p ≡ get_or places t 0) (eh : h ≡ get_or image p 0) (ek : k ≡ kind_of h) where
-    pub target_room : p ≤ 8192
-    target_room = target-low z.call et ep eh ek
-
-    pub own-resolved : k ≡ 1 → (poisoned : Bool) {name : ℕ} {b' : Lent} {v : Visit Answer} → name ≡ get_or image (p + 2) 0
+  module _ {slot : ℕ} (es : slot ≡ get_or image (at + 1) 0) (poisoned : Bool) {b' : Lent} {v : Visit Answer} where
+    pub own-resolved : {name : ℕ} → callee_at image at ≡ own_function name
         → ((ls : List Package) (v₀ : ℕ) → Visits (resolve_call (ctx T ls v₀) n slot name (given_from image (at + 3) count)) 0 0 words st b b' v)
         → (ls : List Package) (v₀ : ℕ) → Visits (call_end (ctx T ls v₀) n (get_or image (at + 1) 0) (callee_at image at) (given_from image (at + 3) count) poisoned) count 0 words st b b' v
     unfolding call_end
-    own-resolved q poisoned en x ls v₀ = rw (← es, callee_own z.call et ep eh ek q, ← en) (visits-most {r = 0} {w = 0} (omega arith) (omega arith) (x ls v₀))
+    own-resolved e x ls v₀ = rw (← es, e) (visits-most {r = 0} {w = 0} (omega arith) (omega arith) (x ls v₀))
 
-    module _ (d : k ≡ 1 → ⊥) {x q : ℕ} (ex : x ≡ get_or image (p + 2) 0) (eq : q ≡ get_or places x 0) where
-      pub inner_room : q ≤ 8192
-      inner_room = inner-low z.call et ep eh ek d ex eq refl refl
-
-      is_package : callee_at image at ≡ package_function (get_or image (q + 2) 0) (get_or image (p + 3) 0)
-      unfolding is_through_field
-      is_package = by (ℕ_discrete (kind_of (get_or image q 0)) 1)
-        where
-          by : Dec (kind_of (get_or image q 0) ≡ 1) → callee_at image at ≡ package_function (get_or image (q + 2) 0) (get_or image (p + 3) 0)
-          by (yes i) = callee_package z.call et ep eh ek d ex eq refl refl i
-          by (no i) = absurd (true≢false (sym (ap is_through_field (callee_field z.call et ep eh ek d ex eq refl refl i)) ∙ z.other))
-
-      pub package_resolved : (poisoned : Bool) {pkg name : ℕ} {b' : Lent} {v : Visit Answer} → pkg ≡ get_or image (q + 2) 0 → name ≡ get_or image (p + 3) 0
-          → ((ls : List Package) (v₀ : ℕ) → Visits (resolve_pkg_call (ctx T ls v₀) n slot pkg name (given_from image (at + 3) count) poisoned) count 0 words st b b' v)
-          → (ls : List Package) (v₀ : ℕ) → Visits (call_end (ctx T ls v₀) n (get_or image (at + 1) 0) (callee_at image at) (given_from image (at + 3) count) poisoned) count 0 words st b b' v
-      unfolding call_end
-      package_resolved poisoned ek₂ en x ls v₀ = rw (← es, is_package, ← ek₂, ← en) (x ls v₀)
+    pub package_resolved : {pkg name : ℕ} → callee_at image at ≡ package_function pkg name
+        → ((ls : List Package) (v₀ : ℕ) → Visits (resolve_pkg_call (ctx T ls v₀) n slot pkg name (given_from image (at + 3) count) poisoned) count 0 words st b b' v)
+        → (ls : List Package) (v₀ : ℕ) → Visits (call_end (ctx T ls v₀) n (get_or image (at + 1) 0) (callee_at image at) (given_from image (at + 3) count) poisoned) count 0 words st b b' v
+    unfolding call_end
+    package_resolved e x ls v₀ = rw (← es, e) (x ls v₀)

@@ -18,10 +18,18 @@ use Rattle.rules.specs.declared.Answer.{Answer}
 use Rattle.rules.specs.declared.Answer.TheVariants.{Poison}
 use Rattle.rules.specs.World.{Ctx, World, Walk}
 use Rattle.rules.specs.Calls.{Callee, own_function, package_function, through_field, no_callee, field_callee, callee_of, Provided, resolve_call, resolve_pkg_call, call}
+use Rattle.calls.specs.declared.Target.{Target}
+use Rattle.calls.specs.declared.Target.TheVariants.{Own, OfPackage, Field}
 
 -- the target of the call at word `at`
 abbrev pub callee_at : (image : List ℕ) → (at : ℕ) → Callee
 callee_at image at = callee_of (tree_of image (word_at image (at + 2)))
+
+-- as the code tells it
+abbrev pub target_callee : Target → Callee
+target_callee (Own name) = own_function name
+target_callee (OfPackage pkg name) = package_function pkg name
+target_callee (Field name) = through_field name
 
 unfoldable pub is_through_field : Callee → Bool
 is_through_field (own_function name) = false

@@ -14,7 +14,7 @@ ghost use Rattle.call_args.specs.Given.{given_from};
 ghost use Rattle.state.specs.World.{More, no_more};
 ghost use Rattle.visit.specs.Whole.{Lent, lent};
 ghost use Rattle.visit.specs.Within.{Visits};
-ghost use Rattle.calls.specs.Callees.{callee_at, is_through_field, call_end, CallAt, FieldCall};
+ghost use Rattle.calls.specs.Callees.{callee_at, target_callee, is_through_field, call_end, CallAt, FieldCall};
 ghost use Rattle.calls.specs.CallVisits.{Resolvable};
 
 use ast::NodeKind;
@@ -25,18 +25,42 @@ use rules::Answer;
 use tok::Texts;
 use visit::{State, Visit};
 
+// What the target of a call is: an own function, a package's function by the names of both, or a Field of what is no Ident.
+#[derive(Clone, Copy)]
+enum Target {
+    Own(u32),
+    OfPackage(u32, u32),
+    Field(u32),
+}
+
+// The target of the call at a word.
+fn target_at(image: &Image, at: usize) -> Target
+    requires { CallAt image.now.words image.now.places at }
+    ensures { callee_at image.now.words at ≡ target_callee result }
+{
+    let target = image.node_place(image.word_at(at + 2));
+    match NodeKind::of(image.word_at(target)) {
+        NodeKind::Ident => Target::Own(image.word_at(target + 2)),
+        _ => {
+            let of = image.node_place(image.word_at(target + 2));
+            let name = image.word_at(target + 3);
+            match NodeKind::of(image.word_at(of)) {
+                NodeKind::Ident => Target::OfPackage(image.word_at(of + 2), name),
+                _ => Target::Field(name),
+            }
+        }
+    }
+}
+
 // Is the target a Field of what is no Ident? Such a call visits none of its arguments.
+#[tactic(auto, unfolding(crate::specs::Callees::is_through_field))]
 pub fn through_field(image: &Image, at: usize) -> bool
     requires { CallAt image.now.words image.now.places at }
     ensures { result ≡ is_through_field (callee_at image.now.words at) }
 {
-    let target = image.node_place(image.word_at(at + 2));
-    match NodeKind::of(image.word_at(target)) {
-        NodeKind::Ident => false,
-        _ => {
-            let of = image.node_place(image.word_at(target + 2));
-            !matches!(NodeKind::of(image.word_at(of)), NodeKind::Ident)
-        }
+    match target_at(image, at) {
+        Target::Own(_) | Target::OfPackage(_, _) => false,
+        Target::Field(_) => true,
     }
 }
 
@@ -55,9 +79,10 @@ pub fn report_field(
         let b' : Lent = lent s f t diagnostics.new messages.new e o in
         Visits (call c n slot (callee_at image.now.words at) given visits) 0 0 words st b b' result) }
 {
+    let Target::Field(name) = target_at(image, at) else {
+        unreachable!();
+    };
     let used = st.used;
-    let target = image.node_place(image.word_at(at + 2));
-    let name = image.word_at(target + 3);
     let r = err_calls::call_through_field(diagnostics, messages, used.told, name);
     visit::answered(st, state::told(n, used, r, Answer::Poison))
 }
@@ -137,9 +162,8 @@ pub fn resolve(
         args: at + 3,
         count,
     };
-    let target = image.node_place(image.word_at(at + 2));
-    match NodeKind::of(image.word_at(target)) {
-        NodeKind::Ident => resolve_own(
+    match target_at(image, at) {
+        Target::Own(name) => resolve_own(
             slots,
             functions,
             &types[..],
@@ -149,14 +173,13 @@ pub fn resolve(
             image,
             st,
             call,
-            image.word_at(target + 2),
+            name,
         ),
-        _ => {
-            let of = image.node_place(image.word_at(target + 2));
+        Target::OfPackage(pkg, name) => {
             let call = PackageCall {
                 site: call,
-                pkg: image.word_at(of + 2),
-                name: image.word_at(target + 3),
+                pkg,
+                name,
                 poisoned,
             };
             pkg_call::resolve_pkg_call(
@@ -172,5 +195,7 @@ pub fn resolve(
                 call,
             )
         }
+        // its arguments are not visited
+        Target::Field(_) => unreachable!(),
     }
 }

@@ -1,15 +1,13 @@
 -- `calls::report_field` meets its contract: the diagnostic, and poison. Assumes nothing.
-use native.Mathlib.Omega.{arith}
-use Rattle.calls.proofs.Returns.{call-low, field-low, field_told}
+use mathlib.Core.Path.{sym, ap, ◌∙◌}
+use Rattle.calls.specs.Callees.{is_through_field}
+use Rattle.calls.proofs.Returns.{other_than_field, field_told}
 use Rattle.calls.proofs.report_field.Goals as goal
 
-pub overflow_add-at : goal.overflow_add-at
-overflow_add-at c = omega (arith, call-low c.requires.call)
-
-pub overflow_add-target : goal.overflow_add-target
-overflow_add-target c = omega (arith, field-low c.requires c.word_at.ensures c.node_place-target.ensures)
+pub unreachable-requires : goal.unreachable-requires
+unreachable-requires c = other_than_field _ (sym (ap is_through_field c.target_at.ensures) ∙ c.requires.through) c.in_default.not-Field
 
 pub returns : goal.returns
 returns c =
     let reported = c.call_through_field-r.ensures in
-    field_told c.args.n c.args.st c.requires c.word_at.ensures c.node_place-target.ensures c.word_at-name.ensures reported c.told.ensures c.answered.ensures
+    field_told _ _ c.args.n c.args.st c.in-Field.ensures reported c.told.ensures c.answered.ensures
