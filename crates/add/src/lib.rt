@@ -50,9 +50,7 @@ pub fn word_of(kind: TypeKind, at: usize) -> u32
 fn store(words: &mut [u32], at: usize, w: u32)
     ensures { words.new ≡ set words.old at w }
 {
-    if at < words.len() {
-        words[at] = w;
-    }
+    tok::set_item(words, at, w);
 }
 
 // Whether a type is at most 32 deep.

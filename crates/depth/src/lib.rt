@@ -22,16 +22,14 @@ const MOST: u8 = 64;
 fn depth_at(depths: &[u8], p: usize) -> u8
     ensures { result ≡ get_or depths.now p 0 }
 {
-    depths.get(p).copied().unwrap_or(0)
+    tok::item_at(depths, p, 0)
 }
 
 // Keeps the depth of a node. Past the end nothing is kept.
 fn keep(depths: &mut [u8], i: usize, d: u8)
     ensures { depths.new ≡ set depths.old i d }
 {
-    if i < depths.len() {
-        depths[i] = d;
-    }
+    tok::set_item(depths, i, d);
 }
 
 // The greatest depth of parts.

@@ -28,7 +28,7 @@ fn slot_kind(w: u32) -> bool
 fn sum_at(sums: &[u16], j: usize) -> u16
     ensures { result ≡ get_or sums.now j 0 }
 {
-    sums.get(j).copied().unwrap_or(0)
+    tok::item_at(sums, j, 0)
 }
 
 // Whether a slot stands in a type: in one of the words that it refers to.
@@ -64,9 +64,7 @@ pub fn slot_sums(pool: &[u32], sums: &mut [u16; 8193])
 fn mark(marks: &mut [bool], i: usize)
     ensures { marks.new ≡ set marks.old i true }
 {
-    if i < marks.len() {
-        marks[i] = true;
-    }
+    tok::set_item(marks, i, true);
 }
 
 fn is_marked(marks: &[bool], i: usize) -> bool

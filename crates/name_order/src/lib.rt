@@ -27,7 +27,7 @@ fn name_before(texts: &Texts, a: u32, b: u32) -> bool
 fn entry_at(order: &[u16], i: usize) -> u16
     ensures { result ≡ get_or order.now i 0 }
 {
-    order.get(i).copied().unwrap_or(0)
+    tok::item_at(order, i, 0)
 }
 
 // The place that an entry keeps.
@@ -127,9 +127,7 @@ fn told(entry: u16, new: bool) -> u16
 fn put(order: &mut [u16], i: usize, entry: u16)
     ensures { order.new ≡ set order.old i entry }
 {
-    if i < order.len() {
-        order[i] = entry;
-    }
+    tok::set_item(order, i, entry);
 }
 
 // The entry of a place at a rank.

@@ -22,9 +22,7 @@ use tok::{Texts, word_at};
 pub fn store(slots: &mut [u32], slot: usize, word: u32)
     ensures { slots.new ≡ set slots.old slot word }
 {
-    if slot < slots.len() {
-        slots[slot] = word;
-    }
+    tok::set_item(slots, slot, word);
 }
 
 // Typechecker::set_known: a slot's type.

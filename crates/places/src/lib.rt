@@ -32,7 +32,7 @@ const LEVELS: usize = 2560;
 fn place(places: &[u16], i: usize) -> u16
     ensures { result ≡ get_or places.now i 0 }
 {
-    places.get(i).copied().unwrap_or(0)
+    tok::item_at(places, i, 0)
 }
 
 fn levels(places: &[u16], t: u32) -> u16
@@ -91,9 +91,7 @@ fn place_after(image: &[u32], at: u16) -> u16
 fn store(places: &mut [u16], i: usize, at: u16)
     ensures { places.new ≡ set places.old i at }
 {
-    if i < places.len() {
-        places[i] = at;
-    }
+    tok::set_item(places, i, at);
 }
 
 // Fills in the places of some records, the first of them at `first`, from an index on; the answer is the place after them.

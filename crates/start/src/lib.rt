@@ -13,7 +13,7 @@ ghost use Rattle.start.specs.Begin.{first_state, Starts};
 
 use err::Counts;
 use operators::VOID_WORD;
-use ptype::MARKS;
+use ptype::MOST_WORDS;
 use scope::Names;
 use state::{Kept, Refusal, Used};
 use visit::{State, Visit};
@@ -94,7 +94,7 @@ fn packages_are_shallow(types: &[u32], words: &[u32], known: &mut [u8]) -> bool
 pub fn library_is_shallow(types: &[u32], words: &[u32]) -> bool
     ensures { (t : Texts) → result ≡ all_shallow t types.now (library_types words.now) }
 {
-    let mut known = [0; MARKS];
+    let mut known = [0; MOST_WORDS];
     if !add::pool_is_shallow(types, library::pool(words), &mut known) {
         return false;
     }
