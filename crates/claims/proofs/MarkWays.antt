@@ -171,22 +171,3 @@ module _ {words : List ℕ} {end from count : ℕ} {before marks : List Bool} {a
   pub default_end : {n : ℕ} {after : List Bool} {r : Bool} → k ≤ 0 → n ≡ end - (at + 1) → Marking marks (parts_from words 1 (at + 1) n) after r
       → Marking before (case_parts words end from count) after r
   default_end l e m = h.rest _ _ (rw (cases_none words end at k l, ← e) m)
-
--- ── The parts of a node ──
-
-module _ (image : List ℕ) (at : ℕ) where
-  pub no-parts-past : (marks : List Bool) → length image ≤ at → Marking marks (parts_at image at) marks false
-  unfolding parts_at parts_by_kind
-  no-parts-past marks h = rw (get_or-eq_default image 0 h, parts_at) (no_number marks)
-
-  module _ {head k : ℕ} {marks after : List Bool} {r : Bool} (eh : head ≡ word_at image at) (ek : k ≡ kind_of head) where
-    pub match-parts : (long count : ℕ) → k ≡ 6 → long ≡ payload_of head → count ≡ word_at image (at + 2) → Marking marks (case_parts image (at + long) (at + 3) count) after r
-        → Marking marks (parts_at image at) after r
-    unfolding parts_at parts_by_kind
-    match-parts long count e el ec m =
-        let kind : record_kind image at ≡ 6 = ap kind_of (sym eh) ∙ sym ek ∙ e in
-        rw (kind, parts_at, ← ec, ← (el ∙ ap payload_of eh)) m
-
-    pub other-parts : {run : Run} → (k ≡ 6 → ⊥) → RunHere image at run → Marking marks (numbers_in image run) after r → Marking marks (parts_at image at) after r
-    other-parts d h m =
-        subst (λ xs. Marking marks xs after r) (ap (numbers_in image) h.is ∙ run-parts image at (λ e. d (ek ∙ ap kind_of eh ∙ e))) m
