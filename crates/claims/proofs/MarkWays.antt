@@ -1,18 +1,15 @@
 -- Marking as the code does it, one law for each way out. Assumes nothing.
 use Prim.Native.Nat.{ℕ, zero, suc, ◌+◌, ◌*◌, ◌-◌, ◌^◌, ◌≤◌, ◌<◌}
 use mathlib.Core.Bool.{Bool, true, false, ◌||◌, true≢false, or_assoc}
-use mathlib.Core.Path.{◌≡◌, refl, sym, ap, subst, ◌∙◌}
+use mathlib.Core.Path.{◌≡◌, refl, sym, ap, ◌∙◌}
 use mathlib.Core.List.{List, [], ◌∷◌, ◌++◌}
 use native.Mathlib.Nat.{not-suc-le-zero}
 use native.Mathlib.Omega.{arith}
 use lib.ListN.{length, get_or, set, length-set, get_or-eq_default}
 use lib.Seq.{set_out}
-use Rattle.tok.specs.Word.{kind_of, payload_of}
-use Rattle.ast.specs.Image.{word_at, record_kind}
+use Rattle.ast.specs.Image.{word_at}
 use Rattle.ast.specs.Claims.{count_from}
-use Rattle.image_laws.specs.OutlineAt.{parts_from, case_parts, parts_by_kind, parts_at}
-use Rattle.node_parts.specs.declared.Run.{Run}
-use Rattle.node_parts.specs.Runs.{numbers_in, RunHere, run-parts}
+use Rattle.image_laws.specs.OutlineAt.{parts_from, case_parts}
 use Rattle.node_parts.specs.Lists.{parts_next, parts_none, cases_next, cases_none, CasesLeft, cases-first, cases_step}
 use Rattle.claims.specs.Marks.{mark_all, marked, Marking}
 

@@ -4,13 +4,10 @@ use mathlib.Core.Path.{◌≡◌, refl, sym, ap, ◌∙◌}
 use mathlib.Core.List.{List, [], ◌∷◌, ◌++◌}
 use native.Mathlib.Omega.{arith}
 use native.Mathlib.Nat.{zero-max, max-zero}
-use lib.ListN.{length, get_or, get_or-eq_default}
-use Rattle.tok.specs.Word.{kind_of, payload_of}
-use Rattle.ast.specs.Image.{word_at, record_kind}
+use lib.ListN.{length, get_or}
+use Rattle.ast.specs.Image.{word_at}
 use Rattle.ast.specs.Depth.{deepest}
-use Rattle.image_laws.specs.OutlineAt.{parts_from, case_parts, parts_by_kind, parts_at}
-use Rattle.node_parts.specs.declared.Run.{Run}
-use Rattle.node_parts.specs.Runs.{numbers_in, RunHere, run-parts}
+use Rattle.image_laws.specs.OutlineAt.{parts_from, case_parts}
 use Rattle.node_parts.specs.Lists.{parts_next, parts_none, cases_next, cases_none, CasesLeft, cases-first, cases_step}
 
 max_assoc : (a b c : ℕ) → max (max a b) c ≡ max a (max b c)
