@@ -1,18 +1,15 @@
 -- Marking as the code does it, one law for each way out. Assumes nothing.
 use Prim.Native.Nat.{ℕ, zero, suc, ◌+◌, ◌*◌, ◌-◌, ◌^◌, ◌≤◌, ◌<◌}
 use mathlib.Core.Bool.{Bool, true, false, ◌||◌, true≢false, or_assoc}
-use mathlib.Core.Path.{◌≡◌, refl, sym, ap, subst, ◌∙◌}
+use mathlib.Core.Path.{◌≡◌, refl, sym, ap, ◌∙◌}
 use mathlib.Core.List.{List, [], ◌∷◌, ◌++◌}
 use native.Mathlib.Nat.{not-suc-le-zero}
 use native.Mathlib.Omega.{arith}
 use lib.ListN.{length, get_or, set, length-set, get_or-eq_default}
 use lib.Seq.{set_out}
-use Rattle.tok.specs.Word.{kind_of, payload_of}
-use Rattle.ast.specs.Image.{word_at, record_kind}
+use Rattle.ast.specs.Image.{word_at}
 use Rattle.ast.specs.Claims.{count_from}
-use Rattle.image_laws.specs.OutlineAt.{parts_from, case_parts, parts_by_kind, parts_at}
-use Rattle.node_parts.specs.declared.Run.{Run}
-use Rattle.node_parts.specs.Runs.{numbers_in, RunHere, run-parts}
+use Rattle.image_laws.specs.OutlineAt.{parts_from, case_parts}
 use Rattle.node_parts.specs.Lists.{parts_next, parts_none, cases_next, cases_none, CasesLeft, cases-first, cases_step}
 use Rattle.claims.specs.Marks.{mark_all, marked, Marking}
 
@@ -171,22 +168,3 @@ module _ {words : List ℕ} {end from count : ℕ} {before marks : List Bool} {a
   pub default_end : {n : ℕ} {after : List Bool} {r : Bool} → k ≤ 0 → n ≡ end - (at + 1) → Marking marks (parts_from words 1 (at + 1) n) after r
       → Marking before (case_parts words end from count) after r
   default_end l e m = h.rest _ _ (rw (cases_none words end at k l, ← e) m)
-
--- ── The parts of a node ──
-
-module _ (image : List ℕ) (at : ℕ) where
-  pub no-parts-past : (marks : List Bool) → length image ≤ at → Marking marks (parts_at image at) marks false
-  unfolding parts_at parts_by_kind
-  no-parts-past marks h = rw (get_or-eq_default image 0 h, parts_at) (no_number marks)
-
-  module _ {head k : ℕ} {marks after : List Bool} {r : Bool} (eh : head ≡ word_at image at) (ek : k ≡ kind_of head) where
-    pub match-parts : (long count : ℕ) → k ≡ 6 → long ≡ payload_of head → count ≡ word_at image (at + 2) → Marking marks (case_parts image (at + long) (at + 3) count) after r
-        → Marking marks (parts_at image at) after r
-    unfolding parts_at parts_by_kind
-    match-parts long count e el ec m =
-        let kind : record_kind image at ≡ 6 = ap kind_of (sym eh) ∙ sym ek ∙ e in
-        rw (kind, parts_at, ← ec, ← (el ∙ ap payload_of eh)) m
-
-    pub other-parts : {run : Run} → (k ≡ 6 → ⊥) → RunHere image at run → Marking marks (numbers_in image run) after r → Marking marks (parts_at image at) after r
-    other-parts d h m =
-        subst (λ xs. Marking marks xs after r) (ap (numbers_in image) h.is ∙ run-parts image at (λ e. d (ek ∙ ap kind_of eh ∙ e))) m

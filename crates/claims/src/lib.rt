@@ -9,8 +9,7 @@ ghost use Rattle.ast.specs.Claims.{count_from};
 ghost use Rattle.image_laws.specs.OutlineAt.{parts_from, case_parts, parts_at, outlines_from};
 ghost use Rattle.claims.specs.Marks.{claims_by, claims_in, Marking, Claiming};
 
-use ast::NodeKind;
-use node_parts::Run;
+use node_parts::{Cases, Parts, Run};
 use reader::Fault;
 use tok::word_at;
 
@@ -61,41 +60,28 @@ fn mark_words(words: &[u32], from: usize, n: usize, marks: &mut [bool]) -> Resul
     )
 }
 
-// The conditions and bodies of `count` cases of a Match, and its default, whose last word stands before `end`.
-fn mark_cases(
-    words: &[u32],
-    from: usize,
-    count: usize,
-    end: usize,
-    marks: &mut [bool],
-) -> Result<(), Twice>
-    requires { (from ≤ length words.now + 3) × (count < 2 ^ 32) × (end < 2 ^ 62) }
-    ensures { Marking marks.old (case_parts words.now end from count) marks.new (is_err result) }
+// The conditions and bodies of the cases of a Match, and its default.
+fn mark_cases(words: &[u32], cases: Cases, marks: &mut [bool]) -> Result<(), Twice>
+    requires { (cases.from ≤ length words.now + 3) × (cases.count < 2 ^ 32) × (cases.end < 2 ^ 62) }
+    ensures { Marking marks.old (case_parts words.now cases.end cases.from cases.count) marks.new (is_err result) }
 {
-    let mut at = from;
-    for _ in 0..count {
+    let mut at = cases.from;
+    for _ in 0..cases.count {
         mark(marks, word_at(words, at + 1) as usize)?;
         let n = word_at(words, at + 2) as usize;
         mark_words(words, at + 3, n, marks)?;
         at = at + 3 + n;
     }
-    mark_words(words, at + 1, end.saturating_sub(at + 1), marks)
+    mark_words(words, at + 1, cases.end.saturating_sub(at + 1), marks)
 }
 
 // The parts of the node at a place.
 fn mark_parts(words: &[u32], at: usize, marks: &mut [bool]) -> Result<(), Twice>
     ensures { Marking marks.old (parts_at words.now at) marks.new (is_err result) }
 {
-    if at >= words.len() {
-        return Ok(());
-    }
-    let head = word_at(words, at);
-    match NodeKind::of(head) {
-        NodeKind::Match => {
-            let count = word_at(words, at + 2) as usize;
-            mark_cases(words, at + 3, count, at + tok::payload(head), marks)
-        }
-        _ => mark_run(words, node_parts::run_at(words, at), marks),
+    match node_parts::parts_at(words, at) {
+        Parts::Run(run) => mark_run(words, run, marks),
+        Parts::Cases(cases) => mark_cases(words, cases, marks),
     }
 }
 

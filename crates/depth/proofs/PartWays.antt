@@ -4,13 +4,10 @@ use mathlib.Core.Path.{◌≡◌, refl, sym, ap, ◌∙◌}
 use mathlib.Core.List.{List, [], ◌∷◌, ◌++◌}
 use native.Mathlib.Omega.{arith}
 use native.Mathlib.Nat.{zero-max, max-zero}
-use lib.ListN.{length, get_or, get_or-eq_default}
-use Rattle.tok.specs.Word.{kind_of, payload_of}
-use Rattle.ast.specs.Image.{word_at, record_kind}
+use lib.ListN.{length, get_or}
+use Rattle.ast.specs.Image.{word_at}
 use Rattle.ast.specs.Depth.{deepest}
-use Rattle.image_laws.specs.OutlineAt.{parts_from, case_parts, parts_by_kind, parts_at}
-use Rattle.node_parts.specs.declared.Run.{Run}
-use Rattle.node_parts.specs.Runs.{numbers_in, RunHere, run-parts}
+use Rattle.image_laws.specs.OutlineAt.{parts_from, case_parts}
 use Rattle.node_parts.specs.Lists.{parts_next, parts_none, cases_next, cases_none, CasesLeft, cases-first, cases_step}
 
 max_assoc : (a b c : ℕ) → max (max a b) c ≡ max a (max b c)
@@ -89,21 +86,3 @@ module _ {words depths : List ℕ} {end from count at k d : ℕ} (h : CasesToMea
   pub default_end : {n b r : ℕ} → k ≤ 0 → n ≡ end - (at + 1) → b ≡ deepest depths (parts_from words 1 (at + 1) n) → r ≡ max d b → r ≡ deepest depths (case_parts words end from count)
   default_end {n} {b} {r} l en eb er =
       er ∙ ap (max d) (eb ∙ ap (λ m. deepest depths (parts_from words 1 (at + 1) m)) en) ∙ sym (h.rest ∙ ap (λ xs. max d (deepest depths xs)) (cases_none words end at k l))
-
--- ── The parts of a node ──
-
-module _ (image depths : List ℕ) (at : ℕ) where
-  pub none-past : length image ≤ at → 0 ≡ deepest depths (parts_at image at)
-  unfolding parts_at parts_by_kind
-  none-past h = rw (get_or-eq_default image 0 h, parts_at) (sym (deepest-none depths))
-
-  module _ {head k d : ℕ} (eh : head ≡ word_at image at) (ek : k ≡ kind_of head) where
-    pub match-parts : (long count : ℕ) → k ≡ 6 → long ≡ payload_of head → count ≡ word_at image (at + 2) → d ≡ deepest depths (case_parts image (at + long) (at + 3) count)
-        → d ≡ deepest depths (parts_at image at)
-    unfolding parts_at parts_by_kind
-    match-parts long count e el ec m =
-        let kind : record_kind image at ≡ 6 = ap kind_of (sym eh) ∙ sym ek ∙ e in
-        rw (kind, parts_at, ← ec, ← (el ∙ ap payload_of eh)) m
-
-    pub other-parts : {run : Run} → (k ≡ 6 → ⊥) → RunHere image at run → d ≡ deepest depths (numbers_in image run) → d ≡ deepest depths (parts_at image at)
-    other-parts n h m = m ∙ ap (deepest depths) (ap (numbers_in image) h.is ∙ run-parts image at (λ e. n (ek ∙ ap kind_of eh ∙ e)))

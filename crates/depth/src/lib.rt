@@ -8,8 +8,7 @@ ghost use Rattle.ast.specs.Depth.{deepest};
 ghost use Rattle.image_laws.specs.OutlineAt.{parts_from, case_parts, parts_at, outlines_from};
 ghost use Rattle.depth.specs.Depths.{depth_by, depth_in};
 
-use ast::NodeKind;
-use node_parts::Run;
+use node_parts::{Cases, Parts, Run};
 use reader::Fault;
 use tok::word_at;
 
@@ -62,20 +61,20 @@ fn deepest_words(words: &[u32], from: usize, n: usize, depths: &[u8]) -> u8
     )
 }
 
-// Of the conditions and bodies of `count` cases of a Match, and of its default, whose last word stands before `end`.
-fn deepest_cases(words: &[u32], from: usize, count: usize, end: usize, depths: &[u8]) -> u8
-    requires { (from ≤ length words.now + 3) × (count < 2 ^ 32) × (end < 2 ^ 62) }
-    ensures { result ≡ deepest depths.now (case_parts words.now end from count) }
+// Of the conditions and bodies of the cases of a Match, and of its default.
+fn deepest_cases(words: &[u32], cases: Cases, depths: &[u8]) -> u8
+    requires { (cases.from ≤ length words.now + 3) × (cases.count < 2 ^ 32) × (cases.end < 2 ^ 62) }
+    ensures { result ≡ deepest depths.now (case_parts words.now cases.end cases.from cases.count) }
 {
-    let mut at = from;
+    let mut at = cases.from;
     let mut d = 0u8;
-    for _ in 0..count {
+    for _ in 0..cases.count {
         d = d.max(depth_at(depths, word_at(words, at + 1) as usize));
         let n = word_at(words, at + 2) as usize;
         d = d.max(deepest_words(words, at + 3, n, depths));
         at = at + 3 + n;
     }
-    let n = end.saturating_sub(at + 1);
+    let n = cases.end.saturating_sub(at + 1);
     d.max(deepest_words(words, at + 1, n, depths))
 }
 
@@ -83,16 +82,9 @@ fn deepest_cases(words: &[u32], from: usize, count: usize, end: usize, depths: &
 fn deepest_part(words: &[u32], at: usize, depths: &[u8]) -> u8
     ensures { result ≡ deepest depths.now (parts_at words.now at) }
 {
-    if at >= words.len() {
-        return 0;
-    }
-    let head = word_at(words, at);
-    match NodeKind::of(head) {
-        NodeKind::Match => {
-            let count = word_at(words, at + 2) as usize;
-            deepest_cases(words, at + 3, count, at + tok::payload(head), depths)
-        }
-        _ => deepest_run(words, node_parts::run_at(words, at), depths),
+    match node_parts::parts_at(words, at) {
+        Parts::Run(run) => deepest_run(words, run, depths),
+        Parts::Cases(cases) => deepest_cases(words, cases, depths),
     }
 }
 

@@ -12,10 +12,11 @@ use Rattle.ast.specs.Image.{word_at, record_kind, record_length}
 use Rattle.ast.specs.declared.NodeKind.{NodeKind}
 use Rattle.ast.specs.declared.NodeKind.TheVariants as node
 use Rattle.ast.specs.Kinds.{kind_of_node}
-use Rattle.ast.specs.KindLaws.{node-not}
-use Rattle.image_laws.specs.OutlineAt.{arguments_at}
+use Rattle.ast.specs.KindLaws.{node-number, node-not}
+use Rattle.image_laws.specs.OutlineAt.{arguments_at, parts_from, parts_by_kind, parts_at}
 use Rattle.node_parts.specs.declared.Run.{Run}
-use Rattle.node_parts.specs.Runs.{run, no_run, runs_by_kind, run_at, RunHere}
+use Rattle.node_parts.specs.declared.Parts.TheVariants as parts
+use Rattle.node_parts.specs.Runs.{run, no_run, runs_by_kind, run_at, numbers_in, run-parts, RunHere, PartsHere}
 
 -- the run that is handed out
 pub handed : {image : List ℕ} {at : ℕ} {r s : Run} → r ≡ s → RunHere image at s → RunHere image at r
@@ -116,3 +117,29 @@ module _ (image : List ℕ) (at head : ℕ) (eh : head ≡ word_at image at) whe
           let others : Other k =
           (((((((((tt, node-not k e b), node-not k e u), node-not k e l), node-not k e f), node-not k e c), node-not k e d), node-not k e t), node-not k e r), node-not k e a) in
           row _ k refl (other k others) (omega arith) (omega arith)
+
+-- ── All parts ──
+
+module _ (image : List ℕ) (at : ℕ) where
+  pub no_parts : length image ≤ at → {r : Run} → r ≡ run 0 0 1 → PartsHere image at (parts.Run r)
+  unfolding parts_at parts_by_kind parts_from
+  no_parts h e = rw e record { are = rw (get_or-eq_default image 0 h, parts_at) refl; small = (omega arith, omega arith) }
+
+  module _ {head : ℕ} {x : NodeKind} (eh : head ≡ word_at image at) (ex : x ≡ kind_of_node (kind_of head)) where
+    pub match_parts : x ≡ node.Match → at < length image → length image < 2 ^ 61 → {count long : ℕ} → count ≡ word_at image (at + 2) → count < 2 ^ 32 → long ≡ payload_of head
+        → PartsHere image at (parts.Cases (record { from = at + 3; count = count; end = at + long }))
+    unfolding parts_at parts_by_kind
+    match_parts e l f ec s el =
+        let kind : record_kind image at ≡ 6 = rw (← eh) (node-number _ (sym e ∙ ex)) in
+        let p : payload_of head < 2 ^ 28 = payload_of_lt head in
+        record {
+          are = rw (kind, parts_at, ← ec, ← (el ∙ ap payload_of eh)) refl;
+          small = (omega arith, s, omega arith);
+        }
+
+    pub other_parts : (x ≡ node.Match → ⊥) → {r : Run} → RunHere image at r → PartsHere image at (parts.Run r)
+    other_parts d h =
+        record {
+          are = ap (numbers_in image) h.is ∙ run-parts image at (λ e. node-not _ ex d (ap kind_of eh ∙ e));
+          small = (h.near, let s = h.small in omega arith);
+        }

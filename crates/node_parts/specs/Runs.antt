@@ -1,13 +1,15 @@
 -- The parts of a node as a run of words of its record: the same numbers as `parts_at` (image_laws), said by where they stand. A Match has
 -- several runs, one after the other, and none here. Definitions, and the law.
 use Prim.Native.Nat.{ℕ, zero, suc, ◌+◌, ◌*◌, ◌-◌, ◌/◌, ◌^◌, ◌≤◌, ◌<◌}
-use Rattle.std.specs.Prelude.{◌≡◌, List, [], ◌∷◌, get_or}
+use Rattle.std.specs.Prelude.{◌≡◌, List, [], ◌∷◌, length, get_or}
 use Rattle.std.proofs.Math.Path.{refl, ap}
 use Rattle.std.proofs.Common.{sym}
 use native.Mathlib.Omega.{arith}
 use Rattle.ast.specs.Image.{word_at, record_kind, record_length}
-use Rattle.image_laws.specs.OutlineAt.{parts_from, parts_by_kind, parts_at}
+use Rattle.image_laws.specs.OutlineAt.{parts_from, case_parts, parts_by_kind, parts_at}
 use Rattle.node_parts.specs.declared.Run.{Run}
+use Rattle.node_parts.specs.declared.Parts.{Parts}
+use Rattle.node_parts.specs.declared.Parts.TheVariants as parts
 
 abbrev pub run : (from count step : ℕ) → Run
 run from count step = record { from = from; count = count; step = step }
@@ -74,6 +76,21 @@ pub record RunHere (image : List ℕ) (at : ℕ) (r : Run) : Type 0 where
   pub is : r ≡ run_at image at
   pub near : r.step ≤ 2
   pub small : r.from + 2 * r.count < 2 ^ 62
+
+-- the numbers of a node's parts, by where they stand
+abbrev pub numbers_of : List ℕ → Parts → List ℕ
+numbers_of image (parts.Run r) = numbers_in image r
+numbers_of image (parts.Cases c) = case_parts image c.end c.from c.count
+
+-- their places can be counted in 64 bits
+abbrev pub Small : List ℕ → Parts → Type 0
+Small image (parts.Run r) = (r.step ≤ 2) × (r.from + 2 * r.count < 2 ^ 63)
+Small image (parts.Cases c) = (c.from ≤ length image + 3) × (c.count < 2 ^ 32) × (c.end < 2 ^ 62)
+
+-- what the code hands out: where the parts of the node at a place stand
+pub record PartsHere (image : List ℕ) (at : ℕ) (p : Parts) : Type 0 where
+  pub are : numbers_of image p ≡ parts_at image at
+  pub small : Small image p
 
 -- ── The law ──
 

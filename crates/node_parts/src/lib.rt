@@ -4,7 +4,7 @@
 ghost use Rattle.std.specs.Prelude.{◌≡◌, ◌+◌, ◌*◌, ◌^◌, ◌≤◌, ◌<◌};
 ghost use Rattle.ast.specs.Image.{word_at, record_length};
 ghost use Rattle.image_laws.specs.OutlineAt.{arguments_at};
-ghost use Rattle.node_parts.specs.Runs.{run, place_of, RunHere};
+ghost use Rattle.node_parts.specs.Runs.{run, place_of, RunHere, PartsHere};
 
 use ast::NodeKind;
 use tok::{payload, word_at};
@@ -15,6 +15,21 @@ pub struct Run {
     pub from: usize,
     pub count: usize,
     pub step: usize,
+}
+
+// The cases of a Match: `count` of them from word `from` on, then the default, whose last word stands before `end`.
+#[derive(Clone, Copy)]
+pub struct Cases {
+    pub from: usize,
+    pub count: usize,
+    pub end: usize,
+}
+
+// Where the parts of a node stand.
+#[derive(Clone, Copy)]
+pub enum Parts {
+    Run(Run),
+    Cases(Cases),
 }
 
 impl Run {
@@ -88,5 +103,23 @@ pub fn run_at(words: &[u32], at: usize) -> Run
         NodeKind::Record => stretch(at + 4, long.saturating_sub(3) / 2, 2),
         NodeKind::Array => stretch(at + 3, long.saturating_sub(3), 1),
         _ => stretch(0, 0, 1),
+    }
+}
+
+// The parts of the node at a place.
+pub fn parts_at(words: &[u32], at: usize) -> Parts
+    ensures { PartsHere words.now at result }
+{
+    if at >= words.len() {
+        return Parts::Run(stretch(0, 0, 1));
+    }
+    let head = word_at(words, at);
+    match NodeKind::of(head) {
+        NodeKind::Match => Parts::Cases(Cases {
+            from: at + 3,
+            count: word_at(words, at + 2) as usize,
+            end: at + payload(head),
+        }),
+        _ => Parts::Run(run_at(words, at)),
     }
 }

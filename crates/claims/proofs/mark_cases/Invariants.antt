@@ -4,4 +4,4 @@ use Rattle.claims.proofs.MarkWays.{CasesToMark}
 use Rattle.claims.proofs.mark_cases.Given as goal
 
 abbrev pub invariant-loop : goal.invariant-loop
-invariant-loop l = CasesToMark l.words l.end l.from l.count l.initial.marks l.marks l.at (l.count - l.counter)
+invariant-loop l = CasesToMark l.words l.cases.end l.cases.from l.cases.count l.initial.marks l.marks l.at (l.cases.count - l.counter)

@@ -5,4 +5,4 @@ use Rattle.depth.proofs.PartWays.{CasesToMeasure}
 use Rattle.depth.proofs.deepest_cases.Given as goal
 
 abbrev pub invariant-loop : goal.invariant-loop
-invariant-loop l = CasesToMeasure l.words l.depths l.end l.from l.count l.at (l.count - l.counter) l.d
+invariant-loop l = CasesToMeasure l.words l.depths l.cases.end l.cases.from l.cases.count l.at (l.cases.count - l.counter) l.d
