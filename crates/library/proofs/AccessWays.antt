@@ -3,17 +3,17 @@ use Prim.Native.Nat.{ℕ, zero, suc, ◌+◌, ◌*◌, ◌-◌, ◌≤◌, ◌<�
 use mathlib.Core.Path.{◌≡◌, refl, sym, ap, ◌∙◌}
 use mathlib.Core.Bool.{Bool, true, false}
 use mathlib.Core.Option.{none, some}
-use mathlib.Core.List.{List, [], ◌∷◌}
+use mathlib.Core.List.{List, []}
 use native.Mathlib.Omega.{arith}
 use native.Mathlib.Decide.{dec_le}
 use lib.ListN.{length, get_or, take, drop, length-drop, drop_of_length-le, get_or-eq_default}
 use lib.Seq.{take_all, take-length, take-nil}
 use lib.Dec.{eqb}
 use Rattle.tok.specs.Text.{Texts, name_bytes, same_bytes}
-use Rattle.library.specs.Package.{param, params_from, function_at, function_end, functions_from, functions_end, packages_from, packages_of, find_package, group_of}
+use Rattle.library.specs.Package.{param, params_from, function_at, function_end, functions_end, packages_from, packages_of, find_package}
 use Rattle.library.specs.Access.{params_at, return_at}
 use Rattle.library.specs.PackagesRead.{package_at, package_end}
-use Rattle.library.specs.Past.{functions_end-after, functions-held, packages-held, functions_end-held}
+use Rattle.library.specs.Past.{functions_end-after, packages-held, functions_end-held}
 
 -- ── The pool ──
 

@@ -7,6 +7,7 @@ ghost use Rattle.tok.specs.Text.{Texts};
 ghost use Rattle.library_groups.specs.Kept.{GroupsKept, FunctionsListed, ListedEnd, NoneSlotted, Lowest, FaultAt, FaultsFrom, FirstFault};
 ghost use Rattle.name_order.specs.Order.{Grouped};
 
+use reader::MOST_WORDS;
 use tok::Texts;
 
 // The places of a package's functions, as far as the words and the list go, and how many there are.
@@ -14,7 +15,7 @@ fn function_places(words: &[u32], from: usize, count: usize, order: &mut [u16]) 
     ensures { FunctionsListed words.now from order.new result }
 {
     let end = count.min(order.len());
-    let last = words.len().min(8192);
+    let last = words.len().min(MOST_WORDS);
     let mut at = from;
     for k in 0..end {
         if at >= last {
@@ -97,11 +98,11 @@ fn first_fault(words: &[u32], order: &[u16], most: usize) -> usize
     best
 }
 
-// The functions of a package that stand before this place keep the rule.
+// The functions of a package that stand before this place keep the rule. A function has four words at least.
 pub fn kept_up_to(texts: &Texts, words: &[u32], from: usize, count: usize) -> usize
     ensures { GroupsKept texts.now words.now from result }
 {
-    let mut order = [0u16; 2048];
+    let mut order = [0u16; MOST_WORDS / 4];
     let n = function_places(words, from, count, &mut order);
     let listed = &mut order[..n];
     let end = listed_end(words, from, listed);

@@ -195,7 +195,8 @@ module _ (p : Pool) where
                 → Comes f (word (λ _. g₃)) (next_word f) to → FunctionIs to
             unfolding function_record good_return gave
             function-by to ret g₃ pairs e₅ ep h₅ k₅ = (
-              gave-there to _ (function group (signature (params_from e.words e.at count) ret (eqb flag 1))) (function_end from.words from.at) _ (function-reads p from.words before from.at from.least)
+              gave-there to _ (function group (signature (params_from e.words e.at count) ret (eqb flag 1))) (function_end from.words from.at) _
+                  (function-reads p from.words before from.at from.least)
                   (rw (group-read (Ok c) k₁, flag-read (Ok d) k₂, count-read (Ok e) k₃, k₄.0)
                   (onward_last (λ w. function group (signature (params_from e.words e.at count) w (eqb flag 1))) ret to _
                   (owed (good_return p flag (params_from e.words e.at count)) (λ _. 0) f to ret 0 g₃ e₅ good refl k₅.0))),

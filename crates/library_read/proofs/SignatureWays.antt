@@ -9,7 +9,7 @@ use native.Mathlib.Numerals.{add-one, add-two}
 use lib.ListN.{length, get_or, take, drop}
 use lib.Seq.{drop-cons}
 use lib.Dec.{eqb}
-use borrow.Author.Tests.{ne_eqb, not-true, not-false}
+use borrow.Author.Tests.{not-true, not-false}
 use Rattle.tok.specs.Text.{Texts}
 use Rattle.ptype.specs.Ty.{contains_slot}
 use Rattle.library.specs.Pool.{Pool, pool_in, good_type}

@@ -18,7 +18,7 @@ ghost use Rattle.library.specs.LibraryFault.{library_fault};
 ghost use Rattle.library_read.specs.Ready.{Counted, counted, pool, PoolReads, Ready, OrderedIn, Placed};
 
 use library::Entries;
-use reader::{Fault, Reader};
+use reader::{Fault, MOST_WORDS, Reader};
 use std::marker::Model;
 use tok::Texts;
 
@@ -242,9 +242,9 @@ pub fn library_fault(texts: &Texts, words: &[u32]) -> Result<(), Fault>
 {
     let (count, at) = pool_read(texts, words)?;
     let pool = library::pool(words);
-    let mut sums = [0u16; 8193];
+    let mut sums = [0u16; MOST_WORDS + 1];
     library_slots::slot_sums(pool, &mut sums);
-    let mut places = [0u16; 8192];
+    let mut places = [0u16; MOST_WORDS];
     let n = library_slots::named_slots(texts, words, pool, &sums, &mut places);
     let pool = Pool {
         texts,

@@ -22,7 +22,7 @@ use Rattle.library.specs.Package.{params_from}
 use Rattle.library.specs.SlotMarks.{unmarked, any_marked, is_slot, any_slot_of}
 use Rattle.library.specs.SlotReach.{get_or-unmarked, length-unmarked, slots-reached}
 use Rattle.library.specs.ReturnSlots.{among_marked, reached_from, among-missing, all_among_lem, Witness, any_some}
-use Rattle.name_order.specs.Order.{place_in, new_in, name_of, Listed}
+use Rattle.name_order.specs.Order.{place_in, new_in, name_of}
 use Rattle.library_slots.specs.Named.{of_pairs, in_pool, Had, Lacks, NamesStand, SlotsListed, SlotsNamed}
 
 -- ── Slots by name ──

@@ -13,6 +13,7 @@ ghost use Rattle.name_order.specs.Order.{Grouped};
 ghost use Rattle.library_slots.specs.Named.{of_pairs, in_pool, argued, wanted, reached, Told, NamesStand, ReturnAsked, SlotsListed, SlotsNamed};
 
 use ptype::TypeKind;
+use reader::MOST_WORDS;
 use tok::Texts;
 
 // Whether a word's kind is that of a slot.
@@ -49,11 +50,11 @@ pub fn has_slot(pool: &[u32], sums: &[u16], w: u32) -> bool
 }
 
 // The counts of a pool of at most 8,192 words, one for each index and one for the end: one pass, since a word refers to smaller indices.
-pub fn slot_sums(pool: &[u32], sums: &mut [u16; 8193])
+pub fn slot_sums(pool: &[u32], sums: &mut [u16; MOST_WORDS + 1])
     ensures { sums.new ≡ sums_to pool.now (min (length pool.now) 8192) }
 {
-    *sums = [0; 8193];
-    for i in 0..pool.len().min(8192) {
+    *sums = [0; MOST_WORDS + 1];
+    for i in 0..pool.len().min(MOST_WORDS) {
         let more = u16::from(has_slot(pool, sums, pool[i]));
         sums[i + 1] = sums[i] + more;
     }
@@ -295,10 +296,10 @@ pub fn return_stands(
     ensures { let P : List ℕ = pool.now in
         ReturnAsked texts.now P (types_in pairs.now) ret order.now (length order.now) first end result }
 {
-    let mut args = [false; 8192];
+    let mut args = [false; MOST_WORDS];
     mark_types(pool, pairs, &mut args);
     spread(pool, &mut args);
-    let mut marks = [false; 8192];
+    let mut marks = [false; MOST_WORDS];
     mark_inside(pool, ret, &mut marks);
     spread(pool, &mut marks);
     if order.len() > 0 {
@@ -325,7 +326,7 @@ fn slot_places(words: &[u32], order: &mut [u16]) -> usize
     ensures { 8192 ≤ length order.old → SlotsListed words.now order.new result }
 {
     let mut n = 0;
-    for i in 2..words.len().min(8193) {
+    for i in 2..words.len().min(MOST_WORDS + 1) {
         if slot_kind(words[i]) {
             name_order::enter(order, n, i);
             n += 1;

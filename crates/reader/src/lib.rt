@@ -26,7 +26,7 @@ impl<'a> Model for Reader<'a> {
 pub struct Fault(pub usize);
 
 // "image and library 8,192 words each"
-const MOST_WORDS: usize = 8192;
+pub const MOST_WORDS: usize = 8192;
 
 // "each text 65,536 bytes"
 const MOST_BYTES: usize = 65536;

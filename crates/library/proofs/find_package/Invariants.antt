@@ -1,7 +1,6 @@
 -- `library::find_package` meets its contract. The loop's invariant: the name is looked for among the packages that are left. A name is passed
 -- where a part of it differs, or where it differs as a whole. Assumes nothing.
 use Rattle.std.proofs.Common.{◌≡◌, ◌-◌}
-use Rattle.tok.specs.Text.{texts_of}
 use Rattle.library.specs.Package.{packages_from, packages_of, find_package}
 use Rattle.library.proofs.find_package.Given as goal
 

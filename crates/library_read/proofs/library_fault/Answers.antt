@@ -1,9 +1,6 @@
 -- `library_read::library_fault` meets its contract: a fault of the counts or the pool ends all; else the pool is ready, and the packages are read.
 -- Assumes nothing.
 use native.Mathlib.Omega.{arith}
-use lib.ListN.{length}
-use Prim.Native.Nat.{◌≤◌}
-use Rattle.std.proofs.Common.{length-take-le}
 use Rattle.std.proofs.lemmas.Result.{err_from_is_err_and}
 use Rattle.library_read.proofs.LibraryWays.{sums_long, slots_few, pool-ready, slots-ordered, packages_stop, library-is}
 use Rattle.library_read.proofs.library_fault.Goals as goal

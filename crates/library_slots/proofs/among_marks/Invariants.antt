@@ -3,7 +3,7 @@ use Prim.Native.Nat.{ℕ}
 use mathlib.Core.Path.{◌≡◌}
 use mathlib.Core.Bool.{Bool}
 use lib.ListN.{length, get_or}
-use Rattle.tok.specs.Text.{Texts, texts_of, name_bytes}
+use Rattle.tok.specs.Text.{Texts, name_bytes}
 use Rattle.library.specs.SlotMarks.{any_marked, is_slot}
 use Rattle.library_slots.proofs.among_marks.Given as goal
 

@@ -4,7 +4,6 @@ use Prim.Native.Nat.{ℕ, ◌≤◌}
 use mathlib.Core.Path.{◌≡◌}
 use mathlib.Core.Bool.{Bool}
 use lib.ListN.{length, get_or}
-use Rattle.tok.specs.Text.{texts_of}
 use Rattle.library.specs.SlotMarks.{any_marked, types_in}
 use Rattle.library.specs.ReturnSlots.{missing}
 use Rattle.library_slots.proofs.any_missing.Given as goal

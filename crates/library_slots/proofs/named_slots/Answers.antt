@@ -1,6 +1,6 @@
 -- `library_slots::named_slots` meets its contract. Assumes nothing.
 use native.Mathlib.Omega.{arith}
-use mathlib.Core.Path.{◌≡◌, subst, sym}
+use mathlib.Core.Path.{◌≡◌}
 use Rattle.library_slots.proofs.NamedWays.{slots-named}
 use Rattle.library_slots.proofs.named_slots.Goals as goal
 

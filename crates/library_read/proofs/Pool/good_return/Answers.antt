@@ -7,9 +7,11 @@ pub returns-then-not-has_slot : goal.returns-then-not-has_slot
 returns-then-not-has_slot c =
     rw (← c.self.view_is)
     (λ flag ws s o f q. ap not c.if-not-has_slot.true
-    ∙ return-none _ _ _ c.self.invariant flag _ _ (rw (← c.self.view_is) at (c.good_signature_type.ensures flag s)) (ap not c.if-good_signature_type.true) c.has_slot.ensures f (ap not c.if-not-has_slot.true))
+    ∙ return-none _ _ _ c.self.invariant flag _ _
+    (rw (← c.self.view_is) at (c.good_signature_type.ensures flag s)) (ap not c.if-good_signature_type.true) c.has_slot.ensures f (ap not c.if-not-has_slot.true))
 
 pub returns-else-not-has_slot : goal.returns-else-not-has_slot
 returns-else-not-has_slot c =
     rw (← c.self.view_is)
-    (λ flag ws s o f q. return-asked _ _ _ c.self.invariant flag _ _ (rw (← c.self.view_is) at (c.good_signature_type.ensures flag s)) (ap not c.if-good_signature_type.true) c.has_slot.ensures f ws _ _ _ _ o q c.return_stands.ensures)
+    (λ flag ws s o f q. return-asked _ _ _ c.self.invariant flag _ _
+    (rw (← c.self.view_is) at (c.good_signature_type.ensures flag s)) (ap not c.if-good_signature_type.true) c.has_slot.ensures f ws _ _ _ _ o q c.return_stands.ensures)

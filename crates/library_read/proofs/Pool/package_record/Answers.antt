@@ -1,7 +1,7 @@
 -- `library_read::Pool::package_record` meets its contract: three rules, one after another. Assumes nothing.
 use Rattle.std.proofs.Common.{◌≡◌, refl, ap, ◌∙◌}
 use Rattle.std.proofs.lemmas.Result.{err_from_is_err_and}
-use Rattle.library_read.proofs.RecordWays.{name_stops, function_count_stops, functions-words, package_by}
+use Rattle.library_read.proofs.RecordWays.{name_stops, function_count_stops, package_by}
 use Rattle.library_read.proofs.Pool.package_record.Goals as goal
 
 pub returns-in_err-at : goal.returns-in_err-at
