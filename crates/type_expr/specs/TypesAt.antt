@@ -98,18 +98,15 @@ module _ {image places : List ℕ} {t at : ℕ} (r : TypeReady image places t) (
       | no d ↦ array-ready (kind-array a f c d) ei
     ]
 
-    -- a record has a head and a word after it
-    pub two-words : {long : ℕ} → long ≡ payload_of h → 2 ≤ long
-    two-words el = rw (el, eh, there) (type-read r.readable r.below e).words.long
-
     -- the fields of a Record
-    pub fields-ready : {long : ℕ} → long ≡ payload_of h → k ≡ 4 → FieldsReady image places t (at + 2) ((long - 2) / 2)
-    fields-ready {long} el q =
+    pub fields-ready : {m : ℕ} → m ≡ (payload_of h - 2) / 2 → k ≡ 4 → FieldsReady image places t (at + 2) m
+    fields-ready {m} em q =
         let w : TypeRecordWords (counts_in r.readable.text image) image t (type_place image t) = type_record_words (type-read r.readable r.below e) (kind 4 q) in
-        let z : record_length image (type_place image t) ≡ long = ap (record_length image) (sym there) ∙ ap payload_of (sym eh) ∙ sym el in
+        let long = payload_of h in
+        let z : record_length image (type_place image t) ≡ long = ap (record_length image) (sym there) ∙ ap payload_of (sym eh) in
         let room : at + long ≤ 8192 = rw (← z, there) (type-read r.readable r.below e).within.in_most in
         let whole : 2 + 2 * ((long - 2) / 2) ≡ long = rw z at w.long in
-        record {
+        rw em record {
           readable = r.readable;
           below = r.below;
           pairs = rw (z, ← there) at w.fields;

@@ -2,7 +2,7 @@
 // Recursion by the levels or by the number of the type: "A part's number is smaller than its owner's."
 #![tactic(auto)]
 
-ghost use Rattle.std.specs.Prelude.{◌≡◌, ℕ, ◌+◌, ◌<◌, ◌≤◌, ◌^◌};
+ghost use Rattle.std.specs.Prelude.{◌≡◌, ℕ, ◌+◌, ◌-◌, ◌/◌, ◌<◌, ◌≤◌, ◌^◌};
 ghost use Rattle.tok.specs.Word.{word_of, payload_of};
 ghost use Rattle.tok.specs.Text.{Texts};
 ghost use Rattle.tok.specs.Step.{next};
@@ -36,6 +36,13 @@ pub fn type_token(image: &Image, t: u32) -> u32
             _ => return w,
         }
     }
+}
+
+// How many fields a Record has, by the first word of its record.
+fn record_fields(head: u32) -> usize
+    ensures { result ≡ (payload_of head - 2) / 2 }
+{
+    payload(head).saturating_sub(2) / 2
 }
 
 // The word of a type of the script's: kind 9 with the token's payload.
@@ -78,7 +85,7 @@ fn deep_part(arena: &mut Arena, image: &Image, t: u32) -> Result<u32, AddError>
     let head = image.word_at(at);
     match ExprKind::of(head) {
         ExprKind::Record => {
-            let fields = (payload(head) - 2) / 2;
+            let fields = record_fields(head);
             deep_field(arena, image, t, at + 2, fields)
         }
         _ => Ok(image.word_at(at + 1)),
@@ -120,7 +127,7 @@ fn build(arena: &mut Arena, image: &Image, t: u32) -> Result<u32, AddError>
         ExprKind::Atom => Ok(plain_word(image.word_at(at + 2))),
         ExprKind::Foreign => Ok(foreign_word(image.word_at(at + 1))),
         ExprKind::Record => {
-            let fields = (payload(head) - 2) / 2;
+            let fields = record_fields(head);
             let word = fields_from_exprs(arena, image, t, at + 2, fields)?;
             arena.close_record(word)
         }
@@ -202,7 +209,7 @@ fn type_word(image: &Image, end: usize, t: u32) -> u32
         ExprKind::Atom => plain_word(image.word_at(at + 2)),
         ExprKind::Foreign => foreign_word(image.word_at(at + 1)),
         ExprKind::Record => {
-            let fields = (payload(head) - 2) / 2;
+            let fields = record_fields(head);
             word_of(TypeKind::Record, end - (1 + 2 * fields))
         }
         ExprKind::Option => word_of(TypeKind::Option, end - 1),
@@ -222,7 +229,7 @@ fn type_size(image: &Image, t: u32) -> usize
     match ExprKind::of(head) {
         ExprKind::Atom | ExprKind::Foreign => 0,
         ExprKind::Record => {
-            let fields = (payload(head) - 2) / 2;
+            let fields = record_fields(head);
             sizes(image, t, at + 2, fields) + (1 + 2 * fields)
         }
         _ => type_size(image, image.word_at(at + 1)) + 1,

@@ -2,7 +2,7 @@ use Rattle.std.proofs.lemmas.Result.{err_from_is_err_and}
 use mathlib.Core.Path.{refl}
 use native.Mathlib.Omega.{arith}
 use Rattle.ast.specs.KindLaws.{expr-number, expr-not}
-use Rattle.type_expr.specs.TypesAt.{words-there, two-words, atom-low, kind-array, option-ready, array-ready, fields-ready}
+use Rattle.type_expr.specs.TypesAt.{words-there, atom-low, kind-array, option-ready, array-ready, fields-ready}
 use Rattle.type_expr.proofs.DeepReturns.{levels_record, levels-option, levels-array}
 use Rattle.type_expr.proofs.Returns.{from-atom, from-foreign, record_refused, record_closed, option-stop, option-put, array-stop, array-put}
 use Rattle.type_expr.proofs.FieldReturns.{building_all, building_part, building_levels, building_stop, building_next, record_stop, record_room, record_put}
@@ -24,27 +24,24 @@ pub build-returns-in-Foreign : goal.build-returns-in-Foreign
 build-returns-in-Foreign t c =
     from-foreign c.requires.0 c.type_place-at.ensures c.word_at-head.ensures refl (expr-number _ c.in-Foreign.ensures) c.word_at-in-Foreign.ensures c.foreign_word.ensures
 
-pub build-overflow_sub-fields : goal.build-overflow_sub-fields
-build-overflow_sub-fields t c = two-words c.requires.0 c.type_place-at.ensures c.word_at-head.ensures refl c.payload.ensures
-
 pub build-overflow_add-at-in-Record : goal.build-overflow_add-at-in-Record
 build-overflow_add-at-in-Record t c = omega (arith, words-there c.requires.0 c.type_place-at.ensures)
 
 pub build-fields_from_exprs-requires : goal.build-fields_from_exprs-requires
 build-fields_from_exprs-requires t c =
-    let f = fields-ready c.requires.0 c.type_place-at.ensures c.word_at-head.ensures refl c.payload.ensures (expr-number _ c.in-Record.ensures) in
-    let l = levels_record c.requires.0 c.type_place-at.ensures c.word_at-head.ensures refl (expr-number _ c.in-Record.ensures) c.payload.ensures refl in
+    let f = fields-ready c.requires.0 c.type_place-at.ensures c.word_at-head.ensures refl c.record_fields-fields.ensures (expr-number _ c.in-Record.ensures) in
+    let l = levels_record c.requires.0 c.type_place-at.ensures c.word_at-head.ensures refl (expr-number _ c.in-Record.ensures) refl c.record_fields-fields.ensures in
     (omega (arith, c.decreases, l), (f, omega (arith, c.requires.1, l)))
 
 pub build-returns-in_err-word-in-Record : goal.build-returns-in_err-word-in-Record
 build-returns-in_err-word-in-Record t c =
     let p = err_from_is_err_and c.from_residual.result c.from_residual.ensures.1 in
-    let refused = record_refused c.requires.0 c.type_place-at.ensures c.word_at-head.ensures refl (expr-number _ c.in-Record.ensures) c.payload.ensures refl in
+    let refused = record_refused c.requires.0 c.type_place-at.ensures c.word_at-head.ensures refl (expr-number _ c.in-Record.ensures) refl c.record_fields-fields.ensures in
     rw (p.1, p.2) (refused c.in_err-word-in-Record.ensures)
 
 pub build-returns-in_ok-word-in-Record : goal.build-returns-in_ok-word-in-Record
 build-returns-in_ok-word-in-Record t c =
-    let closed = record_closed c.requires.0 c.type_place-at.ensures c.word_at-head.ensures refl (expr-number _ c.in-Record.ensures) c.payload.ensures refl in
+    let closed = record_closed c.requires.0 c.type_place-at.ensures c.word_at-head.ensures refl (expr-number _ c.in-Record.ensures) refl c.record_fields-fields.ensures in
     closed c.in_ok-word-in-Record.ensures c.close_record.ensures
 
 pub build-overflow_add-at-in-Option : goal.build-overflow_add-at-in-Option

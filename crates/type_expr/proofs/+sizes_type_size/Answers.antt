@@ -1,7 +1,7 @@
 use mathlib.Core.Path.{refl, sym}
 use native.Mathlib.Omega.{arith}
 use Rattle.ast.specs.KindLaws.{expr-number, expr-not}
-use Rattle.type_expr.specs.TypesAt.{words-there, two-words, inner-ready, fields-ready}
+use Rattle.type_expr.specs.TypesAt.{words-there, inner-ready, fields-ready}
 use Rattle.type_expr.proofs.FieldReturns.{summing_all, summing_end, summing_part, summing_most, summing_next}
 use Rattle.type_expr.proofs.Returns.{size-flat, size_record, size-inner}
 use Rattle.type_expr.proofs.+sizes_type_size.Goals as goal
@@ -30,22 +30,19 @@ type_size-returns-in-Atom t c = sym (size-flat c.requires.0 c.type_place-at.ensu
 pub type_size-overflow_add-at : goal.type_size-overflow_add-at
 type_size-overflow_add-at t c = omega (arith, words-there c.requires.0 c.type_place-at.ensures)
 
-pub type_size-overflow_sub-fields : goal.type_size-overflow_sub-fields
-type_size-overflow_sub-fields t c = two-words c.requires.0 c.type_place-at.ensures c.word_at-head.ensures refl c.payload.ensures
-
 pub type_size-sizes-requires : goal.type_size-sizes-requires
 type_size-sizes-requires t c =
-    let f = fields-ready c.requires.0 c.type_place-at.ensures c.word_at-head.ensures refl c.payload.ensures (expr-number _ c.in-Record.ensures) in
-    let size = size_record c.requires.0 c.type_place-at.ensures c.word_at-head.ensures refl (expr-number _ c.in-Record.ensures) c.payload.ensures refl in
+    let f = fields-ready c.requires.0 c.type_place-at.ensures c.word_at-head.ensures refl c.record_fields-fields.ensures (expr-number _ c.in-Record.ensures) in
+    let size = size_record c.requires.0 c.type_place-at.ensures c.word_at-head.ensures refl (expr-number _ c.in-Record.ensures) refl c.record_fields-fields.ensures in
     (omega (arith, c.decreases), (f, omega (arith, c.requires.1, size)))
 
 pub type_size-overflow_add-result-in-Record : goal.type_size-overflow_add-result-in-Record
 type_size-overflow_add-result-in-Record t c =
-    omega (arith, c.requires.1, c.sizes.ensures, size_record c.requires.0 c.type_place-at.ensures c.word_at-head.ensures refl (expr-number _ c.in-Record.ensures) c.payload.ensures refl)
+    omega (arith, c.requires.1, c.sizes.ensures, size_record c.requires.0 c.type_place-at.ensures c.word_at-head.ensures refl (expr-number _ c.in-Record.ensures) refl c.record_fields-fields.ensures)
 
 pub type_size-returns-in-Record : goal.type_size-returns-in-Record
 type_size-returns-in-Record t c =
-    omega (arith, c.sizes.ensures, size_record c.requires.0 c.type_place-at.ensures c.word_at-head.ensures refl (expr-number _ c.in-Record.ensures) c.payload.ensures refl)
+    omega (arith, c.sizes.ensures, size_record c.requires.0 c.type_place-at.ensures c.word_at-head.ensures refl (expr-number _ c.in-Record.ensures) refl c.record_fields-fields.ensures)
 
 pub type_size-overflow_add-at-in_default : goal.type_size-overflow_add-at-in_default
 type_size-overflow_add-at-in_default t c = omega (arith, words-there c.requires.0 c.type_place-at.ensures)

@@ -2,25 +2,22 @@
 use mathlib.Core.Path.{refl}
 use native.Mathlib.Omega.{arith}
 use Rattle.ast.specs.KindLaws.{expr-number, expr-not}
-use Rattle.type_expr.specs.TypesAt.{words-there, two-words, fields-ready}
+use Rattle.type_expr.specs.TypesAt.{words-there, fields-ready}
 use Rattle.type_expr.proofs.DeepReturns.{levels_record, part_record, part-inner}
 use Rattle.type_expr.proofs.deep_part.Goals as goal
-
-pub overflow_sub-fields : goal.overflow_sub-fields
-overflow_sub-fields c = two-words c.requires.0 c.type_place-at.ensures c.word_at-head.ensures refl c.payload.ensures
 
 pub overflow_add-at : goal.overflow_add-at
 overflow_add-at c = omega (arith, words-there c.requires.0 c.type_place-at.ensures)
 
 pub deep_field-requires : goal.deep_field-requires
 deep_field-requires c = (
-  fields-ready c.requires.0 c.type_place-at.ensures c.word_at-head.ensures refl c.payload.ensures (expr-number _ c.in-Record.ensures),
-  omega (arith, c.requires.1, levels_record c.requires.0 c.type_place-at.ensures c.word_at-head.ensures refl (expr-number _ c.in-Record.ensures) c.payload.ensures refl),
+  fields-ready c.requires.0 c.type_place-at.ensures c.word_at-head.ensures refl c.record_fields-fields.ensures (expr-number _ c.in-Record.ensures),
+  omega (arith, c.requires.1, levels_record c.requires.0 c.type_place-at.ensures c.word_at-head.ensures refl (expr-number _ c.in-Record.ensures) refl c.record_fields-fields.ensures),
 )
 
 pub returns-in-Record : goal.returns-in-Record
 returns-in-Record c =
-    part_record c.requires.0 c.type_place-at.ensures c.word_at-head.ensures refl _ c.requires.1 (expr-number _ c.in-Record.ensures) c.payload.ensures refl c.deep_field.ensures
+    part_record c.requires.0 c.type_place-at.ensures c.word_at-head.ensures refl _ c.requires.1 (expr-number _ c.in-Record.ensures) refl c.record_fields-fields.ensures c.deep_field.ensures
 
 pub overflow_add-at-in_default : goal.overflow_add-at-in_default
 overflow_add-at-in_default c = omega (arith, words-there c.requires.0 c.type_place-at.ensures)

@@ -2,7 +2,7 @@
 use mathlib.Core.Path.{refl}
 use native.Mathlib.Omega.{arith}
 use Rattle.ast.specs.KindLaws.{expr-number, expr-not}
-use Rattle.type_expr.specs.TypesAt.{words-there, two-words, atom-low}
+use Rattle.type_expr.specs.TypesAt.{words-there, atom-low}
 use Rattle.type_expr.proofs.Returns.{size_record, size-option, size-inner, word-atom, word-foreign, word_record, word-option, word-array}
 use Rattle.type_expr.proofs.type_word.Goals as goal
 
@@ -22,15 +22,12 @@ pub returns-in-Foreign : goal.returns-in-Foreign
 returns-in-Foreign c =
     word-foreign c.requires.0 c.type_place-at.ensures c.word_at-head.ensures refl _ (expr-number _ c.in-Foreign.ensures) c.word_at-in-Foreign.ensures c.foreign_word.ensures
 
-pub overflow_sub-fields : goal.overflow_sub-fields
-overflow_sub-fields c = two-words c.requires.0 c.type_place-at.ensures c.word_at-head.ensures refl c.payload.ensures
-
 pub overflow_sub-end : goal.overflow_sub-end
-overflow_sub-end c = omega (arith, c.requires.1, size_record c.requires.0 c.type_place-at.ensures c.word_at-head.ensures refl (expr-number _ c.in-Record.ensures) c.payload.ensures refl)
+overflow_sub-end c = omega (arith, c.requires.1, size_record c.requires.0 c.type_place-at.ensures c.word_at-head.ensures refl (expr-number _ c.in-Record.ensures) refl c.record_fields-fields.ensures)
 
 pub returns-in-Record : goal.returns-in-Record
 returns-in-Record c =
-    word_record c.requires.0 c.type_place-at.ensures c.word_at-head.ensures refl _ (expr-number _ c.in-Record.ensures) c.payload.ensures refl c.word_of.ensures
+    word_record c.requires.0 c.type_place-at.ensures c.word_at-head.ensures refl _ (expr-number _ c.in-Record.ensures) refl c.record_fields-fields.ensures c.word_of.ensures
 
 pub overflow_sub-end-in-Option : goal.overflow_sub-end-in-Option
 overflow_sub-end-in-Option c = omega (arith, c.requires.1, size-option c.requires.0 c.type_place-at.ensures c.word_at-head.ensures refl refl (expr-number _ c.in-Option.ensures))
