@@ -62,8 +62,7 @@ unfoldable pub ended : (n : ℕ) → (diagnostics messages : List ℕ) → Optio
 ended n ds ms (Some c) = ok tt (output ds ms c)
 ended n ds ms None = refused (refusal 9 n)
 
--- One diagnostic in the whole buffers: ds and ms with their counts c came in, ds' and ms' are the buffers now, r the answer. (Its writer is lent
--- the rest of ms: err_text, `ReportsIn`.)
+-- The contract of every writer of a diagnostic: ds and ms with their counts c came in, ds' and ms' are the buffers now, r the answer.
 -- After 9 it says nothing of the buffers: "all outputs and scratch zero to their ends", which the check does at its end, whatever they held.
 pub record Reports (d : Diagnostic) (ds ms : List ℕ) (c : Counts) (ds' ms' : List ℕ) (r : Option Counts) : Type 0 where
   pub step : (n : ℕ) → tell n d (output ds ms c) ≡ ended n ds' ms' r

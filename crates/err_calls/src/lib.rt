@@ -9,7 +9,7 @@ ghost use Rattle.display.specs.Writing.{Writes};
 ghost use Rattle.display.specs.Joined.{joined, sig};
 ghost use Rattle.err.specs.Message.{pkg_name, call_name, no_specialisation, call_through_field, missing_package, undefined_in_package, undefined_own, argument_count};
 ghost use Rattle.err.specs.Report.{Reports};
-ghost use Rattle.err_calls.specs.Candidates.{candidate_at, candidates_at};
+ghost use Rattle.err_calls.specs.Candidates.{candidate_at, candidates_at, WritesCandidates};
 
 use display::{Full, Writer};
 use err::{CallName, Counts};
@@ -157,7 +157,7 @@ pub fn no_specialisation<F: Fn(&mut Writer) -> Result<(), Full>>(
 ) -> Option<Counts>
     requires { F.IsAlwaysCallable candidates }
     ensures { let U : ℕ → Ty = ty_of texts.now types.now in
-        ((cs : List (List Ty)) → ((w : _) (r : _) (w' : _) → F.post candidates w r w' → Writes w.now w'.now r (joined (text " | ") (map sig cs))) →
+        ((cs : List (List Ty)) → WritesCandidates (F.post candidates) cs →
         Reports (no_specialisation token (call_name texts.now callee) (map U provided.now) cs) diagnostics.old messages.old counts diagnostics.new messages.new result) }
 {
     let mut out = err_text::writer(messages, counts);

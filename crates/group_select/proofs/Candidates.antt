@@ -1,20 +1,20 @@
 -- The text of candidates: of one by its place, of all turn by turn. Assumes nothing.
 use Rattle.std.specs.Prelude.{Option, Some, None}
-use Prim.Native.Nat.{ℕ, zero, suc, ◌+◌, ◌-◌, ◌≤◌, ◌<◌}
-use mathlib.Core.Path.{◌≡◌, refl, sym, ap, ap₂, ◌∙◌}
+use Prim.Native.Nat.{ℕ, zero, suc, ◌+◌}
+use mathlib.Core.Path.{◌≡◌, refl, ap, ap₂, ◌∙◌}
 use mathlib.Core.Bool.{Bool}
 use mathlib.Core.List.{List, [], ◌∷◌, ◌++◌, map}
 use native.Mathlib.Numerals.{add-one}
 use native.Mathlib.Omega.{arith}
-use lib.ListN.{length, get_or, take, drop, length-drop, drop_of_length-le}
-use lib.Seq.{get_or-drop, take_all}
+use lib.ListN.{get_or, drop}
+use lib.Seq.{get_or-drop}
 use Rattle.tok.specs.Text.{Texts, text}
 use Rattle.ptype.specs.Ty.{Ty}
 use Rattle.ptype.specs.Words.{ty_of, fields_from}
 use Rattle.display.specs.declared.Writer.{Writer}
 use Rattle.display.specs.Joined.{joined, sig, separated}
 use Rattle.display.specs.JoinedLaws.{joined_after, joined-start, joined-turn, joined_end}
-use Rattle.display.specs.Signature.{arg_types, args_of}
+use Rattle.display.specs.Signature.{arg_types}
 use Rattle.display.specs.WritingLaws.{Owes}
 use Rattle.err_calls.specs.Candidates.{candidate_at}
 use Rattle.library.specs.Package.{Signature, params_from}
