@@ -10,7 +10,7 @@ const LONGEST: usize = 131_072;
 fn next_word(rt: &impl Input) -> io::Result<usize> {
     let mut bytes = [0u8; 4];
     commands::read_full(rt, &mut bytes)?;
-    Ok(commands::command_in(&bytes).op as usize)
+    Ok(tok::little_endian(&bytes, 0) as usize)
 }
 
 // Reads a case of so many bytes, none if it has no room.
