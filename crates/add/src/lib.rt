@@ -1,5 +1,5 @@
 // Adds types to the types buffer: Option, Array, Record, and the library's pool (ptype.rs: arena.alloc, arena.alloc_slice).
-// A buffer is lent whole, with how many of its words are used. A word past the end reads as 0, and none is stored there.
+// A buffer is lent with how many of its words are used, as an arena. A word past the end reads as 0, and none is stored there.
 #![tactic(auto)]
 
 ghost use Rattle.std.specs.Prelude.{◌≡◌, List, [], ◌∷◌, ℕ, ◌+◌, ◌*◌, ◌<◌, ◌^◌, min, leb, length, set, take, replicate};

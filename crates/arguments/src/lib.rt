@@ -1,5 +1,5 @@
 // One argument of a call (typecheck/lib.rs, `check_call_args`, the body of its loop), of a function without slots.
-// The buffers are lent in one order: slots, types, diagnostics, messages; then the two texts.
+// The buffers are lent in one order: slots, types, diagnostics, messages; then the texts.
 #![tactic(auto)]
 
 ghost use Rattle.std.specs.Prelude.{◌≡◌, false, ℕ};

@@ -85,8 +85,8 @@ fn begin(
     )
 }
 
-// The printing program: the check of the input's parts, and its rows. It answers how much it handed to the system, whose contract leaves open
-// whether it writes it.
+// The printing program: the check of the input's parts, and its rows. It answers how many bytes it handed to the system, or none where a
+// row was left off; whether they are written, the system's contract leaves open.
 pub fn bench(rt: &impl Print, bytes: &[u8], full: bool) -> io::Result<Option<usize>>
     ensures { IfOk result (λ printed. Benched bytes.now printed) }
 {

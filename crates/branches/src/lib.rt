@@ -1,5 +1,5 @@
 // Node::Match beside its visits (typecheck/lib.rs): a case's condition, what its branches answered, and the branches compared with the
-// default. The buffers are lent in one order: slots, types, diagnostics, messages; then the two texts, the image, the places of its records.
+// default. The buffers are lent in one order: slots, types, diagnostics, messages; then the texts, the image.
 #![tactic(auto)]
 
 ghost use Rattle.std.specs.Prelude.{◌≡◌, List, ℕ, ◌+◌, ◌≤◌, eqb};

@@ -1,5 +1,5 @@
 // What a call carries, and Typechecker::check_call_args of a function without slots: argument count, each argument, the return type.
-// The buffers are lent in one order: slots, types, diagnostics, messages; then the two texts, the image and the places of its records.
+// The buffers are lent in one order: slots, types, diagnostics, messages; then the texts, the image.
 #![tactic(auto)]
 
 ghost use Rattle.std.specs.Prelude.{◌≡◌, ◌<◌, Bool, false, List, ℕ, length, get_or};

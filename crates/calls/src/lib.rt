@@ -1,6 +1,6 @@
 // Node::Call (typecheck/lib.rs, `node`), around the visits of its arguments: what its target says, and the call once all are visited.
-// The buffers are lent in one order: slots, functions, types, diagnostics, messages, scratch; then the two texts, the image, the library's
-// words, the places of the image's records.
+// The buffers are lent in one order: slots, functions, types, diagnostics, messages, scratch; then the texts, the image, the library's
+// words.
 #![tactic(auto)]
 
 ghost use Rattle.std.specs.Prelude.{◌≡◌, Bool, ◌||◌, List, ℕ, ◌+◌, get_or};

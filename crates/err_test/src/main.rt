@@ -331,7 +331,7 @@ fn run(
     Ok(())
 }
 
-// What a row of refusal 9 begins with. One literal with places in it, since a check pays for each.
+// What a row of refusal 9 begins with: a part of one literal, since a check pays for each.
 fn begin(rt: &impl Print, at: usize, len: usize, n: u32) -> io::Result<()> {
     print(rt, part(b"words bytes diagnostics limit ", at, len))?;
     print_word(rt, n)

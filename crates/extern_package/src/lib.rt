@@ -1,5 +1,5 @@
 // Node::Extern: a package of its own, kept in scratch below the packages held (typecheck/lib.rs, register_extern).
-// The buffers are lent in one order: slots, types, scratch; then the image and the places of its records.
+// The buffers are lent in one order: slots, types, scratch; then the image.
 #![tactic(auto)]
 
 ghost use Rattle.std.specs.Prelude.{◌≡◌, List, ℕ, ◌+◌, ◌*◌, ◌^◌, ◌≤◌, ◌<◌};

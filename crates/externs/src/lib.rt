@@ -1,6 +1,6 @@
 // The functions of an Extern (typecheck/lib.rs, register_extern): each is written as an entry into scratch, "name, argument count, pairs,
 // return type", with its types added in the order of arguments and return type.
-// The buffers are lent in one order: types, scratch; then the image and the places of its records.
+// The buffers are lent in one order: types, scratch; then the image.
 #![tactic(auto)]
 
 ghost use Rattle.std.specs.Prelude.{◌≡◌, List, ℕ, ◌+◌, ◌*◌, ◌≤◌, ◌<◌};

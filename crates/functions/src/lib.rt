@@ -1,5 +1,5 @@
 // A function that is defined (typecheck/lib.rs, Node::Fn): whether its name was met, what comes before its body, and what comes after.
-// The buffers are lent in one order: slots, functions, types, diagnostics, messages, scratch; then the two texts, the image, its places.
+// The buffers are lent in one order: slots, functions, types, diagnostics, messages, scratch; then the texts, the image.
 #![tactic(auto)]
 
 ghost use Rattle.std.specs.Prelude.{◌≡◌, List, ℕ, ◌+◌, ◌*◌, ◌≤◌, length};

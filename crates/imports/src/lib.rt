@@ -1,5 +1,5 @@
 // Node::Import: packages of the library are held (typecheck/lib.rs).
-// The buffers are lent in one order: diagnostics, messages, scratch; then the two texts, and the words of the library.
+// The buffers are lent in one order: diagnostics, messages, scratch; then the texts, and the words of the library.
 #![tactic(auto)]
 
 ghost use Rattle.std.specs.Prelude.{◌≡◌, List, ℕ, ◌+◌, ◌≤◌, ◌<◌};

@@ -1,5 +1,5 @@
 // Reading a library (document 01, "Words" and "Answers that end the check"): refusal 2 and its place. The pool is read first; what is
-// said of the packages holds where it was accepted and its slots are counted, `Ready`.
+// said of the packages holds where it was accepted and its slots are counted: `Ready`, the invariant of `Pool`.
 #![tactic(auto)]
 
 ghost use Rattle.std.specs.Prelude.{◌≡◌, true, false, ◌&&◌, List, [], ℕ, ◌+◌, ◌*◌, length, get_or, take, drop, eqb};

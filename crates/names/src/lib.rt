@@ -1,5 +1,5 @@
 // Names in scope: binding them, and the rules of names and of lets (typecheck/lib.rs: `env_insert`, Node::Ident, Node::Let).
-// The buffers are lent in one order: slots, diagnostics, messages, scratch; then the two texts.
+// The buffers are lent in one order: slots, diagnostics, messages, scratch; then the texts.
 #![tactic(auto)]
 
 ghost use Rattle.std.specs.Prelude.{◌≡◌, List, [], ◌∷◌, ℕ, ◌+◌, ◌*◌, ◌≤◌, ◌<◌, ◌^◌};

@@ -1,6 +1,6 @@
 // What the rules of one and two operands do beside visiting these (typecheck/lib.rs: Node::Bin, Unary, Let, Field, Cast). The node is n,
 // its record stands at word `at` of the image.
-// The buffers are lent in one order: slots, types, diagnostics, messages, scratch; then the two texts, the image, its places.
+// The buffers are lent in one order: slots, types, diagnostics, messages, scratch; then the texts, the image.
 #![tactic(auto)]
 
 ghost use Rattle.std.specs.Prelude.{◌≡◌, List, ℕ, ◌+◌, ◌≤◌};

@@ -1,5 +1,5 @@
 // Operators and casts (typecheck/lib.rs: `set_known`, `fuse`, the Unary arm, `cast`).
-// The buffers are lent in one order: slots, types, diagnostics, messages; then the two texts.
+// The buffers are lent in one order: slots, types, diagnostics, messages; then the texts.
 #![tactic(auto)]
 
 ghost use Rattle.std.specs.Prelude.{◌≡◌, ◌&&◌, ◌||◌, List, ℕ, ◌<◌, cond, eqb, leb, set, None, Some};

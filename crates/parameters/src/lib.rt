@@ -1,5 +1,5 @@
 // The arguments of a function that is defined: their types, slots and names in scope (typecheck/lib.rs, Node::Fn).
-// The buffers are lent in one order: slots, types, scratch; then the image and the places of its records.
+// The buffers are lent in one order: slots, types, scratch; then the image.
 #![tactic(auto)]
 
 ghost use Rattle.std.specs.Prelude.{◌≡◌, List, ℕ, ◌+◌, ◌*◌, ◌≤◌, ◌<◌};

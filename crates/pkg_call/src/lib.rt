@@ -1,6 +1,6 @@
 // Typechecker::resolve_pkg_call, after the arguments are visited: a call of a package's function.
-// The buffers are lent in one order: slots, types, diagnostics, messages, scratch; then the two texts, the image with its places, and the
-// words of the library.
+// The buffers are lent in one order: slots, types, diagnostics, messages, scratch; then the texts, the image, and the words of the
+// library.
 #![tactic(auto)]
 
 ghost use Rattle.std.specs.Prelude.{◌≡◌, List, ℕ, ◌+◌, min, length, get_or};

@@ -1,5 +1,5 @@
 // The candidates of a package's group, after the call's arguments are visited (typecheck/lib.rs, `resolve_pkg_call`).
-// The buffers are lent in one order: slots, types, diagnostics, messages; then the two texts, and the image with its places.
+// The buffers are lent in one order: slots, types, diagnostics, messages; then the texts, and the image.
 #![tactic(auto)]
 
 ghost use Rattle.std.specs.Prelude.{◌≡◌, List};

@@ -1,5 +1,5 @@
 // Signatures by the place of their argument count: "argument count, name and type for each argument, return type" stand so in the functions
-// buffer, in an Extern's package and in the library. A place past the end of the words reads as 0.
+// buffer, in an Extern's package and in the library. A place past the end of the words reads as 0. The entries of library are passed on.
 #![tactic(auto)]
 
 ghost use Rattle.std.specs.Prelude.{◌≡◌, Bool, length, get_or};

@@ -1,5 +1,5 @@
 // One argument of a call of a function with slots (typecheck/lib.rs, `check_call_args`, the body of its loop; ptype.rs). The buffers are lent in
-// one order: slots, types, diagnostics, messages; then the bindings and the two texts.
+// one order: slots, types, diagnostics, messages; then the bindings and the texts.
 #![tactic(auto)]
 
 ghost use Rattle.std.specs.Prelude.{◌≡◌, true, Ok};

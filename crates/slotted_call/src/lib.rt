@@ -1,6 +1,6 @@
 // Typechecker::check_call_args, of a function with slots: argument count, each argument, the return type with its slots applied. The bindings
 // stand in a lent part of scratch. The buffers are lent in one order: slots, types, diagnostics, messages, the bindings or their pairs; then the
-// two texts and the image.
+// texts and the image.
 #![tactic(auto)]
 
 ghost use Rattle.std.specs.Prelude.{true, List, ℕ};

@@ -1,7 +1,7 @@
 // The walk (typecheck/lib.rs, `Typechecker::node`): the functions that visit. They call each other, and the node number falls: "A part's
 // number is smaller than its owner's". Each visits and hands over; what a rule does beside visiting is in the crates below.
-// The buffers are lent in one order: slots, functions, types, diagnostics, messages, scratch; then the two texts, the image, the library's
-// words, the places of the image's records, the state.
+// The buffers are lent in one order: slots, functions, types, diagnostics, messages, scratch; then the texts, the image, the library's
+// words, the state.
 #![tactic(auto)]
 
 ghost use Rattle.state.specs.World.{no_more};

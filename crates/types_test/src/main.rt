@@ -4,7 +4,7 @@
 // The input is made by oracle/types_test/make_types_test.py, which says its form. The expected output is that of two Rust programs that do the same
 // with the original's `Type`, oracle/src/bin/ptype_test.rs and then types_test.rs; they say what each row means.
 // One interpreter of few commands, and not a function for each row, since a check's cost goes with the calls that lend a buffer and with the locals
-// of their functions, structs and enums first. So its state is one number beside the buffers.
+// of their functions, structs and enums first. So its state is one struct, the lists and how many pairs of them count, beside the types.
 #![tactic(auto)]
 
 use add::{AddError, Added, Arena};

@@ -1,5 +1,5 @@
 // Fields, array members, match conditions and cases, let bindings and returns (typecheck/lib.rs, `node`).
-// The buffers are lent in one order: slots, types, diagnostics, messages; then the two texts.
+// The buffers are lent in one order: slots, types, diagnostics, messages; then the texts.
 #![tactic(auto)]
 
 ghost use Rattle.std.specs.Prelude.{◌≡◌, List, ℕ, ◌+◌};
