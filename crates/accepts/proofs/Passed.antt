@@ -13,7 +13,7 @@ use Rattle.ast.specs.ImageFault.{Outlines}
 use Rattle.ast.specs.Claims.{claims_fault}
 use Rattle.ast.specs.Depth.{depth_fault}
 use Rattle.ast.specs.Room.{function_words, room_fault}
-use Rattle.image_laws.specs.Gives.{Gives, gives, stops}
+use Rattle.reader.specs.Reads.{Reads, reads, faults}
 use Rattle.image_laws.specs.OutlineAt.{outlines_in}
 use Rattle.image_laws.proofs.Accepted.{Accepted, read-gives}
 use Rattle.refusals.specs.Inputs.{Inputs, Buffers, texts_in}
@@ -37,11 +37,11 @@ room slots functions v os e =
     let l = ltb-false slots (v + 1) h.0 in
     (omega arith, ltb-false functions (function_words os) h.1)
 
-read-passed : (b : Buffers) {words : List ℕ} {to : ℕ} {A : Type 0} {r : Result Cursor ℕ Outlines} → Gives words (outlines_in words) to A r → refusal_of_image b r ≡ none
+read-passed : (b : Buffers) {words : List ℕ} {to : ℕ} {A : Type 0} {r : Result Cursor ℕ Outlines} → Reads words (outlines_in words) to A r → refusal_of_image b r ≡ none
     → A × (refusal_of_outlines b (outlines_in words) ≡ none)
 unfolding refusal_of_image
-read-passed b (gives least w a) e = (a, e)
-read-passed b (stops place) e = absurd (no-some e)
+read-passed b (reads least w a) e = (a, e)
+read-passed b (faults place) e = absurd (no-some e)
 
 pub passed : (i : Inputs) (b : Buffers) → refusal_of i b ≡ none → Passed i b
 unfolding refusal_of refusal_of_outlines outlines_in
