@@ -8,4 +8,6 @@ use Rattle.image.specs.Counted.{counted}
 use Rattle.image.proofs.type_expressions.Given as goal
 
 abbrev pub invariant-loop-i : goal.invariant-loop-i
-invariant-loop-i l = (n t v : ℕ) → unanswered (onward l.to (type_expressions (counted l.script n t v) (l.count - l.i) l.i)) ≡ unanswered (onward l.initial.to (type_expressions (counted l.script n t v) l.count 0))
+invariant-loop-i l =
+    (n t v : ℕ) → unanswered (onward l.to (type_expressions (counted l.script n t v) (l.count - l.i) l.i))
+    ≡ unanswered (onward l.initial.to (type_expressions (counted l.script n t v) l.count 0))

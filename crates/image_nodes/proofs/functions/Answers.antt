@@ -32,5 +32,6 @@ returns-in_err-to-3 c = λ kind before.
     let p = err_from_is_err_and c.from_residual-in_err-to-3.result c.from_residual-in_err-to-3.ensures.1 in
     let counted = owed (good_extern_count k (c.loop-others.room - 3)) (λ _. 0) c.in_ok-to.to (Ok c.in_ok-to-2.to) c.next_word-n.result 0 c.function_fits.result
     c.next_word-n.ensures (c.function_fits.ensures ∙ ap (λ room. good_extern_count k room c.next_word-n.result) c.saturating_sub-room.ensures) refl c.in_ok-to-2.ensures.0 in
-    rw (p.1, p.2) (sym (c.loop-others.invariant kind before) ∙ rw (functions_some h c.loop-others.others c.loop-others.room c.loop-others-test.true, c.in_ok-token.ensures, c.in_ok-to.ensures.0, counted)
+    rw (p.1, p.2) (sym (c.loop-others.invariant kind before)
+    ∙ rw (functions_some h c.loop-others.others c.loop-others.room c.loop-others-test.true, c.in_ok-token.ensures, c.in_ok-to.ensures.0, counted)
     (leads_stops _ _ _ c.in_err-to-3.ensures))
