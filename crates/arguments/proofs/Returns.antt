@@ -20,7 +20,7 @@ use Rattle.arguments.specs.Argument.{given, unchecked, Compares, Leaves}
 
 -- ── Comparing ──
 
-module _ (texts : Texts) (n : ℕ) (call_name : List ℕ) (name : ℕ) (span : Span) (expected provided : Ty) (t d m : List ℕ) (u : Used) {q : Bool} (e : q ≡ same_ty expected provided) where
+module _ {texts : Texts} {n : ℕ} {call_name : List ℕ} {name : ℕ} {span : Span} {expected provided : Ty} {t d m : List ℕ} {u : Used} {q : Bool} (e : q ≡ same_ty expected provided) where
   pub alike : q ≡ true → Compares texts n call_name name span expected provided t d m u d m (Ok (tt, u))
   unfolding compared when stepped
   alike y = record { goes = λ library void s type slot. record { step = λ rest. rw (sym e ∙ y) refl } }
@@ -32,7 +32,7 @@ module _ (texts : Texts) (n : ℕ) (call_name : List ℕ) (name : ℕ) (span : S
 
 -- ── An argument without slots ──
 
-module _ (texts : Texts) (n : ℕ) (call_name : List ℕ) (name expected slot : ℕ) (span : Span) (s t d m : List ℕ) (u : Used)
+module _ {texts : Texts} (n : ℕ) (call_name : List ℕ) (name expected slot : ℕ) (span : Span) {s t d m : List ℕ} {u : Used}
     {w : ℕ} (ew : w ≡ get_or s slot 0) {q : Bool} (eq : (t' : Texts) → q ≡ unchecked t' t w) where
   pub plain-unchecked : q ≡ true → Leaves texts (λ c. argument c n call_name false (param name expected) (given slot span)) s t d m u d m (Ok (tt, u))
   unfolding argument ty tree when stepped with_answer

@@ -22,7 +22,7 @@ use Rattle.scope.specs.Found.{own_of}
 use Rattle.own_call.specs.OwnCalls.{OwnCalls}
 use Rattle.err.specs.declared.Counts.{Counts}
 
-module _ (texts : Texts) (n slot name : ℕ) (given : List Provided) (functions : List ℕ) (k : ℕ) (s t d m : List ℕ) (u : Used) {found : Found ℕ}
+module _ {texts : Texts} {n slot name : ℕ} {given : List Provided} {functions : List ℕ} {k : ℕ} {s t d m : List ℕ} {u : Used} {found : Found ℕ}
     (e : own_of functions found ≡ find_function texts (name_bytes texts name) (own_in functions k)) where
   pub not_found : {d' m' : List ℕ} {x : Found Counts} {r : Step Answer} → found ≡ None → Reports (undefined_own name (name_bytes texts name)) d m u.told d' m' x → r ≡ told_of n u x Poison
       → OwnCalls texts n slot name given functions k s t d m u s d' m' r

@@ -42,8 +42,8 @@ front-stays e rest l = record { same = take_at (take 8192 e) rest 8192 (length-t
 
 -- ── Into one package ──
 
-module _ (texts : Texts) (n slot pkg name : ℕ) (given : List Provided) (poisoned : Bool) (words : List ℕ) (at : ℕ) {es : Entries}
-    (s t d m : List ℕ) (u : Used) {s' t' d' m' : List ℕ} {r : Step Answer} where
+module _ {texts : Texts} {n slot pkg name : ℕ} {given : List Provided} {poisoned : Bool} {words : List ℕ} (at : ℕ) {es : Entries}
+    {s t d m : List ℕ} {u : Used} {s' t' d' m' : List ℕ} {r : Step Answer} where
   pub library-calls : es ≡ functions_of words true at → (e : List ℕ)
       → InGroup texts n slot pkg name given poisoned (of_name texts (name_bytes texts name) es) s t d m u s' t' d' m' r
       → LibraryCalls texts n slot pkg name given poisoned (package_at words at) e s t d m u e s' t' d' m' r
@@ -73,7 +73,7 @@ module _ (texts : Texts) (n slot pkg name : ℕ) (given : List Provided) (poison
 
 -- ── Into the packages held ──
 
-module _ (texts : Texts) (n slot pkg name : ℕ) (given : List Provided) (poisoned : Bool) (words : List ℕ) (held packages : ℕ) (e s t d m : List ℕ) (u : Used) (found : F.Held)
+module _ {texts : Texts} {n slot pkg name : ℕ} {given : List Provided} {poisoned : Bool} {words : List ℕ} {held packages : ℕ} {e s t d m : List ℕ} {u : Used} (found : F.Held)
     (q : held_of words e found ≡ find_package texts (name_bytes texts pkg) (held_from words e held packages)) where
   pub no_package : {d' m' : List ℕ} {x : Found Counts} {r : Step Answer} → found ≡ H.Nothing → Reports (missing_package pkg (name_bytes texts pkg)) d m u.told d' m' x → r ≡ told_of n u x Poison
       → HeldCalls texts n slot pkg name given poisoned words held packages e s t d m u e s t d' m' r

@@ -27,8 +27,8 @@ use Rattle.pkg_group.specs.GroupSizeLaws.{size_none, size-one, size_several}
 use Rattle.pkg_group.specs.Groups.{GroupReady, InGroup}
 use Rattle.err.specs.declared.Counts.{Counts}
 
-module _ (texts : Texts) (n slot pkg name : ℕ) {image places : List ℕ} {args count : ℕ} {provided words : List ℕ} {fs : List Signature} {found : Candidates}
-    (poisoned : Bool) (s t d m : List ℕ) (u : Used) (h : GroupReady image places n args count s provided words fs found) where
+module _ {texts : Texts} {n slot pkg name : ℕ} {image places : List ℕ} {args count : ℕ} {provided words : List ℕ} {fs : List Signature} {found : Candidates}
+    {poisoned : Bool} {s t d m : List ℕ} {u : Used} (h : GroupReady image places n args count s provided words fs found) where
   pub group-none : {d' m' : List ℕ} {x : Option Counts} {r : Step Answer} → found ≡ C.Nothing
       → Reports (undefined_in_package name (pkg_name (name_bytes texts pkg) (name_bytes texts name))) d m u.told d' m' x → r ≡ told_of n u x Poison
       → InGroup texts n slot pkg name (given_from image args count) poisoned fs s t d m u s t d' m' r

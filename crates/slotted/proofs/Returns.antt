@@ -48,7 +48,7 @@ applying texts n w bs s t d m u mw added e er =
     let tree = sym (apply-tree texts n bs mw.means) ∙ e n in
     rw er (added-step n (apply_slot_binding texts n bs (ty_of texts t w) w) added tree)
 
-module _ (texts : Texts) (n : ℕ) (call_name : List ℕ) (name expected : ℕ) (span : Span) (provided : ℕ) (t d m : List ℕ) (u : Used) (bs : List Binding)
+module _ {texts : Texts} {n : ℕ} {call_name : List ℕ} {name expected : ℕ} {span : Span} {provided : ℕ} {t d m : List ℕ} {u : Used} {bs : List Binding}
     (me : Meant texts t u.types expected) (mp : Meant texts t u.types provided) (added : Added) (t' : List ℕ)
     (e : (k : ℕ) → apply_word texts k bs expected (buffer t u.types) ≡ result_of k added t') {r : Step ℕ} (er : r ≡ added_of n u added) where
   -- the type is not added
@@ -57,24 +57,23 @@ module _ (texts : Texts) (n : ℕ) (call_name : List ℕ) (name expected : ℕ) 
   applied_refused {f} {x} p k = record { step = λ b eb library void slot s. rw (← some_is eb) (on-err-with _ (applying texts n expected bs s t d m u me added e er) (λ _. bs) x p k) }
 
   module _ {w : ℕ} {v : Used} (p : r ≡ Ok (w, v)) {d' m' : List ℕ} {c : Step Done} (q : Compares texts n call_name name span (ty_of texts t' w) (ty_of texts t' provided) t' d m v d' m' c) where
-    -- the provided type is what it was
-    provided-stays : ty_of texts t provided ≡ ty_of texts t' provided
-    provided-stays =
-        let is = e n ∙ ap (λ a. result_of n a t') (added-back n u added (sym er ∙ p)) in
-        let grew = apply_grows texts n bs expected (buffer t u.types) is in
-        ty_of_grow grew.front texts (mp.means.within 33)
-
     pub applied_compared : AfterBinding texts n call_name name expected span provided t d m u bs (Ok tt) t' d' m' c
     unfolding after_binding tree bindings_after with_answer
-    applied_compared = record {
-      step = λ b eb library void slot s.
-          let compares = answers-steps bs (q.goes library void s expected slot) in
-          rw (← some_is eb) (on-ok _ (applying texts n expected bs s t d m u me added e er) p (record { step = λ rest. rw provided-stays (compares.step rest) }));
-    }
+    applied_compared =
+        let is = e n ∙ ap (λ a. result_of n a t') (added-back n u added (sym er ∙ p)) in
+        let grew = apply_grows texts n bs expected (buffer t u.types) is in
+        -- the provided type is what it was
+        let stays : ty_of texts t provided ≡ ty_of texts t' provided = ty_of_grow grew.front texts (mp.means.within 33) in
+        record {
+          step = λ b eb library void slot s.
+              let compares = answers-steps bs (q.goes library void s expected slot) in
+              rw (← some_is eb) (on-ok _ (applying texts n expected bs s t d m u me added e er) p (record { step = λ rest. rw stays (compares.step rest) }));
+        }
 
 -- ── What a binding leads to ──
 
-module _ (texts : Texts) (n : ℕ) (call_name : List ℕ) (name expected : ℕ) (span : Span) (provided : ℕ) (t d m : List ℕ) (u : Used) (bs : List Binding) {b : Bind} {e : BindError} (p : b ≡ Err e) where
+module _ {texts : Texts} {n : ℕ} {call_name : List ℕ} {name expected : ℕ} {span : Span} {provided : ℕ} {t d m : List ℕ} {u : Used} {bs : List Binding} {b : Bind} {e : BindError}
+    (p : b ≡ Err e) where
   pub after-conflict : {slot existing new : ℕ} {d' m' : List ℕ} {reported : Found Counts} {r : Step ⊤} → e ≡ Conflict slot existing new
       → Reports (slot_conflict span call_name (name_bytes texts slot) (ty_of texts t existing) (ty_of texts t new)) d m u.told d' m' reported → r ≡ told_of n u reported tt
       → AfterBinding texts n call_name name expected span provided t d m u bs b t d' m' r

@@ -3,7 +3,7 @@ use Rattle.arguments.proofs.Returns.{alike, differ}
 use Rattle.arguments.proofs.compared.Goals as goal
 
 pub returns-then-same_type : goal.returns-then-same_type
-returns-then-same_type c = alike _ _ _ _ _ _ _ _ _ _ _ c.same_type.ensures c.if-same_type.true
+returns-then-same_type c = alike c.same_type.ensures c.if-same_type.true
 
 pub returns : goal.returns
-returns c = differ _ _ _ _ _ _ _ _ _ _ _ c.same_type.ensures c.if-same_type.false c.arg_mismatch-reported.ensures c.told.ensures
+returns c = differ c.same_type.ensures c.if-same_type.false c.arg_mismatch-reported.ensures c.told.ensures

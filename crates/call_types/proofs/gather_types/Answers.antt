@@ -1,7 +1,6 @@
-use Prim.Native.Nat.{◌-◌}
 use mathlib.Core.Path.{refl}
 use native.Mathlib.Omega.{arith}
-use lib.ListN.{length, length-set}
+use lib.ListN.{length-set}
 use Rattle.call_types.proofs.Turns.{none-gathered, all-gathered, more-gathered}
 use Rattle.call_args.proofs.Slots.{number-ready}
 use Rattle.call_types.proofs.gather_types.Goals as goal

@@ -3,7 +3,7 @@ use Rattle.own_call.proofs.Returns.{not_found, found_at}
 use Rattle.own_call.proofs.resolve_call.Goals as goal
 
 pub returns-in-Some : goal.returns-in-Some
-returns-in-Some c = found_at _ _ _ _ _ _ _ _ _ _ _ _ c.find_own.ensures c.in-Some.is c.check_plain.ensures
+returns-in-Some c = found_at c.find_own.ensures c.in-Some.is c.check_plain.ensures
 
 pub returns-in-None : goal.returns-in-None
-returns-in-None c = not_found _ _ _ _ _ _ _ _ _ _ _ _ c.find_own.ensures c.in-None.is c.undefined_own-reported.ensures c.told.ensures
+returns-in-None c = not_found c.find_own.ensures c.in-None.is c.undefined_own-reported.ensures c.told.ensures

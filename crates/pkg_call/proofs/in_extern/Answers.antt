@@ -10,4 +10,4 @@ in_group-requires c =
 
 pub returns : goal.returns
 returns c =
-    extern-calls _ _ _ _ _ _ _ _ _ _ _ _ _ _ c.functions_at-entries.ensures c.in_group.ensures
+    extern-calls _ c.functions_at-entries.ensures c.in_group.ensures

@@ -8,19 +8,17 @@ find_held-found-requires c = held-near c.requires
 
 pub in_library-requires : goal.in_library-requires
 in_library-requires c =
-    let r = c.requires in
-    (library-ready r _ _ c.find_held-found.ensures c.in-Library.is)
+    library-ready c.requires _ _ c.find_held-found.ensures c.in-Library.is
 
 pub returns-in-Library : goal.returns-in-Library
 returns-in-Library c =
-    let l = c.in_library.ensures in
-    (library-held _ _ _ _ _ _ _ _ _ _ _ _ _ _ _ _ _ c.find_held-found.ensures c.in-Library.is l)
+    library-held _ c.find_held-found.ensures c.in-Library.is c.in_library.ensures
 
 pub returns-in-Extern : goal.returns-in-Extern
 returns-in-Extern c =
-    (extern-held _ _ _ _ _ _ _ _ _ _ _ _ _ _ _ _ _ c.find_held-found.ensures c.in-Extern.is c.in_extern.ensures)
+    extern-held _ c.find_held-found.ensures c.in-Extern.is c.in_extern.ensures
 
 pub returns-in-Nothing : goal.returns-in-Nothing
 returns-in-Nothing c =
     let t = c.missing_package-r.ensures in
-    (no_package _ _ _ _ _ _ _ _ _ _ _ _ _ _ _ _ _ c.find_held-found.ensures c.in-Nothing.is t c.told.ensures)
+    no_package _ c.find_held-found.ensures c.in-Nothing.is t c.told.ensures

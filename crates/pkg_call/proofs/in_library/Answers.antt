@@ -8,20 +8,17 @@ use Rattle.pkg_call.proofs.in_library.Goals as goal
 
 pub in_group-requires : goal.in_group-requires
 in_group-requires c =
-    let r = c.requires in
-    group-ready r.ready refl c.find_candidates-found.ensures c.in_default.not-Slotted
+    group-ready c.requires.ready refl c.find_candidates-found.ensures c.in_default.not-Slotted
 
 pub returns-in_default : goal.returns-in_default
 returns-in_default c =
-    (library-calls _ _ _ _ _ _ _ _ _ _ _ _ _ _ c.functions_at-entries.ensures _ c.in_group.ensures)
+    library-calls _ c.functions_at-entries.ensures _ c.in_group.ensures
 
 pub check_slotted-requires : goal.check_slotted-requires
 check_slotted-requires c =
-    let r = c.requires in
-    slotted-ready r _ c.functions_at-entries.ensures c.find_candidates-found.ensures c.in-Slotted.is
+    slotted-ready c.requires _ c.functions_at-entries.ensures c.find_candidates-found.ensures c.in-Slotted.is
 
 pub returns : goal.returns
 returns c =
     let l = front-stays _ _ (omega (arith, c.requires.ready.long)) in
-    let e = c.functions_at-entries.ensures in
-    (slotted-calls _ _ _ _ _ _ _ _ _ _ _ _ _ _ e c.find_candidates-found.ensures c.in-Slotted.is c.check_slotted.ensures l)
+    slotted-calls _ c.functions_at-entries.ensures c.find_candidates-found.ensures c.in-Slotted.is c.check_slotted.ensures l

@@ -22,13 +22,11 @@ slice_bounds-gather_types-end c = omega (arith, free-top c.requires.free, c.requ
 
 pub gather_types-requires : goal.gather_types-requires
 gather_types-requires c =
-    let r = c.requires in
-    gather_ready r refl
+    gather_ready c.requires refl
 
 pub in_held-step-requires : goal.in_held-step-requires
 in_held-step-requires c =
-    let r = c.requires in
-    (held-ready r refl _ c.gather_types.auto.provided c.gather_types.ensures)
+    held-ready c.requires refl _ c.gather_types.auto.provided c.gather_types.ensures
 
 pub returns : goal.returns
 returns c =

@@ -5,16 +5,16 @@ use Rattle.pkg_group.proofs.in_group.Goals as goal
 
 pub returns-in-Nothing : goal.returns-in-Nothing
 returns-in-Nothing c =
-    group-none _ _ _ _ _ _ _ _ _ _ _ c.requires c.in-Nothing.is c.undefined_in_package-r.ensures c.told.ensures
+    group-none c.requires c.in-Nothing.is c.undefined_in_package-r.ensures c.told.ensures
 
 pub returns-in-Plain : goal.returns-in-Plain
 returns-in-Plain c =
     let v : c.entries.inside.words.now ≡ c.args.entries.now.words = ap (λ e. e.words) c.entries.view_is in
-    group-plain _ _ _ _ _ _ _ _ _ _ _ c.requires c.in-Plain.is (rw v at c.check_plain.ensures)
+    group-plain c.requires c.in-Plain.is (rw v at c.check_plain.ensures)
 
 pub unreachable-requires : goal.unreachable-requires
 unreachable-requires c = c.requires.other _ c.in-Slotted.is
 
 pub returns-in-Several : goal.returns-in-Several
 returns-in-Several c =
-    group_several _ _ _ _ _ _ _ _ _ _ _ c.requires _ _ _ c.in-Several.is c.name_bytes-wanted.ensures refl c.select.ensures
+    group_several c.requires _ _ _ c.in-Several.is c.name_bytes-wanted.ensures refl c.select.ensures
