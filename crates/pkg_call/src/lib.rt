@@ -192,8 +192,7 @@ fn in_held(
         scratch.old slots.old types.old diagnostics.old messages.old used
         scratch.new slots.new types.new diagnostics.new messages.new result }
 {
-    let found = scope::find_held(texts, library, &scratch[..], held, packages, pkg);
-    match found {
+    match scope::find_held(texts, library, &scratch[..], held, packages, pkg) {
         Some(Held::Library(at)) => in_library(
             slots,
             types,
