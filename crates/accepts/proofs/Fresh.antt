@@ -11,7 +11,8 @@ use Rattle.ast.specs.Claims.{count_from}
 use Rattle.rules.specs.declared.Answer.{Answer}
 use Rattle.rules.specs.World.{Ctx, World, Walk}
 use Rattle.rules.specs.Steps.{Done, type_from_expr}
-use Rattle.rules.specs.Rules.{Member, member, condition, node, block, last}
+use Rattle.rules.specs.declared.Member.{Member}
+use Rattle.rules.specs.Rules.{member, condition, node, block, last}
 use Rattle.rules.specs.Visited.{visited_below, visited_among, visited_in_cases, visited_in_values, slots_of}
 use Rattle.laws.specs.SlotsOf.{SlotsOf, SlotsOfAll, PartsOf, last_node, LastOf}
 use Rattle.laws.specs.Keeps.{Keeps, kept, in_next, in_return, in_condition, in_member, in_type_from, in_node, in_block, in_last}

@@ -17,7 +17,9 @@ use Rattle.rules.specs.declared.Answer.{Answer}
 use Rattle.rules.specs.World.{Ctx, Log, World, Walk, with_env}
 use Rattle.rules.specs.Steps.{Done, on_log, framed, apart, on_option, pairs_of, entry_of, enter}
 use Rattle.rules.specs.Calls.{Callee, own_function, package_function, through_field, no_callee, Provided, callee_of, provided_of, resolve_call, resolve_pkg_call, call}
-use Rattle.rules.specs.Rules.{fn_arguments, fn, unless_defined, Member, alike, silent, differs, go_on, node, block, last, visit_all, cases, values, array, members}
+use Rattle.rules.specs.declared.Member.{Member}
+use Rattle.rules.specs.declared.Member.TheVariants.{Alike as alike, Silent as silent, Differs as differs}
+use Rattle.rules.specs.Rules.{fn_arguments, fn, unless_defined, go_on, node, block, last, visit_all, cases, values, array, members}
 use Rattle.rules.specs.Visited.{visited_below, visited_among, visited_in_cases, visited_in_values, visited_in}
 use Rattle.rules.specs.Walk.{ctx_of, start_of, copy_pool, walk_first, walk, walk_of}
 use Rattle.laws.specs.Keeps.{Keeps, kept, stopped, StepsKeep, logs-all}

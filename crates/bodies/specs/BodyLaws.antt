@@ -81,7 +81,8 @@ module _ (c : Ctx) (image : List ℕ) (at n : ℕ) (words : List ℕ) {st : Stat
     hidden = ap (λ w. with_env w []) same
 
     module _ {inner : State} {slot ret count : ℕ} (ei : inner ≡ inner_of (with_used st u)) (es : slot ≡ slot_at image at) (et : ret ≡ word_at image (at + 3)) (ec : count ≡ count_at image at)
-        {b₂ : Lent} {v : Visit ℕ} (y : Visits (fn_begin c n (slot + 1) name (type_of image ret) (args_from image (at + 5) count)) (2 * count) (3 + 2 * count) words inner (lent s f t d₁ m₁ e o) b₂ v) where
+        {b₂ : Lent} {v : Visit ℕ} (y : Visits (fn_begin c n (slot + 1) name (type_of image ret) (args_from image (at + 5) count)) (2 * count) (3 + 2 * count) words inner
+        (lent s f t d₁ m₁ e o) b₂ v) where
       part : Visits (begin_at c image at n) (2 * count_at image at) (3 + 2 * count_at image at) words (inner_of (with_used st u)) (lent s f t d₁ m₁ e o) b₂ v
       part = rw (← ei, ← es, ← en, ← et, ← ec) y
 
@@ -109,7 +110,8 @@ module _ (c : Ctx) (image : List ℕ) (at n : ℕ) (words : List ℕ) {st : Stat
 
 -- ── After the body ──
 
-pub ends-visit : (c : Ctx) (image : List ℕ) (at n ret : ℕ) (computed : Answer) (inside before : State) {slot name expr : ℕ} {left : State} {s t d m s' d' m' : List ℕ} {step : Step Answer} {v : Visit Answer}
+pub ends-visit : (c : Ctx) (image : List ℕ) (at n ret : ℕ) (computed : Answer)
+    (inside before : State) {slot name expr : ℕ} {left : State} {s t d m s' d' m' : List ℕ} {step : Step Answer} {v : Visit Answer}
     → slot ≡ slot_at image at → name ≡ name_at image at → expr ≡ word_at image (at + 3) → left ≡ left_of inside before → v ≡ visit_of left step
     → Steps (fn_end c n slot name (type_of image expr) ret computed) s t d m inside.used s' t d' m' step
     → (words f e : List ℕ) (o : More) → Visits (end_at c image at n ret computed) 0 0 words (left_of inside before) (lent s f t d m e o) (lent s' f t d' m' e o) v

@@ -73,7 +73,8 @@ module _ (T : Texts) (n default : ℕ) (image places : List ℕ) (at count : ℕ
         unfolding branches_from compare_branches compare_branch
         split ls v rest =
             let z : count - i ≡ suc (count - (i + 1)) = omega arith in
-            h.so ls v rest ∙ rw (z, eb) (ap (λ x. next x (λ _. compare_branches (ctx T ls v) n default (branches_from image s (place + 3 + word_at image (place + 2)) (count - (i + 1))))) (one ls v rest))
+            h.so ls v rest ∙ rw (z, eb) (ap (λ x. next x (λ _. compare_branches (ctx T ls v) n default (branches_from image s (place + 3 + word_at image (place + 2)) (count - (i + 1)))))
+            (one ls v rest))
 
         pub more-compared : {after : Used} → r ≡ Ok (tt, after) → Compared (i + 1) (place + 3 + body) d'' m'' after
         unfolding stepped

@@ -88,7 +88,8 @@ module _ (image : List ℕ) where
     body-still at zero h = refl
     body-still at (suc k) h = rw (p.same (slot_of (tree_of image (word_at image (at + k)))) (h _ (last-owned at k))) refl
 
-    pub branches-still : (at k : ℕ) → ((a : ℕ) → 1 ≤ owned a (visited_in_cases (cases_from (tree_of image) image at k)) → owned a ys ≡ 0) → branches_from image after at k ≡ branches_from image slots at k
+    pub branches-still : (at k : ℕ) → ((a : ℕ) → 1 ≤ owned a (visited_in_cases (cases_from (tree_of image) image at k)) → owned a ys ≡ 0)
+        → branches_from image after at k ≡ branches_from image slots at k
     unfolding branches_from cases_from visited_in_cases
     branches-still at zero h = refl
     branches-still at (suc k) h =

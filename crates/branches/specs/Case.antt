@@ -59,7 +59,8 @@ module _ {T : Texts} {image places words : List ℕ} {n at : ℕ} {st : State} {
       g_block (walk_run T image words) (case_body image at) (nodes-proper h.ready.given body-nodes) (λ z. (f₁ z).holds)))
 
   pub after-case : {b₁ : Lent} {a : Answer} {st₁ : State} → CaseVisited T image words n at st b b₁ (Ok (a, st₁))
-      → Passes T image words (BlockOk (walk_run T image words) (visited_among (case_body image at))) (room (tree_of image (word_at image (at + 1))) + rooms (case_body image at)) (rows (tree_of image (word_at image (at + 1))) + rows_all (case_body image at)) st b st₁ b₁ a
+      → Passes T image words (BlockOk (walk_run T image words) (visited_among (case_body image at))) (room (tree_of image (word_at image (at + 1))) + rooms (case_body image at))
+      (rows (tree_of image (word_at image (at + 1))) + rows_all (case_body image at)) st b st₁ b₁ a
   after-case x = visit_passes x case-gives
 
   -- what it answered is told by its body's last slot
@@ -116,7 +117,8 @@ module _ {T : Texts} {image places words : List ℕ} {n at : ℕ} {st : State} {
       pub condition-stops : {b₂ : Lent} {e : Refusal} → Visits (condition (ctx_in T image words) n (word_at image at) a) 0 0 words st₁ b₁ b₂ (Err e) → CaseVisited T image words n at st b b₂ (Err e)
       condition-stops y = leads-stop (λ _. block (ctx_in T image words) (case_body image at)) to-condition y
 
-      module _ {b₂ : Lent} {begun : State} (y : Visits (condition (ctx_in T image words) n (word_at image at) a) 0 0 words st₁ b₁ b₂ (Ok (tt, begun))) {count : ℕ} (ec : count ≡ get_or image (at + 2) 0) where
+      module _ {b₂ : Lent} {begun : State} (y : Visits (condition (ctx_in T image words) n (word_at image at) a) 0 0 words st₁ b₁ b₂ (Ok (tt, begun))) {count : ℕ}
+          (ec : count ≡ get_or image (at + 2) 0) where
         ready-tested : Ready T image places words (rooms (case_body image at)) (rows_all (case_body image at)) st₁ b₁
         ready-tested = ready-then h.ready (after-node h.ready test_below (tested x))
 
@@ -124,7 +126,8 @@ module _ {T : Texts} {image places words : List ℕ} {n at : ℕ} {st : State} {
         ready-begun = ready-step ready-tested (after-condition ready-tested n (word_at image at) (node-answer (after-node h.ready test_below (tested x))) y)
 
         body-fresh : Fresh (visited_among (case_body image at)) b₂.slots
-        body-fresh = fresh-rest [] _ (fresh-rest _ _ h.fresh (visit-apart (ctx_in T image words) (tree_of image (word_at image (at + 1))) (tested x))) (condition-apart (ctx_in T image words) n (word_at image at) a (whole words st₁ b₁) (came_ok y))
+        body-fresh = fresh-rest [] _ (fresh-rest _ _ h.fresh (visit-apart (ctx_in T image words) (tree_of image (word_at image (at + 1))) (tested x)))
+            (condition-apart (ctx_in T image words) n (word_at image at) a (whole words st₁ b₁) (came_ok y))
 
         -- ── The body's ──
 
@@ -132,7 +135,8 @@ module _ {T : Texts} {image places words : List ℕ} {n at : ℕ} {st : State} {
         body-visit = rw ec (record { below = omega (arith, h.below); nodes = h.body; inside = h.inside; ready = ready-begun; fresh = body-fresh })
 
         to-body : Leads all (block (ctx_in T image words) (case_body image at)) (rooms (case_body image at)) (rows_all (case_body image at)) begun b₂
-        to-body = leads-then (λ _. block (ctx_in T image words) (case_body image at)) {r₂ = rooms (case_body image at)} {w₂ = rows_all (case_body image at)} (leads-less (omega arith) (omega arith) to-condition) y
+        to-body = leads-then (λ _. block (ctx_in T image words) (case_body image at)) {r₂ = rooms (case_body image at)} {w₂ = rows_all (case_body image at)}
+            (leads-less (omega arith) (omega arith) to-condition) y
 
         in-body : {b₃ : Lent} {u : Visit Answer} → ListVisited T image words (at + 3) count begun b₂ b₃ u → CaseVisited T image words n at st b b₃ (leave_of u begun)
         in-body {b₃} {u} z = to-body.onto b₃ (leave_of u begun) (block-visits (ctx_in T image words) (case_body image at) (rw ec at z))

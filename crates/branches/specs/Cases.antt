@@ -95,7 +95,8 @@ pub record Turn (T : Texts) (image places words : List ℕ) (n at count : ℕ) (
   -- what is left of the rule leads to all of it, and there is room for it
   pub leads : Leads (matching T image words n st b) (U.cases_from (ctx_in T image words) n (branches_from image b'.slots (at + 3) i) (cases_at image place (count - i)) (ending T image words n at))
       (case_rooms (cases_at image place (count - i)) + rooms (default_body image at)) (case_rows (cases_at image place (count - i)) + rows_all (default_body image at)) here b'
-  pub ready : Ready T image places words (case_rooms (cases_at image place (count - i)) + rooms (default_body image at)) (case_rows (cases_at image place (count - i)) + rows_all (default_body image at)) here b'
+  pub ready : Ready T image places words (case_rooms (cases_at image place (count - i)) + rooms (default_body image at))
+      (case_rows (cases_at image place (count - i)) + rows_all (default_body image at)) here b'
   -- the slots of those that are left have no type yet, and none of them is a slot of those that are done
   pub fresh : Fresh (left_over image at place (count - i)) b'.slots
   pub apart : (a : ℕ) → owned a (visited_in_cases (cases_at image (at + 3) i)) + owned a (left_over image at place (count - i)) ≤ 1
@@ -130,11 +131,13 @@ module _ {T : Texts} {image places words : List ℕ} {n at : ℕ} {st : State} {
   place-room = omega (arith, record_room (node-ready h.visit) e, match-words.long)
 
   begins : Leads (matching T image words n st b) (U.cases_from (ctx_in T image words) n [] (cases_at image (at + 3) (word_at image (at + 2))) (ending T image words n at))
-      (case_rooms (cases_at image (at + 3) (word_at image (at + 2))) + rooms (default_body image at)) (case_rows (cases_at image (at + 3) (word_at image (at + 2))) + rows_all (default_body image at)) st b
+      (case_rooms (cases_at image (at + 3) (word_at image (at + 2))) + rooms (default_body image at))
+      (case_rows (cases_at image (at + 3) (word_at image (at + 2))) + rows_all (default_body image at)) st b
   unfolding room rows
   begins =
       leads-less (omega (arith, ap room is-match)) (omega (arith, ap rows is-match))
-      (leads-same (λ s. ap (λ x. node (ctx_in T image words) x s) is-match ∙ match-rule (ctx_in T image words) n (word_at image (at + 1)) _ (cases_at image (at + 3) (word_at image (at + 2))) (default_body image at) s)
+      (leads-same (λ s. ap (λ x. node (ctx_in T image words) x s) is-match
+      ∙ match-rule (ctx_in T image words) n (word_at image (at + 1)) _ (cases_at image (at + 3) (word_at image (at + 2))) (default_body image at) s)
       (leads-begin (matching T image words n st b)))
 
   all-fresh : Fresh (left_over image at (at + 3) (word_at image (at + 2))) b.slots
@@ -201,16 +204,20 @@ module _ {T : Texts} {image places words : List ℕ} {n at count : ℕ} {st : St
 
     -- the rest after this case, by what it answers
     abbrev rest : Answer → Walk Answer
-    rest a = U.cases_from (ctx_in T image words) n (branches_from image b'.slots (at + 3) i ++ (record { token = word_at image place; answer = a } ∷ [])) (cases_at image (place + 3 + word_at image (place + 2)) (count - i - 1)) (ending T image words n at)
+    rest a = U.cases_from (ctx_in T image words) n (branches_from image b'.slots (at + 3) i ++ (record { token = word_at image place; answer = a } ∷ []))
+        (cases_at image (place + 3 + word_at image (place + 2)) (count - i - 1)) (ending T image words n at)
 
     next-case : Leads (matching T image words n st b) (◌>>=◌ (case_rule (ctx_in T image words) n (word_at image place) (tree_of image (word_at image (place + 1))) (case_body image place)) rest)
-        (room (tree_of image (word_at image (place + 1))) + rooms (case_body image place) + (case_rooms (cases_at image (place + 3 + word_at image (place + 2)) (count - i - 1)) + rooms (default_body image at)))
-        (rows (tree_of image (word_at image (place + 1))) + rows_all (case_body image place) + (case_rows (cases_at image (place + 3 + word_at image (place + 2)) (count - i - 1)) + rows_all (default_body image at))) here b'
+        (room (tree_of image (word_at image (place + 1))) + rooms (case_body image place) +
+        (case_rooms (cases_at image (place + 3 + word_at image (place + 2)) (count - i - 1)) + rooms (default_body image at)))
+        (rows (tree_of image (word_at image (place + 1))) + rows_all (case_body image place) +
+        (case_rows (cases_at image (place + 3 + word_at image (place + 2)) (count - i - 1)) + rows_all (default_body image at))) here b'
     unfolding room rows
     next-case =
         leads-less (omega (arith, ap case_rooms (cases-turn image place left))) (omega (arith, ap case_rows (cases-turn image place left)))
         (leads-same (λ s. ap (λ cs. U.cases_from (ctx_in T image words) n (branches_from image b'.slots (at + 3) i) cs (ending T image words n at) s) (cases-turn image place left)
-        ∙ U.cases-turn (ctx_in T image words) n (branches_from image b'.slots (at + 3) i) (ending T image words n at) (word_at image place) (tree_of image (word_at image (place + 1))) (case_body image place) (cases_at image (place + 3 + word_at image (place + 2)) (count - i - 1)) s
+        ∙ U.cases-turn (ctx_in T image words) n (branches_from image b'.slots (at + 3) i) (ending T image words n at) (word_at image place) (tree_of image (word_at image (place + 1)))
+        (case_body image place) (cases_at image (place + 3 + word_at image (place + 2)) (count - i - 1)) s
         ∙ case-then (ctx_in T image words) n (word_at image place) (tree_of image (word_at image (place + 1))) (case_body image place) rest s)
         h.leads)
 
@@ -279,7 +286,8 @@ module _ {T : Texts} {image places words : List ℕ} {n at count : ℕ} {st : St
     pub record_inside : at + record_length image at ≤ 8192
     record_inside = record_room h.ready-node h.at-is
 
-    none_left_lem : Leads (matching T image words n st b) (ending T image words n at (branches_from image b'.slots (at + 3) (word_at image (at + 2)))) (rooms (default_body image at)) (rows_all (default_body image at)) here b'
+    none_left_lem : Leads (matching T image words n st b) (ending T image words n at (branches_from image b'.slots (at + 3) (word_at image (at + 2)))) (rooms (default_body image at))
+        (rows_all (default_body image at)) here b'
     unfolding cases_from
     none_left_lem =
         let z : count - i ≡ 0 = omega arith in
@@ -338,7 +346,8 @@ module _ {T : Texts} {image places words : List ℕ} {n at count : ℕ} {st : St
               (λ a q. default_apart a (rw (z, f) at (h.apart a)) q)
 
           pub match-ends : {last : State} {b₂ : Lent} {r : Visit Answer} → last ≡ left_of end here
-              → Visits (matched (ctx_in T image words) n (word_at image (at + 1)) (branches_from image b₁.slots (at + 3) (word_at image (at + 2))) a) 0 0 words last b₁ b₂ r → NodeVisited T image words n st b b₂ r
+              → Visits (matched (ctx_in T image words) n (word_at image (at + 1)) (branches_from image b₁.slots (at + 3) (word_at image (at + 2))) a) 0 0 words last b₁ b₂ r
+              → NodeVisited T image words n st b b₂ r
           match-ends {b₂ = b₂} {r = r} e y =
               (leads-then matched_with {r₂ = 0} {w₂ = 0} (leads-less (omega arith) (omega arith) none_left_lem) left-there).onto b₂ r (rw (same-branches, e) at y)
 

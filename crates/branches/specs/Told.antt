@@ -106,7 +106,8 @@ ok-next (refused x) f e P h = absurd (no_ok e)
     no_ok : {e : Refusal} {B : Type 0} {b : B} {u : World} → ◌≡◌ {A = Result World Refusal B} (refused e) (ok b u) → ⊥
     no_ok e = let z : ◌≡◌ {A = ℕ} 0 1 = cc in omega arith
 
-pub rule-parts : (c : Ctx) (n token : ℕ) (x : Node) (body : Nodes) (s : World) {a : Answer} {u : World} → case_rule c n token x body s ≡ ok a u → Apart (visited_from x ++ visited_among body) s.slots u.slots
+pub rule-parts : (c : Ctx) (n token : ℕ) (x : Node) (body : Nodes) (s : World) {a : Answer} {u : World} → case_rule c n token x body s ≡ ok a u
+    → Apart (visited_from x ++ visited_among body) s.slots u.slots
 unfolding case_rule
 rule-parts c n token x body s {u = u} e =
     ok-next (node c x s) _ e (λ v. Apart (visited_from x ++ visited_among body) s.slots v.slots) (λ b t p q.

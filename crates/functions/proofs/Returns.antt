@@ -45,16 +45,19 @@ use Rattle.functions.specs.Entering.{CopyRoom, EntryRoom, FnReady, entered_with,
 
 module _ (T : Texts) (n name : ℕ) (st : State) (f : List ℕ) (own : Found ℕ) (eo : own_of f own ≡ find_function T (name_bytes T name) (own_in f st.functions)) where
   chosen : (q : Option Signature) → own_of f own ≡ q → (ls : List Package) (v : ℕ) (words s t d m e : List ℕ) (o : More)
-      → is_new (ctx T ls v) n name (whole words st (lent s f t d m e o)) ≡ on_option q (return true) (λ _. report n (defined_already name (name_bytes T name)) >> return false) (whole words st (lent s f t d m e o))
+      → is_new (ctx T ls v) n name (whole words st (lent s f t d m e o)) ≡ on_option q (return true) (λ _. report n (defined_already name (name_bytes T name)) >> return false)
+      (whole words st (lent s f t d m e o))
   unfolding is_new
-  chosen q eq ls v words s t d m e o = ap (λ x. on_option x (return true) (λ _. report n (defined_already name (name_bytes T name)) >> return false) (whole words st (lent s f t d m e o))) (sym eo ∙ eq)
+  chosen q eq ls v words s t d m e o =
+      ap (λ x. on_option x (return true) (λ _. report n (defined_already name (name_bytes T name)) >> return false) (whole words st (lent s f t d m e o))) (sym eo ∙ eq)
 
   pub name_new : own ≡ None → (ls : List Package) (v : ℕ) (words s t d m e : List ℕ) (o : More)
       → Visits (is_new (ctx T ls v) n name) 0 0 words st (lent s f t d m e o) (lent s f t d m e o) (visit_of st (Ok (true, st.used)))
   unfolding on_option visit_of visited
   name_new eq ls v words s t d m e o = record { step = chosen none (ap (λ x. own_of f x) eq) ls v words s t d m e o; keeps = goes (within-plain st st.used s t d m s t d m f e o) }
 
-  pub name-met : {at : ℕ} {d m d' m' : List ℕ} {q : Found Counts} {r : Step Bool} → own ≡ Some at → Reports (defined_already name (name_bytes T name)) d m st.used.told d' m' q → r ≡ told_of n st.used q false
+  pub name-met : {at : ℕ} {d m d' m' : List ℕ} {q : Found Counts} {r : Step Bool} → own ≡ Some at → Reports (defined_already name (name_bytes T name)) d m st.used.told d' m' q
+      → r ≡ told_of n st.used q false
       → (ls : List Package) (v : ℕ) (words s t e : List ℕ) (o : More) → Visits (is_new (ctx T ls v) n name) 0 0 words st (lent s f t d m e o) (lent s f t d' m' e o) (visit_of st r)
   unfolding on_option
   name-met {d = d} {m} eq p er ls v words s t e o =
@@ -63,7 +66,8 @@ module _ (T : Texts) (n name : ℕ) (st : State) (f : List ℕ) (own : Found ℕ
 
 -- ── Pairs copied ──
 
-pub copied : (f l : List ℕ) (at from : ℕ) {f' : List ℕ} {k count : ℕ} → k ≤ count → count ≤ k → f' ≡ write f at (pairs_of (params_from l from k)) → f' ≡ write f at (pairs_of (params_from l from count))
+pub copied : (f l : List ℕ) (at from : ℕ) {f' : List ℕ} {k count : ℕ} → k ≤ count → count ≤ k → f' ≡ write f at (pairs_of (params_from l from k))
+    → f' ≡ write f at (pairs_of (params_from l from count))
 copied f l at from {k = k} {count} h m e =
     let z : count ≡ k = omega arith in
     rw z e
@@ -100,7 +104,8 @@ module _ {image places f e : List ℕ} {st : State} (n slot name ret at count : 
     pub few-functions : length f * 4 < 9223372036854775808 → inner.functions < 2 ^ 62
     few-functions lt = omega (arith, ends-many f inner.functions 0, entry-room.room)
 
-    module _ (added : Added) {t₂ : List ℕ} (y : (T : Texts) (n : ℕ) → type_from T n (type_of image ret) (buffer t₁ inner.used.types) ≡ result_of n added t₂) {r : Step ℕ} (er : r ≡ added_of n inner.used added) where
+    module _ (added : Added) {t₂ : List ℕ} (y : (T : Texts) (n : ℕ) → type_from T n (type_of image ret) (buffer t₁ inner.used.types) ≡ result_of n added t₂) {r : Step ℕ}
+        (er : r ≡ added_of n inner.used added) where
       typed : (T : Texts) (ls : List Package) (v : ℕ) (s d m : List ℕ) → Steps (type_from_expr (ctx T ls v) n (type_of image ret)) s t₁ d m inner.used s t₂ d m r
       typed T ls v s d m = rw er (type-steps _ added y T ls v n s d m)
 
@@ -115,7 +120,8 @@ module _ {image places f e : List ℕ} {st : State} (n slot name ret at count : 
       pub begin-done : {w : ℕ} {u : Used} {f₂ : List ℕ} → r ≡ Ok (w, u)
           → f₂ ≡ write f (entries_end f 0 0 inner.functions) (entry_of name (params_from e₁ (2 * (st.names.base + st.names.depth)) count) w)
           → (T : Texts) (ls : List Package) (v : ℕ) (words d m : List ℕ) (o : More)
-          → Visits (fn_begin (ctx T ls v) n slot name (type_of image ret) (args_from image at count)) (2 * count) (3 + 2 * count) words st (lent s f t d m e o) (lent s₁ f₂ t₂ d m e₁ o) (Ok (w, entered_with inner u))
+          → Visits (fn_begin (ctx T ls v) n slot name (type_of image ret) (args_from image at count)) (2 * count) (3 + 2 * count) words st (lent s f t d m e o) (lent s₁ f₂ t₂ d m e₁ o)
+          (Ok (w, entered_with inner u))
       unfolding fn_begin with_answer visited stepped enter append
       begin-done {w} {u} {f₂} ea ef T ls v words d m o =
           let ps : List Param = params_from e₁ (2 * (st.names.base + st.names.depth)) count in
@@ -150,7 +156,8 @@ module _ {image places f e : List ℕ} {st : State} (n slot name ret at count : 
 
 module _ (T : Texts) {s t d m d₁ m₁ : List ℕ} {used : Used} (n slot name ret : ℕ) (x : TypeExpr) (computed : Answer) {token : ℕ} (et : token ≡ type_token x) {went : Step Done}
     (p : (ls : List Package) (v : ℕ) (e : TypeExpr) → type_token e ≡ token → Steps (check_return (ctx T ls v) n name e ret computed) s t d m used s t d₁ m₁ went) where
-  pub end_refused : {y : Refusal} {r : Step Answer} → went ≡ Err y → IsErrAnd r (λ z. z ≡ y) → (ls : List Package) (v : ℕ) → Steps (fn_end (ctx T ls v) n slot name x ret computed) s t d m used s t d₁ m₁ r
+  pub end_refused : {y : Refusal} {r : Step Answer} → went ≡ Err y → IsErrAnd r (λ z. z ≡ y) → (ls : List Package) (v : ℕ)
+      → Steps (fn_end (ctx T ls v) n slot name x ret computed) s t d m used s t d₁ m₁ r
   unfolding fn_end
   end_refused ew k ls v = on-err (λ _. set_known slot ret) (p ls v x (sym et)) ew k
 

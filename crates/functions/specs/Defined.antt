@@ -85,7 +85,8 @@ module _ (c : Ctx) (n : ℕ) (e : List Local) where
   when-scoped false d w = told-scoped w (tell n d (output_of w))
 
   -- the return is checked in any names
-  check_scoped : (name : ℕ) (retExpr : TypeExpr) (ret : ℕ) (computed : Answer) (w : World) → check_return c n name retExpr ret computed (with_env w e) ≡ scoped e (check_return c n name retExpr ret computed w)
+  check_scoped : (name : ℕ) (retExpr : TypeExpr) (ret : ℕ) (computed : Answer) (w : World)
+      → check_return c n name retExpr ret computed (with_env w e) ≡ scoped e (check_return c n name retExpr ret computed w)
   unfolding check_return if_known tree ty_tree ty scoped
   check_scoped name retExpr ret A.Poison w = refl
   check_scoped name retExpr ret (A.Known slot) w = when-scoped (same_ty _ _) _ w
@@ -108,14 +109,17 @@ module _ (c : Ctx) (n slot name : ℕ) (retExpr : TypeExpr) (e : List Local) whe
     rest ret = λ w. next (body w) (λ computed. λ w. fn_end c n slot name retExpr ret computed (with_env w e))
 
     after-type : (params : List Param) (r : Result World Refusal ℕ)
-        → next (scoped e (next r (λ ret. λ w. next (enter name params ret w) (λ _. λ w. next (body w) (λ computed. λ w. next (check_return c n name retExpr ret computed w) (λ _. return ret)))))) (λ ret. set_known slot ret)
+        → next (scoped e (next r (λ ret. λ w. next (enter name params ret w) (λ _. λ w. next (body w) (λ computed. λ w. next (check_return c n name retExpr ret computed w) (λ _. return ret))))))
+        (λ ret. set_known slot ret)
         ≡ next (next r (λ ret. λ w. next (enter name params ret w) (λ _. return ret))) rest
     unfolding enter scoped
     after-type params (ok ret w) = after-body ret (body _)
     after-type params (refused x) = refl
 
     after-arguments : (r : Result World Refusal (List Param))
-        → next (scoped e (next r (λ params. λ w. next (type_from_expr c n retExpr w) (λ ret. λ w. next (enter name params ret w) (λ _. λ w. next (body w) (λ computed. λ w. next (check_return c n name retExpr ret computed w) (λ _. return ret))))))) (λ ret. set_known slot ret)
+        → next (scoped e (next r (λ params. λ w. next (type_from_expr c n retExpr w)
+        (λ ret. λ w. next (enter name params ret w) (λ _. λ w. next (body w) (λ computed. λ w. next (check_return c n name retExpr ret computed w) (λ _. return ret)))))))
+        (λ ret. set_known slot ret)
         ≡ next (next r (λ params. λ w. next (type_from_expr c n retExpr w) (λ ret. λ w. next (enter name params ret w) (λ _. return ret)))) rest
     unfolding scoped
     after-arguments (ok params w) = after-type params (type_from_expr c n retExpr w)

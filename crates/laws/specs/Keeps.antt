@@ -26,7 +26,9 @@ use Rattle.rules.specs.World.{Ctx, Local, World, Walk, with_slots, with_function
 use Rattle.rules.specs.Steps.{Done, skip, known, if_known, on_option, ty, tree, ty_tree, set_known, raised, on_types, raised_log, on_log, raised_told, output_of, report, poison, env_insert, framed, apart, hold, entry_of, enter, type_from_expr}
 use Rattle.rules.specs.Operators.{fuse, unary, cast}
 use Rattle.rules.specs.Calls.{Callee, own_function, package_function, through_field, no_callee, callee_of, Provided, provided_of, compared, after_binding, slotted_argument, plain_argument, argument, arguments, returned, check_call_args, resolve_call, param_trees, provided_trees, position, all_return, common_return, select, in_group, resolve_pkg_call, call}
-use Rattle.rules.specs.Rules.{ident, let_binding, fn_arguments, check_return, fn, unless_defined, field_type, field, value_type, Member, alike, silent, differs, member_types, member, go_on, array_of, condition, Branch, compare_branches, matched, import_one, import_all, extern_fn, node, block, last, visit_all, cases, values, array, members}
+use Rattle.rules.specs.declared.Member.{Member}
+use Rattle.rules.specs.declared.Member.TheVariants.{Alike as alike, Silent as silent, Differs as differs}
+use Rattle.rules.specs.Rules.{ident, let_binding, fn_arguments, check_return, fn, unless_defined, field_type, field, value_type, member_types, member, go_on, array_of, condition, Branch, compare_branches, matched, import_one, import_all, extern_fn, node, block, last, visit_all, cases, values, array, members}
 use Rattle.refusals.specs.Inputs.{Inputs}
 use Rattle.rules.specs.Walk.{ctx_of, copy_pool, measure, walk_first}
 use Rattle.laws.specs.SlotsOf.{ArgSlots, SlotsOf, SlotsOfAll, SlotsOfCases, SlotsOfValues}

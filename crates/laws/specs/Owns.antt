@@ -17,7 +17,9 @@ use Rattle.rules.specs.World.{Ctx, Local, World, Walk, with_env}
 use Rattle.rules.specs.Steps.{known, on_option, ty, tree, set_known, on_types, report, poison, env_insert, framed, apart, hold, enter, type_from_expr}
 use Rattle.rules.specs.Operators.{fuse, unary, cast}
 use Rattle.rules.specs.Calls.{Callee, own_function, package_function, through_field, no_callee, Provided, callee_of, provided_of, arguments, returned, param_trees, provided_trees, position, all_return, check_call_args, resolve_call, common_return, select, in_group, resolve_pkg_call, call}
-use Rattle.rules.specs.Rules.{ident, let_binding, fn_arguments, check_return, fn, unless_defined, field_type, field, Member, alike, silent, differs, member, go_on, array_of, Branch, compare_branches, matched, import_all, extern_fn, node, block, last, cases, values, array, members}
+use Rattle.rules.specs.declared.Member.{Member}
+use Rattle.rules.specs.declared.Member.TheVariants.{Alike as alike, Silent as silent, Differs as differs}
+use Rattle.rules.specs.Rules.{ident, let_binding, fn_arguments, check_return, fn, unless_defined, field_type, field, member, go_on, array_of, Branch, compare_branches, matched, import_all, extern_fn, node, block, last, cases, values, array, members}
 
 pub data Owns (slot : ℕ) : Result World Refusal Answer → Type 0 where
   knows : (s : World) → Owns slot (ok (Known slot) s)

@@ -1,5 +1,5 @@
 -- A node below which nothing is visited: what its rule asks for, and one law for each kind. Assumes nothing.
-use Rattle.std.specs.Prelude.{ℕ, zero, suc, ◌+◌, ◌-◌, ◌≤◌, ◌<◌, ◌≡◌, refl, List, length, get_or}
+use Rattle.std.specs.Prelude.{ℕ, zero, suc, ◌+◌, ◌-◌, ◌≤◌, ◌≡◌, refl, List, length, get_or}
 use Rattle.std.proofs.Common.{◌∙◌, arith}
 use Rattle.std.proofs.Math.Path.{ap}
 use Rattle.tok.specs.Text.{Texts}
@@ -94,11 +94,13 @@ module _ {T : Texts} {image places words : List ℕ} {n : ℕ} {st : State} {scr
 
 module _ (T : Texts) {image places : List ℕ} (words : List ℕ) {n : ℕ} (is : NodeReady image places n) {at h k : ℕ} (e : at ≡ get_or places n 0) (eh : h ≡ get_or image at 0) (ek : k ≡ kind_of h)
     {st : State} {b b' : Lent} {v : Visit Answer} where
-  pub atom-visited : {slot w t : ℕ} → k ≡ 0 → slot ≡ get_or image (at + 1) 0 → w ≡ get_or image (at + 3) 0 → t ≡ word_of w 0 → Visits (set_known slot t) 0 0 words st b b' v → NodeVisited T image words n st b b' v
+  pub atom-visited : {slot w t : ℕ} → k ≡ 0 → slot ≡ get_or image (at + 1) 0 → w ≡ get_or image (at + 3) 0 → t ≡ word_of w 0 → Visits (set_known slot t) 0 0 words st b b' v
+      → NodeVisited T image words n st b b' v
   unfolding node room rows
   atom-visited q es ew et x = rw (node-atom is e eh ek q, ← es, ← ew, ← et) x
 
-  pub ident-visited : {slot name : ℕ} → k ≡ 1 → slot ≡ get_or image (at + 1) 0 → name ≡ get_or image (at + 2) 0 → Visits (ident (ctx T (packages_of words) (slot_count image)) n slot name) 0 0 words st b b' v
+  pub ident-visited : {slot name : ℕ} → k ≡ 1 → slot ≡ get_or image (at + 1) 0 → name ≡ get_or image (at + 2) 0
+      → Visits (ident (ctx T (packages_of words) (slot_count image)) n slot name) 0 0 words st b b' v
       → NodeVisited T image words n st b b' v
   unfolding node room rows
   ident-visited q es en x = rw (node-ident is e eh ek q, ← es, ← en) x
@@ -111,6 +113,7 @@ module _ (T : Texts) {image places : List ℕ} (words : List ℕ) {n : ℕ} (is 
       rw (node_import is e eh ek q, ← es, ← et, ← l, words-many image (at + 3) (long - 3)) x
 
   pub extern-visited : {slot name count : ℕ} → k ≡ 11 → slot ≡ get_or image (at + 1) 0 → name ≡ get_or image (at + 3) 0 → count ≡ get_or image (at + 4) 0
-      → Visits (extern_rule (ctx T (packages_of words) (slot_count image)) n slot name (externs_from image (at + 5) count)) (extern_words (externs_from image (at + 5) count)) 0 words st b b' v → NodeVisited T image words n st b b' v
+      → Visits (extern_rule (ctx T (packages_of words) (slot_count image)) n slot name (externs_from image (at + 5) count)) (extern_words (externs_from image (at + 5) count)) 0 words st b b' v
+      → NodeVisited T image words n st b b' v
   unfolding node room rows extern_rule
   extern-visited q es en ec x = rw (node-extern is e eh ek q, ← es, ← en, ← ec) x

@@ -1,23 +1,21 @@
 -- Each return of the functions, from what the callees answered. By rewriting. Assumes nothing.
 use Prim.Native.Nat.{ℕ}
 use mathlib.Core.Path.{◌≡◌, refl}
-use mathlib.Core.Bool.{Bool, true}
+use mathlib.Core.Bool.{Bool}
 use mathlib.Core.List.{List}
-use Rattle.std.specs.Prelude.{Option, Some, None, Ok, Err}
+use Rattle.std.specs.Prelude.{Option, Ok, Err}
 use Rattle.tok.specs.Text.{Texts}
 use Rattle.tok.specs.declared.Span.{Span}
 use Rattle.library.specs.Package.{Package}
 use Rattle.err.specs.Message.{empty_array}
 use Rattle.rules.specs.declared.Answer.{Answer}
 use Rattle.rules.specs.Steps.{poison}
+use Rattle.rules.specs.declared.Member.{Member}
 use Rattle.rules.specs.Rules.{member, array_of}
 use Rattle.state.specs.declared.Used.{Used}
 use Rattle.state.specs.declared.Refusal.{Refusal}
 use Rattle.state.specs.Context.{ctx}
-use Rattle.state.specs.World.{More, Step, stepped, with_answer, Steps}
-use Rattle.values.specs.declared.Compared.{Compared}
-use Rattle.values.specs.declared.Compared.TheVariants.{Alike, Silent, Differs}
-use Rattle.values.specs.Answers.{member_of}
+use Rattle.state.specs.World.{More, Step, stepped, Steps}
 use Rattle.visit.specs.declared.State.{State}
 use Rattle.visit.specs.Whole.{Visit, lent, rest_of, visited}
 use Rattle.visit.specs.Within.{goes, stops, Visits}
@@ -44,31 +42,18 @@ abbrev Turned : (T : Texts) (n : ℕ) (first second : Answer) (poisoned : Bool) 
 Turned T n first second poisoned st x s t d m d' m' v =
     (ls : List Package) (w : ℕ) (words f e : List ℕ) (o : More) → Visits (member_turn (ctx T ls w) n x first second poisoned) 0 0 words st (lent s f t d m e o) (lent s f t d' m' e o) v
 
-module _ (T : Texts) (n : ℕ) (first second : Answer) (poisoned : Bool) (st : State) {span x : Span} {s t d m d' m' : List ℕ} {q : Step Compared} (es : span ≡ x)
-    (p : (ls : List Package) (v : ℕ) → Steps (member (ctx T ls v) n span first second) s t d m st.used s t d' m' (with_answer member_of q)) where
-  turned : {c : Compared} {u : Used} → q ≡ Ok (c, u) → Turned T n first second poisoned st x s t d m d' m' (Ok (turn_of (member_of c) poisoned, with_used st u))
-  unfolding member_turn stepped with_answer visited
-  turned {c} {u} h ls v words f e o = record {
+module _ (T : Texts) (n : ℕ) (first second : Answer) (poisoned : Bool) (st : State) {span x : Span} {s t d m d' m' : List ℕ} {q : Step Member} (es : span ≡ x)
+    (p : (ls : List Package) (v : ℕ) → Steps (member (ctx T ls v) n span first second) s t d m st.used s t d' m' q) where
+  pub turned : {c : Member} {u : Used} {turn : Option Bool} → q ≡ Ok (c, u) → turn ≡ turn_of c poisoned → Turned T n first second poisoned st x s t d m d' m' (Ok (turn, with_used st u))
+  unfolding member_turn stepped visited
+  turned {c} {u} h k ls v words f e o = rw k (record {
     step = rw (← es, (p ls v).step (rest_of words st (lent s f t d m e o)), h) refl;
     keeps = goes (within-plain st u s t d m s t d' m' f e o);
-  }
+  })
 
   pub turn-refused : {r : Refusal} → q ≡ Err r → Turned T n first second poisoned st x s t d m d' m' (Err r)
-  unfolding member_turn stepped with_answer visited
+  unfolding member_turn stepped visited
   turn-refused h ls v words f e o = record {
     step = rw (← es, (p ls v).step (rest_of words st (lent s f t d m e o)), h) refl;
     keeps = stops;
   }
-
-  module _ {c : Compared} {u : Used} (h : q ≡ Ok (c, u)) where
-    pub turn-alike : c ≡ Alike → Turned T n first second poisoned st x s t d m d' m' (Ok (Some poisoned, with_used st u))
-    unfolding turn_of member_of
-    turn-alike k = turned (rw k at h)
-
-    pub turn-silent : c ≡ Silent → Turned T n first second poisoned st x s t d m d' m' (Ok (Some true, with_used st u))
-    unfolding turn_of member_of
-    turn-silent k = turned (rw k at h)
-
-    pub turn-differs : c ≡ Differs → Turned T n first second poisoned st x s t d m d' m' (Ok (None, with_used st u))
-    unfolding turn_of member_of
-    turn-differs k = turned (rw k at h)

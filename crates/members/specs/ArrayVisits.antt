@@ -47,7 +47,8 @@ leads_as : {o : Beginning} {m : Walk Answer} (m' : Walk Answer) {r w : ℕ} {st 
 leads_as m' e l = record { onto = λ b' v x. l.onto b' v (record { step = e ∙ x.step; keeps = x.keeps }) }
 
 -- what a visit asks for holds again after a turn
-turn_passes : {T : Texts} {image places words : List ℕ} {r w : ℕ} {st st₁ : State} {b b₁ : Lent} (n : ℕ) (span : Span) {first second : Answer} (poisoned : Bool) {q : Option Bool} → Ready T image places words r w st b
+turn_passes : {T : Texts} {image places words : List ℕ} {r w : ℕ} {st st₁ : State} {b b₁ : Lent} (n : ℕ) (span : Span) {first second : Answer} (poisoned : Bool) {q : Option Bool}
+    → Ready T image places words r w st b
     → AnswerOk (walk_run T image words) (whole words st b) first → AnswerOk (walk_run T image words) (whole words st b) second
     → Visits (member_turn (ctx_in T image words) n span first second poisoned) 0 0 words st b b₁ (Ok (q, st₁)) → Passes T image words (Any (walk_run T image words)) 0 0 st b st₁ b₁ q
 unfolding member_turn
@@ -68,7 +69,8 @@ array_from T image words n st b = record { rule = node (ctx_in T image words) (t
 
 -- `left` members from word `place` on, after a first one that answered
 pub record Turning (T : Texts) (image places words : List ℕ) (n slot place left : ℕ) (st₀ : State) (b₀ : Lent) (first : Answer) (poisoned : Bool) (st : State) (b : Lent) : Type 0 where
-  pub leads : Leads (array_from T image words n st₀ b₀) (members (ctx_in T image words) n slot first poisoned (nodes_at image place left)) (rooms (nodes_at image place left)) (rows_all (nodes_at image place left)) st b
+  pub leads : Leads (array_from T image words n st₀ b₀) (members (ctx_in T image words) n slot first poisoned (nodes_at image place left)) (rooms (nodes_at image place left))
+      (rows_all (nodes_at image place left)) st b
   pub ready : Ready T image places words (rooms (nodes_at image place left)) (rows_all (nodes_at image place left)) st b
   pub fresh : Fresh (visited_among (nodes_at image place left)) b.slots
   pub answer : AnswerOk (walk_run T image words) (whole words st b) first
@@ -101,7 +103,8 @@ module _ {T : Texts} {image places words : List ℕ} {n slot place left : ℕ} {
     abbrev rest-after : Answer → Walk Answer
     rest-after a = ◌>>=◌ (member_turn (ctx_in T image words) n (span_of (tree_of image part)) first a poisoned) (rest_of (ctx_in T image words) n slot first poisoned others)
 
-    member-leads : Leads (array_from T image words n st₀ b₀) (◌>>=◌ (node (ctx_in T image words) (tree_of image part)) rest-after) (room (tree_of image part) + rooms others) (rows (tree_of image part) + rows_all others) st b
+    member-leads : Leads (array_from T image words n st₀ b₀) (◌>>=◌ (node (ctx_in T image words) (tree_of image part)) rest-after) (room (tree_of image part) + rooms others)
+        (rows (tree_of image part) + rows_all others) st b
     unfolding rooms rows_all
     member-leads =
         leads_as (◌>>=◌ (node (ctx_in T image words) (tree_of image part)) rest-after)
@@ -142,7 +145,8 @@ module _ {T : Texts} {image places words : List ℕ} {n slot place left : ℕ} {
             record {
               leads = leads-then members-after turn-leads z;
               ready = ready-step ready₁ turned;
-              fresh = fresh-rest [] _ (fresh-rest _ _ member-fresh (visit-apart (ctx_in T image words) (tree_of image part) x)) (turn-apart T image n (span_of (tree_of image part)) first a poisoned z);
+              fresh = fresh-rest [] _ (fresh-rest _ _ member-fresh (visit-apart (ctx_in T image words) (tree_of image part) x))
+                  (turn-apart T image n (span_of (tree_of image part)) first a poisoned z);
               answer = passes_answer turned (passes_answer passed t.answer);
             }
 
@@ -154,20 +158,25 @@ pub none_left_lem : {i count : ℕ} → count ≤ i → count - i ≡ 0
 none_left_lem h = omega arith
 
 -- What a loop over the members keeps, whose turn i is: wherever the members before led to at its start, those so far lead to here.
-pub record Turned (T : Texts) (image places words : List ℕ) (n slot q count : ℕ) (first : Answer) (i₀ : ℕ) (poisoned₀ : Bool) (st₀ : State) (b₀ : Lent) (i : ℕ) (poisoned : Bool) (st : State) (b : Lent) : Type 0 where
-  pub on : (o : State) (b' : Lent) → Turning T image places words n slot (q + i₀) (count - i₀) o b' first poisoned₀ st₀ b₀ → Turning T image places words n slot (q + i) (count - i) o b' first poisoned st b
+pub record Turned (T : Texts) (image places words : List ℕ) (n slot q count : ℕ) (first : Answer) (i₀ : ℕ) (poisoned₀ : Bool) (st₀ : State) (b₀ : Lent) (i : ℕ) (poisoned : Bool) (st : State)
+    (b : Lent) : Type 0 where
+  pub on : (o : State) (b' : Lent) → Turning T image places words n slot (q + i₀) (count - i₀) o b' first poisoned₀ st₀ b₀
+      → Turning T image places words n slot (q + i) (count - i) o b' first poisoned st b
 
 module _ {T : Texts} {image places words : List ℕ} {n slot q count : ℕ} {first : Answer} {i₀ : ℕ} {poisoned₀ : Bool} {st₀ : State} {b₀ : Lent} where
   pub turned-start : Turned T image places words n slot q count first i₀ poisoned₀ st₀ b₀ i₀ poisoned₀ st₀ b₀
   turned-start = record { on = λ o b' t. t }
 
-  module _ {i : ℕ} {poisoned : Bool} {st : State} {b : Lent} (t : Turned T image places words n slot q count first i₀ poisoned₀ st₀ b₀ i poisoned st b) (h : i < count) {part : ℕ} (ep : part ≡ get_or image (q + i) 0)
+  module _ {i : ℕ} {poisoned : Bool} {st : State} {b : Lent} (t : Turned T image places words n slot q count first i₀ poisoned₀ st₀ b₀ i poisoned st b) (h : i < count) {part : ℕ}
+      (ep : part ≡ get_or image (q + i) 0)
       {b₁ : Lent} (below : part < node_count image) {a : Answer} {st₁ : State} (x : NodeVisited T image words part st b b₁ (Ok (a, st₁))) {b₂ : Lent} where
-    pub turned-next : {p : Bool} {st₂ : State} {o : Option Bool} → Visits (member_turn (ctx_in T image words) n (span_of (tree_of image part)) first a poisoned) 0 0 words st₁ b₁ b₂ (Ok (o, st₂)) → o ≡ Some p
+    pub turned-next : {p : Bool} {st₂ : State} {o : Option Bool} → Visits (member_turn (ctx_in T image words) n (span_of (tree_of image part)) first a poisoned) 0 0 words st₁ b₁ b₂ (Ok (o, st₂))
+        → o ≡ Some p
         → Turned T image places words n slot q count first i₀ poisoned₀ st₀ b₀ (i + 1) p st₂ b₂
     turned-next {p} {st₂} z is = record { on = λ o b' s. again (member-passed (t.on o b' s) (some_left h) ep below x (rw is at z)) }
       where
-        again : {o : State} {b' : Lent} → Turning T image places words n slot (q + i + 1) (count - i - 1) o b' first p st₂ b₂ → Turning T image places words n slot (q + (i + 1)) (count - (i + 1)) o b' first p st₂ b₂
+        again : {o : State} {b' : Lent} → Turning T image places words n slot (q + i + 1) (count - i - 1) o b' first p st₂ b₂
+            → Turning T image places words n slot (q + (i + 1)) (count - (i + 1)) o b' first p st₂ b₂
         again s =
             let f : q + (i + 1) ≡ q + i + 1 = omega arith in
             let g : count - (i + 1) ≡ count - i - 1 = omega arith in
@@ -250,7 +259,8 @@ module _ {T : Texts} {image places words : List ℕ} {n : ℕ} {st : State} {b :
     abbrev after-first : Answer → Walk Answer
     after-first first = members (ctx_in T image words) n (get_or image (at + 1) 0) first false rest
 
-    first-leads : Leads (array_from T image words n st b) (◌>>=◌ (node (ctx_in T image words) (tree_of image part)) after-first) (room (tree_of image part) + rooms rest) (rows (tree_of image part) + rows_all rest) st b
+    first-leads : Leads (array_from T image words n st b) (◌>>=◌ (node (ctx_in T image words) (tree_of image part)) after-first) (room (tree_of image part) + rooms rest)
+        (rows (tree_of image part) + rows_all rest) st b
     unfolding node array room rows
     first-leads = record { onto = λ b' v x. rw tree-first (record { step = x.step; keeps = x.keeps }) }
 

@@ -8,7 +8,9 @@ use Rattle.ast.specs.Span.{span_of}
 use Rattle.rules.specs.declared.Answer.{Answer}
 use Rattle.rules.specs.declared.Answer.TheVariants.{Poison}
 use Rattle.rules.specs.World.{Ctx, World, Walk}
-use Rattle.rules.specs.Rules.{Member, alike, silent, differs, member, go_on, node, members}
+use Rattle.rules.specs.declared.Member.{Member}
+use Rattle.rules.specs.declared.Member.TheVariants.{Alike as alike, Silent as silent, Differs as differs}
+use Rattle.rules.specs.Rules.{member, go_on, node, members}
 
 -- "a member that differs ends the array's visits"; else whether one is poisoned so far
 unfoldable pub turn_of : Member → (poisoned : Bool) → Option Bool

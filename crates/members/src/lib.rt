@@ -18,9 +18,8 @@ ghost use Rattle.visit.specs.Within.{Visits};
 ghost use Rattle.members.specs.Turns.{member_turn};
 
 use places::Image;
-use rules::Answer;
+use rules::{Answer, Member};
 use tok::Texts;
-use values::Compared;
 use visit::{State, Visit};
 
 // An array of no members, whose record stands at `at`: 1.
@@ -80,9 +79,9 @@ pub fn member(
         second,
     )?;
     let turn = match compared {
-        Compared::Alike => Some(poisoned),
-        Compared::Silent => Some(true),
-        Compared::Differs => None,
+        Member::Alike => Some(poisoned),
+        Member::Silent => Some(true),
+        Member::Differs => None,
     };
     Ok((turn, State { used: after, ..st }))
 }

@@ -14,7 +14,9 @@ use Rattle.rules.specs.World.{World, Walk}
 use Rattle.rules.specs.Steps.{is_poison}
 use Rattle.rules.specs.Steps as S
 use Rattle.rules.specs.Calls.{callee_of, provided_of}
-use Rattle.rules.specs.Rules.{Member, alike, silent, differs, go_on, Branch, node, block, last, visit_all, cases, values, array, members}
+use Rattle.rules.specs.declared.Member.{Member}
+use Rattle.rules.specs.declared.Member.TheVariants.{Alike as alike, Silent as silent, Differs as differs}
+use Rattle.rules.specs.Rules.{go_on, Branch, node, block, last, visit_all, cases, values, array, members}
 use Rattle.rules.specs.Visited.{visited_below, visited_among, visited_in_cases, visited_in_values, arguments_of, slots_of}
 use Rattle.onerun.specs.Claim.{Run, All, end, and, OfNames, NameAt, Good, Holds, AnswerOk, poison}
 use Rattle.onerun.specs.Claim as C

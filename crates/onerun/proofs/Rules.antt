@@ -17,7 +17,9 @@ use Rattle.rules.specs.declared.Answer.{Answer}
 use Rattle.rules.specs.declared.Answer.TheVariants.{Known, Poison}
 use Rattle.rules.specs.World.{World}
 use Rattle.rules.specs.Steps.{on_option, set_known, ty, tree, ty_tree}
-use Rattle.rules.specs.Rules.{ident, let_binding, field_type, field, value_type, Member, alike, silent, differs, member_types, member, array_of, condition, Branch, compare_branches, matched, import_one, import_all}
+use Rattle.rules.specs.declared.Member.{Member}
+use Rattle.rules.specs.declared.Member.TheVariants.{Alike as alike, Silent as silent, Differs as differs}
+use Rattle.rules.specs.Rules.{ident, let_binding, field_type, field, value_type, member_types, member, array_of, condition, Branch, compare_branches, matched, import_one, import_all}
 use Rattle.tworuns.specs.Means.{Means}
 use Rattle.tworuns.specs.Means as M
 use Rattle.onerun.specs.Claim.{Run, All, end, and, OfNames, NameAt, Fine, flat, Good, Bound, poisoned, bound, Recorded, Holds, AnswerOk, poison}

@@ -70,7 +70,8 @@ module _ (image : List ℕ) (n at : ℕ) (st : State) {expr : ℕ} (ee : expr �
 -- ── One operand ──
 
 -- the same rule, in the same room
-visits_as : {rule rule' : Walk Answer} {r r' : ℕ} {words : List ℕ} {st : State} {b b' : Lent} {x : Visit Answer} → rule ≡ rule' → r ≡ r' → Visits rule' r' 0 words st b b' x → Visits rule r 0 words st b b' x
+visits_as : {rule rule' : Walk Answer} {r r' : ℕ} {words : List ℕ} {st : State} {b b' : Lent} {x : Visit Answer} → rule ≡ rule' → r ≡ r' → Visits rule' r' 0 words st b b' x
+    → Visits rule r 0 words st b b' x
 visits_as e f p = rw (e, f) p
 
 kind-there : (image : List ℕ) (at : ℕ) {h k : ℕ} → h ≡ get_or image at 0 → k ≡ kind_of h → k ≡ record_kind image at
@@ -117,5 +118,6 @@ module _ (T : Texts) (image : List ℕ) (n at : ℕ) (st : State) (answer : Answ
       ]
 
 -- a Let's name can be bound
-pub let_binds : {image : List ℕ} {at : ℕ} {st : State} {e : List ℕ} {h k name : ℕ} → OneReady image at st e → h ≡ get_or image at 0 → k ≡ kind_of h → k ≡ 4 → name ≡ get_or image (at + 2) 0 → Bindable st e name
+pub let_binds : {image : List ℕ} {at : ℕ} {st : State} {e : List ℕ} {h k name : ℕ} → OneReady image at st e → h ≡ get_or image at 0 → k ≡ kind_of h → k ≡ 4 → name ≡ get_or image (at + 2) 0
+    → Bindable st e name
 let_binds {image} {at} r eh ek q en = rw en (r.binds (sym (kind-there image at eh ek) ∙ q))

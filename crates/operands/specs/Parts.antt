@@ -45,7 +45,8 @@ module _ (c : Ctx) (go : ℕ → Node) (image : List ℕ) (n at : ℕ) where
   abbrev pub one_rule : Walk Answer
   one_rule = ◌>>=◌ (node c (go (operand_at image at))) (λ a. one_end c image n at a)
 
-  unary-parts : (w : World) → node c (read_unary go image n at) w ≡ ◌>>=◌ (node c (go (word_at image (at + 4)))) (λ a. known a (λ i. unary c n (word_at image (at + 1)) (word_at image (at + 2)) (word_at image (at + 3)) i)) w
+  unary-parts : (w : World) → node c (read_unary go image n at) w ≡ ◌>>=◌ (node c (go (word_at image (at + 4))))
+      (λ a. known a (λ i. unary c n (word_at image (at + 1)) (word_at image (at + 2)) (word_at image (at + 3)) i)) w
   unfolding node
   unary-parts w = refl
 

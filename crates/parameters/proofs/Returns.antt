@@ -39,7 +39,8 @@ use Rattle.parameters.specs.Arguments.{ArgumentReady, ArgumentsReady, argument-t
 -- ── One argument ──
 
 module _ {image places e : List ℕ} {st : State} (n slot at : ℕ) (h : ArgumentReady image places st e at) {name t : ℕ} (en : name ≡ get_or image at 0) (et : t ≡ get_or image (at + 1) 0)
-    (a : Added) {types types' : List ℕ} (p : (T : Texts) (n : ℕ) → type_from T n (type_of image t) (buffer types st.used.types) ≡ result_of n a types') {r : Step ℕ} (er : r ≡ added_of n st.used a) where
+    (a : Added) {types types' : List ℕ} (p : (T : Texts) (n : ℕ) → type_from T n (type_of image t) (buffer types st.used.types) ≡ result_of n a types') {r : Step ℕ}
+    (er : r ≡ added_of n st.used a) where
   typed : (T : Texts) (ls : List Package) (v : ℕ) (s d m : List ℕ) → Steps (type_from_expr (ctx T ls v) n (type_of image (get_or image (at + 1) 0))) s types d m st.used s types' d m r
   typed T ls v s d m = rw (er, ← et) (type-steps _ a p T ls v n s d m)
 
@@ -89,7 +90,8 @@ went (goes x) = x
 depth-of : {k : ℕ} {d : Done} {st st' : State} → Deeper k st (Ok (d, st')) → st'.names.depth ≡ st.names.depth + k
 depth-of (P.deeper e) = e
 
-append-ok : (c : Ctx) (n slot : ℕ) (xs ys : List Arg) (w : World) {ps : List Param} {w₁ : World} → fn_arguments c n slot xs w ≡ ok ps w₁ → fn_arguments c n slot (xs ++ ys) w ≡ others c n (slot + length xs) ys ps w₁
+append-ok : (c : Ctx) (n slot : ℕ) (xs ys : List Arg) (w : World) {ps : List Param} {w₁ : World} → fn_arguments c n slot xs w ≡ ok ps w₁
+    → fn_arguments c n slot (xs ++ ys) w ≡ others c n (slot + length xs) ys ps w₁
 append-ok c n slot xs ys w e = args-append c n ys xs slot w ∙ rw e refl
 
 append-stop : (c : Ctx) (n slot : ℕ) (xs ys : List Arg) (w : World) {x : Refusal} → fn_arguments c n slot xs w ≡ refused x → fn_arguments c n slot (xs ++ ys) w ≡ refused x
@@ -170,7 +172,9 @@ module _ {image places : List ℕ} {n slot at count k : ℕ} {st₀ : State} {s�
               step =
                   ap (λ y. fn_arguments c n slot y w₀) (args-split image at k 1)
                   ∙ append-ok c n slot (args_from image at k) _ w₀ q.visits.step
-                  ∙ rw (length-args image at k, x.visits.step) (ap (λ ps. ok ps (whole words st' (lent s' f t' d m e' o))) (ap (λ b. params_from e (top st₀) k ++ params_from e' b 1) u ∙ ap (λ ps. ps ++ params_from e' (top st₀ + 2 * k) 1) g ∙ sym (params-split e' (top st₀) k 1)));
+                  ∙ rw (length-args image at k, x.visits.step)
+                  (ap (λ ps. ok ps (whole words st' (lent s' f t' d m e' o)))
+                  (ap (λ b. params_from e (top st₀) k ++ params_from e' b 1) u ∙ ap (λ ps. ps ++ params_from e' (top st₀ + 2 * k) 1) g ∙ sym (params-split e' (top st₀) k 1)));
               keeps = goes (within-most (within-then y z) (omega arith) (omega arith));
             };
             names = P.deeper {st' = st'} (omega (arith, depth-of q.names, depth-of x.names));

@@ -122,7 +122,8 @@ module _ (c : Ctx) (n : ℕ) (ys : List Arg) where
       → ((w : World) → fn_arguments c n (slot + 1) (xs ++ ys) w ≡ next (fn_arguments c n (slot + 1) xs w) (λ ps. others c n (slot + 1 + length xs) ys ps))
       → (r : Result World Refusal ℕ)
       → next r (λ t. λ w. next (set_known slot t w) (λ _. λ w. next (env_insert a.name (some t) w) (λ _. λ w. next (fn_arguments c n (slot + 1) (xs ++ ys) w) (λ ps. return (param a.name t ∷ ps)))))
-      ≡ next (next r (λ t. λ w. next (set_known slot t w) (λ _. λ w. next (env_insert a.name (some t) w) (λ _. λ w. next (fn_arguments c n (slot + 1) xs w) (λ ps. return (param a.name t ∷ ps)))))) (λ ps. others c n (slot + 1 + length xs) ys ps)
+      ≡ next (next r (λ t. λ w. next (set_known slot t w) (λ _. λ w. next (env_insert a.name (some t) w) (λ _. λ w. next (fn_arguments c n (slot + 1) xs w) (λ ps. return (param a.name t ∷ ps))))))
+      (λ ps. others c n (slot + 1 + length xs) ys ps)
   unfolding set_known env_insert
   typed a xs slot ih (refused x) = refl
   typed a xs slot ih (ok t w) = rw ih (consed (param a.name t) (slot + 1 + length xs) (fn_arguments c n (slot + 1) xs _))

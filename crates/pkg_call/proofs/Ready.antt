@@ -2,6 +2,7 @@
 use Prim.Native.Nat.{ℕ, zero, suc, ◌+◌, ◌-◌, ◌≤◌, min}
 use mathlib.Core.Path.{◌≡◌, refl, sym, ap, subst, ◌∙◌}
 use mathlib.Core.Bool.{Bool, true, false, true≢false}
+use Rattle.std.specs.Prelude.{Some, Option as Found}
 use mathlib.Core.Option.{Option, none, some}
 use mathlib.Core.List.{List, [], ◌∷◌}
 use native.Mathlib.Omega.{arith}
@@ -151,9 +152,9 @@ module _ {texts : Texts} {image places words scratch : List ℕ} {held packages 
   pub held-near : held_end scratch held packages ≤ 16384
   held-near = omega (arith, h.ends, reach-end scratch packages held)
 
-  module _ (pkg : ℕ) (found : F.Held) (e : held_of words scratch found ≡ find_package texts (name_bytes texts pkg) (held_from words scratch held packages)) where
+  module _ (pkg : ℕ) (found : Found F.Held) (e : held_of words scratch found ≡ find_package texts (name_bytes texts pkg) (held_from words scratch held packages)) where
     bound : Of (PackageBinds texts types used) (held_of words scratch found)
     bound = subst (Of (PackageBinds texts types used)) (sym e) (found-every (PackageBinds texts types used) texts (name_bytes texts pkg) (held_from words scratch held packages) h.bind)
 
-    pub library-ready : {at : ℕ} → found ≡ H.Library at → LibraryReady texts image places words scratch top n at args count slots types used
+    pub library-ready : {at : ℕ} → found ≡ Some (H.Library at) → LibraryReady texts image places words scratch top n at args count slots types used
     library-ready o = record { ready = h.ready; bind = rw o at bound }

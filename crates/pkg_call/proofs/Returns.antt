@@ -1,5 +1,5 @@
 -- A call of a package's function, one law for each way out of the code. Assumes nothing.
-use Rattle.std.specs.Prelude.{Option as Found}
+use Rattle.std.specs.Prelude.{Option as Found, Some, None}
 use Prim.Native.Nat.{ℕ, ◌≤◌}
 use mathlib.Core.Path.{◌≡◌, refl, sym, ap, subst, ◌∙◌}
 use mathlib.Core.Bool.{Bool, true, false}
@@ -73,9 +73,9 @@ module _ {texts : Texts} {n slot pkg name : ℕ} {given : List Provided} {poison
 
 -- ── Into the packages held ──
 
-module _ {texts : Texts} {n slot pkg name : ℕ} {given : List Provided} {poisoned : Bool} {words : List ℕ} {held packages : ℕ} {e s t d m : List ℕ} {u : Used} (found : F.Held)
+module _ {texts : Texts} {n slot pkg name : ℕ} {given : List Provided} {poisoned : Bool} {words : List ℕ} {held packages : ℕ} {e s t d m : List ℕ} {u : Used} (found : Found F.Held)
     (q : held_of words e found ≡ find_package texts (name_bytes texts pkg) (held_from words e held packages)) where
-  pub no_package : {d' m' : List ℕ} {x : Found Counts} {r : Step Answer} → found ≡ H.Nothing → Reports (missing_package pkg (name_bytes texts pkg)) d m u.told d' m' x → r ≡ told_of n u x Poison
+  pub no_package : {d' m' : List ℕ} {x : Found Counts} {r : Step Answer} → found ≡ None → Reports (missing_package pkg (name_bytes texts pkg)) d m u.told d' m' x → r ≡ told_of n u x Poison
       → HeldCalls texts n slot pkg name given poisoned words held packages e s t d m u e s t d' m' r
   unfolding resolve_pkg_call on_option
   no_package o p w = record {
@@ -94,11 +94,11 @@ module _ {texts : Texts} {n slot pkg name : ℕ} {given : List Provided} {poison
       low = l;
     }
 
-    pub library-held : {at : ℕ} {e' : List ℕ} → found ≡ H.Library at → LibraryCalls texts n slot pkg name given poisoned (package_at words at) e s t d m u e' s' t' d' m' r
+    pub library-held : {at : ℕ} {e' : List ℕ} → found ≡ Some (H.Library at) → LibraryCalls texts n slot pkg name given poisoned (package_at words at) e s t d m u e' s' t' d' m' r
         → HeldCalls texts n slot pkg name given poisoned words held packages e s t d m u e' s' t' d' m' r
     library-held {at} o c = in_package (package_at words at) (ap (held_of words e) o) c.call c.low
 
-    pub extern-held : {at : ℕ} → found ≡ H.Extern at
+    pub extern-held : {at : ℕ} → found ≡ Some (H.Extern at)
         → InGroup texts n slot pkg name given poisoned (group_of texts (name_bytes texts name) (extern_at e at).functions) s t d m u s' t' d' m' r
         → HeldCalls texts n slot pkg name given poisoned words held packages e s t d m u e s' t' d' m' r
     extern-held {at} o c = in_package (extern_at e at) (ap (held_of words e) o) c (record { same = refl })

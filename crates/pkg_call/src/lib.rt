@@ -168,8 +168,7 @@ fn in_held(
         scratch.new slots.new types.new diagnostics.new messages.new result }
 {
     let used = st.used;
-    let found = scope::find_held(texts, library, &scratch[..], st.held, st.packages, call.pkg);
-    match found {
+    match scope::find_held(texts, library, &scratch[..], st.held, st.packages, call.pkg) {
         Some(Held::Library(at)) => in_library(
             slots,
             types,

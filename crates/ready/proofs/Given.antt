@@ -71,7 +71,8 @@ scratch-long i b e = by (ltb (length b.scratch) scratch_words) refl _ e
 module _ (i : Inputs) (b : Buffers) (e : refusal_of i b ≡ none) where
   -- Where the pool was copied and every type of the library measured, the claim holds.
   start-holds : (u : Used) (b' : Lent)
-      → next (copy_pool (node_count i.image) (pool_of i.library) (start_of i b)) (λ _. measure (ctx (texts_in i) (packages_of i.library) (slot_count i.image)) (node_count i.image) (library_types i.library))
+      → next (copy_pool (node_count i.image) (pool_of i.library) (start_of i b))
+      (λ _. measure (ctx (texts_in i) (packages_of i.library) (slot_count i.image)) (node_count i.image) (library_types i.library))
       ≡ ok tt (whole i.library (start_state u) b')
       → Holds (walk_run (texts_in i) i.image i.library) (whole i.library (start_state u) b')
   unfolding TypeOf
@@ -83,7 +84,8 @@ module _ (i : Inputs) (b : Buffers) (e : refusal_of i b ≡ none) where
 
   -- THE LAW of the beginning: what the roots' visit asks for, in buffers as long as the lent ones
   pub ready-start : (u : Used) (b' : Lent)
-      → next (copy_pool (node_count i.image) (pool_of i.library) (start_of i b)) (λ _. measure (ctx (texts_in i) (packages_of i.library) (slot_count i.image)) (node_count i.image) (library_types i.library))
+      → next (copy_pool (node_count i.image) (pool_of i.library) (start_of i b))
+      (λ _. measure (ctx (texts_in i) (packages_of i.library) (slot_count i.image)) (node_count i.image) (library_types i.library))
       ≡ ok tt (whole i.library (start_state u) b')
       → length b'.functions ≡ length b.functions → length b'.scratch ≡ length b.scratch
       → Ready (texts_in i) i.image (places_of i.image) i.library (rooms (roots_of i.image)) (rows_all (roots_of i.image)) (start_state u) b'

@@ -46,7 +46,8 @@ use Rattle.ready.specs.Passes.{Passes, visit_passes}
 
 module _ {T : Texts} {image places words : List ℕ} (given : Given T image places words) where
   -- k nodes from word `at` on, numbered below `owner`: roots are below the node count
-  pub list-proper : (owner : ℕ) → owner ≤ node_count image → (k at : ℕ) → Each (Under owner image) 1 at k → ProperAll (Below (walk_run T image words)) (NameAt (walk_run T image words)) (nodes_from (tree_of image) image at k)
+  pub list-proper : (owner : ℕ) → owner ≤ node_count image → (k at : ℕ) → Each (Under owner image) 1 at k
+      → ProperAll (Below (walk_run T image words)) (NameAt (walk_run T image words)) (nodes_from (tree_of image) image at k)
   unfolding ProperAll nodes_from
   list-proper owner l zero at e = tt
   list-proper owner l (suc k) at e =
@@ -76,40 +77,52 @@ fn-proper {T} {image} {places} {words} given {n} {m} {slot} {name} {ret} {args} 
 -- ── What is claimed of a rule ──
 
 module _ {T : Texts} {image places words : List ℕ} {r w : ℕ} {st : State} {b : Lent} (y : Ready T image places words r w st b) where
-  pub node-gives : {n : ℕ} → n < node_count image → Gives (walk_run T image words) (Visited (walk_run T image words) (tree_of image n)) (whole words st b) (node (ctx T (packages_of words) (slot_count image)) (tree_of image n) (whole words st b))
+  pub node-gives : {n : ℕ} → n < node_count image
+      → Gives (walk_run T image words) (Visited (walk_run T image words) (tree_of image n)) (whole words st b)
+      (node (ctx T (packages_of words) (slot_count image)) (tree_of image n) (whole words st b))
   node-gives {n} l = g_node (walk_run T image words) (tree_of image n) (y.given.proper n l) (λ z. y.holds)
 
-  pub block-gives : (xs : Nodes) → ProperAll (Below (walk_run T image words)) (NameAt (walk_run T image words)) xs → Gives (walk_run T image words) (BlockOk (walk_run T image words) (visited_among xs)) (whole words st b) (block (ctx T (packages_of words) (slot_count image)) xs (whole words st b))
+  pub block-gives : (xs : Nodes) → ProperAll (Below (walk_run T image words)) (NameAt (walk_run T image words)) xs
+      → Gives (walk_run T image words) (BlockOk (walk_run T image words) (visited_among xs)) (whole words st b) (block (ctx T (packages_of words) (slot_count image)) xs (whole words st b))
   block-gives xs p = g_block (walk_run T image words) xs p (λ z. y.holds)
 
   pub last-gives : (xs : Nodes) {a : Answer} → ProperAll (Below (walk_run T image words)) (NameAt (walk_run T image words)) xs → AnswerOk (walk_run T image words) (whole words st b) a
       → Gives (walk_run T image words) (BlockOk (walk_run T image words) (visited_among xs)) (whole words st b) (last (ctx T (packages_of words) (slot_count image)) a xs (whole words st b))
   last-gives xs p k = g_last (walk_run T image words) xs p (λ z. y.holds) (λ z. k)
 
-  pub all-gives : (xs : Nodes) → ProperAll (Below (walk_run T image words)) (NameAt (walk_run T image words)) xs → Gives (walk_run T image words) (ArgumentsOk (walk_run T image words) xs) (whole words st b) (visit_all (ctx T (packages_of words) (slot_count image)) xs (whole words st b))
+  pub all-gives : (xs : Nodes) → ProperAll (Below (walk_run T image words)) (NameAt (walk_run T image words)) xs
+      → Gives (walk_run T image words) (ArgumentsOk (walk_run T image words) xs) (whole words st b) (visit_all (ctx T (packages_of words) (slot_count image)) xs (whole words st b))
   all-gives xs p = g_all (walk_run T image words) xs p (λ z. y.holds)
 
-  pub condition-gives : (n token : ℕ) {a : Answer} → AnswerOk (walk_run T image words) (whole words st b) a → Gives (walk_run T image words) (Any (walk_run T image words)) (whole words st b) (condition (ctx T (packages_of words) (slot_count image)) n token a (whole words st b))
+  pub condition-gives : (n token : ℕ) {a : Answer} → AnswerOk (walk_run T image words) (whole words st b) a
+      → Gives (walk_run T image words) (Any (walk_run T image words)) (whole words st b) (condition (ctx T (packages_of words) (slot_count image)) n token a (whole words st b))
   condition-gives n token k = g_condition (walk_run T image words) (λ z. y.holds) n token (λ z. k)
 
   pub member-gives : (n : ℕ) (span : Span) {a x : Answer} → AnswerOk (walk_run T image words) (whole words st b) a → AnswerOk (walk_run T image words) (whole words st b) x
       → Gives (walk_run T image words) (λ _ m. MemberOk (walk_run T image words) m) (whole words st b) (member (ctx T (packages_of words) (slot_count image)) n span a x (whole words st b))
   member-gives n span k l = g_member (walk_run T image words) n span (λ z. y.holds) (λ z. k) (λ z. l)
 
-  pub value-gives : {a : Answer} → AnswerOk (walk_run T image words) (whole words st b) a → Gives (walk_run T image words) (λ u x. Good (walk_run T image words) u.types x) (whole words st b) (value_type a (whole words st b))
+  pub value-gives : {a : Answer} → AnswerOk (walk_run T image words) (whole words st b) a
+      → Gives (walk_run T image words) (λ u x. Good (walk_run T image words) u.types x) (whole words st b) (value_type a (whole words st b))
   value-gives k = g_value (walk_run T image words) (λ z. y.holds) (λ z. k)
 
-  pub type-gives : (n t : ℕ) → t < type_count image → Gives (walk_run T image words) (λ u x. Good (walk_run T image words) u.types x) (whole words st b) (type_from_expr (ctx T (packages_of words) (slot_count image)) n (type_of image t) (whole words st b))
+  pub type-gives : (n t : ℕ) → t < type_count image
+      → Gives (walk_run T image words) (λ u x. Good (walk_run T image words) u.types x) (whole words st b)
+      (type_from_expr (ctx T (packages_of words) (slot_count image)) n (type_of image t) (whole words st b))
   type-gives n t l = g_type_from (walk_run T image words) n (type_of image t) (y.given.types t l) (λ z. y.holds)
 
   -- Node::Fn up to its body, in the state that hides the names outside
   pub begin-gives : (n slot name : ℕ) (ret : TypeExpr) (args : List Arg) (body : Nodes) → FnProper T image words slot ret args body
-      → Gives (walk_run T image words) (λ u x. Good (walk_run T image words) u.types x) (whole words st b) (fn_begin (ctx T (packages_of words) (slot_count image)) n (slot + 1) name ret args (whole words st b))
+      → Gives (walk_run T image words) (λ u x. Good (walk_run T image words) u.types x) (whole words st b)
+      (fn_begin (ctx T (packages_of words) (slot_count image)) n (slot + 1) name ret args (whole words st b))
   unfolding fn_begin
   begin-gives n slot name ret args body p =
       g_next (walk_run T image words) _ (g_fn_arguments (walk_run T image words) n (slot + 1) args p.args p.slots (λ z. y.holds)) (λ ps u₁ t₁ x₁.
       g_next (walk_run T image words) _ (g_type_from (walk_run T image words) n ret p.ret (λ z. (x₁ z).holds)) (λ word u₂ t₂ x₂.
-      g_next (walk_run T image words) _ (g_enter (walk_run T image words) name ps word (λ z. (x₂ z).holds) (λ z. record { sig = signature-ok (walk_run T image words) (params_grow (walk_run T image words) (x₂ z).grown (x₁ (before (walk_run T image words) t₂ z)).value.params) (x₂ z).value })) (λ _ u₃ t₃ x₃.
+      g_next (walk_run T image words) _
+      (g_enter (walk_run T image words) name ps word (λ z. (x₂ z).holds)
+      (λ z. record { sig = signature-ok (walk_run T image words) (params_grow (walk_run T image words) (x₂ z).grown (x₁ (before (walk_run T image words) t₂ z)).value.params) (x₂ z).value }))
+      (λ _ u₃ t₃ x₃.
       g_return (walk_run T image words) (λ z. (x₃ z).holds) (λ z. typed_grow (walk_run T image words) (x₃ z).grown (x₂ (before (walk_run T image words) t₃ z)).value))))
 
   -- ── After a function of the walk ──
@@ -125,7 +138,8 @@ module _ {T : Texts} {image places words : List ℕ} {r w : ℕ} {st : State} {b
       → Passes T image words (BlockOk (walk_run T image words) (visited_among (nodes_from (tree_of image) image at k))) r₁ w₁ st b st₁ b₁ a
   after_block h x = visit_passes x (block-gives _ (nodes-proper y.given h))
 
-  pub after_last : {owner at k r₁ w₁ : ℕ} {x₀ : Answer} {b₁ : Lent} {a : Answer} {st₁ : State} → owner ≤ node_count image → Each (Under owner image) 1 at k → AnswerOk (walk_run T image words) (whole words st b) x₀
+  pub after_last : {owner at k r₁ w₁ : ℕ} {x₀ : Answer} {b₁ : Lent} {a : Answer} {st₁ : State} → owner ≤ node_count image → Each (Under owner image) 1 at k
+      → AnswerOk (walk_run T image words) (whole words st b) x₀
       → Visits (last (ctx T (packages_of words) (slot_count image)) x₀ (nodes_from (tree_of image) image at k)) r₁ w₁ words st b b₁ (Ok (a, st₁))
       → Passes T image words (BlockOk (walk_run T image words) (visited_among (nodes_from (tree_of image) image at k))) r₁ w₁ st b st₁ b₁ a
   after_last {owner} {at} {k} l e o x = visit_passes x (last-gives _ (list-proper y.given owner l k at e) o)
@@ -153,7 +167,8 @@ pub node-answer : {T : Texts} {image words : List ℕ} {slot : ℕ} {args : List
     → AnswerOk (walk_run T image words) (whole words st₁ b₁) a
 node-answer p = p.after.value.own.answer
 
-pub block-answer : {T : Texts} {image words : List ℕ} {ys : List Node} {r w : ℕ} {st st₁ : State} {b b₁ : Lent} {a : Answer} → Passes T image words (BlockOk (walk_run T image words) ys) r w st b st₁ b₁ a
+pub block-answer : {T : Texts} {image words : List ℕ} {ys : List Node} {r w : ℕ} {st st₁ : State} {b b₁ : Lent} {a : Answer}
+    → Passes T image words (BlockOk (walk_run T image words) ys) r w st b st₁ b₁ a
     → AnswerOk (walk_run T image words) (whole words st₁ b₁) a
 block-answer p = p.after.value.answer
 

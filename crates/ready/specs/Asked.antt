@@ -83,7 +83,8 @@ module _ {T : Texts} {image places words : List ℕ} {room rows : ℕ} {st : Sta
     can_hold w q l = record { fine = y.given.library; free = free-less y.free l; room = omega (arith, record_room r e, w.long) }
 
     -- Extern
-    pub extern-ready : ExternWords (counts_of r) image n at → {count end : ℕ} → count ≡ get_or image (at + 4) 0 → end ≡ at + record_length image at → extern_words (externs_from image (at + 5) count) ≤ room
+    pub extern-ready : ExternWords (counts_of r) image n at → {count end : ℕ} → count ≡ get_or image (at + 4) 0 → end ≡ at + record_length image at
+        → extern_words (externs_from image (at + 5) count) ≤ room
         → ExternReady image places st b.scratch (at + 5) end count
     extern-ready w ec q l = record {
       functions = record { readable = r.readable; functions = rw (ec, q) w.functions; low = omega (arith, record_room r e) };
@@ -91,7 +92,8 @@ module _ {T : Texts} {image places words : List ℕ} {room rows : ℕ} {st : Sta
     }
 
     -- Fn, of its own slot, argument count and return type
-    pub fn-ready : FnWords (counts_of r) image n at → {slot ret count : ℕ} → slot ≡ get_or image (at + 1) 0 → ret ≡ get_or image (at + 3) 0 → count ≡ get_or image (at + 4) 0 → 2 * count ≤ room → 3 + 2 * count ≤ rows
+    pub fn-ready : FnWords (counts_of r) image n at → {slot ret count : ℕ} → slot ≡ get_or image (at + 1) 0 → ret ≡ get_or image (at + 3) 0 → count ≡ get_or image (at + 4) 0 → 2 * count ≤ room
+        → 3 + 2 * count ≤ rows
         → FnReady image places st b.functions b.scratch (slot + 1) ret (at + 5) count
     fn-ready w es er ec l k = record {
       arguments = record {

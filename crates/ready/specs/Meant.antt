@@ -57,7 +57,8 @@ module _ {types : List ℕ} {used w : ℕ} where
       inside f v (wrapped k) = m f
       inside f v (in_field k i j) = absurd (true≢false (sym h ∙ ap wraps (sym e ∙ k)))
 
-  within_record : kind_of w ≡ 8 → payload_of w + 1 + 2 * field_count types w ≤ used → ((f i : ℕ) → i < field_count types w → Within types used f (field_type types w i)) → (deep : ℕ) → Within types used deep w
+  within_record : kind_of w ≡ 8 → payload_of w + 1 + 2 * field_count types w ≤ used → ((f i : ℕ) → i < field_count types w → Within types used f (field_type types w i)) → (deep : ℕ)
+      → Within types used deep w
   within_record e l m = within_level (record { to_inner = λ h. absurd (true≢false (sym h ∙ ap wraps e)); to_fields = λ _. l }) inside
     where
       inside : (f v : ℕ) → Inside types w v → Within types used f v
@@ -65,7 +66,8 @@ module _ {types : List ℕ} {used w : ℕ} where
       inside f v (in_field h i j) = m f i j
 
   within-named : {k : ℕ} → kind_of w ≡ k → names k ≡ true → (deep : ℕ) → Within types used deep w
-  within-named {k} e h = within_level (record { to_inner = λ (i : wraps (kind_of w) ≡ true). absurd (no_name k (rw e at i) h); to_fields = λ i. absurd (true≢false (sym h ∙ ap names (sym e ∙ i))) }) inside
+  within-named {k} e h = within_level
+      (record { to_inner = λ (i : wraps (kind_of w) ≡ true). absurd (no_name k (rw e at i) h); to_fields = λ i. absurd (true≢false (sym h ∙ ap names (sym e ∙ i))) }) inside
     where
       inside : (f v : ℕ) → Inside types w v → Within types used f v
       inside f v (wrapped i) = absurd (no_name k (rw e at i) h)
@@ -167,7 +169,8 @@ module _ {T : Texts} {image places words : List ℕ} {r w : ℕ} {st : State} {b
           is-meant T image words (y.holds.slots (slot_of (tree_of image n)) (record { other = d; low = omega arith })).is
 
   -- each argument of a call
-  pub arguments-meant : {n args count : ℕ} → NodesReady image places n args count → (i : ℕ) → i < count → Meant T b.types st.used.types (get_or b.slots (slot_of (tree_of image (get_or image (args + i) 0))) 0)
+  pub arguments-meant : {n args count : ℕ} → NodesReady image places n args count → (i : ℕ) → i < count
+      → Meant T b.types st.used.types (get_or b.slots (slot_of (tree_of image (get_or image (args + i) 0))) 0)
   arguments-meant {n} {args} {count} h i l =
       let e : args + 1 * i ≡ args + i = omega arith in
       let u : get_or image (args + i) 0 < n = rw e at (h.nodes.each i l).under in

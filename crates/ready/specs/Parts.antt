@@ -6,7 +6,8 @@ use Rattle.std.proofs.Math.ListN.{get_or}
 use Rattle.tok.specs.Text.{Texts}
 use Rattle.ast.specs.Image.{node_count}
 use Rattle.ast.specs.TypeExpr.{TypeExpr, Arg}
-use Rattle.ast.specs.Node.{Node, Nodes, Cases, Values, ExternFn, Bin, Unary, Let, Fn, Match, Call, Field, Cast, Import, Extern, Record, Array, then, case, value, nodes_from, cases_from, values_from, tree_of}
+use Rattle.ast.specs.Node.{Node, Nodes, Cases, Values, ExternFn, Bin, Unary, Let, Fn, Match, Call, Field, Cast, Import, Extern, Record, Array}
+use Rattle.ast.specs.Node.{then, case, value, nodes_from, cases_from, values_from, tree_of}
 use Rattle.visit.specs.declared.State.{State}
 use Rattle.visit.specs.Whole.{Lent}
 use Rattle.room_laws.specs.Room.{extern_words, room, rooms, case_rooms, value_rooms, call_room, rows, rows_all, case_rows, value_rows}
@@ -89,30 +90,37 @@ module _ (image : List ℕ) (at : ℕ) {k : ℕ} (l : 0 < k) where
 
   pub values-turn : values_from (tree_of image) image at k ≡ value (get_or image at 0) (tree_of image (get_or image (at + 1) 0)) (values_from (tree_of image) image (at + 2) (k - 1))
   unfolding values_from
-  values-turn = one_more (λ j. values_from (tree_of image) image at j) (λ j. value (get_or image at 0) (tree_of image (get_or image (at + 1) 0)) (values_from (tree_of image) image (at + 2) j)) (λ j. refl) k l
+  values-turn = one_more (λ j. values_from (tree_of image) image at j) (λ j. value (get_or image at 0) (tree_of image (get_or image (at + 1) 0)) (values_from (tree_of image) image (at + 2) j))
+      (λ j. refl) k l
 
   pub cases-turn : cases_from (tree_of image) image at k
-      ≡ case (get_or image at 0) (tree_of image (get_or image (at + 1) 0)) (nodes_from (tree_of image) image (at + 3) (get_or image (at + 2) 0)) (cases_from (tree_of image) image (at + 3 + get_or image (at + 2) 0) (k - 1))
+      ≡ case (get_or image at 0) (tree_of image (get_or image (at + 1) 0)) (nodes_from (tree_of image) image (at + 3) (get_or image (at + 2) 0))
+      (cases_from (tree_of image) image (at + 3 + get_or image (at + 2) 0) (k - 1))
   unfolding cases_from
   cases-turn = one_more (λ j. cases_from (tree_of image) image at j)
-      (λ j. case (get_or image at 0) (tree_of image (get_or image (at + 1) 0)) (nodes_from (tree_of image) image (at + 3) (get_or image (at + 2) 0)) (cases_from (tree_of image) image (at + 3 + get_or image (at + 2) 0) j)) (λ j. refl) k l
+      (λ j. case (get_or image at 0) (tree_of image (get_or image (at + 1) 0)) (nodes_from (tree_of image) image (at + 3) (get_or image (at + 2) 0))
+      (cases_from (tree_of image) image (at + 3 + get_or image (at + 2) 0) j)) (λ j. refl) k l
 
 -- The room of a list is that of its first, and of the others.
 module _ {T : Texts} {image places words : List ℕ} {st : State} {b : Lent} (at : ℕ) {k : ℕ} (l : 0 < k) (r w : ℕ) where
   pub nodes-room : Ready T image places words (rooms (nodes_from (tree_of image) image at k) + r) (rows_all (nodes_from (tree_of image) image at k) + w) st b
-      → Ready T image places words (room (tree_of image (get_or image at 0)) + (rooms (nodes_from (tree_of image) image (at + 1) (k - 1)) + r)) (rows (tree_of image (get_or image at 0)) + (rows_all (nodes_from (tree_of image) image (at + 1) (k - 1)) + w)) st b
+      → Ready T image places words (room (tree_of image (get_or image at 0)) + (rooms (nodes_from (tree_of image) image (at + 1) (k - 1)) + r))
+      (rows (tree_of image (get_or image at 0)) + (rows_all (nodes_from (tree_of image) image (at + 1) (k - 1)) + w)) st b
   unfolding room rows
   nodes-room y = ready-less (omega (arith, ap rooms (nodes-turn image at l))) (omega (arith, ap rows_all (nodes-turn image at l))) y
 
   pub values-room : Ready T image places words (value_rooms (values_from (tree_of image) image at k) + r) (value_rows (values_from (tree_of image) image at k) + w) st b
-      → Ready T image places words (room (tree_of image (get_or image (at + 1) 0)) + (value_rooms (values_from (tree_of image) image (at + 2) (k - 1)) + r)) (rows (tree_of image (get_or image (at + 1) 0)) + (value_rows (values_from (tree_of image) image (at + 2) (k - 1)) + w)) st b
+      → Ready T image places words (room (tree_of image (get_or image (at + 1) 0)) + (value_rooms (values_from (tree_of image) image (at + 2) (k - 1)) + r))
+      (rows (tree_of image (get_or image (at + 1) 0)) + (value_rows (values_from (tree_of image) image (at + 2) (k - 1)) + w)) st b
   unfolding room rows
   values-room y = ready-less (omega (arith, ap value_rooms (values-turn image at l))) (omega (arith, ap value_rows (values-turn image at l))) y
 
   -- a case's condition, its body, and the cases after it
   pub cases-room : Ready T image places words (case_rooms (cases_from (tree_of image) image at k) + r) (case_rows (cases_from (tree_of image) image at k) + w) st b
-      → Ready T image places words (room (tree_of image (get_or image (at + 1) 0)) + (rooms (nodes_from (tree_of image) image (at + 3) (get_or image (at + 2) 0)) + (case_rooms (cases_from (tree_of image) image (at + 3 + get_or image (at + 2) 0) (k - 1)) + r)))
-      (rows (tree_of image (get_or image (at + 1) 0)) + (rows_all (nodes_from (tree_of image) image (at + 3) (get_or image (at + 2) 0)) + (case_rows (cases_from (tree_of image) image (at + 3 + get_or image (at + 2) 0) (k - 1)) + w))) st b
+      → Ready T image places words (room (tree_of image (get_or image (at + 1) 0)) +
+      (rooms (nodes_from (tree_of image) image (at + 3) (get_or image (at + 2) 0)) + (case_rooms (cases_from (tree_of image) image (at + 3 + get_or image (at + 2) 0) (k - 1)) + r)))
+      (rows (tree_of image (get_or image (at + 1) 0)) +
+      (rows_all (nodes_from (tree_of image) image (at + 3) (get_or image (at + 2) 0)) + (case_rows (cases_from (tree_of image) image (at + 3 + get_or image (at + 2) 0) (k - 1)) + w))) st b
   unfolding room rows
   cases-room y = ready-less (omega (arith, ap case_rooms (cases-turn image at l))) (omega (arith, ap case_rows (cases-turn image at l))) y
 

@@ -40,7 +40,8 @@ module _ {T : Texts} {image words : List ℕ} {A : Type 0} {Q : World → A → 
   ready-then y p = record { given = y.given; holds = p.after.holds; free = free-then y.free p.within; rows = rows_then y.rows p.within; long = omega (arith, y.long, p.within.scratch) }
 
   -- the same where room is counted in another way
-  pub ready-rest : {places : List ℕ} {r w r₁ w₁ : ℕ} (r₂ w₂ : ℕ) → r₁ + r₂ ≤ r → w₁ + w₂ ≤ w → Ready T image places words r w st b → Passes T image words Q r₁ w₁ st b st₁ b₁ a → Ready T image places words r₂ w₂ st₁ b₁
+  pub ready-rest : {places : List ℕ} {r w r₁ w₁ : ℕ} (r₂ w₂ : ℕ) → r₁ + r₂ ≤ r → w₁ + w₂ ≤ w → Ready T image places words r w st b → Passes T image words Q r₁ w₁ st b st₁ b₁ a
+      → Ready T image places words r₂ w₂ st₁ b₁
   ready-rest r₂ w₂ h k y p = ready-then (ready-less h k y) p
 
   -- and after a step that takes none
@@ -59,7 +60,8 @@ module _ {T : Texts} {image words : List ℕ} {A : Type 0} {Q : World → A → 
     passes_most h k = record { within = within-most p.within h k; after = p.after }
 
     -- one after the other
-    pub passes_then : {B : Type 0} {P : World → B → Type 0} {r₂ w₂ : ℕ} {st₂ : State} {b₂ : Lent} {x : B} → Passes T image words P r₂ w₂ st₁ b₁ st₂ b₂ x → Passes T image words P (r + r₂) (w + w₂) st b st₂ b₂ x
+    pub passes_then : {B : Type 0} {P : World → B → Type 0} {r₂ w₂ : ℕ} {st₂ : State} {b₂ : Lent} {x : B} → Passes T image words P r₂ w₂ st₁ b₁ st₂ b₂ x
+        → Passes T image words P (r + r₂) (w + w₂) st b st₂ b₂ x
     passes_then q = record {
       within = within-then p.within q.within;
       after = record {
@@ -77,7 +79,8 @@ module _ {T : Texts} {image words : List ℕ} {A : Type 0} {Q : World → A → 
   ended_passes : Within r w st b st₁ b₁ → Gives (walk_run T image words) Q (whole words st b) (ok a (whole words st₁ b₁)) → Passes T image words Q r w st b st₁ b₁ a
   ended_passes k (gives t p) = record { within = k; after = p (quiet T image words) }
 
-  pub rule_passes : (m : Walk A) → Gives (walk_run T image words) Q (whole words st b) (m (whole words st b)) → m (whole words st b) ≡ ok a (whole words st₁ b₁) → Within r w st b st₁ b₁ → Passes T image words Q r w st b st₁ b₁ a
+  pub rule_passes : (m : Walk A) → Gives (walk_run T image words) Q (whole words st b) (m (whole words st b)) → m (whole words st b) ≡ ok a (whole words st₁ b₁) → Within r w st b st₁ b₁
+      → Passes T image words Q r w st b st₁ b₁ a
   rule_passes m g e k = ended_passes k (rw e at g)
 
 -- a visit, or another step of the walk

@@ -89,7 +89,8 @@ module _ (image : List ℕ) (at : ℕ) {k : ℕ} (l : 0 < k) {slots : List ℕ} 
   values-fresh h = rw (values-turn image at l) at h
 
   pub cases_fresh : (ys : List Node) → Fresh (visited_in_cases (cases_from (tree_of image) image at k) ++ ys) slots
-      → Fresh ((visited_from (tree_of image (get_or image (at + 1) 0)) ++ visited_among (nodes_from (tree_of image) image (at + 3) (get_or image (at + 2) 0)) ++ visited_in_cases (cases_from (tree_of image) image (at + 3 + get_or image (at + 2) 0) (k - 1))) ++ ys) slots
+      → Fresh ((visited_from (tree_of image (get_or image (at + 1) 0)) ++ visited_among (nodes_from (tree_of image) image (at + 3) (get_or image (at + 2) 0)) ++ visited_in_cases
+      (cases_from (tree_of image) image (at + 3 + get_or image (at + 2) 0) (k - 1))) ++ ys) slots
   unfolding visited_in_cases
   cases_fresh ys h = rw (cases-turn image at l) at h
 

@@ -12,6 +12,8 @@ use Rattle.ast.specs.Node.{Node, Nodes, Cases, Values, ExternFn, Atom, Ident, Bi
 use Rattle.tok.specs.declared.Span.{Span}
 use Rattle.ast.specs.Span.{span_of}
 use Rattle.err.specs.Message.{empty_array, members_differ, no_binding, let_void, defined_already, bad_return, no_record, no_field_of, bad_condition, match_cases, empty_import, no_import}
+use Rattle.rules.specs.declared.Member.{Member}
+use Rattle.rules.specs.declared.Member.TheVariants.{Alike as alike, Silent as silent, Differs as differs}
 use Rattle.rules.specs.declared.Answer.{Answer}
 use Rattle.rules.specs.declared.Answer.TheVariants.{Known, Poison}
 use Rattle.library.specs.Package.{Param, param, signature, Function, function, pkg, find_package, find_function}
@@ -108,9 +110,6 @@ value_type (Known slot) = ty slot
 value_type Poison = return unknown_word
 
 -- Node::Array: what a member after the first is: alike, silent (poisoned, or an Unknown stands in it or in the first), or different
-pub data Member : Type 0 where
-  alike silent differs : Member
-
 unfoldable pub member_types : Ctx → (n : ℕ) → Span → (first member : ℕ) → Walk Member
 member_types c n span first member = do
   f ← ty_tree c first

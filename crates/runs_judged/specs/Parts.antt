@@ -18,7 +18,9 @@ use Rattle.rules.specs.declared.Answer.{Answer}
 use Rattle.rules.specs.declared.Answer.TheVariants.{Known, Poison}
 use Rattle.rules.specs.World.{Ctx, Local, World, Walk, with_env}
 use Rattle.rules.specs.Steps.{Done, skip, if_known, report, ty, tree, ty_tree, on_types, framed, apart}
-use Rattle.rules.specs.Rules.{value_type, Member, alike, silent, differs, member_types, member, go_on, array_of, condition, Branch, compare_branches, matched, visit_all, cases, values}
+use Rattle.rules.specs.declared.Member.{Member}
+use Rattle.rules.specs.declared.Member.TheVariants.{Alike as alike, Silent as silent, Differs as differs}
+use Rattle.rules.specs.Rules.{value_type, member_types, member, go_on, array_of, condition, Branch, compare_branches, matched, visit_all, cases, values}
 use Rattle.rules.specs.Visited.{visited_below, visited_among, visited_in_cases, visited_in_values}
 use Rattle.laws.specs.SlotsOf.{SlotsOf, SlotsOfAll, SlotsOfCases, SlotsOfValues}
 use Rattle.laws.specs.Keeps.{Keeps}

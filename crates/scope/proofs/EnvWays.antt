@@ -48,9 +48,13 @@ module _ {t : Texts} {wanted scratch : List ℕ} {base depth k : ℕ} (h : EnvLe
     unfolding env_get env_up local_at
     first =
         let s : k ≡ suc (k - 1) = omega arith in
-        let e : same_bytes wanted (name_bytes t (local_name (get_or scratch (2 * (base + (k - 1))) 0))) ≡ r = sym (er ∙ ap (same_bytes wanted) (eb ∙ ap (name_bytes t) (en ∙ ap (λ x. local_name x) ew))) in
+        let e : same_bytes wanted (name_bytes t (local_name (get_or scratch (2 * (base + (k - 1))) 0))) ≡ r =
+        sym (er ∙ ap (same_bytes wanted) (eb ∙ ap (name_bytes t) (en ∙ ap (λ x. local_name x) ew))) in
         ap (λ n. env_get t wanted (env_up scratch base n)) s
-        ∙ ap (λ b. elim b [ true ↦ some (local_type (get_or scratch (2 * (base + (k - 1))) 0) (get_or scratch (2 * (base + (k - 1)) + 1) 0)) | false ↦ env_get t wanted (env_up scratch base (k - 1)) ]) e
+        ∙ ap (λ b. elim b [
+          | true ↦ some (local_type (get_or scratch (2 * (base + (k - 1))) 0) (get_or scratch (2 * (base + (k - 1)) + 1) 0))
+          | false ↦ env_get t wanted (env_up scratch base (k - 1))
+        ]) e
         ∙ ap (λ x. elim r [ true ↦ some (local_type x (get_or scratch (2 * (base + (k - 1)) + 1) 0)) | false ↦ env_get t wanted (env_up scratch base (k - 1)) ]) (sym ew)
 
     pub env-poisoned : {q : Bool} → r ≡ true → q ≡ poisoned w → q ≡ true → some none ≡ env_get t wanted (env_up scratch base depth)

@@ -26,7 +26,13 @@ beginning i = do
 
 -- the state before the first root: so many types are used; nothing is in scope, no package is held, no own function is met
 abbrev pub first_state : (pool : ℕ) → State
-first_state pool = record { used = record { types = pool; told = record { diagnostics = 0; bytes = 0 }; kept = record {} }; names = record { base = 0; depth = 0 }; held = 8192; packages = 0; functions = 0 }
+first_state pool = record {
+  used = record { types = pool; told = record { diagnostics = 0; bytes = 0 }; kept = record {} };
+  names = record { base = 0; depth = 0 };
+  held = 8192;
+  packages = 0;
+  functions = 0;
+}
 
 -- "The types buffer begins with the library pool": where it fits
 unfoldable pub with_pool : (pool types : List ℕ) → List ℕ
@@ -34,7 +40,8 @@ with_pool pool types = cond (leb (length pool) (min (length types) 8192)) (write
 
 -- Slots s and types t came in, s' and t' are they now, r is the answer; the texts and the other buffers may be any.
 pub record Starts (image words s t s' t' : List ℕ) (r : Visit ⊤) : Type 0 where
-  pub step : (script text f d m e : List ℕ) → beginning (inputs_of script image text words) (start_of (inputs_of script image text words) (buffers_of s f t d m e)) ≡ visited words (lent s' f t' d m e no_more) r
+  pub step : (script text f d m e : List ℕ)
+      → beginning (inputs_of script image text words) (start_of (inputs_of script image text words) (buffers_of s f t d m e)) ≡ visited words (lent s' f t' d m e no_more) r
   pub state : IfOk r (λ x. x.1 ≡ first_state (length (pool_of words)))
   pub slots : s' ≡ empty_slots (slot_count image) s
   pub types : t' ≡ with_pool (pool_of words) t
@@ -47,4 +54,5 @@ next-next (refused e) f g = refl
 pub walk_begins : (i : Inputs) (k : ℕ) (s : World)
     → walk_first i k s ≡ next (beginning i s) (λ _ w. next (last (ctx_of i) (Known (slot_count i.image)) (first_roots i.image k) w) (λ _. skip))
 unfolding walk_first beginning
-walk_begins i k s = rw (next-next (copy_pool (node_count i.image) (pool_of i.library) s) (λ _. measure (ctx_of i) (node_count i.image) (library_types i.library)) (λ _ w. next (last (ctx_of i) (Known (slot_count i.image)) (first_roots i.image k) w) (λ _. skip)))
+walk_begins i k s = rw (next-next (copy_pool (node_count i.image) (pool_of i.library) s) (λ _. measure (ctx_of i) (node_count i.image) (library_types i.library))
+    (λ _ w. next (last (ctx_of i) (Known (slot_count i.image)) (first_roots i.image k) w) (λ _. skip)))

@@ -48,7 +48,8 @@ module _ (t : Texts) (types : List ℕ) where
   -- the pool, then the packages
   module _ (words : List ℕ) {pool : List ℕ} {q : Bool} (hp : pool ≡ pool_of words) (e : q ≡ all_shallow t types (A.pool_types pool)) where
     pool-first : all_shallow t types (library_types words) ≡ (q && all_shallow t types (package_types (packages_of words)))
-    pool-first = then-rest (pool_types (pool_of words)) (package_types (packages_of words)) (e ∙ ap (λ l. all_shallow t types (A.pool_types l)) hp ∙ ap (all_shallow t types) (sym (pool-types (pool_of words))))
+    pool-first = then-rest (pool_types (pool_of words)) (package_types (packages_of words))
+        (e ∙ ap (λ l. all_shallow t types (A.pool_types l)) hp ∙ ap (all_shallow t types) (sym (pool-types (pool_of words))))
 
     pub library-deep : q ≡ false → false ≡ all_shallow t types (library_types words)
     library-deep h = sym (pool-first ∙ rw h)

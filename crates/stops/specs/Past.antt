@@ -12,7 +12,9 @@ use Rattle.ast.specs.Node.{Node, ExternFn}
 use Rattle.rules.specs.declared.Answer.{Answer}
 use Rattle.rules.specs.World.{Ctx, World, Walk, with_env}
 use Rattle.rules.specs.Steps.{known, if_known, on_option, poison, framed, apart}
-use Rattle.rules.specs.Rules.{Member, alike, silent, differs, go_on, Branch, fn, unless_defined}
+use Rattle.rules.specs.declared.Member.{Member}
+use Rattle.rules.specs.declared.Member.TheVariants.{Alike as alike, Silent as silent, Differs as differs}
+use Rattle.rules.specs.Rules.{go_on, Branch, fn, unless_defined}
 use Rattle.laws.specs.SlotsOf.{ArgSlots}
 use Rattle.laws.specs.Keeps.{Keeps, kept}
 use Rattle.laws.specs.Keeps as K

@@ -20,7 +20,8 @@ use Rattle.rules.specs.declared.Answer.TheVariants.{Known, Poison}
 use Rattle.rules.specs.World.{Ctx, World, Walk, with_functions, with_types, with_told, with_env}
 use Rattle.rules.specs.Steps.{Done, on_option, ty, tree, ty_tree, raised, on_types, raised_told, output_of, report, poison, type_from_expr, entry_of, enter}
 use Rattle.rules.specs.Calls.{Callee, own_function, package_function, through_field, no_callee, callee_of, Provided, provided_of, call}
-use Rattle.rules.specs.Rules.{fn_arguments, fn, unless_defined, alike, silent, differs, member_types, member, go_on, node, block, last, visit_all, cases, values, array, members}
+use Rattle.rules.specs.declared.Member.TheVariants.{Alike as alike, Silent as silent, Differs as differs}
+use Rattle.rules.specs.Rules.{fn_arguments, fn, unless_defined, member_types, member, go_on, node, block, last, visit_all, cases, values, array, members}
 use Rattle.rules.specs.Visited.{visited_below, visited_among, visited_in_cases, visited_in_values}
 use Rattle.rules.specs.Functions.{type_meant, FnHead, head_of, fns_among}
 use Rattle.laws.specs.Keeps as K

@@ -19,7 +19,9 @@ use Rattle.rules.specs.declared.Answer.{Answer}
 use Rattle.library.specs.Package.{Param, param, Signature, Function, Package}
 use Rattle.rules.specs.World.{World, Walk, name_in}
 use Rattle.rules.specs.Steps.{skip, known, if_known, on_option, ty, tree, ty_tree, report, poison, hold, type_from_expr}
-use Rattle.rules.specs.Rules.{ident, let_binding, fn_arguments, check_return, fn, unless_defined, field_type, field, value_type, Member, alike, silent, differs, member_types, member, go_on, array_of, condition, Branch, compare_branches, matched, import_one, import_all, extern_fn}
+use Rattle.rules.specs.declared.Member.{Member}
+use Rattle.rules.specs.declared.Member.TheVariants.{Alike as alike, Silent as silent, Differs as differs}
+use Rattle.rules.specs.Rules.{ident, let_binding, fn_arguments, check_return, fn, unless_defined, field_type, field, value_type, member_types, member, go_on, array_of, condition, Branch, compare_branches, matched, import_one, import_all, extern_fn}
 use Rattle.laws.specs.SlotsOf.{ArgSlots}
 use Rattle.tworuns.specs.Runs.{Runs, Relation, Each, end, and, each_map, Both?, neither, present, Slot, SameType, SameName, SameAnswer, SameParam, SameSignature, SameFunction, SamePackage, Worlds, type_grow, param_grow, function_grow, same_kind, same-tree, same_test}
 use Rattle.tworuns.specs.Runs as R

@@ -7,9 +7,7 @@ use mathlib.Core.Option.{Option, some}
 use mathlib.Core.List.{List}
 use native.Mathlib.Omega.{arith}
 use lib.ListN.{get_or}
-use Rattle.tok.specs.Word.{payload_of}
 use Rattle.tok.specs.Text.{Texts, name_bytes, same_name}
-use Rattle.ptype.specs.Words.{field_count}
 use Rattle.rules.specs.Rules.{find_field}
 use Rattle.values.specs.Answers.{found_of}
 

@@ -21,6 +21,13 @@ module _ (n : ℕ) {dg : Diagnostic} {s t d m d' m' : List ℕ} {u : Used} {r : 
       ((rest : Rest) → rule (world rest s t d m u) ≡ report n dg (world rest s t d m u)) → Steps rule s t d m u s t d' m' q
   told-steps h e = rw h (same-steps (reports_step n p) e)
 
+  -- with an answer
+  pub told-gives :
+      {A : Type 0} (a : A) {rule : Walk A} {q : Step A} → q ≡ told_of n u r a →
+      ((rest : Rest) → rule (world rest s t d m u) ≡ (report n dg >> return a) (world rest s t d m u)) →
+      Steps rule s t d m u s t d' m' q
+  told-gives a h e = rw h (same-steps (reports n p a) e)
+
   -- with what the answer stands for in the rules
   pub told-means :
       {A B : Type 0} (f : B → A) (a : B) {rule : Walk A} {q : Step B} → q ≡ told_of n u r a →

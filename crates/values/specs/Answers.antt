@@ -1,4 +1,4 @@
--- What the answers mean: of looking a field up, of an array's member, of a let; and parts of rules that are functions of the code. Definitions.
+-- What the answers mean: of looking a field up, of a let; and parts of rules that are functions of the code. Definitions.
 use Rattle.std.specs.Prelude.{ℕ, ◌≡◌, refl, List, ◌∷◌, Some, None, Option as Found}
 use Rattle.std.proofs.Math.Option.{Option, none, some}
 use Rattle.tok.specs.Step.{◌>>=◌, ◌>>◌, when}
@@ -8,20 +8,12 @@ use Rattle.rules.specs.declared.Answer.{Answer}
 use Rattle.rules.specs.declared.Answer.TheVariants.{Known}
 use Rattle.rules.specs.World.{Ctx, Walk}
 use Rattle.rules.specs.Steps.{Done, skip, known, if_known, ty, ty_tree, set_known, report}
-use Rattle.rules.specs.Rules.{Member, alike, silent, differs, Branch, compare_branches, matched}
-use Rattle.values.specs.declared.Compared.{Compared}
-use Rattle.values.specs.declared.Compared.TheVariants.{Alike, Silent, Differs}
+use Rattle.rules.specs.Rules.{Branch, compare_branches, matched}
 
 -- a type's word, or none: of a field, of what a let binds
 unfoldable pub found_of : Found ℕ → Option ℕ
 found_of (Some w) = some w
 found_of None = none
-
--- the rules' name for it
-unfoldable pub member_of : Compared → Member
-member_of Alike = alike
-member_of Silent = silent
-member_of Differs = differs
 
 -- Typechecker::alias: a slot takes another's type
 unfoldable pub alias : (slot from : ℕ) → Walk Answer

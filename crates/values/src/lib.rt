@@ -15,28 +15,19 @@ ghost use Rattle.rules.specs.Rules.{find_field, field_type, field, member_types,
 ghost use Rattle.state.specs.Context.{ctx};
 ghost use Rattle.state.specs.declared.Used.{Used};
 ghost use Rattle.state.specs.World.{Steps, with_answer};
-ghost use Rattle.values.specs.Answers.{found_of, member_of, alias, compare_branch};
+ghost use Rattle.values.specs.Answers.{found_of, alias, compare_branch};
 
 use add::Arena;
-use operators::{set_known, store};
+use operators::{KIND, set_known, store};
 use ptype::{TypeKind, contains_unknown, same_type};
-use rules::Answer;
+use rules::{Answer, Member};
 use state::{Step, Used};
 use tok::{Span, Texts, word_at};
 
-// What an array's member after the first is: of the first's type; silent, where a value is poisoned or an Unknown stands in a type; or of
-// another type, which was reported.
-#[derive(Clone, Copy)]
-pub enum Compared {
-    Alike,
-    Silent,
-    Differs,
-}
-
 // The words of Bool and of Unknown.
-const BOOL_WORD: u32 = TypeKind::Bool as u32 * 0x1000_0000;
+const BOOL_WORD: u32 = TypeKind::Bool as u32 * KIND;
 
-const UNKNOWN_WORD: u32 = TypeKind::Unknown as u32 * 0x1000_0000;
+const UNKNOWN_WORD: u32 = TypeKind::Unknown as u32 * KIND;
 
 // Fields.
 
@@ -129,17 +120,17 @@ fn member_types(
     span: Span,
     first: u32,
     member: u32,
-) -> Step<Compared>
+) -> Step<Member>
     ensures { ((ls : List Package) (v : ℕ) → Steps (member_types (ctx texts.now ls v) n span first member) slots.now types.now diagnostics.old
-        messages.old used slots.now types.now diagnostics.new messages.new (with_answer member_of result)) }
+        messages.old used slots.now types.now diagnostics.new messages.new result) }
 {
     let f = word_at(slots, first as usize);
     let t = word_at(slots, member as usize);
     if contains_unknown(types, t) || contains_unknown(types, f) {
-        return Ok((Compared::Silent, used));
+        return Ok((Member::Silent, used));
     }
     if same_type(types, texts, t, f) {
-        return Ok((Compared::Alike, used));
+        return Ok((Member::Alike, used));
     }
     let counts = used.told;
     let reported = err_values::members_differ(
@@ -152,11 +143,11 @@ fn member_types(
         f,
         t,
     );
-    state::told(n, used, reported, Compared::Differs)
+    state::told(n, used, reported, Member::Differs)
 }
 
 // The same, of their answers: a poisoned one is silent.
-#[tactic(auto, unfolding(rules::specs::Rules::member, state::specs::World::stepped, state::specs::World::with_answer, crate::specs::Answers::member_of))]
+#[tactic(auto, unfolding(rules::specs::Rules::member, state::specs::World::stepped))]
 pub fn member(
     slots: &[u32],
     types: &[u32],
@@ -168,12 +159,12 @@ pub fn member(
     span: Span,
     first: Answer,
     second: Answer,
-) -> Step<Compared>
+) -> Step<Member>
     ensures { ((ls : List Package) (v : ℕ) → Steps (member (ctx texts.now ls v) n span first second) slots.now types.now diagnostics.old messages.old
-        used slots.now types.now diagnostics.new messages.new (with_answer member_of result)) }
+        used slots.now types.now diagnostics.new messages.new result) }
 {
     let (Answer::Known(f), Answer::Known(m)) = (first, second) else {
-        return Ok((Compared::Silent, used));
+        return Ok((Member::Silent, used));
     };
     member_types(
         slots,

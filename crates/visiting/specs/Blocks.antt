@@ -46,7 +46,8 @@ module _ {r w : ℕ} {st st' : State} {b b' : Lent} where
   }
 
 module _ (library : List ℕ) {r w : ℕ} {st : State} {b b' : Lent} where
-  back_step : {A : Type 0} {v : Visit A} → Keeps r w st b b' v → next (visited library b' v) (λ a t. ok a (with_env t (env_up b.scratch st.names.base st.names.depth))) ≡ visited library b' (leave_of v st)
+  back_step : {A : Type 0} {v : Visit A} → Keeps r w st b b' v
+      → next (visited library b' v) (λ a t. ok a (with_env t (env_up b.scratch st.names.base st.names.depth))) ≡ visited library b' (leave_of v st)
   unfolding visited leave_of
   back_step (goes {a = a} p) = ap (ok a) (back-names library p)
   back_step stops = refl
@@ -57,7 +58,8 @@ back-keeps (goes p) = goes (back-within p)
 back-keeps stops = stops
 
 -- A block's frame.
-pub framed-visits : {m : Walk Answer} {r w : ℕ} {library : List ℕ} {st : State} {b b' : Lent} {v : Visit Answer} → Visits m r w library st b b' v → Visits (framed m) r w library st b b' (leave_of v st)
+pub framed-visits : {m : Walk Answer} {r w : ℕ} {library : List ℕ} {st : State} {b b' : Lent} {v : Visit Answer} → Visits m r w library st b b' v
+    → Visits (framed m) r w library st b b' (leave_of v st)
 unfolding framed
 framed-visits {library = library} {st = st} {b = b} x = record {
   step = ap (λ z. next z (λ a t. ok a (with_env t (env_up b.scratch st.names.base st.names.depth)))) x.step ∙ back_step library x.keeps;
@@ -100,7 +102,8 @@ unfolding leave_of
 outer_keeps st (goes p) = goes (outer_within st p)
 outer_keeps st stops = stops
 
-pub apart-visits : (st : State) {m : Walk Answer} {r w : ℕ} {library : List ℕ} {b b' : Lent} {v : Visit Answer} → Visits m r w library (inner_of st) b b' v → Visits (apart m) r w library st b b' (leave_of v st)
+pub apart-visits : (st : State) {m : Walk Answer} {r w : ℕ} {library : List ℕ} {b b' : Lent} {v : Visit Answer} → Visits m r w library (inner_of st) b b' v
+    → Visits (apart m) r w library st b b' (leave_of v st)
 unfolding apart framed env_up
 apart-visits st {library = library} {b = b} x = record {
   step = ap (λ z. next z (λ a t. ok a (with_env t (env_up b.scratch st.names.base st.names.depth)))) x.step ∙ outer_step library st x.keeps;

@@ -1,7 +1,7 @@
 -- A visit and what comes after it. Laws. Assumes nothing.
 use Rattle.std.specs.Prelude.{ℕ, ◌+◌, ◌≤◌, ◌≡◌, refl, List, Ok, Err}
 use Rattle.std.specs.Result.{IsErrAnd}
-use Rattle.std.proofs.Common.{ap, ◌∙◌, arith}
+use Rattle.std.proofs.Common.{ap, ◌∙◌}
 use Rattle.state.specs.Reporting.{passed}
 use Rattle.tok.specs.Step.{next, ◌>>=◌}
 use Rattle.rules.specs.declared.Answer.{Answer}
@@ -56,5 +56,6 @@ keeps-most : {A : Type 0} {r w r' w' : ℕ} {st : State} {b b' : Lent} {v : Visi
 keeps-most h k (goes p) = goes (within-most p h k)
 keeps-most h k stops = stops
 
-pub visits-most : {A : Type 0} {m : Walk A} {r w r' w' : ℕ} {library : List ℕ} {st : State} {b b' : Lent} {v : Visit A} → r ≤ r' → w ≤ w' → Visits m r w library st b b' v → Visits m r' w' library st b b' v
+pub visits-most : {A : Type 0} {m : Walk A} {r w r' w' : ℕ} {library : List ℕ} {st : State} {b b' : Lent} {v : Visit A} → r ≤ r' → w ≤ w' → Visits m r w library st b b' v
+    → Visits m r' w' library st b b' v
 visits-most h k x = record { step = x.step; keeps = keeps-most h k x.keeps }

@@ -69,7 +69,8 @@ pub record CaseVisit (T : Texts) (image places words : List ℕ) (n at : ℕ) (s
   pub test : Under n image (at + 1)
   pub body : Each (Under n image) 1 (at + 3) (word_at image (at + 2))
   pub inside : at + 3 + word_at image (at + 2) ≤ 8192
-  pub ready : Ready T image places words (room (tree_of image (word_at image (at + 1))) + rooms (case_body image at)) (rows (tree_of image (word_at image (at + 1))) + rows_all (case_body image at)) st b
+  pub ready : Ready T image places words (room (tree_of image (word_at image (at + 1))) + rooms (case_body image at))
+      (rows (tree_of image (word_at image (at + 1))) + rows_all (case_body image at)) st b
   pub fresh : Fresh (visited_from (tree_of image (word_at image (at + 1))) ++ visited_among (case_body image at)) b.slots
 
 abbrev pub CaseVisited : Texts → (image words : List ℕ) → (n at : ℕ) → State → (b b' : Lent) → Visit Answer → Type 0

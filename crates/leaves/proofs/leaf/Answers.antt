@@ -26,7 +26,8 @@ overflow_add-at-in-Atom c =
 pub returns-in-Atom : goal.returns-in-Atom
 returns-in-Atom c =
     let r = c.requires in
-    (λ f o. atom-visited _ _ r.node c.node_place-at.ensures c.word_at-head.ensures refl (node-number _ c.in-Atom.ensures) c.word_at-slot.ensures c.word_at.ensures (atom-word r c.node_place-at.ensures c.word_at-head.ensures refl refl (node-number _ c.in-Atom.ensures) c.word_at.ensures c.from.ensures c.plain_word-w.ensures)
+    (λ f o. atom-visited _ _ r.node c.node_place-at.ensures c.word_at-head.ensures refl (node-number _ c.in-Atom.ensures) c.word_at-slot.ensures c.word_at.ensures
+    (atom-word r c.node_place-at.ensures c.word_at-head.ensures refl refl (node-number _ c.in-Atom.ensures) c.word_at.ensures c.from.ensures c.plain_word-w.ensures)
     (rw c.answered.ensures (steps-visits (c.set_known.ensures _ _ _) _ _ _ o)))
 
 pub ident-requires : goal.ident-requires
@@ -35,7 +36,8 @@ ident-requires c = few-names c.requires
 pub returns-in-Ident : goal.returns-in-Ident
 returns-in-Ident c =
     let r = c.requires in
-    ((λ f o. ident-visited _ _ r.node c.node_place-at.ensures c.word_at-head.ensures refl (node-number _ c.in-Ident.ensures) c.word_at-slot.ensures c.word_at-first.ensures (c.ident.ensures _ _ _ _ _ o)))
+    ((λ f o. ident-visited _ _ r.node c.node_place-at.ensures c.word_at-head.ensures refl (node-number _ c.in-Ident.ensures) c.word_at-slot.ensures c.word_at-first.ensures
+    (c.ident.ensures _ _ _ _ _ o)))
 
 pub overflow_add-at-in-Import : goal.overflow_add-at-in-Import
 overflow_add-at-in-Import c =
@@ -95,4 +97,5 @@ returns-in_default c =
     let i = node-not _ c.of.ensures c.in_default.not-Ident in
     let m = node-not _ c.of.ensures c.in_default.not-Import in
     let e = kind-extern r c.node_place-at.ensures c.word_at-head.ensures refl refl a i m in
-    (λ f o. extern-visited _ _ r.node c.node_place-at.ensures c.word_at-head.ensures refl e c.word_at-slot.ensures c.word_at-in_default.ensures c.word_at-in_default-2.ensures (c.extern_package.ensures _ _ _ _ _ _ _ o))
+    (λ f o. extern-visited _ _ r.node c.node_place-at.ensures c.word_at-head.ensures refl e c.word_at-slot.ensures c.word_at-in_default.ensures c.word_at-in_default-2.ensures
+    (c.extern_package.ensures _ _ _ _ _ _ _ o))

@@ -4,10 +4,12 @@ use Rattle.names.proofs.Returns.{ident-bound, ident-poisoned, ident-none}
 use Rattle.names.proofs.ident.Goals as goal
 
 pub returns-in-Some-Bound : goal.returns-in-Some-Bound
-returns-in-Some-Bound c = λ ls v words f t o. ident-bound _ c.args.n c.args.slot c.args.name _ c.env_get.ensures (c.in-Some-Bound.is ∙ ap Some c.in-Some-Bound.field-0-is) c.set_known.ensures c.answered.ensures ls v words f t _ _ o
+returns-in-Some-Bound c = λ ls v words f t o. ident-bound _ c.args.n c.args.slot c.args.name _ c.env_get.ensures
+    (c.in-Some-Bound.is ∙ ap Some c.in-Some-Bound.field-0-is) c.set_known.ensures c.answered.ensures ls v words f t _ _ o
 
 pub returns-in-Some-Poisoned : goal.returns-in-Some-Poisoned
-returns-in-Some-Poisoned c = λ ls v words f t o. ident-poisoned _ c.args.n c.args.slot c.args.name _ c.env_get.ensures (c.in-Some-Poisoned.is ∙ ap Some c.in-Some-Poisoned.field-0-is) ls v words _ f t _ _ o
+returns-in-Some-Poisoned c = λ ls v words f t o. ident-poisoned _ c.args.n c.args.slot c.args.name _ c.env_get.ensures
+    (c.in-Some-Poisoned.is ∙ ap Some c.in-Some-Poisoned.field-0-is) ls v words _ f t _ _ o
 
 pub returns-in-None : goal.returns-in-None
 returns-in-None c =

@@ -13,5 +13,6 @@ pub type_from_type_expr-added-requires : goal.type_from_type_expr-added-requires
 type_from_type_expr-added-requires c = rw c.word_at-expr.ensures c.requires.type
 
 pub returns : goal.returns
-returns c = cast-typed c.args.image.now.words c.args.n c.args.at c.args.st c.word_at-expr.ensures (λ T ls v. type-steps _ c.type_from_type_expr-added.result c.type_from_type_expr-added.ensures T ls v c.args.n)
+returns c = cast-typed c.args.image.now.words c.args.n c.args.at c.args.st c.word_at-expr.ensures
+    (λ T ls v. type-steps _ c.type_from_type_expr-added.result c.type_from_type_expr-added.ensures T ls v c.args.n)
     (c.answered.ensures ∙ ap (visit_of c.args.st) c.added.ensures)

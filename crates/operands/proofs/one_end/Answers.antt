@@ -25,7 +25,8 @@ returns-in-Let c =
 pub returns-in_default-answer : goal.returns-in_default-answer
 returns-in_default-answer c =
     let unary = node-number _ c.in-Unary.ensures in
-    λ ls v words f o. one-poisoned _ c.args.image.now.words c.args.n c.args.at c.args.st c.args.answer c.word_at.ensures refl (λ q. omega (arith, q, unary)) c.in_default-answer.is ls v words _ f _ _ _ _ o
+    λ ls v words f o. one-poisoned _ c.args.image.now.words c.args.n c.args.at c.args.st c.args.answer c.word_at.ensures refl
+    (λ q. omega (arith, q, unary)) c.in_default-answer.is ls v words _ f _ _ _ _ o
 
 pub returns-in_default-answer-2 : goal.returns-in_default-answer-2
 returns-in_default-answer-2 c =

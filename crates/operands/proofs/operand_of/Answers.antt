@@ -14,4 +14,5 @@ returns-in-Let c = c.word_at-in-Let.ensures ∙ sym (at_let c.args.image.now.wor
 pub returns-in_default : goal.returns-in_default
 returns-in_default c =
     let there = ap kind_of c.word_at.ensures in
-    c.word_at-in_default.ensures ∙ sym (at-other c.args.image.now.words c.args.at (λ q. node-not _ c.of.ensures c.in_default.not-Unary (there ∙ q)) (λ q. node-not _ c.of.ensures c.in_default.not-Let (there ∙ q)))
+    c.word_at-in_default.ensures ∙ sym
+    (at-other c.args.image.now.words c.args.at (λ q. node-not _ c.of.ensures c.in_default.not-Unary (there ∙ q)) (λ q. node-not _ c.of.ensures c.in_default.not-Let (there ∙ q)))

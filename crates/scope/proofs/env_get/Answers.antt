@@ -15,14 +15,16 @@ overflow_mul-at c = omega (arith, c.loop-k.invariant.1.within)
 
 pub returns-then-is_poisoned : goal.returns-then-is_poisoned
 returns-then-is_poisoned c =
-    rw (← c.loop-k.invariant.0) (env-poisoned c.loop-k.invariant.1 c.loop-k-test.true c.word_at-w.ensures c.local_name.ensures refl c.is_name.ensures c.if-is_name.true c.is_poisoned.ensures c.if-is_poisoned.true)
+    rw (← c.loop-k.invariant.0)
+    (env-poisoned c.loop-k.invariant.1 c.loop-k-test.true c.word_at-w.ensures c.local_name.ensures refl c.is_name.ensures c.if-is_name.true c.is_poisoned.ensures c.if-is_poisoned.true)
 
 pub overflow_add-at-then-is_name : goal.overflow_add-at-then-is_name
 overflow_add-at-then-is_name c = omega (arith, c.loop-k.invariant.1.within)
 
 pub returns-then-is_name : goal.returns-then-is_name
 returns-then-is_name c =
-    rw (← c.loop-k.invariant.0) (env-bound c.loop-k.invariant.1 c.loop-k-test.true c.word_at-w.ensures c.local_name.ensures refl c.is_name.ensures c.if-is_name.true c.is_poisoned.ensures c.if-is_poisoned.false c.word_at.ensures)
+    rw (← c.loop-k.invariant.0)
+    (env-bound c.loop-k.invariant.1 c.loop-k-test.true c.word_at-w.ensures c.local_name.ensures refl c.is_name.ensures c.if-is_name.true c.is_poisoned.ensures c.if-is_poisoned.false c.word_at.ensures)
 
 pub loop-k-smaller : goal.loop-k-smaller
 loop-k-smaller c = omega arith

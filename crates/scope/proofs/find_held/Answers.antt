@@ -21,13 +21,28 @@ returns-then-is_name c =
 pub overflow_add-at : goal.overflow_add-at
 overflow_add-at c =
     let p = c.held_at-held.ensures.0 c.args.words.now in
-    omega (arith, left-place (held-past c.loop.invariant.1 (omega arith) (c.held_name-own.ensures ∙ ap (λ x. x.name) p) refl refl refl c.held_at-held.ensures.1 (elim c.if-not-differs_in.branch [ goal.then-not-differs_in+else-is_name w ↦ sym w.is_name.ensures ∙ w.if-is_name.false | goal.else-not-differs_in w ↦ differs-other _ _ _ _ (sym c.differs_in.ensures ∙ w.if-not-differs_in.false) ])), c.requires)
+    omega (
+      arith,
+      left-place (held-past c.loop.invariant.1 (omega arith) (c.held_name-own.ensures ∙ ap (λ x. x.name) p) refl refl refl c.held_at-held.ensures.1
+          (elim c.if-not-differs_in.branch [
+            | goal.then-not-differs_in+else-is_name w ↦ sym w.is_name.ensures ∙ w.if-is_name.false
+            | goal.else-not-differs_in w ↦ differs-other _ _ _ _ (sym c.differs_in.ensures ∙ w.if-not-differs_in.false)
+          ])),
+      c.requires,
+    )
 
 pub loop-preserved : goal.loop-preserved
 loop-preserved c =
     let p = c.held_at-held.ensures.0 c.args.words.now in
     let e : c.args.k - (c.loop.counter + 1) ≡ c.args.k - c.loop.counter - 1 = omega arith in
-    rw e (c.loop.invariant.0, held-past c.loop.invariant.1 (omega arith) (c.held_name-own.ensures ∙ ap (λ x. x.name) p) refl refl refl c.held_at-held.ensures.1 (elim c.if-not-differs_in.branch [ goal.then-not-differs_in+else-is_name w ↦ sym w.is_name.ensures ∙ w.if-is_name.false | goal.else-not-differs_in w ↦ differs-other _ _ _ _ (sym c.differs_in.ensures ∙ w.if-not-differs_in.false) ]))
+    rw e (
+      c.loop.invariant.0,
+      held-past c.loop.invariant.1 (omega arith) (c.held_name-own.ensures ∙ ap (λ x. x.name) p) refl refl refl c.held_at-held.ensures.1
+          (elim c.if-not-differs_in.branch [
+            | goal.then-not-differs_in+else-is_name w ↦ sym w.is_name.ensures ∙ w.if-is_name.false
+            | goal.else-not-differs_in w ↦ differs-other _ _ _ _ (sym c.differs_in.ensures ∙ w.if-not-differs_in.false)
+          ]),
+    )
 
 pub returns : goal.returns
 returns c = rw (← c.loop.invariant.0) (left_over c.loop.invariant.1 (omega arith))

@@ -16,7 +16,8 @@ returns-then-not-is_shallow_known c = (
 
 pub loop-i-preserved : goal.loop-i-preserved
 loop-i-preserved c = (
-  (λ t. c.loop-i.invariant.0 t ∙ argument-next t c.args.types.now (function_at c.args.words.now c.args.at).sig.params c.loop-i.i (omega (arith, c.loop-i.invariant.1)) c.argument_type.ensures (c.is_shallow_known.ensures.1.answer c.loop-i.invariant.2 t) c.if-not-is_shallow_known.false),
+  (λ t. c.loop-i.invariant.0 t ∙ argument-next t c.args.types.now (function_at c.args.words.now c.args.at).sig.params c.loop-i.i (omega (arith, c.loop-i.invariant.1)) c.argument_type.ensures
+      (c.is_shallow_known.ensures.1.answer c.loop-i.invariant.2 t) c.if-not-is_shallow_known.false),
   c.loop-i.invariant.1,
   c.is_shallow_known.ensures.1.marks c.loop-i.invariant.2,
   c.is_shallow_known.auto.known ∙ c.loop-i.invariant.3,

@@ -14,6 +14,7 @@ returns-then-not-arguments_are_shallow c = (
 
 pub returns : goal.returns
 returns c = (
-  (λ t. function-by t c.args.types.now (function_at c.args.words.now c.args.at) (c.arguments_are_shallow.ensures.0 t) c.if-not-arguments_are_shallow.false c.return_type.ensures (c.is_shallow_known.ensures.1.answer c.arguments_are_shallow.ensures.1 t)),
+  (λ t. function-by t c.args.types.now (function_at c.args.words.now c.args.at) (c.arguments_are_shallow.ensures.0 t) c.if-not-arguments_are_shallow.false c.return_type.ensures
+      (c.is_shallow_known.ensures.1.answer c.arguments_are_shallow.ensures.1 t)),
   c.is_shallow_known.ensures.1.marks c.arguments_are_shallow.ensures.1,
 )
