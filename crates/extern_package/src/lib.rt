@@ -13,8 +13,8 @@ ghost use Rattle.visit.specs.Within.{Visits};
 ghost use Rattle.room_laws.specs.Room.{extern_words};
 ghost use Rattle.extern_package.specs.Packing.{FunctionsRoom, WritesFunctions, ExternReady, extern_rule};
 
-use operators::VOID_WORD;
 use places::Image;
+use ptype::VOID_WORD;
 use rules::Answer;
 use state::{Step, Used};
 use visit::{State, Visit};

@@ -17,12 +17,10 @@ ghost use Rattle.fields.specs.Parts.{record_of, record_end};
 
 use add::Arena;
 use places::Image;
+use ptype::UNKNOWN_WORD;
 use rules::Answer;
 use state::Refusal;
 use visit::{State, Visit};
-
-// The type Unknown.
-const UNKNOWN_WORD: u32 = 0xB000_0000;
 
 // Opens the Record of node n, of k fields, and gives its word.
 fn open(types: &mut [u32], st: State, n: u32, k: usize) -> Visit<u32>

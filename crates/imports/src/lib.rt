@@ -12,7 +12,7 @@ ghost use Rattle.visit.specs.Whole.{Lent, lent};
 ghost use Rattle.visit.specs.Within.{Visits};
 ghost use Rattle.imports.specs.Holding.{one_held, CanHold, CanHoldAll, import_rule};
 
-use operators::VOID_WORD;
+use ptype::VOID_WORD;
 use rules::Answer;
 use tok::Texts;
 use visit::{State, Visit};

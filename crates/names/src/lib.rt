@@ -14,9 +14,9 @@ ghost use Rattle.visit.specs.Within.{Visits};
 ghost use Rattle.visit.specs.Free.{Free};
 ghost use Rattle.names.specs.Bound.{local_words, one_more, Bindable, let_end};
 
-use operators::VOID_WORD;
+use ptype::VOID_WORD;
 use rules::Answer;
-use scope::{Binding, Names, ONE_KIND};
+use scope::{Binding, Names};
 use state::Used;
 use tok::Texts;
 use visit::{State, Visit};
@@ -34,7 +34,7 @@ pub fn bind_poisoned(scratch: &mut [u32], names: Names, name: u32)
     requires { (names.base + names.depth ≤ 4096) × (kind_of name ≡ 12) }
     ensures { scratch.new ≡ write scratch.old (2 * (names.base + names.depth)) ((name + 2 ^ 28) ∷ 0 ∷ []) }
 {
-    add::set_pair(scratch, 2 * (names.base + names.depth), name + ONE_KIND, 0);
+    add::set_pair(scratch, 2 * (names.base + names.depth), name + tok::KIND, 0);
 }
 
 // Either of the two, by whether there is a type.

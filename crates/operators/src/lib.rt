@@ -34,17 +34,11 @@ pub fn set_known(slots: &mut [u32], used: Used, slot: u32, word: u32) -> Step<An
     Ok((Answer::Known(slot), used))
 }
 
-// A type's word counts its kind in these: the bits below are its payload.
-pub const KIND: u32 = 0x1000_0000;
-
-// The word of Void.
-pub const VOID_WORD: u32 = TypeKind::Void as u32 * KIND;
-
 // The word of a kind that has no payload.
 pub fn plain_word(kind: TypeKind) -> u32
     ensures { result ≡ word_of (number_of_type kind) 0 }
 {
-    kind.number() * KIND
+    kind.word(0)
 }
 
 // Operators.

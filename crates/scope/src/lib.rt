@@ -35,9 +35,6 @@ pub enum Held {
 // The kind of a poisoned name's word: one more than a name's.
 const POISONED: u32 = 13;
 
-// What makes a word's kind one more.
-pub const ONE_KIND: u32 = 0x1000_0000;
-
 // Whether a name in scope is poisoned.
 fn is_poisoned(w: u32) -> bool
     ensures { result ≡ poisoned w }
@@ -50,7 +47,7 @@ fn local_name(w: u32) -> u32
     ensures { result ≡ local_name w }
 {
     if is_poisoned(w) {
-        return w - ONE_KIND;
+        return w - tok::KIND;
     }
     w
 }

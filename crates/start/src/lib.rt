@@ -12,8 +12,7 @@ ghost use Rattle.tworuns.specs.Accepted.{library_types};
 ghost use Rattle.start.specs.Begin.{first_state, Starts};
 
 use err::Counts;
-use operators::VOID_WORD;
-use ptype::MOST_WORDS;
+use ptype::{MOST_WORDS, VOID_WORD};
 use scope::Names;
 use state::{Kept, Refusal, Used};
 use visit::{State, Visit};

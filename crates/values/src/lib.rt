@@ -18,16 +18,11 @@ ghost use Rattle.state.specs.World.{Steps, with_answer};
 ghost use Rattle.values.specs.Answers.{found_of, alias, compare_branch};
 
 use add::Arena;
-use operators::{KIND, set_known, store};
-use ptype::{TypeKind, contains_unknown, same_type};
+use operators::{set_known, store};
+use ptype::{BOOL_WORD, TypeKind, UNKNOWN_WORD, contains_unknown, same_type};
 use rules::{Answer, Member};
 use state::{Step, Used};
 use tok::{Span, Texts, word_at};
-
-// The words of Bool and of Unknown.
-const BOOL_WORD: u32 = TypeKind::Bool as u32 * KIND;
-
-const UNKNOWN_WORD: u32 = TypeKind::Unknown as u32 * KIND;
 
 // Fields.
 
