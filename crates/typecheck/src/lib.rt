@@ -385,8 +385,7 @@ pub fn nodes(
 {
     let mut answer = Answer::Known(image.word_at(3));
     let mut here = st;
-    let mut place = at;
-    for _ in 0..k {
+    for place in at..at + k {
         let (a, next) = node(
             slots,
             functions,
@@ -402,7 +401,6 @@ pub fn nodes(
         )?;
         answer = a;
         here = next;
-        place += 1;
     }
     Ok((answer, here))
 }
@@ -432,8 +430,7 @@ fn block(
 {
     let mut answer = Answer::Known(image.word_at(3));
     let mut here = st;
-    let mut place = at;
-    for _ in 0..k {
+    for place in at..at + k {
         let (a, next) = part(
             slots,
             functions,
@@ -449,7 +446,6 @@ fn block(
         )?;
         answer = a;
         here = next;
-        place += 1;
     }
     Ok((answer, here))
 }
@@ -574,9 +570,8 @@ fn case(
     )?;
     let mut answer = Answer::Known(image.word_at(3));
     let mut here = begun;
-    let mut place = at + 3;
     let left = image.word_at(at + 2) as usize;
-    for _ in 0..left {
+    for place in at + 3..at + 3 + left {
         let (a, next) = part(
             slots,
             functions,
@@ -592,7 +587,6 @@ fn case(
         )?;
         answer = a;
         here = next;
-        place += 1;
     }
     Ok((answer, visiting::left(here, begun)))
 }

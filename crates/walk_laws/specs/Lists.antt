@@ -32,6 +32,13 @@ listing T image words at k st b =
     record { rule = last (ctx_in T image words) (Known (slot_count image)) (nodes_at image at k);
       room = rooms (nodes_at image at k); rows = rows_all (nodes_at image at k); library = words; st = st; b = b }
 
+-- all k nodes from word `at` on; and one less is left
+pub whole-left : (at k : ℕ) → at + k - at ≡ k
+whole-left at k = omega arith
+
+pub one-less : (k i : ℕ) → k - (i + 1) ≡ k - i - 1
+one-less k i = omega arith
+
 -- `left` nodes are left, from word `place` on; the one before them answered `answer`
 pub record Turn (T : Texts) (image places words : List ℕ) (owner at k : ℕ) (st : State) (b : Lent) (place left : ℕ) (answer : Answer) (here : State) (b' : Lent) : Type 0 where
   pub leads : Leads (listing T image words at k st b) (last (ctx_in T image words) answer (nodes_at image place left))

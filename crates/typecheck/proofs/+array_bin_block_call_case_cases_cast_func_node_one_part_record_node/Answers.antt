@@ -23,54 +23,34 @@ use Rattle.typecheck.proofs.+array_bin_block_call_case_cases_cast_func_node_one_
 -- ── A node, by its kind ──
 
 pub node-leaf-requires : goal.node-leaf-requires
-node-leaf-requires t c =
-    let r = c.requires in
-    (to-leaf c.node_place.ensures c.word_at.ensures r c.of.ensures c.in-Atom.is)
+node-leaf-requires t c = to-leaf c.node_place.ensures c.word_at.ensures c.requires c.of.ensures c.in-Atom.is
 
 pub node-bin-requires : goal.node-bin-requires
-node-bin-requires t c =
-    let r = c.requires in
-    (omega (arith, c.decreases), (to_rule c.node_place.ensures c.word_at.ensures r (node-number _ c.in-Bin.ensures)))
+node-bin-requires t c = (omega (arith, c.decreases), to_rule c.node_place.ensures c.word_at.ensures c.requires (node-number _ c.in-Bin.ensures))
 
 pub node-cast-requires : goal.node-cast-requires
-node-cast-requires t c =
-    let r = c.requires in
-    (omega (arith, c.decreases), (to_rule c.node_place.ensures c.word_at.ensures r (node-number _ c.in-Cast.ensures)))
+node-cast-requires t c = (omega (arith, c.decreases), to_rule c.node_place.ensures c.word_at.ensures c.requires (node-number _ c.in-Cast.ensures))
 
 pub node-func-requires : goal.node-func-requires
-node-func-requires t c =
-    let r = c.requires in
-    (omega (arith, c.decreases), (to_rule c.node_place.ensures c.word_at.ensures r (node-number _ c.in-Fn.ensures)))
+node-func-requires t c = (omega (arith, c.decreases), to_rule c.node_place.ensures c.word_at.ensures c.requires (node-number _ c.in-Fn.ensures))
 
 pub node-cases-requires : goal.node-cases-requires
-node-cases-requires t c =
-    let r = c.requires in
-    (omega (arith, c.decreases), (to_rule c.node_place.ensures c.word_at.ensures r (node-number _ c.in-Match.ensures)))
+node-cases-requires t c = (omega (arith, c.decreases), to_rule c.node_place.ensures c.word_at.ensures c.requires (node-number _ c.in-Match.ensures))
 
 pub node-call-requires : goal.node-call-requires
-node-call-requires t c =
-    let r = c.requires in
-    (omega (arith, c.decreases), (to_rule c.node_place.ensures c.word_at.ensures r (node-number _ c.in-Call.ensures)))
+node-call-requires t c = (omega (arith, c.decreases), to_rule c.node_place.ensures c.word_at.ensures c.requires (node-number _ c.in-Call.ensures))
 
 pub node-record_node-requires : goal.node-record_node-requires
-node-record_node-requires t c =
-    let r = c.requires in
-    (omega (arith, c.decreases), (to_rule c.node_place.ensures c.word_at.ensures r (node-number _ c.in-Record.ensures)))
+node-record_node-requires t c = (omega (arith, c.decreases), to_rule c.node_place.ensures c.word_at.ensures c.requires (node-number _ c.in-Record.ensures))
 
 pub node-array-requires : goal.node-array-requires
-node-array-requires t c =
-    let r = c.requires in
-    (omega (arith, c.decreases), (to_rule c.node_place.ensures c.word_at.ensures r (node-number _ c.in-Array.ensures)))
+node-array-requires t c = (omega (arith, c.decreases), to_rule c.node_place.ensures c.word_at.ensures c.requires (node-number _ c.in-Array.ensures))
 
 pub node-one-requires : goal.node-one-requires
-node-one-requires t c =
-    let r = c.requires in
-    (omega (arith, c.decreases), (to_one c.node_place.ensures c.word_at.ensures r c.of.ensures c.in-Unary.is))
+node-one-requires t c = (omega (arith, c.decreases), to_one c.node_place.ensures c.word_at.ensures c.requires c.of.ensures c.in-Unary.is)
 
 pub node-unreachable-requires : goal.node-unreachable-requires
-node-unreachable-requires t c =
-    let r = c.requires in
-    a-kind c.node_place.ensures c.word_at.ensures r c.of.ensures c.in-None.is
+node-unreachable-requires t c = a-kind c.node_place.ensures c.word_at.ensures c.requires c.of.ensures c.in-None.is
 
 pub node-returns-in-Atom : goal.node-returns-in-Atom
 node-returns-in-Atom t c = c.leaf.ensures _ no_more
@@ -140,22 +120,23 @@ cast-returns t c =
 
 -- ── Nodes one after the other ──
 
+pub block-loop-place-init : goal.block-loop-place-init
+block-loop-place-init t c = rw List.whole-left (List.turn-begin c.requires c.word_at.ensures)
+
 pub block-part-requires : goal.block-part-requires
 block-part-requires t c = (
-  omega (arith, c.decreases, List.part-under c.loop.invariant (omega arith) c.word_at-in-loop.ensures),
-  List.turn-visit c.loop.invariant (omega arith) c.word_at-in-loop.ensures,
+  omega (arith, c.decreases, List.part-under c.loop-place.invariant (omega arith) c.word_at-in-loop-place.ensures),
+  List.turn-visit c.loop-place.invariant (omega arith) c.word_at-in-loop-place.ensures,
 )
 
 pub block-returns-in_err-a : goal.block-returns-in_err-a
-block-returns-in_err-a t c = passed_on c.from_residual.ensures.1 (List.turn-stops c.loop.invariant (omega arith) c.word_at-in-loop.ensures c.in_err-a.ensures)
+block-returns-in_err-a t c = passed_on c.from_residual.ensures.1 (List.turn-stops c.loop-place.invariant (omega arith) c.word_at-in-loop-place.ensures c.in_err-a.ensures)
 
-pub block-loop-preserved : goal.block-loop-preserved
-block-loop-preserved t c =
-    let e : c.args.k - (c.loop.counter + 1) ≡ c.args.k - c.loop.counter - 1 = omega arith in
-    rw e (List.turn-next c.loop.invariant (omega arith) c.word_at-in-loop.ensures c.in_ok-a.ensures)
+pub block-loop-place-preserved : goal.block-loop-place-preserved
+block-loop-place-preserved t c = rw List.one-less (List.turn-next c.loop-place.invariant (omega arith) c.word_at-in-loop-place.ensures c.in_ok-a.ensures)
 
 pub block-returns : goal.block-returns
-block-returns t c = List.turn_end c.loop.invariant (omega arith)
+block-returns t c = List.turn_end c.loop-place.invariant (omega arith)
 
 -- ── Node::Fn ──
 
@@ -180,7 +161,8 @@ func-block-requires t c = (
 pub func-returns-in_err-computed : goal.func-returns-in_err-computed
 func-returns-in_err-computed t c =
     passed_on c.from_residual-in_err-computed.ensures.1
-    (Body.fn-stops c.requires c.node_place-at.ensures (c.in_ok-begun.ensures _ _ _ no_more) c.in-Some.is c.word_at-count.ensures (c.payload-long.ensures ∙ ap payload_of c.word_at.ensures) c.in_err-computed.ensures)
+    (Body.fn-stops c.requires c.node_place-at.ensures (c.in_ok-begun.ensures _ _ _ no_more) c.in-Some.is c.word_at-count.ensures
+    (c.payload-long.ensures ∙ ap payload_of c.word_at.ensures) c.in_err-computed.ensures)
 
 pub func-end-requires : goal.func-end-requires
 func-end-requires t c = Body.end-ready c.requires c.node_place-at.ensures
@@ -201,30 +183,30 @@ case-returns-in_err-a t c = passed_on c.from_residual.ensures.1 (Case.test-stops
 pub case-returns-in_err-begun : goal.case-returns-in_err-begun
 case-returns-in_err-begun t c = passed_on c.from_residual-in_err-begun.ensures.1 (Case.condition-stops c.requires c.word_at.ensures c.in_ok-a.ensures (c.in_err-begun.ensures _ _ _ _ _ no_more))
 
-pub case-loop-init : goal.case-loop-init
-case-loop-init t c =
-    let e : c.word_at-left.result - 0 ≡ c.word_at-left.result = omega arith in
-    rw e (List.turn-begin (Case.body-visit c.requires c.word_at.ensures c.in_ok-a.ensures (c.in_ok-begun.ensures _ _ _ _ _ no_more) c.word_at-left.ensures) c.word_at-2.ensures)
+pub case-loop-place-init : goal.case-loop-place-init
+case-loop-place-init t c =
+    rw List.whole-left
+    (List.turn-begin (Case.body-visit c.requires c.word_at.ensures c.in_ok-a.ensures (c.in_ok-begun.ensures _ _ _ _ _ no_more) c.word_at-left.ensures) c.word_at-2.ensures)
 
-pub case-part-requires-in-loop : goal.case-part-requires-in-loop
-case-part-requires-in-loop t c = (
-  omega (arith, c.decreases, List.part-under c.loop.invariant (omega arith) c.word_at-in-loop.ensures),
-  List.turn-visit c.loop.invariant (omega arith) c.word_at-in-loop.ensures,
+pub case-part-requires-in-loop-place : goal.case-part-requires-in-loop-place
+case-part-requires-in-loop-place t c = (
+  omega (arith, c.decreases, List.part-under c.loop-place.invariant (omega arith) c.word_at-in-loop-place.ensures),
+  List.turn-visit c.loop-place.invariant (omega arith) c.word_at-in-loop-place.ensures,
 )
 
 pub case-returns-in_err-a-2 : goal.case-returns-in_err-a-2
 case-returns-in_err-a-2 t c =
     passed_on c.from_residual-in_err-a-2.ensures.1
-    (Case.body-stops c.requires c.word_at.ensures c.in_ok-a.ensures (c.in_ok-begun.ensures _ _ _ _ _ no_more) c.word_at-left.ensures (List.turn-stops c.loop.invariant (omega arith) c.word_at-in-loop.ensures c.in_err-a-2.ensures))
+    (Case.body-stops c.requires c.word_at.ensures c.in_ok-a.ensures (c.in_ok-begun.ensures _ _ _ _ _ no_more) c.word_at-left.ensures
+    (List.turn-stops c.loop-place.invariant (omega arith) c.word_at-in-loop-place.ensures c.in_err-a-2.ensures))
 
-pub case-loop-preserved : goal.case-loop-preserved
-case-loop-preserved t c =
-    let e : c.word_at-left.result - (c.loop.counter + 1) ≡ c.word_at-left.result - c.loop.counter - 1 = omega arith in
-    rw e (List.turn-next c.loop.invariant (omega arith) c.word_at-in-loop.ensures c.in_ok-a-2.ensures)
+pub case-loop-place-preserved : goal.case-loop-place-preserved
+case-loop-place-preserved t c = rw List.one-less (List.turn-next c.loop-place.invariant (omega arith) c.word_at-in-loop-place.ensures c.in_ok-a-2.ensures)
 
 pub case-returns : goal.case-returns
 case-returns t c =
-    Case.case-ends c.requires c.word_at.ensures c.in_ok-a.ensures (c.in_ok-begun.ensures _ _ _ _ _ no_more) c.word_at-left.ensures (List.turn_end c.loop.invariant (omega arith)) c.left.ensures
+    Case.case-ends c.requires c.word_at.ensures c.in_ok-a.ensures (c.in_ok-begun.ensures _ _ _ _ _ no_more) c.word_at-left.ensures
+    (List.turn_end c.loop-place.invariant (omega arith)) c.left.ensures
 
 -- ── Node::Match ──
 
@@ -255,7 +237,9 @@ cases-loop-i-init t c =
     let e : c.loop.place + 1 + 0 ≡ c.loop.place + 1 = omega arith in
     let f : left - 0 ≡ left = omega arith in
     rw (e, f)
-    (List.turn-begin (Cases.default_visit c.loop.invariant (omega arith) (ap (λ x. c.node_place-at.result + x - (c.loop.place + 1)) (c.payload.ensures ∙ ap payload_of c.word_at.ensures))) c.word_at-2.ensures)
+    (List.turn-begin
+    (Cases.default_visit c.loop.invariant (omega arith) (ap (λ x. c.node_place-at.result + x - (c.loop.place + 1)) (c.payload.ensures ∙ ap payload_of c.word_at.ensures)))
+    c.word_at-2.ensures)
 
 pub cases-part-requires : goal.cases-part-requires
 cases-part-requires t c = (
@@ -365,7 +349,8 @@ array-part-requires t c = (
 
 pub array-returns-in_err-first : goal.array-returns-in_err-first
 array-returns-in_err-first t c =
-    passed_on c.from_residual.ensures.1 (Array.first-stopped c.requires c.node_place-at.ensures c.word_at.ensures c.payload-count.ensures c.if-count-eq0.false c.word_at-2.ensures c.in_err-first.ensures)
+    passed_on c.from_residual.ensures.1
+    (Array.first-stopped c.requires c.node_place-at.ensures c.word_at.ensures c.payload-count.ensures c.if-count-eq0.false c.word_at-2.ensures c.in_err-first.ensures)
 
 pub array-part-requires-in-loop-i : goal.array-part-requires-in-loop-i
 array-part-requires-in-loop-i t c = (

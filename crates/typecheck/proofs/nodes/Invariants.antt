@@ -1,11 +1,12 @@
 -- `typecheck::nodes` meets its contract. The loop's invariant, `Turn`: the nodes that are left lead on to the whole list. Assumes nothing.
-use Rattle.std.proofs.Common.{◌-◌}
+use Rattle.std.proofs.Common.{◌+◌, ◌-◌}
 use Rattle.tok.specs.Text.{texts_of}
 use Rattle.state.specs.World.{no_more}
 use Rattle.visit.specs.Whole.{lent}
 use Rattle.walk_laws.specs.Lists.{Turn}
 use Rattle.typecheck.proofs.nodes.Given as goal
 
-abbrev pub invariant-loop : goal.invariant-loop
-invariant-loop l = Turn l.texts l.image.words l.image.places l.library l.owner l.at l.k l.initial.here (lent l.initial.slots l.initial.functions l.initial.types l.initial.diagnostics l.initial.messages l.initial.scratch no_more)
-    l.place (l.k - l.counter) l.answer l.here (lent l.slots l.functions l.types l.diagnostics l.messages l.scratch no_more)
+abbrev pub invariant-loop-place : goal.invariant-loop-place
+invariant-loop-place l = Turn l.texts l.image.words l.image.places l.library l.owner l.at l.k l.initial.here
+    (lent l.initial.slots l.initial.functions l.initial.types l.initial.diagnostics l.initial.messages l.initial.scratch no_more)
+    l.place (l.at + l.k - l.place) l.answer l.here (lent l.slots l.functions l.types l.diagnostics l.messages l.scratch no_more)
