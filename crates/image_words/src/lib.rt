@@ -28,7 +28,7 @@ pub fn token<'a>(script: &[u8], from: Reader<'a>) -> Result<Reader<'a>, Fault>
     ensures { onward from.entry (word (good_name in_script script.now)) ≡ gave (next_word from.entry) result }
 {
     let w = from.next_word();
-    from.word(tok::good_name(tok::Source::Script, script, w))
+    from.word(tok::good_name(tok::Source::Script.bit(), script, w))
 }
 
 // n numbers below `most`.

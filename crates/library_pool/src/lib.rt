@@ -48,7 +48,7 @@ pub fn good_type(library: &[u8], pool: &[u32], own: usize, w: u32) -> bool
         }
         TypeKind::Option | TypeKind::Array => good_inner(pool, own, w),
         TypeKind::Record => good_list(pool, own, w),
-        TypeKind::Foreign | TypeKind::Slot => tok::good_payload(tok::Source::Library, library, w),
+        TypeKind::Foreign | TypeKind::Slot => tok::good_payload(tok::Source::Library.bit(), library, w),
         _ => false,
     }
 }
@@ -61,7 +61,7 @@ pub fn name<'a>(library: &[u8], from: Reader<'a>) -> Result<Reader<'a>, Fault>
     ensures { Comes from.entry (word (good_name in_library library.now)) (next_word from.entry) result }
 {
     let w = from.next_word();
-    from.word(tok::good_name(tok::Source::Library, library, w))
+    from.word(tok::good_name(tok::Source::Library.bit(), library, w))
 }
 
 // A type word that refers below `own`.

@@ -53,7 +53,7 @@ fn good_group(texts: &Texts, before: &Entries, kept: bool, group: u32) -> bool
     ensures { ((size : ℕ) (types : List ℕ) → (kept ≡ true → any_function (λ f. same_group texts.now group f && f.sig.with_slots) (functions_in before.now) ≡ false)
         → result ≡ good_group (pool_at texts.now size types) (functions_in before.now) group) }
 {
-    tok::good_name(tok::Source::Library, texts.library, group)
+    tok::good_name(tok::Source::Library.bit(), texts.library, group)
         && (kept || !group_slotted(texts, before, group))
 }
 

@@ -110,7 +110,7 @@ pub enum Source {
 
 impl Source {
     // Bit 24 of such a name.
-    fn bit(self) -> u32
+    pub fn bit(self) -> u32
         ensures { result ≡ bit_of self }
     {
         self as u32
@@ -131,11 +131,18 @@ fn name_start(w: u32) -> usize
     (w / 0x100 % 0x1_0000) as usize
 }
 
-// Which text holds it: bit 24.
+// Bit 24, which says what text holds it.
+fn name_bit(w: u32) -> u32
+    ensures { result ≡ name_bit w }
+{
+    w / 0x100_0000 % 2
+}
+
+// Which text holds it.
 fn held_in(w: u32) -> Source
     ensures { bit_of result ≡ name_bit w }
 {
-    if w / 0x100_0000 % 2 == 0 {
+    if name_bit(w) == 0 {
         Source::Script
     } else {
         Source::Library
@@ -295,23 +302,23 @@ pub fn next_part(part: usize) -> usize
 // The kind of a name's word, and of a token's.
 pub const NAME: u32 = 12;
 
-// Whether a word carries the payload of a name that lies in a text and is well formed, with bit 24 as for that text.
+// Whether a word carries the payload of a name that lies in a text and is well formed, with bit 24 as told.
 #[tactic(auto, unfolding(crate::specs::Name::good_payload, crate::specs::Name::lies_in, crate::specs::Name::reads_well))]
-pub fn good_payload(source: Source, text: &[u8], w: u32) -> bool
-    ensures { result ≡ good_payload (bit_of source) text.now w }
+pub fn good_payload(bit: u32, text: &[u8], w: u32) -> bool
+    ensures { result ≡ good_payload bit text.now w }
 {
     w / 0x200_0000 % 8 == 0
-        && held_in(w).bit() == source.bit()
+        && name_bit(w) == bit
         && name_start(w) + name_length(w) <= text.len()
         && utf8::well_formed(bytes_in(text, w))
 }
 
 // Whether a word is such a name or token.
 #[tactic(auto, unfolding(crate::specs::Name::good_name))]
-pub fn good_name(source: Source, text: &[u8], w: u32) -> bool
-    ensures { result ≡ good_name (bit_of source) text.now w }
+pub fn good_name(bit: u32, text: &[u8], w: u32) -> bool
+    ensures { result ≡ good_name bit text.now w }
 {
-    kind(w) == NAME && good_payload(source, text, w)
+    kind(w) == NAME && good_payload(bit, text, w)
 }
 
 // Spans.
