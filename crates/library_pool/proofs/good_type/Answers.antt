@@ -15,7 +15,7 @@ pub returns-in-Record : goal.returns-in-Record
 returns-in-Record c = λ script size. record_type _ _ _ (type-number _ c.in-Record.ensures) c.good_list.ensures
 
 pub returns-in-Foreign : goal.returns-in-Foreign
-returns-in-Foreign c = λ script size. named-type _ _ _ c.of.ensures c.in-Foreign.is c.good_payload.ensures
+returns-in-Foreign c = λ script size. named-type _ _ _ c.of.ensures c.in-Foreign.is (rw c.bit.ensures at c.good_payload.ensures)
 
 pub returns-in_default : goal.returns-in_default
 returns-in_default c = λ script size.
