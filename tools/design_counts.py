@@ -50,6 +50,8 @@ def main():
     print("1. refusals written as numbers:", lines(r"Refused\(\d"))
     print("3. while and loop:", lines(r"^\s*(?:'\w+: )?(?:while\b|loop \{)"))
     print("3. for:", lines(r"^\s*(?:'\w+: )?for\b"))
+    print("3. steps of an index by hand (x += 1, x += 2):", lines(r"^\s*\w+ \+= [12];"))
+    print("3. for over 0..s.len():", lines(r"\bfor \w+ in \(?0\.\.\w+\.len\(\)\)?(?:\.rev\(\))? \{"))
     print("4. least( and greatest(:", lines(r"\b(?:least|greatest)\("), " wide(:", lines(r"\bwide\("))
     groups = collections.Counter()
     wanted = {
@@ -63,6 +65,10 @@ def main():
         "words, flagged, from, k": lambda p: {"words", "flagged"} <= set(p),
         "image, places": lambda p: {"image", "places"} <= set(p),
         "base, depth": lambda p: {"base", "depth"} <= set(p),
+        "words, from": lambda p: {"words", "from"} <= set(p),
+        "args, count": lambda p: {"args", "count"} <= set(p),
+        "types, used": lambda p: {"types", "used"} <= set(p),
+        "pool, sums": lambda p: {"pool", "sums"} <= set(p),
     }
     for _, text in files:
         for _, names in parameters(text):
