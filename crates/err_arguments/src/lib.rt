@@ -8,6 +8,7 @@ ghost use Rattle.ptype.specs.Words.{ty_of};
 ghost use Rattle.err.specs.Message.{call_name, arg_mismatch, slot_conflict, slot_void};
 ghost use Rattle.err.specs.Report.{Reports};
 
+use display::Writer;
 use err::{CallName, Counts};
 use tok::{Span, Texts};
 
@@ -28,7 +29,9 @@ pub fn arg_mismatch(
         Reports (arg_mismatch span (call_name texts.now callee) (name_bytes texts.now name) (U expected) (U provided)) diagnostics.old messages.old counts diagnostics.new
         messages.new result }
 {
-    let mut out = err_text::writer(messages, counts);
+    let free = err_text::first_free(messages, counts);
+    let (_, rest) = messages.split_at_mut(free);
+    let mut out = Writer::new(rest);
     let a = err_text::put_call_name(&mut out, texts, callee);
     let b = a.and(out.put(b" expected "));
     let c = b.and(err_text::put_name(&mut out, texts, name));
@@ -62,7 +65,9 @@ pub fn slot_conflict(
         Reports (slot_conflict span (call_name texts.now callee) (name_bytes texts.now slot) (U existing) (U new)) diagnostics.old messages.old counts diagnostics.new
         messages.new result }
 {
-    let mut out = err_text::writer(messages, counts);
+    let free = err_text::first_free(messages, counts);
+    let (_, rest) = messages.split_at_mut(free);
+    let mut out = Writer::new(rest);
     let a = err_text::put_call_name(&mut out, texts, callee);
     let b = a.and(out.put(b" can not bind "));
     let c = b.and(err_text::put_name(&mut out, texts, slot));
@@ -90,7 +95,9 @@ pub fn slot_void(
 ) -> Option<Counts>
     ensures { Reports (slot_void span (call_name texts.now callee) (name_bytes texts.now slot)) diagnostics.old messages.old counts diagnostics.new messages.new result }
 {
-    let mut out = err_text::writer(messages, counts);
+    let free = err_text::first_free(messages, counts);
+    let (_, rest) = messages.split_at_mut(free);
+    let mut out = Writer::new(rest);
     let a = err_text::put_call_name(&mut out, texts, callee);
     let b = a.and(out.put(b" can not bind "));
     let c = b.and(err_text::put_name(&mut out, texts, slot));

@@ -8,6 +8,7 @@ ghost use Rattle.ptype.specs.Words.{ty_of};
 ghost use Rattle.err.specs.Message.{no_binding, let_void, defined_already, bad_return, bad_condition, match_cases, empty_import, no_import};
 ghost use Rattle.err.specs.Report.{Reports};
 
+use display::Writer;
 use err::Counts;
 use tok::Texts;
 
@@ -21,7 +22,9 @@ pub fn no_binding(
 ) -> Option<Counts>
     ensures { Reports (no_binding name (name_bytes texts.now name)) diagnostics.old messages.old counts diagnostics.new messages.new result }
 {
-    let mut out = err_text::writer(messages, counts);
+    let free = err_text::first_free(messages, counts);
+    let (_, rest) = messages.split_at_mut(free);
+    let mut out = Writer::new(rest);
     let a = out.put(b"binding ");
     let b = a.and(err_text::put_ticked(&mut out, texts, name));
     let c = b.and(out.put(b" not found"));
@@ -45,7 +48,9 @@ pub fn let_void(
 ) -> Option<Counts>
     ensures { Reports (let_void name) diagnostics.old messages.old counts diagnostics.new messages.new result }
 {
-    let mut out = err_text::writer(messages, counts);
+    let free = err_text::first_free(messages, counts);
+    let (_, rest) = messages.split_at_mut(free);
+    let mut out = Writer::new(rest);
     let a = out.put(b"RHS of let has to return a value, but it didnt");
     err_text::report(
         diagnostics,
@@ -68,7 +73,9 @@ pub fn defined_already(
 ) -> Option<Counts>
     ensures { Reports (defined_already name (name_bytes texts.now name)) diagnostics.old messages.old counts diagnostics.new messages.new result }
 {
-    let mut out = err_text::writer(messages, counts);
+    let free = err_text::first_free(messages, counts);
+    let (_, rest) = messages.split_at_mut(free);
+    let mut out = Writer::new(rest);
     let a = err_text::put_ticked(&mut out, texts, name);
     let b = a.and(out.put(b" is already defined"));
     err_text::report(
@@ -97,7 +104,9 @@ pub fn bad_return(
     ensures { let U : ℕ → Ty = ty_of texts.now types.now in
         Reports (bad_return token (name_bytes texts.now name) (U ret) (U computed)) diagnostics.old messages.old counts diagnostics.new messages.new result }
 {
-    let mut out = err_text::writer(messages, counts);
+    let free = err_text::first_free(messages, counts);
+    let (_, rest) = messages.split_at_mut(free);
+    let mut out = Writer::new(rest);
     let a = err_text::put_ticked(&mut out, texts, name);
     let b = a.and(out.put(b" should return "));
     let c = b.and(display::show_type(&mut out, types, texts, ret));
@@ -127,7 +136,9 @@ pub fn bad_condition(
     ensures { let U : ℕ → Ty = ty_of texts.now types.now in
         Reports (bad_condition token (U ty)) diagnostics.old messages.old counts diagnostics.new messages.new result }
 {
-    let mut out = err_text::writer(messages, counts);
+    let free = err_text::first_free(messages, counts);
+    let (_, rest) = messages.split_at_mut(free);
+    let mut out = Writer::new(rest);
     let a = out.put(b"Match conditions must be Bool, got ");
     let b = a.and(display::show_type(&mut out, types, texts, ty));
     let c = b.and(out.put(b" instead"));
@@ -156,7 +167,9 @@ pub fn match_cases(
     ensures { let U : ℕ → Ty = ty_of texts.now types.now in
         Reports (match_cases token (U default) (U ty)) diagnostics.old messages.old counts diagnostics.new messages.new result }
 {
-    let mut out = err_text::writer(messages, counts);
+    let free = err_text::first_free(messages, counts);
+    let (_, rest) = messages.split_at_mut(free);
+    let mut out = Writer::new(rest);
     let a = out.put(b"Match cases must resolve to the same type, but got ");
     let b = a.and(display::show_type(&mut out, types, texts, default));
     let c = b.and(out.put(b" and "));
@@ -181,7 +194,9 @@ pub fn empty_import(
 ) -> Option<Counts>
     ensures { Reports (empty_import token) diagnostics.old messages.old counts diagnostics.new messages.new result }
 {
-    let mut out = err_text::writer(messages, counts);
+    let free = err_text::first_free(messages, counts);
+    let (_, rest) = messages.split_at_mut(free);
+    let mut out = Writer::new(rest);
     let a = out.put(b"Import without any paths to import is considered invalid");
     err_text::report(
         diagnostics,
@@ -204,7 +219,9 @@ pub fn no_import(
 ) -> Option<Counts>
     ensures { Reports (no_import path (name_bytes texts.now path)) diagnostics.old messages.old counts diagnostics.new messages.new result }
 {
-    let mut out = err_text::writer(messages, counts);
+    let free = err_text::first_free(messages, counts);
+    let (_, rest) = messages.split_at_mut(free);
+    let mut out = Writer::new(rest);
     let a = out.put(b"Wasnt able to find a package named ");
     let b = a.and(err_text::put_ticked(&mut out, texts, path));
     err_text::report(

@@ -33,7 +33,8 @@ copied ds at {s} e h =
 
 -- ---- report
 abbrev Placed : (ds : List ℕ) → Counts → (code : ℕ) → Span → (texts : Answered ⊤ Full) → (m end : ℕ) → (ds' : List ℕ) → Option Counts → Type 0
-Placed ds c code span texts m end ds' r = (ds' ≡ placed ds c code span texts m end) × (r ≡ placed_answer ds c texts m end)
+Placed ds c code span texts m end ds' r =
+    (ds' ≡ placed ds c code span texts (c.bytes + m) (c.bytes + end)) × (r ≡ placed_answer ds c texts (c.bytes + m) (c.bytes + end))
 
 module _ (ds : List ℕ) (c : Counts) (code : ℕ) (span : Span) (m end : ℕ) where
   pub no-text : (texts : Answered ⊤ Full) → is_err texts ≡ true → Placed ds c code span texts m end ds None
@@ -41,16 +42,19 @@ module _ (ds : List ℕ) (c : Counts) (code : ℕ) (span : Span) (m end : ℕ) w
   no-text (Ok x) e = absurd (true≢false (sym e))
   no-text (Err x) e = (refl, refl)
 
-  pub not-placed : (texts : Answered ⊤ Full) {t : Bool} → is_err texts ≡ false → t ≡ fits ds c m end → not t ≡ true → Placed ds c code span texts m end ds None
+  pub not-placed : (texts : Answered ⊤ Full) {t : Bool} → is_err texts ≡ false → t ≡ fits ds c (c.bytes + m) (c.bytes + end) → not t ≡ true → Placed ds c code span texts m end ds None
   unfolding placed placed_answer
   not-placed (Ok x) {t} e f h = (rw (← f, not-true t h), rw (← f, not-true t h))
   not-placed (Err x) {t} e f h = absurd (true≢false e)
 
   pub is-placed :
-      (texts : Answered ⊤ Full) {t : Bool} {w₁ w₂ : ℕ} {ds' : List ℕ} → is_err texts ≡ false → t ≡ fits ds c m end → not t ≡ false →
+      (texts : Answered ⊤ Full) {t : Bool} {w₁ w₂ : ℕ} {ds' : List ℕ} → is_err texts ≡ false → t ≡ fits ds c (c.bytes + m) (c.bytes + end) → not t ≡ false →
       w₁ ≡ as_word span.start → w₂ ≡ as_word span.len →
-      ds' ≡ write ds (6 * c.diagnostics) ((word_of 13 0 + code) ∷ w₁ ∷ w₂ ∷ c.bytes ∷ (m - c.bytes) ∷ (end - m) ∷ []) →
-      Placed ds c code span texts m end ds' (Some (record { diagnostics = c.diagnostics + 1; bytes = end }))
+      ds' ≡ write ds (6 * c.diagnostics) ((word_of 13 0 + code) ∷ w₁ ∷ w₂ ∷ c.bytes ∷ m ∷ (end - m) ∷ []) →
+      Placed ds c code span texts m end ds' (Some (record { diagnostics = c.diagnostics + 1; bytes = c.bytes + end }))
   unfolding placed placed_answer
-  is-placed (Ok u) {t} e f h x y z = (rw (← f, not-false t h, z, x, y), rw (← f, not-false t h))
+  is-placed (Ok u) {t} e f h x y z =
+      let a : (c.bytes + m) - c.bytes ≡ m = omega arith in
+      let b : (c.bytes + end) - (c.bytes + m) ≡ end - m = omega arith in
+      (rw (← f, not-false t h, z, x, y, a, b), rw (← f, not-false t h))
   is-placed (Err u) {t} e f h x y z = absurd (true≢false e)

@@ -1,13 +1,13 @@
--- What is written from the first free byte on, and its record, are the diagnostic in the whole buffers. Assumes nothing.
+-- What is written into the rest of the message buffer is written in the whole buffer from the first free byte on. Assumes nothing.
 use Rattle.std.specs.Prelude.{ℕ, ◌+◌, ◌≤◌, ◌<◌, ◌≡◌, List, [], ◌∷◌, ◌++◌, ⊤, Option, Ok, Err}
 use Rattle.std.specs.Prelude.{Result as Answered}
 use Rattle.std.proofs.Math.Path.{ap}
-use Rattle.std.proofs.Common.{◌∙◌, append-nil}
+use Rattle.std.proofs.Common.{◌∙◌, append-nil, zero-add, suc-add, add-zero}
 use native.Mathlib.Omega.{arith}
 use Rattle.std.proofs.Math.ListN.{length, length-append}
 use Rattle.facts.specs.Tests.{by_order}
 use Rattle.tok.specs.declared.Span.{Span}
-use Rattle.ptype.specs.Add.{write}
+use Rattle.ptype.specs.Add.{overwrite, write}
 use Rattle.display.specs.declared.Full.{Full}
 use Rattle.display.specs.Writing.{written}
 use Rattle.display.specs.WritingLaws.{written-room, written-full}
@@ -15,83 +15,106 @@ use Rattle.err.specs.declared.Counts.{Counts}
 use Rattle.err.specs.Message.{Diagnostic}
 use Rattle.err.specs.Report.{Reports, placed, placed_answer}
 use Rattle.err.proofs.ReportLaws.{no_room, all-written}
-use Rattle.err_text.specs.Rest.{first_free}
+use Rattle.err_text.specs.Rest.{first_free, ReportsIn}
+
+-- ---- a text in the rest, in the whole
+write-before : (before rest : List ℕ) (m : ℕ) (s : List ℕ) → before ++ write rest m s ≡ write (before ++ rest) (length before + m) s
+unfolding write overwrite
+write-before [] rest m s = rw (zero-add m)
+write-before (x ∷ before) rest m s = rw (suc-add (length before) m) (ap (λ l. x ∷ l) (write-before before rest m s))
 
 -- ---- the law of all writers of diagnostics: both texts were written, the span was asked for, and the record was written
 abbrev diagnostic : (code : ℕ) → Span → (message primary : List ℕ) → Diagnostic
 diagnostic code span message primary = record { code = code; span = span; message = message; primary = primary }
 
-module _ (ds ms : List ℕ) (c : Counts) (code : ℕ) (span : Span) (message primary : List ℕ) where
-  abbrev Told : (texts : Answered ⊤ Full) → (ms' : List ℕ) → (m end : ℕ) → Type 0
-  Told texts ms' m end = Reports (diagnostic code span message primary) ds ms c (placed ds c code span texts m end) ms' (placed_answer ds c texts m end)
+module _ (before ds rest : List ℕ) (c : Counts) (code : ℕ) (span : Span) (message primary : List ℕ) (f : length before ≡ first_free (before ++ rest) c) where
+  abbrev Told : (texts : Answered ⊤ Full) → (rest' : List ℕ) → (m end : ℕ) → Type 0
+  Told texts rest' m end =
+      Reports (diagnostic code span message primary) ds (before ++ rest) c (placed ds c code span texts (c.bytes + m) (c.bytes + end)) (before ++ rest')
+      (placed_answer ds c texts (c.bytes + m) (c.bytes + end))
 
   -- both texts have room in the rest; more bytes are never counted than are lent, since the message has one
-  told-room :
-      {n : ℕ} → n ≡ first_free ms c → 0 < length message → n + length (message ++ primary) ≤ length ms →
-      Told (Ok tt) (write ms n (message ++ primary)) (n + length message) (n + length (message ++ primary))
-  told-room {n} f k h =
+  told-room : 0 < length message → 0 + length (message ++ primary) ≤ length rest → Told (Ok tt) (write rest 0 (message ++ primary)) (0 + length message) (0 + length (message ++ primary))
+  told-room k h =
+      let l = length-append before rest in
       let j = length-append message primary in
-      let e : n ≡ c.bytes = omega arith in
-      all-written (omega arith) (omega arith) (omega arith) (rw e)
+      by_order c.bytes (length (before ++ rest))
+      (λ g.
+      let e : length before ≡ c.bytes = omega arith in
+      all-written (omega arith) (omega arith) (omega arith) (rw (write-before before rest 0 (message ++ primary), e, add-zero)))
+      (λ g. absurd (omega arith))
 
-  told-full : {n : ℕ} → n ≡ first_free ms c → length ms < n + length (message ++ primary) → (x : Full) (ms' : List ℕ) (m end : ℕ) → Told (Err x) ms' m end
+  told-full : length rest < 0 + length (message ++ primary) → (x : Full) (rest' : List ℕ) (m end : ℕ) → Told (Err x) rest' m end
   unfolding placed placed_answer
-  told-full f h x ms' m end = no_room (omega arith)
+  told-full h x rest' m end =
+      let l = length-append before rest in
+      no_room (omega arith)
 
   told :
-      {n : ℕ} → n ≡ first_free ms c → 0 < length message → {r : Answered ⊤ Full} {o : List ℕ} (m : ℕ) → (r, (o, m)) ≡ written ms n message →
-      (texts : Answered ⊤ Full) (ms' : List ℕ) (end : ℕ) → (texts, (ms', end)) ≡ written ms n (message ++ primary) → Told texts ms' m end
-  told {n} f k m d texts ms' end e =
+      0 < length message → {r : Answered ⊤ Full} {o : List ℕ} (m : ℕ) → (r, (o, m)) ≡ written rest 0 message →
+      (texts : Answered ⊤ Full) (rest' : List ℕ) (end : ℕ) → (texts, (rest', end)) ≡ written rest 0 (message ++ primary) → Told texts rest' m end
+  told k m d texts rest' end e =
       let j = length-append message primary in
-      by_order (n + length (message ++ primary)) (length ms)
+      by_order (0 + length (message ++ primary)) (length rest)
       (λ h.
-      let g = e ∙ written-room ms n (message ++ primary) h in
-      let i = d ∙ written-room ms n message (omega arith) in
-      rw (ap (λ q. q.0) g, ap (λ q. q.1.0) g, ap (λ q. q.1.1) g, ap (λ q. q.1.1) i) (told-room f k h))
+      let g = e ∙ written-room rest 0 (message ++ primary) h in
+      let i = d ∙ written-room rest 0 message (omega arith) in
+      rw (ap (λ q. q.0) g, ap (λ q. q.1.0) g, ap (λ q. q.1.1) g, ap (λ q. q.1.1) i) (told-room k h))
       (λ h.
-      let g = e ∙ written-full ms n (message ++ primary) h in
-      rw (ap (λ q. q.0) g) (told-full f h (record {}) ms' m end))
+      let g = e ∙ written-full rest 0 (message ++ primary) h in
+      rw (ap (λ q. q.0) g) (told-full h (record {}) rest' m end))
 
--- What is known of a writer of a diagnostic: it wrote both texts from the first free byte on, what was lent came back, the span was asked for, and the
--- record was written.
-module _ {o ds ds' ms ms₁ ms' back : List ℕ} {n m end code : ℕ} {c : Counts} {span span' : Span} {r texts : Answered ⊤ Full} {answer : Option Counts} where
+-- What is known of a writer of a diagnostic: it wrote both texts from the rest's start on, what was lent came back, the span was asked for, and the record
+-- was written.
+module _ {o ds ds' rest rest₁ rest' back : List ℕ} {n m end code : ℕ} {c : Counts} {span span' : Span} {r texts : Answered ⊤ Full} {answer : Option Counts} where
   tells :
-      (message primary : List ℕ) → 0 < length message → (o ≡ ms) × (n ≡ first_free ms c) → (r, (ms₁, m)) ≡ written o n message →
-      (texts, (ms', end)) ≡ written o n (message ++ primary) → back ≡ ms' → span' ≡ span →
-      (ds' ≡ placed ds c code span' texts m end) × (answer ≡ placed_answer ds c texts m end) → Reports (diagnostic code span message primary) ds ms c ds' back answer
-  tells message primary k s d e l f p = rw (p.0, p.1, f, l) (told ds ms c code span message primary s.1 k m (rw s.0 at d) texts ms' end (rw s.0 at e))
+      (message primary : List ℕ) → 0 < length message → (o ≡ rest) × (n ≡ 0) → (r, (rest₁, m)) ≡ written o n message → (texts, (rest', end)) ≡ written o n (message ++ primary) →
+      back ≡ rest' → span' ≡ span →
+      (ds' ≡ placed ds c code span' texts (c.bytes + m) (c.bytes + end)) × (answer ≡ placed_answer ds c texts (c.bytes + m) (c.bytes + end)) →
+      ReportsIn (diagnostic code span message primary) ds rest c ds' back answer
+  tells message primary k s d e l f p = record {
+    whole = λ before g. rw (p.0, p.1, f, l) (told before ds rest c code span message primary g k m (rw (s.0, s.1) at d) texts rest' end (rw (s.0, s.1) at e));
+  }
 
   -- a message that begins with fixed text
   pub tells-rest :
-      {x : ℕ} {message primary : List ℕ} → (o ≡ ms) × (n ≡ first_free ms c) → (r, (ms₁, m)) ≡ written o n (x ∷ message) →
-      (texts, (ms', end)) ≡ written o n ((x ∷ message) ++ primary) → back ≡ ms' → span' ≡ span →
-      (ds' ≡ placed ds c code span' texts m end) × (answer ≡ placed_answer ds c texts m end) →
-      Reports (diagnostic code span (x ∷ message) primary) ds ms c ds' back answer
+      {x : ℕ} {message primary : List ℕ} → (o ≡ rest) × (n ≡ 0) → (r, (rest₁, m)) ≡ written o n (x ∷ message) → (texts, (rest', end)) ≡ written o n ((x ∷ message) ++ primary) →
+      back ≡ rest' → span' ≡ span →
+      (ds' ≡ placed ds c code span' texts (c.bytes + m) (c.bytes + end)) × (answer ≡ placed_answer ds c texts (c.bytes + m) (c.bytes + end)) →
+      ReportsIn (diagnostic code span (x ∷ message) primary) ds rest c ds' back answer
   tells-rest {x} {message} {primary} s d e l f p = tells (x ∷ message) primary (omega arith) s d e l f p
 
-module _ {o ds ds' ms ms' back : List ℕ} {n end code : ℕ} {c : Counts} {span span' : Span} {texts : Answered ⊤ Full} {answer : Option Counts} where
+module _ {o ds ds' rest rest' back : List ℕ} {n end code : ℕ} {c : Counts} {span span' : Span} {texts : Answered ⊤ Full} {answer : Option Counts} where
   -- and no primary message
   tells-alone :
-      (message : List ℕ) → 0 < length message → (o ≡ ms) × (n ≡ first_free ms c) → (texts, (ms', end)) ≡ written o n message → back ≡ ms' → span' ≡ span →
-      (ds' ≡ placed ds c code span' texts end end) × (answer ≡ placed_answer ds c texts end end) → Reports (diagnostic code span message []) ds ms c ds' back answer
+      (message : List ℕ) → 0 < length message → (o ≡ rest) × (n ≡ 0) → (texts, (rest', end)) ≡ written o n message → back ≡ rest' → span' ≡ span →
+      (ds' ≡ placed ds c code span' texts (c.bytes + end) (c.bytes + end)) × (answer ≡ placed_answer ds c texts (c.bytes + end) (c.bytes + end)) →
+      ReportsIn (diagnostic code span message []) ds rest c ds' back answer
   tells-alone message k s e l f p = tells message [] k s e (rw append-nil e) l f p
 
   pub tells-rest-alone :
-      {x : ℕ} {message : List ℕ} → (o ≡ ms) × (n ≡ first_free ms c) → (texts, (ms', end)) ≡ written o n (x ∷ message) → back ≡ ms' → span' ≡ span →
-      (ds' ≡ placed ds c code span' texts end end) × (answer ≡ placed_answer ds c texts end end) → Reports (diagnostic code span (x ∷ message) []) ds ms c ds' back answer
+      {x : ℕ} {message : List ℕ} → (o ≡ rest) × (n ≡ 0) → (texts, (rest', end)) ≡ written o n (x ∷ message) → back ≡ rest' → span' ≡ span →
+      (ds' ≡ placed ds c code span' texts (c.bytes + end) (c.bytes + end)) × (answer ≡ placed_answer ds c texts (c.bytes + end) (c.bytes + end)) →
+      ReportsIn (diagnostic code span (x ∷ message) []) ds rest c ds' back answer
   tells-rest-alone {x} {message} s e l f p = tells-alone (x ∷ message) (omega arith) s e l f p
 
   -- a message that begins with a type and goes on with fixed text
   pub tells-shown :
-      (shown : List ℕ) (x : ℕ) (fixed : List ℕ) → (o ≡ ms) × (n ≡ first_free ms c) → (texts, (ms', end)) ≡ written o n (shown ++ (x ∷ fixed)) → back ≡ ms' → span' ≡ span →
-      (ds' ≡ placed ds c code span' texts end end) × (answer ≡ placed_answer ds c texts end end) →
-      Reports (diagnostic code span (shown ++ (x ∷ fixed)) []) ds ms c ds' back answer
+      (shown : List ℕ) (x : ℕ) (fixed : List ℕ) → (o ≡ rest) × (n ≡ 0) → (texts, (rest', end)) ≡ written o n (shown ++ (x ∷ fixed)) → back ≡ rest' → span' ≡ span →
+      (ds' ≡ placed ds c code span' texts (c.bytes + end) (c.bytes + end)) × (answer ≡ placed_answer ds c texts (c.bytes + end) (c.bytes + end)) →
+      ReportsIn (diagnostic code span (shown ++ (x ∷ fixed)) []) ds rest c ds' back answer
   tells-shown shown x fixed s e l f p = tells-alone (shown ++ (x ∷ fixed)) (omega (arith, length-append shown (x ∷ fixed))) s e l f p
 
   -- and ends with a name
   pub tells-shown-name :
-      (shown : List ℕ) (x : ℕ) (fixed name : List ℕ) → (o ≡ ms) × (n ≡ first_free ms c) → (texts, (ms', end)) ≡ written o n (shown ++ (x ∷ fixed) ++ name) → back ≡ ms' →
-      span' ≡ span → (ds' ≡ placed ds c code span' texts end end) × (answer ≡ placed_answer ds c texts end end) →
-      Reports (diagnostic code span (shown ++ (x ∷ fixed) ++ name) []) ds ms c ds' back answer
+      (shown : List ℕ) (x : ℕ) (fixed name : List ℕ) → (o ≡ rest) × (n ≡ 0) → (texts, (rest', end)) ≡ written o n (shown ++ (x ∷ fixed) ++ name) → back ≡ rest' → span' ≡ span →
+      (ds' ≡ placed ds c code span' texts (c.bytes + end) (c.bytes + end)) × (answer ≡ placed_answer ds c texts (c.bytes + end) (c.bytes + end)) →
+      ReportsIn (diagnostic code span (shown ++ (x ∷ fixed) ++ name) []) ds rest c ds' back answer
   tells-shown-name shown x fixed name s e l f p =
       tells-alone (shown ++ (x ∷ fixed) ++ name) (omega (arith, length-append (shown ++ (x ∷ fixed)) name, length-append shown (x ∷ fixed))) s e l f p
+
+-- ---- the rest that was lent came back behind the bytes before it: what was told in it was told in the whole
+pub told_in_whole :
+    (front : List ℕ) {d : Diagnostic} {ds ds' ms rest back : List ℕ} {c : Counts} {r : Option Counts} {at : ℕ} →
+    ms ≡ front ++ rest → length front ≡ at → at ≡ first_free ms c → ReportsIn d ds rest c ds' back r → Reports d ds ms c ds' (front ++ back) r
+told_in_whole front w n e p = rw w (p.whole front (rw (← w) (n ∙ e)))

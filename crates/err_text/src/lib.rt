@@ -30,14 +30,14 @@ fn most_diagnostics(diagnostics: &[u32]) -> usize
     (diagnostics.len() / 6).min(MOST_DIAGNOSTICS)
 }
 
-// Whether a record is free, and texts that end at the places m and p lie in order within the limit.
+// Whether a record is free, and texts that end at m and at p, counted from the first free byte, lie in order within the limit.
 fn has_room(diagnostics: &[u32], counts: Counts, m: usize, p: usize) -> bool
-    ensures { result ≡ fits diagnostics.now counts m p }
+    ensures { result ≡ fits diagnostics.now counts (counts.bytes + m) (counts.bytes + p) }
 {
     counts.diagnostics < most_diagnostics(diagnostics)
-        && counts.bytes <= m
         && m <= p
         && p <= MOST_BYTES
+        && counts.bytes <= MOST_BYTES - p
 }
 
 // The low 32 bits of a number.
@@ -47,19 +47,14 @@ fn as_word(n: usize) -> u32
     (n % 0x1_0000_0000) as u32
 }
 
-// A writer into the rest of the messages, which begins at the first free byte.
-pub fn writer(messages: &mut [u8], counts: Counts) -> Writer
-    ensures same_buffer { result.buffer.ghost_name ≡ messages.entry.ghost_name }
-    ensures from_the_first_free { (result.buffer.now ≡ messages.old) × (result.at ≡ first_free messages.old counts) }
+// The first free byte of the messages, at which the rest begins that a writer is lent.
+pub fn first_free(messages: &[u8], counts: Counts) -> usize
+    ensures { result ≡ first_free messages.now counts }
 {
-    let at = counts.bytes.min(messages.len());
-    Writer {
-        buffer: messages,
-        at,
-    }
+    counts.bytes.min(messages.len())
 }
 
-// Writes the record of a diagnostic whose message was written from the first free byte up to a place, and its primary message from there up to
+// Writes the record of a diagnostic whose message was written from the start of the rest up to a place, and its primary message from there up to
 // `end`, where both texts had room.
 pub fn report(
     diagnostics: &mut [u32],
@@ -70,8 +65,8 @@ pub fn report(
     message: usize,
     end: usize,
 ) -> Option<Counts>
-    ensures six_words { diagnostics.new ≡ placed diagnostics.old counts code span texts message end }
-    ensures answer { result ≡ placed_answer diagnostics.old counts texts message end }
+    ensures six_words { diagnostics.new ≡ placed diagnostics.old counts code span texts (counts.bytes + message) (counts.bytes + end) }
+    ensures answer { result ≡ placed_answer diagnostics.old counts texts (counts.bytes + message) (counts.bytes + end) }
 {
     if texts.is_err() {
         return None;
@@ -84,14 +79,14 @@ pub fn report(
         as_word(span.start),
         as_word(span.len),
         counts.bytes as u32,
-        (message - counts.bytes) as u32,
+        message as u32,
         (end - message) as u32,
     ];
     let at = 6 * counts.diagnostics;
     diagnostics[at..at + 6].copy_from_slice(&record);
     Some(Counts {
         diagnostics: counts.diagnostics + 1,
-        bytes: end,
+        bytes: counts.bytes + end,
     })
 }
 

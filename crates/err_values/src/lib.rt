@@ -8,6 +8,7 @@ ghost use Rattle.ptype.specs.Words.{ty_of};
 ghost use Rattle.err.specs.Message.{empty_array, members_differ, unsupported, incompatible, bad_unary, redundant_cast, bad_cast, no_record, no_field_of};
 ghost use Rattle.err.specs.Report.{Reports};
 
+use display::Writer;
 use err::Counts;
 use tok::{Span, Texts};
 
@@ -20,7 +21,9 @@ pub fn empty_array(
 ) -> Option<Counts>
     ensures { Reports (empty_array token) diagnostics.old messages.old counts diagnostics.new messages.new result }
 {
-    let mut out = err_text::writer(messages, counts);
+    let free = err_text::first_free(messages, counts);
+    let (_, rest) = messages.split_at_mut(free);
+    let mut out = Writer::new(rest);
     let a = out.put(b"Can not infer the element type of an empty array");
     let message = out.at;
     let b = out.put(b"empty array");
@@ -49,7 +52,9 @@ pub fn members_differ(
     ensures { let U : ℕ → Ty = ty_of texts.now types.now in
         Reports (members_differ span (U first) (U ty)) diagnostics.old messages.old counts diagnostics.new messages.new result }
 {
-    let mut out = err_text::writer(messages, counts);
+    let free = err_text::first_free(messages, counts);
+    let (_, rest) = messages.split_at_mut(free);
+    let mut out = Writer::new(rest);
     let a = out.put(b"Array members must all have the same type, expected ");
     let b = a.and(display::show_type(&mut out, types, texts, first));
     let c = b.and(out.put(b" but got "));
@@ -74,7 +79,9 @@ pub fn unsupported(
     ensures { let U : ℕ → Ty = ty_of texts.now types.now in
         Reports (unsupported token op (U left)) diagnostics.old messages.old counts diagnostics.new messages.new result }
 {
-    let mut out = err_text::writer(messages, counts);
+    let free = err_text::first_free(messages, counts);
+    let (_, rest) = messages.split_at_mut(free);
+    let mut out = Writer::new(rest);
     let a = out.put(b"Unsupported type ");
     let b = a.and(display::show_type(&mut out, types, texts, left));
     let c = b.and(out.put(b" for "));
@@ -106,7 +113,9 @@ pub fn incompatible(
     ensures { let U : ℕ → Ty = ty_of texts.now types.now in
         Reports (incompatible token op (U left) (U right)) diagnostics.old messages.old counts diagnostics.new messages.new result }
 {
-    let mut out = err_text::writer(messages, counts);
+    let free = err_text::first_free(messages, counts);
+    let (_, rest) = messages.split_at_mut(free);
+    let mut out = Writer::new(rest);
     let a = out.put(b"Incompatible types ");
     let b = a.and(display::show_type(&mut out, types, texts, left));
     let c = b.and(out.put(b" and "));
@@ -139,7 +148,9 @@ pub fn bad_unary(
     ensures { let U : ℕ → Ty = ty_of texts.now types.now in
         Reports (bad_unary token op (U inner)) diagnostics.old messages.old counts diagnostics.new messages.new result }
 {
-    let mut out = err_text::writer(messages, counts);
+    let free = err_text::first_free(messages, counts);
+    let (_, rest) = messages.split_at_mut(free);
+    let mut out = Writer::new(rest);
     let a = out.put(b"Unary ");
     let b = a.and(err_text::put_operator(&mut out, op));
     let c = b.and(out.put(b" requires Int or Double, got "));
@@ -168,7 +179,9 @@ pub fn redundant_cast(
     ensures { let U : ℕ → Ty = ty_of texts.now types.now in
         Reports (redundant_cast token (U ty)) diagnostics.old messages.old counts diagnostics.new messages.new result }
 {
-    let mut out = err_text::writer(messages, counts);
+    let free = err_text::first_free(messages, counts);
+    let (_, rest) = messages.split_at_mut(free);
+    let mut out = Writer::new(rest);
     let a = out.put(b"Can not cast ");
     let b = a.and(display::show_type(&mut out, types, texts, ty));
     let c = b.and(out.put(b" to "));
@@ -200,7 +213,9 @@ pub fn bad_cast(
     ensures { let U : ℕ → Ty = ty_of texts.now types.now in
         Reports (bad_cast token (U from) (U to)) diagnostics.old messages.old counts diagnostics.new messages.new result }
 {
-    let mut out = err_text::writer(messages, counts);
+    let free = err_text::first_free(messages, counts);
+    let (_, rest) = messages.split_at_mut(free);
+    let mut out = Writer::new(rest);
     let a = out.put(b"Can not cast ");
     let b = a.and(display::show_type(&mut out, types, texts, from));
     let c = b.and(out.put(b" to "));
@@ -229,7 +244,9 @@ pub fn no_record(
     ensures { let U : ℕ → Ty = ty_of texts.now types.now in
         Reports (no_record name (U ty)) diagnostics.old messages.old counts diagnostics.new messages.new result }
 {
-    let mut out = err_text::writer(messages, counts);
+    let free = err_text::first_free(messages, counts);
+    let (_, rest) = messages.split_at_mut(free);
+    let mut out = Writer::new(rest);
     let a = display::show_type(&mut out, types, texts, ty);
     let b = a.and(out.put(b" can not be indexed in this way"));
     err_text::report(
@@ -256,7 +273,9 @@ pub fn no_field(
     ensures { let U : ℕ → Ty = ty_of texts.now types.now in
         Reports (no_field_of name (U ty) (name_bytes texts.now name)) diagnostics.old messages.old counts diagnostics.new messages.new result }
 {
-    let mut out = err_text::writer(messages, counts);
+    let free = err_text::first_free(messages, counts);
+    let (_, rest) = messages.split_at_mut(free);
+    let mut out = Writer::new(rest);
     let a = display::show_type(&mut out, types, texts, ty);
     let b = a.and(out.put(b" does not have a field called "));
     let c = b.and(err_text::put_name(&mut out, texts, name));

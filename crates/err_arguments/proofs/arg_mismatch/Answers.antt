@@ -4,7 +4,7 @@ use borrow.Author.Rules.{rules}
 use Rattle.tok.specs.Text.{text}
 use Rattle.display.specs.WritingLaws.{both}
 use Rattle.err.specs.Message.{arg_mismatch}
-use Rattle.err_text.specs.RestLaws.{tells-rest}
+use Rattle.err_text.specs.RestLaws.{tells-rest, told_in_whole}
 use Rattle.err_arguments.proofs.arg_mismatch.Goals as goal
 
 pub returns : goal.returns
@@ -20,4 +20,5 @@ returns c =
     let to_i = both _ _ _ _ to_h c.show_type-2.ensures.1 c.and-i.ensures in
     let to_j = both _ _ _ _ to_i c.put-5.ensures.1 c.and-j.ensures in
     let to_l = both _ _ _ _ c.put-k.ensures.1 c.show_type-3.ensures.1 c.and-l.ensures in
-    tells-rest c.writer-out.ensures.from_the_first_free to_j (both _ _ _ _ to_j to_l c.and.ensures) (search rules) refl (c.report.ensures.six_words, c.report.ensures.answer)
+    told_in_whole _ c.split_at_mut-rest.ensures.value c.split_at_mut-rest.ensures.front_len c.first_free-free.ensures
+    (tells-rest c.new-out.ensures.from_the_start to_j (both _ _ _ _ to_j to_l c.and.ensures) (search rules) refl (c.report.ensures.six_words, c.report.ensures.answer))

@@ -4,7 +4,7 @@ use borrow.Author.Rules.{rules}
 use Rattle.tok.specs.Text.{text}
 use Rattle.display.specs.WritingLaws.{both}
 use Rattle.err.specs.Message.{slot_void}
-use Rattle.err_text.specs.RestLaws.{tells-rest}
+use Rattle.err_text.specs.RestLaws.{tells-rest, told_in_whole}
 use Rattle.err_arguments.proofs.slot_void.Goals as goal
 
 pub returns : goal.returns
@@ -13,4 +13,5 @@ returns c =
     let to_b = both _ _ _ _ c.put_call_name-a.ensures.1 c.put.ensures.1 c.and-b.ensures in
     let to_c = both _ _ _ _ to_b c.put_name.ensures.1 c.and-c.ensures in
     let to_d = both _ _ _ _ to_c c.put-2.ensures.1 c.and-d.ensures in
-    tells-rest c.writer-out.ensures.from_the_first_free to_d (both _ _ _ _ to_d c.put-e.ensures.1 c.and.ensures) (search rules) refl (c.report.ensures.six_words, c.report.ensures.answer)
+    told_in_whole _ c.split_at_mut-rest.ensures.value c.split_at_mut-rest.ensures.front_len c.first_free-free.ensures
+    (tells-rest c.new-out.ensures.from_the_start to_d (both _ _ _ _ to_d c.put-e.ensures.1 c.and.ensures) (search rules) refl (c.report.ensures.six_words, c.report.ensures.answer))

@@ -2,9 +2,11 @@
 use borrow.Author.Rules.{rules}
 use Rattle.tok.specs.Text.{text}
 use Rattle.err.specs.Message.{call_through_field}
-use Rattle.err_text.specs.RestLaws.{tells-rest-alone}
+use Rattle.err_text.specs.RestLaws.{tells-rest-alone, told_in_whole}
 use Rattle.err_calls.proofs.call_through_field.Goals as goal
 
 pub returns : goal.returns
 unfolding call_through_field text
-returns c = tells-rest-alone c.writer-out.ensures.from_the_first_free (c.put-a.ensures.1) (search rules) c.token_span.ensures (c.report.ensures.six_words, c.report.ensures.answer)
+returns c =
+    told_in_whole _ c.split_at_mut-rest.ensures.value c.split_at_mut-rest.ensures.front_len c.first_free-free.ensures
+    (tells-rest-alone c.new-out.ensures.from_the_start (c.put-a.ensures.1) (search rules) c.token_span.ensures (c.report.ensures.six_words, c.report.ensures.answer))

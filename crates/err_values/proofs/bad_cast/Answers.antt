@@ -3,7 +3,7 @@ use borrow.Author.Rules.{rules}
 use Rattle.tok.specs.Text.{text}
 use Rattle.display.specs.WritingLaws.{both}
 use Rattle.err.specs.Message.{bad_cast}
-use Rattle.err_text.specs.RestLaws.{tells-rest-alone}
+use Rattle.err_text.specs.RestLaws.{tells-rest-alone, told_in_whole}
 use Rattle.err_values.proofs.bad_cast.Goals as goal
 
 pub returns : goal.returns
@@ -12,4 +12,5 @@ returns c =
     let to_b = both _ _ _ _ c.put-a.ensures.1 c.show_type.ensures.1 c.and-b.ensures in
     let to_c = both _ _ _ _ to_b c.put.ensures.1 c.and-c.ensures in
     let to_d = both _ _ _ _ to_c c.show_type-2.ensures.1 c.and-d.ensures in
-    tells-rest-alone c.writer-out.ensures.from_the_first_free to_d (search rules) c.token_span.ensures (c.report.ensures.six_words, c.report.ensures.answer)
+    told_in_whole _ c.split_at_mut-rest.ensures.value c.split_at_mut-rest.ensures.front_len c.first_free-free.ensures
+    (tells-rest-alone c.new-out.ensures.from_the_start to_d (search rules) c.token_span.ensures (c.report.ensures.six_words, c.report.ensures.answer))

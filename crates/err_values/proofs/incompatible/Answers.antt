@@ -3,7 +3,7 @@ use borrow.Author.Rules.{rules}
 use Rattle.tok.specs.Text.{text}
 use Rattle.display.specs.WritingLaws.{both}
 use Rattle.err.specs.Message.{incompatible}
-use Rattle.err_text.specs.RestLaws.{tells-rest-alone}
+use Rattle.err_text.specs.RestLaws.{tells-rest-alone, told_in_whole}
 use Rattle.err_values.proofs.incompatible.Goals as goal
 
 pub returns : goal.returns
@@ -15,4 +15,5 @@ returns c =
     let to_e = both _ _ _ _ to_d c.put-2.ensures.1 c.and-e.ensures in
     let to_f = both _ _ _ _ to_e c.put_operator.ensures.1 c.and-f.ensures in
     let to_g = both _ _ _ _ to_f (rw c.class_of.ensures at c.put_wanted_both.ensures.1) c.and-g.ensures in
-    tells-rest-alone c.writer-out.ensures.from_the_first_free to_g (search rules) c.token_span.ensures (c.report.ensures.six_words, c.report.ensures.answer)
+    told_in_whole _ c.split_at_mut-rest.ensures.value c.split_at_mut-rest.ensures.front_len c.first_free-free.ensures
+    (tells-rest-alone c.new-out.ensures.from_the_start to_g (search rules) c.token_span.ensures (c.report.ensures.six_words, c.report.ensures.answer))

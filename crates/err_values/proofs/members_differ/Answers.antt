@@ -4,7 +4,7 @@ use borrow.Author.Rules.{rules}
 use Rattle.tok.specs.Text.{text}
 use Rattle.display.specs.WritingLaws.{both}
 use Rattle.err.specs.Message.{members_differ}
-use Rattle.err_text.specs.RestLaws.{tells-rest}
+use Rattle.err_text.specs.RestLaws.{tells-rest, told_in_whole}
 use Rattle.err_values.proofs.members_differ.Goals as goal
 
 pub returns : goal.returns
@@ -14,4 +14,5 @@ returns c =
     let to_c = both _ _ _ _ to_b c.put.ensures.1 c.and-c.ensures in
     let to_d = both _ _ _ _ to_c c.show_type-2.ensures.1 c.and-d.ensures in
     let to_f = both _ _ _ _ c.put-e.ensures.1 c.show_type-3.ensures.1 c.and-f.ensures in
-    tells-rest c.writer-out.ensures.from_the_first_free to_d (both _ _ _ _ to_d to_f c.and.ensures) (search rules) refl (c.report.ensures.six_words, c.report.ensures.answer)
+    told_in_whole _ c.split_at_mut-rest.ensures.value c.split_at_mut-rest.ensures.front_len c.first_free-free.ensures
+    (tells-rest c.new-out.ensures.from_the_start to_d (both _ _ _ _ to_d to_f c.and.ensures) (search rules) refl (c.report.ensures.six_words, c.report.ensures.answer))

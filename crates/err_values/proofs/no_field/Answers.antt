@@ -3,7 +3,7 @@ use borrow.Author.Rules.{rules}
 use Rattle.tok.specs.Text.{text}
 use Rattle.display.specs.WritingLaws.{both}
 use Rattle.err.specs.Message.{no_field_of}
-use Rattle.err_text.specs.RestLaws.{tells-shown-name}
+use Rattle.err_text.specs.RestLaws.{tells-shown-name, told_in_whole}
 use Rattle.err_values.proofs.no_field.Goals as goal
 
 pub returns : goal.returns
@@ -11,4 +11,5 @@ unfolding no_field_of text
 returns c =
     let to_b = both _ _ _ _ c.show_type-a.ensures.1 c.put.ensures.1 c.and-b.ensures in
     let to_c = both _ _ _ _ to_b c.put_name.ensures.1 c.and-c.ensures in
-    tells-shown-name _ _ _ _ c.writer-out.ensures.from_the_first_free to_c (search rules) c.token_span.ensures (c.report.ensures.six_words, c.report.ensures.answer)
+    told_in_whole _ c.split_at_mut-rest.ensures.value c.split_at_mut-rest.ensures.front_len c.first_free-free.ensures
+    (tells-shown-name _ _ _ _ c.new-out.ensures.from_the_start to_c (search rules) c.token_span.ensures (c.report.ensures.six_words, c.report.ensures.answer))

@@ -3,11 +3,12 @@ use borrow.Author.Rules.{rules}
 use Rattle.tok.specs.Text.{text}
 use Rattle.display.specs.WritingLaws.{both}
 use Rattle.err.specs.Message.{no_record}
-use Rattle.err_text.specs.RestLaws.{tells-shown}
+use Rattle.err_text.specs.RestLaws.{tells-shown, told_in_whole}
 use Rattle.err_values.proofs.no_record.Goals as goal
 
 pub returns : goal.returns
 unfolding no_record text
 returns c =
     let to_b = both _ _ _ _ c.show_type-a.ensures.1 c.put.ensures.1 c.and-b.ensures in
-    tells-shown _ _ _ c.writer-out.ensures.from_the_first_free to_b (search rules) c.token_span.ensures (c.report.ensures.six_words, c.report.ensures.answer)
+    told_in_whole _ c.split_at_mut-rest.ensures.value c.split_at_mut-rest.ensures.front_len c.first_free-free.ensures
+    (tells-shown _ _ _ c.new-out.ensures.from_the_start to_b (search rules) c.token_span.ensures (c.report.ensures.six_words, c.report.ensures.answer))
