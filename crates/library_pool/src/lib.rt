@@ -48,7 +48,11 @@ pub fn good_type(library: &[u8], pool: &[u32], own: usize, w: u32) -> bool
         }
         TypeKind::Option | TypeKind::Array => good_inner(pool, own, w),
         TypeKind::Record => good_list(pool, own, w),
-        TypeKind::Foreign | TypeKind::Slot => tok::good_payload(tok::Source::Library.bit(), library, w),
+        TypeKind::Foreign | TypeKind::Slot => tok::good_payload(
+            tok::Source::Library.bit(),
+            library,
+            w,
+        ),
         _ => false,
     }
 }

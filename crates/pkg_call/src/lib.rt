@@ -197,13 +197,7 @@ fn in_held(
             at,
         ),
         None => {
-            let r = err_calls::missing_package(
-                diagnostics,
-                messages,
-                used.told,
-                texts,
-                call.pkg,
-            );
+            let r = err_calls::missing_package(diagnostics, messages, used.told, texts, call.pkg);
             state::told(call.site.n, used, r, Answer::Poison)
         }
     }

@@ -86,12 +86,12 @@ module _ {T : Texts} {image places words : List ℕ} {n at : ℕ} {st : State} {
   -- the rule of the node is Fn's
   fn-node : {b' : Lent} {v : Visit Answer}
       → Visits (fn_at (ctx_in T image words) image at n (block (ctx_in T image words) (body_at image at))) (2 * count_at image at + rooms (body_at image at))
-          (3 + 2 * count_at image at + rows_all (body_at image at)) words st b b' v
+      (3 + 2 * count_at image at + rows_all (body_at image at)) words st b b' v
       → NodeVisited T image words n st b b' v
   unfolding node
   fn-node {b'} {v} x =
       let y : Visits (node (ctx_in T image words) (tree_of image n)) (2 * count_at image at + rooms (body_at image at))
-          (3 + 2 * count_at image at + rows_all (body_at image at)) words st b b' v = rw is-fn x in
+      (3 + 2 * count_at image at + rows_all (body_at image at)) words st b b' v = rw is-fn x in
       visits-most (omega (arith, room-is)) (omega (arith, rows_is)) y
 
   -- ── The ways out ──

@@ -29,8 +29,14 @@ use Rattle.walking.specs.Visited.{ctx_in, nodes_at, ListVisit, ListVisited, Node
 -- the list's rule, at its beginning
 abbrev pub listing : Texts → (image words : List ℕ) → (at k : ℕ) → State → Lent → Beginning
 listing T image words at k st b =
-    record { rule = last (ctx_in T image words) (Known (slot_count image)) (nodes_at image at k);
-      room = rooms (nodes_at image at k); rows = rows_all (nodes_at image at k); library = words; st = st; b = b }
+    record {
+      rule = last (ctx_in T image words) (Known (slot_count image)) (nodes_at image at k);
+      room = rooms (nodes_at image at k);
+      rows = rows_all (nodes_at image at k);
+      library = words;
+      st = st;
+      b = b;
+    }
 
 -- all k nodes from word `at` on; and one less is left
 pub whole-left : (at k : ℕ) → at + k - at ≡ k

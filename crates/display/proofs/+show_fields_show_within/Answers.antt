@@ -14,41 +14,41 @@ show_fields-show_within-requires t c =
 pub show_fields-returns-in_err-put : goal.show_fields-returns-in_err-put
 show_fields-returns-in_err-put t c =
     let e = fields-turn (unfolded c.args.texts.now c.args.types.now c.args.depth) c.args.texts.now c.args.words.now
-        (c.args.i + 2 * c.loop-k.k) {k = c.args.n - c.loop-k.k} (omega arith) c.field_name.ensures refl in
+    (c.args.i + 2 * c.loop-k.k) {k = c.args.n - c.loop-k.k} (omega arith) c.field_name.ensures refl in
     grind writing
 
 pub show_fields-returns-in_err-put-2 : goal.show_fields-returns-in_err-put-2
 unfolding text
 show_fields-returns-in_err-put-2 t c =
     let e = fields-turn (unfolded c.args.texts.now c.args.types.now c.args.depth) c.args.texts.now c.args.words.now
-        (c.args.i + 2 * c.loop-k.k) {k = c.args.n - c.loop-k.k} (omega arith) c.field_name.ensures refl in
+    (c.args.i + 2 * c.loop-k.k) {k = c.args.n - c.loop-k.k} (omega arith) c.field_name.ensures refl in
     grind writing
 
 pub show_fields-returns-in_err-show_within : goal.show_fields-returns-in_err-show_within
 unfolding text
 show_fields-returns-in_err-show_within t c =
     let e = fields-turn (unfolded c.args.texts.now c.args.types.now c.args.depth) c.args.texts.now c.args.words.now
-        (c.args.i + 2 * c.loop-k.k) {k = c.args.n - c.loop-k.k} (omega arith) c.field_name.ensures c.field_type.ensures in
+    (c.args.i + 2 * c.loop-k.k) {k = c.args.n - c.loop-k.k} (omega arith) c.field_name.ensures c.field_type.ensures in
     grind writing
 
 pub show_fields-returns-in_err-put_separator : goal.show_fields-returns-in_err-put_separator
 unfolding text
 show_fields-returns-in_err-put_separator t c =
     let e = fields-turn (unfolded c.args.texts.now c.args.types.now c.args.depth) c.args.texts.now c.args.words.now
-        (c.args.i + 2 * c.loop-k.k) {k = c.args.n - c.loop-k.k} (omega arith) c.field_name.ensures c.field_type.ensures in
+    (c.args.i + 2 * c.loop-k.k) {k = c.args.n - c.loop-k.k} (omega arith) c.field_name.ensures c.field_type.ensures in
     grind writing
 
 pub show_fields-loop-k-preserved : goal.show_fields-loop-k-preserved
 unfolding text
 show_fields-loop-k-preserved t c =
     let e = fields-turn (unfolded c.args.texts.now c.args.types.now c.args.depth) c.args.texts.now c.args.words.now
-        (c.args.i + 2 * c.loop-k.k) {k = c.args.n - c.loop-k.k} (omega arith) c.field_name.ensures c.field_type.ensures in
+    (c.args.i + 2 * c.loop-k.k) {k = c.args.n - c.loop-k.k} (omega arith) c.field_name.ensures c.field_type.ensures in
     grind writing
 
 pub show_fields-returns : goal.show_fields-returns
 show_fields-returns t c =
     let e = fields-end (unfolded c.args.texts.now c.args.types.now c.args.depth) c.args.texts.now c.args.words.now
-        (c.args.i + 2 * c.loop-k.k) {k = c.args.n - c.loop-k.k} (omega arith) in
+    (c.args.i + 2 * c.loop-k.k) {k = c.args.n - c.loop-k.k} (omega arith) in
     grind writing
 
 pub show_within-returns-then-depth-eq0 : goal.show_within-returns-then-depth-eq0

@@ -23,25 +23,25 @@ pub returns-in_err-put_separator : goal.returns-in_err-put_separator
 unfolding text
 returns-in_err-put_separator c =
     let e = every-turn (ty_of c.args.texts.now c.args.types.now) c.args.words.now
-        (c.args.first + c.args.step * c.loop-done.done) c.args.step {count = c.args.count} {done = c.loop-done.done} (omega arith) refl in
+    (c.args.first + c.args.step * c.loop-done.done) c.args.step {count = c.args.count} {done = c.loop-done.done} (omega arith) refl in
     grind writing
 
 pub returns-in_err-show_type : goal.returns-in_err-show_type
 unfolding text
 returns-in_err-show_type c =
     let e = every-turn (ty_of c.args.texts.now c.args.types.now) c.args.words.now
-        (c.args.first + c.args.step * c.loop-done.done) c.args.step {count = c.args.count} {done = c.loop-done.done} (omega arith) c.word_at.ensures in
+    (c.args.first + c.args.step * c.loop-done.done) c.args.step {count = c.args.count} {done = c.loop-done.done} (omega arith) c.word_at.ensures in
     grind writing
 
 pub loop-done-preserved : goal.loop-done-preserved
 unfolding text
 loop-done-preserved c =
     let e = every-turn (ty_of c.args.texts.now c.args.types.now) c.args.words.now
-        (c.args.first + c.args.step * c.loop-done.done) c.args.step {count = c.args.count} {done = c.loop-done.done} (omega arith) c.word_at.ensures in
+    (c.args.first + c.args.step * c.loop-done.done) c.args.step {count = c.args.count} {done = c.loop-done.done} (omega arith) c.word_at.ensures in
     grind writing
 
 pub returns : goal.returns
 returns c =
     let e = every-end (ty_of c.args.texts.now c.args.types.now) c.args.words.now
-        (c.args.first + c.args.step * c.loop-done.done) c.args.step {count = c.args.count} {done = c.loop-done.done} (omega arith) in
+    (c.args.first + c.args.step * c.loop-done.done) c.args.step {count = c.args.count} {done = c.loop-done.done} (omega arith) in
     grind writing
