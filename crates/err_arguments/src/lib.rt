@@ -29,8 +29,7 @@ pub fn arg_mismatch(
         Reports (arg_mismatch span (call_name texts.now callee) (name_bytes texts.now name) (U expected) (U provided)) diagnostics.old messages.old counts diagnostics.new
         messages.new result }
 {
-    let free = err_text::first_free(messages, counts);
-    let (_, rest) = messages.split_at_mut(free);
+    let (_, rest) = err_text::split_at_first_free(messages, counts);
     let mut out = Writer::new(rest);
     let a = err_text::put_call_name(&mut out, texts, callee);
     let b = a.and(out.put(b" expected "));
@@ -65,8 +64,7 @@ pub fn slot_conflict(
         Reports (slot_conflict span (call_name texts.now callee) (name_bytes texts.now slot) (U existing) (U new)) diagnostics.old messages.old counts diagnostics.new
         messages.new result }
 {
-    let free = err_text::first_free(messages, counts);
-    let (_, rest) = messages.split_at_mut(free);
+    let (_, rest) = err_text::split_at_first_free(messages, counts);
     let mut out = Writer::new(rest);
     let a = err_text::put_call_name(&mut out, texts, callee);
     let b = a.and(out.put(b" can not bind "));
@@ -95,8 +93,7 @@ pub fn slot_void(
 ) -> Option<Counts>
     ensures { Reports (slot_void span (call_name texts.now callee) (name_bytes texts.now slot)) diagnostics.old messages.old counts diagnostics.new messages.new result }
 {
-    let free = err_text::first_free(messages, counts);
-    let (_, rest) = messages.split_at_mut(free);
+    let (_, rest) = err_text::split_at_first_free(messages, counts);
     let mut out = Writer::new(rest);
     let a = err_text::put_call_name(&mut out, texts, callee);
     let b = a.and(out.put(b" can not bind "));

@@ -24,8 +24,7 @@ pub fn call_through_field(
 ) -> Option<Counts>
     ensures { Reports (call_through_field name) diagnostics.old messages.old counts diagnostics.new messages.new result }
 {
-    let free = err_text::first_free(messages, counts);
-    let (_, rest) = messages.split_at_mut(free);
+    let (_, rest) = err_text::split_at_first_free(messages, counts);
     let mut out = Writer::new(rest);
     let a = out.put(b"only package functions can be called through field syntax");
     err_text::report(
@@ -49,8 +48,7 @@ pub fn missing_package(
 ) -> Option<Counts>
     ensures { Reports (missing_package pkg (name_bytes texts.now pkg)) diagnostics.old messages.old counts diagnostics.new messages.new result }
 {
-    let free = err_text::first_free(messages, counts);
-    let (_, rest) = messages.split_at_mut(free);
+    let (_, rest) = err_text::split_at_first_free(messages, counts);
     let mut out = Writer::new(rest);
     let a = out.put(b"Can't find package ");
     let b = a.and(err_text::put_ticked(&mut out, texts, pkg));
@@ -79,8 +77,7 @@ pub fn undefined_in_package(
     ensures { Reports (undefined_in_package name (pkg_name (name_bytes texts.now pkg) (name_bytes texts.now name))) diagnostics.old messages.old counts diagnostics.new
         messages.new result }
 {
-    let free = err_text::first_free(messages, counts);
-    let (_, rest) = messages.split_at_mut(free);
+    let (_, rest) = err_text::split_at_first_free(messages, counts);
     let mut out = Writer::new(rest);
     let a = out.put(b"Call to undefined function ");
     let b = a.and(err_text::put_call_name(&mut out, texts, CallName::OfPackage(pkg, name)));
@@ -105,8 +102,7 @@ pub fn undefined_own(
 ) -> Option<Counts>
     ensures { Reports (undefined_own name (name_bytes texts.now name)) diagnostics.old messages.old counts diagnostics.new messages.new result }
 {
-    let free = err_text::first_free(messages, counts);
-    let (_, rest) = messages.split_at_mut(free);
+    let (_, rest) = err_text::split_at_first_free(messages, counts);
     let mut out = Writer::new(rest);
     let a = out.put(b"Call to undefined function ");
     let b = a.and(err_text::put_ticked(&mut out, texts, name));
@@ -168,8 +164,7 @@ pub fn no_specialisation<F: Fn(&mut Writer) -> Result<(), Full>>(
         ((cs : List (List Ty)) → WritesCandidates (F.post candidates) cs →
         Reports (no_specialisation token (call_name texts.now callee) (map U provided.now) cs) diagnostics.old messages.old counts diagnostics.new messages.new result) }
 {
-    let free = err_text::first_free(messages, counts);
-    let (_, rest) = messages.split_at_mut(free);
+    let (_, rest) = err_text::split_at_first_free(messages, counts);
     let mut out = Writer::new(rest);
     let a = out.put(b"no specialisation of ");
     let b = a.and(err_text::put_call_name(&mut out, texts, callee));
@@ -231,8 +226,7 @@ pub fn argument_count(
 ) -> Option<Counts>
     ensures { Reports (argument_count token (call_name texts.now callee) required given) diagnostics.old messages.old counts diagnostics.new messages.new result }
 {
-    let free = err_text::first_free(messages, counts);
-    let (_, rest) = messages.split_at_mut(free);
+    let (_, rest) = err_text::split_at_first_free(messages, counts);
     let mut out = Writer::new(rest);
     let a = err_text::put_call_name(&mut out, texts, callee);
     let b = a.and(out.put(b" requires "));

@@ -22,8 +22,7 @@ pub fn no_binding(
 ) -> Option<Counts>
     ensures { Reports (no_binding name (name_bytes texts.now name)) diagnostics.old messages.old counts diagnostics.new messages.new result }
 {
-    let free = err_text::first_free(messages, counts);
-    let (_, rest) = messages.split_at_mut(free);
+    let (_, rest) = err_text::split_at_first_free(messages, counts);
     let mut out = Writer::new(rest);
     let a = out.put(b"binding ");
     let b = a.and(err_text::put_ticked(&mut out, texts, name));
@@ -48,8 +47,7 @@ pub fn let_void(
 ) -> Option<Counts>
     ensures { Reports (let_void name) diagnostics.old messages.old counts diagnostics.new messages.new result }
 {
-    let free = err_text::first_free(messages, counts);
-    let (_, rest) = messages.split_at_mut(free);
+    let (_, rest) = err_text::split_at_first_free(messages, counts);
     let mut out = Writer::new(rest);
     let a = out.put(b"RHS of let has to return a value, but it didnt");
     err_text::report(
@@ -73,8 +71,7 @@ pub fn defined_already(
 ) -> Option<Counts>
     ensures { Reports (defined_already name (name_bytes texts.now name)) diagnostics.old messages.old counts diagnostics.new messages.new result }
 {
-    let free = err_text::first_free(messages, counts);
-    let (_, rest) = messages.split_at_mut(free);
+    let (_, rest) = err_text::split_at_first_free(messages, counts);
     let mut out = Writer::new(rest);
     let a = err_text::put_ticked(&mut out, texts, name);
     let b = a.and(out.put(b" is already defined"));
@@ -104,8 +101,7 @@ pub fn bad_return(
     ensures { let U : ℕ → Ty = ty_of texts.now types.now in
         Reports (bad_return token (name_bytes texts.now name) (U ret) (U computed)) diagnostics.old messages.old counts diagnostics.new messages.new result }
 {
-    let free = err_text::first_free(messages, counts);
-    let (_, rest) = messages.split_at_mut(free);
+    let (_, rest) = err_text::split_at_first_free(messages, counts);
     let mut out = Writer::new(rest);
     let a = err_text::put_ticked(&mut out, texts, name);
     let b = a.and(out.put(b" should return "));
@@ -136,8 +132,7 @@ pub fn bad_condition(
     ensures { let U : ℕ → Ty = ty_of texts.now types.now in
         Reports (bad_condition token (U ty)) diagnostics.old messages.old counts diagnostics.new messages.new result }
 {
-    let free = err_text::first_free(messages, counts);
-    let (_, rest) = messages.split_at_mut(free);
+    let (_, rest) = err_text::split_at_first_free(messages, counts);
     let mut out = Writer::new(rest);
     let a = out.put(b"Match conditions must be Bool, got ");
     let b = a.and(display::show_type(&mut out, types, texts, ty));
@@ -167,8 +162,7 @@ pub fn match_cases(
     ensures { let U : ℕ → Ty = ty_of texts.now types.now in
         Reports (match_cases token (U default) (U ty)) diagnostics.old messages.old counts diagnostics.new messages.new result }
 {
-    let free = err_text::first_free(messages, counts);
-    let (_, rest) = messages.split_at_mut(free);
+    let (_, rest) = err_text::split_at_first_free(messages, counts);
     let mut out = Writer::new(rest);
     let a = out.put(b"Match cases must resolve to the same type, but got ");
     let b = a.and(display::show_type(&mut out, types, texts, default));
@@ -194,8 +188,7 @@ pub fn empty_import(
 ) -> Option<Counts>
     ensures { Reports (empty_import token) diagnostics.old messages.old counts diagnostics.new messages.new result }
 {
-    let free = err_text::first_free(messages, counts);
-    let (_, rest) = messages.split_at_mut(free);
+    let (_, rest) = err_text::split_at_first_free(messages, counts);
     let mut out = Writer::new(rest);
     let a = out.put(b"Import without any paths to import is considered invalid");
     err_text::report(
@@ -219,8 +212,7 @@ pub fn no_import(
 ) -> Option<Counts>
     ensures { Reports (no_import path (name_bytes texts.now path)) diagnostics.old messages.old counts diagnostics.new messages.new result }
 {
-    let free = err_text::first_free(messages, counts);
-    let (_, rest) = messages.split_at_mut(free);
+    let (_, rest) = err_text::split_at_first_free(messages, counts);
     let mut out = Writer::new(rest);
     let a = out.put(b"Wasnt able to find a package named ");
     let b = a.and(err_text::put_ticked(&mut out, texts, path));

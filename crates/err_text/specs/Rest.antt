@@ -9,7 +9,7 @@ use Rattle.err.specs.Report.{Reports}
 abbrev pub first_free : (messages : List ℕ) → Counts → ℕ
 first_free ms c = min c.bytes (length ms)
 
--- The contract of every writer of a diagnostic: the diagnostics ds and the rest came in with the counts c, ds' and rest' are they now, r the answer.
+-- A diagnostic told in the rest: the diagnostics ds and the rest came in with the counts c, ds' and rest' are they now, r the answer.
 -- Whatever bytes stand before the rest, up to the first free one: in the whole buffer the diagnostic is told, and they stay.
 pub record ReportsIn (d : Diagnostic) (ds rest : List ℕ) (c : Counts) (ds' rest' : List ℕ) (r : Option Counts) : Type 0 where
   pub whole : (before : List ℕ) → length before ≡ first_free (before ++ rest) c → Reports d ds (before ++ rest) c ds' (before ++ rest') r

@@ -115,6 +115,6 @@ module _ {o ds ds' rest rest' back : List ℕ} {n end code : ℕ} {c : Counts} {
 
 -- ---- the rest that was lent came back behind the bytes before it: what was told in it was told in the whole
 pub told_in_whole :
-    (front : List ℕ) {d : Diagnostic} {ds ds' ms rest back : List ℕ} {c : Counts} {r : Option Counts} {at : ℕ} →
-    ms ≡ front ++ rest → length front ≡ at → at ≡ first_free ms c → ReportsIn d ds rest c ds' back r → Reports d ds ms c ds' (front ++ back) r
-told_in_whole front w n e p = rw w (p.whole front (rw (← w) (n ∙ e)))
+    (front : List ℕ) {d : Diagnostic} {ds ds' ms rest back : List ℕ} {c : Counts} {r : Option Counts} →
+    (ms ≡ front ++ rest) × (length front ≡ first_free ms c) → ReportsIn d ds rest c ds' back r → Reports d ds ms c ds' (front ++ back) r
+told_in_whole front s p = rw s.0 (p.whole front (rw (← s.0) s.1))

@@ -1,9 +1,9 @@
 // A diagnostic's record, and the pieces that several messages have (err.rs; typedefs.rs, `CallName`).
 #![tactic(auto, using(display::specs::WritingLaws::writing))]
 
-ghost use Rattle.std.specs.Prelude.{◌≡◌, [], ◌∷◌, ◌+◌, ◌*◌, ◌≤◌, length};
+ghost use Rattle.std.specs.Prelude.{◌≡◌, ◌++◌, ◌+◌, length};
+ghost use Rattle.std.specs.Borrow.{sem, LendsBoth, Array, u8};
 ghost use Rattle.tok.specs.Text.{name_bytes};
-ghost use Rattle.ptype.specs.Add.{write};
 ghost use Rattle.display.specs.Writing.{Writes};
 ghost use Rattle.err.specs.Message.{ticked, call_name, quoted, class_of, wanted, wanted_both};
 ghost use Rattle.err.specs.Report.{most_diagnostics, as_word, fits, placed, placed_answer};
@@ -47,11 +47,13 @@ fn as_word(n: usize) -> u32
     (n % 0x1_0000_0000) as u32
 }
 
-// The first free byte of the messages, at which the rest begins that a writer is lent.
-pub fn first_free(messages: &[u8], counts: Counts) -> usize
-    ensures { result ≡ first_free messages.now counts }
+// The messages in two parts: the bytes that are used, and the rest from the first free byte on, which a message's writer is lent.
+pub fn split_at_first_free(messages: &mut [u8], counts: Counts) -> (&mut [u8], &mut [u8])
+    ensures* writes_back { sem 𝓛 (LendsBoth (Array u8 0) (Array u8 0) (Array u8 0) messages.entry result ◌++◌) }
+    ensures parts { (messages.old ≡ result.0.now ++ result.1.now) × (length result.0.now ≡ first_free messages.old counts) }
 {
-    counts.bytes.min(messages.len())
+    let free = counts.bytes.min(messages.len());
+    messages.split_at_mut(free)
 }
 
 // Writes the record of a diagnostic whose message was written from the start of the rest up to a place, and its primary message from there up to

@@ -21,8 +21,7 @@ pub fn empty_array(
 ) -> Option<Counts>
     ensures { Reports (empty_array token) diagnostics.old messages.old counts diagnostics.new messages.new result }
 {
-    let free = err_text::first_free(messages, counts);
-    let (_, rest) = messages.split_at_mut(free);
+    let (_, rest) = err_text::split_at_first_free(messages, counts);
     let mut out = Writer::new(rest);
     let a = out.put(b"Can not infer the element type of an empty array");
     let message = out.at;
@@ -52,8 +51,7 @@ pub fn members_differ(
     ensures { let U : ℕ → Ty = ty_of texts.now types.now in
         Reports (members_differ span (U first) (U ty)) diagnostics.old messages.old counts diagnostics.new messages.new result }
 {
-    let free = err_text::first_free(messages, counts);
-    let (_, rest) = messages.split_at_mut(free);
+    let (_, rest) = err_text::split_at_first_free(messages, counts);
     let mut out = Writer::new(rest);
     let a = out.put(b"Array members must all have the same type, expected ");
     let b = a.and(display::show_type(&mut out, types, texts, first));
@@ -79,8 +77,7 @@ pub fn unsupported(
     ensures { let U : ℕ → Ty = ty_of texts.now types.now in
         Reports (unsupported token op (U left)) diagnostics.old messages.old counts diagnostics.new messages.new result }
 {
-    let free = err_text::first_free(messages, counts);
-    let (_, rest) = messages.split_at_mut(free);
+    let (_, rest) = err_text::split_at_first_free(messages, counts);
     let mut out = Writer::new(rest);
     let a = out.put(b"Unsupported type ");
     let b = a.and(display::show_type(&mut out, types, texts, left));
@@ -113,8 +110,7 @@ pub fn incompatible(
     ensures { let U : ℕ → Ty = ty_of texts.now types.now in
         Reports (incompatible token op (U left) (U right)) diagnostics.old messages.old counts diagnostics.new messages.new result }
 {
-    let free = err_text::first_free(messages, counts);
-    let (_, rest) = messages.split_at_mut(free);
+    let (_, rest) = err_text::split_at_first_free(messages, counts);
     let mut out = Writer::new(rest);
     let a = out.put(b"Incompatible types ");
     let b = a.and(display::show_type(&mut out, types, texts, left));
@@ -148,8 +144,7 @@ pub fn bad_unary(
     ensures { let U : ℕ → Ty = ty_of texts.now types.now in
         Reports (bad_unary token op (U inner)) diagnostics.old messages.old counts diagnostics.new messages.new result }
 {
-    let free = err_text::first_free(messages, counts);
-    let (_, rest) = messages.split_at_mut(free);
+    let (_, rest) = err_text::split_at_first_free(messages, counts);
     let mut out = Writer::new(rest);
     let a = out.put(b"Unary ");
     let b = a.and(err_text::put_operator(&mut out, op));
@@ -179,8 +174,7 @@ pub fn redundant_cast(
     ensures { let U : ℕ → Ty = ty_of texts.now types.now in
         Reports (redundant_cast token (U ty)) diagnostics.old messages.old counts diagnostics.new messages.new result }
 {
-    let free = err_text::first_free(messages, counts);
-    let (_, rest) = messages.split_at_mut(free);
+    let (_, rest) = err_text::split_at_first_free(messages, counts);
     let mut out = Writer::new(rest);
     let a = out.put(b"Can not cast ");
     let b = a.and(display::show_type(&mut out, types, texts, ty));
@@ -213,8 +207,7 @@ pub fn bad_cast(
     ensures { let U : ℕ → Ty = ty_of texts.now types.now in
         Reports (bad_cast token (U from) (U to)) diagnostics.old messages.old counts diagnostics.new messages.new result }
 {
-    let free = err_text::first_free(messages, counts);
-    let (_, rest) = messages.split_at_mut(free);
+    let (_, rest) = err_text::split_at_first_free(messages, counts);
     let mut out = Writer::new(rest);
     let a = out.put(b"Can not cast ");
     let b = a.and(display::show_type(&mut out, types, texts, from));
@@ -244,8 +237,7 @@ pub fn no_record(
     ensures { let U : ℕ → Ty = ty_of texts.now types.now in
         Reports (no_record name (U ty)) diagnostics.old messages.old counts diagnostics.new messages.new result }
 {
-    let free = err_text::first_free(messages, counts);
-    let (_, rest) = messages.split_at_mut(free);
+    let (_, rest) = err_text::split_at_first_free(messages, counts);
     let mut out = Writer::new(rest);
     let a = display::show_type(&mut out, types, texts, ty);
     let b = a.and(out.put(b" can not be indexed in this way"));
@@ -273,8 +265,7 @@ pub fn no_field(
     ensures { let U : ℕ → Ty = ty_of texts.now types.now in
         Reports (no_field_of name (U ty) (name_bytes texts.now name)) diagnostics.old messages.old counts diagnostics.new messages.new result }
 {
-    let free = err_text::first_free(messages, counts);
-    let (_, rest) = messages.split_at_mut(free);
+    let (_, rest) = err_text::split_at_first_free(messages, counts);
     let mut out = Writer::new(rest);
     let a = display::show_type(&mut out, types, texts, ty);
     let b = a.and(out.put(b" does not have a field called "));

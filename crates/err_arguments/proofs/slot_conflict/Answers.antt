@@ -19,5 +19,5 @@ returns c =
     let to_i = both _ _ _ _ c.put-h.ensures.1 c.put_name-2.ensures.1 c.and-i.ensures in
     let to_j = both _ _ _ _ to_i c.put-4.ensures.1 c.and-j.ensures in
     let to_k = both _ _ _ _ to_j c.show_type-3.ensures.1 c.and-k.ensures in
-    told_in_whole _ c.split_at_mut-rest.ensures.value c.split_at_mut-rest.ensures.front_len c.first_free-free.ensures
+    told_in_whole _ c.split_at_first_free-rest.ensures.parts
     (tells-rest c.new-out.ensures.from_the_start to_g (both _ _ _ _ to_g to_k c.and.ensures) (search rules) refl (c.report.ensures.six_words, c.report.ensures.answer))

@@ -10,5 +10,5 @@ pub returns : goal.returns
 unfolding missing_package text
 returns c =
     let to_b = both _ _ _ _ c.put-a.ensures.1 c.put_ticked.ensures.1 c.and-b.ensures in
-    told_in_whole _ c.split_at_mut-rest.ensures.value c.split_at_mut-rest.ensures.front_len c.first_free-free.ensures
+    told_in_whole _ c.split_at_first_free-rest.ensures.parts
     (tells-rest c.new-out.ensures.from_the_start to_b (both _ _ _ _ to_b c.put-c.ensures.1 c.and.ensures) (search rules) c.token_span.ensures (c.report.ensures.six_words, c.report.ensures.answer))

@@ -15,5 +15,5 @@ returns g c cs h =
     let to_e = both _ _ _ _ to_d c.put-2.ensures.1 c.and-e.ensures in
     let written = h _ _ _ c.candidates.ensures in
     let to_f = both _ _ _ _ to_e written.1 c.and-f.ensures in
-    told_in_whole _ c.split_at_mut-rest.ensures.value c.split_at_mut-rest.ensures.front_len c.first_free-free.ensures
+    told_in_whole _ c.split_at_first_free-rest.ensures.parts
     (tells-rest-alone c.new-out.ensures.from_the_start to_f (search rules) c.token_span.ensures (c.report.ensures.six_words, c.report.ensures.answer))

@@ -10,5 +10,5 @@ pub returns : goal.returns
 unfolding defined_already text
 returns c =
     let to_b = both _ _ _ _ c.put_ticked-a.ensures.1 c.put.ensures.1 c.and-b.ensures in
-    told_in_whole _ c.split_at_mut-rest.ensures.value c.split_at_mut-rest.ensures.front_len c.first_free-free.ensures
+    told_in_whole _ c.split_at_first_free-rest.ensures.parts
     (tells-rest-alone c.new-out.ensures.from_the_start to_b (search rules) c.token_span.ensures (c.report.ensures.six_words, c.report.ensures.answer))

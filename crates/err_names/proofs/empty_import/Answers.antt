@@ -8,5 +8,5 @@ use Rattle.err_names.proofs.empty_import.Goals as goal
 pub returns : goal.returns
 unfolding empty_import text
 returns c =
-    told_in_whole _ c.split_at_mut-rest.ensures.value c.split_at_mut-rest.ensures.front_len c.first_free-free.ensures
+    told_in_whole _ c.split_at_first_free-rest.ensures.parts
     (tells-rest-alone c.new-out.ensures.from_the_start (c.put-a.ensures.1) (search rules) c.token_span.ensures (c.report.ensures.six_words, c.report.ensures.answer))

@@ -12,5 +12,5 @@ returns c =
     let to_b = both _ _ _ _ c.put-a.ensures.1 c.show_type.ensures.1 c.and-b.ensures in
     let to_c = both _ _ _ _ to_b c.put.ensures.1 c.and-c.ensures in
     let to_d = both _ _ _ _ to_c c.show_type-2.ensures.1 c.and-d.ensures in
-    told_in_whole _ c.split_at_mut-rest.ensures.value c.split_at_mut-rest.ensures.front_len c.first_free-free.ensures
+    told_in_whole _ c.split_at_first_free-rest.ensures.parts
     (tells-rest-alone c.new-out.ensures.from_the_start to_d (search rules) c.token_span.ensures (c.report.ensures.six_words, c.report.ensures.answer))

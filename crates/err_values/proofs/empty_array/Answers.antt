@@ -10,5 +10,5 @@ pub returns : goal.returns
 unfolding empty_array text
 returns c =
     let m = c.put-a.ensures.1 in
-    told_in_whole _ c.split_at_mut-rest.ensures.value c.split_at_mut-rest.ensures.front_len c.first_free-free.ensures
+    told_in_whole _ c.split_at_first_free-rest.ensures.parts
     (tells-rest c.new-out.ensures.from_the_start m (both _ _ _ _ m (c.put-b.ensures.1) c.and.ensures) (search rules) c.token_span.ensures (c.report.ensures.six_words, c.report.ensures.answer))

@@ -15,5 +15,5 @@ returns c =
     let to_e = both _ _ _ _ to_d c.put-2.ensures.1 c.and-e.ensures in
     let to_f = both _ _ _ _ to_e c.put_operator.ensures.1 c.and-f.ensures in
     let to_g = both _ _ _ _ to_f (rw c.class_of.ensures at c.put_wanted_both.ensures.1) c.and-g.ensures in
-    told_in_whole _ c.split_at_mut-rest.ensures.value c.split_at_mut-rest.ensures.front_len c.first_free-free.ensures
+    told_in_whole _ c.split_at_first_free-rest.ensures.parts
     (tells-rest-alone c.new-out.ensures.from_the_start to_g (search rules) c.token_span.ensures (c.report.ensures.six_words, c.report.ensures.answer))

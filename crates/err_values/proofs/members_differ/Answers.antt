@@ -14,5 +14,5 @@ returns c =
     let to_c = both _ _ _ _ to_b c.put.ensures.1 c.and-c.ensures in
     let to_d = both _ _ _ _ to_c c.show_type-2.ensures.1 c.and-d.ensures in
     let to_f = both _ _ _ _ c.put-e.ensures.1 c.show_type-3.ensures.1 c.and-f.ensures in
-    told_in_whole _ c.split_at_mut-rest.ensures.value c.split_at_mut-rest.ensures.front_len c.first_free-free.ensures
+    told_in_whole _ c.split_at_first_free-rest.ensures.parts
     (tells-rest c.new-out.ensures.from_the_start to_d (both _ _ _ _ to_d to_f c.and.ensures) (search rules) refl (c.report.ensures.six_words, c.report.ensures.answer))
