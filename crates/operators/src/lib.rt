@@ -130,27 +130,10 @@ pub fn fuse(
     }
     let counts = used.told;
     if ptype::same_type(types, l, r) {
-        let told = err_values::unsupported(
-            diagnostics,
-            messages,
-            counts,
-            types,
-            token,
-            op,
-            l,
-        );
+        let told = err_values::unsupported(diagnostics, messages, counts, types, token, op, l);
         return state::told(n, used, told, Answer::Poison);
     }
-    let told = err_values::incompatible(
-        diagnostics,
-        messages,
-        counts,
-        types,
-        token,
-        op,
-        l,
-        r,
-    );
+    let told = err_values::incompatible(diagnostics, messages, counts, types, token, op, l, r);
     state::told(n, used, told, Answer::Poison)
 }
 
@@ -229,14 +212,7 @@ pub fn cast(
         let bad = err_values::bad_cast(diagnostics, messages, counts, types, token, i, to);
         return state::told(n, used, bad, Answer::Poison);
     }
-    let reported = err_values::redundant_cast(
-        diagnostics,
-        messages,
-        counts,
-        types,
-        token,
-        i,
-    );
+    let reported = err_values::redundant_cast(diagnostics, messages, counts, types, token, i);
     let (_, used) = state::told(n, used, reported, ())?;
     set_known(slots, used, slot, to)
 }

@@ -126,15 +126,7 @@ fn member_types(
         return Ok((Member::Alike, used));
     }
     let counts = used.told;
-    let reported = err_values::members_differ(
-        diagnostics,
-        messages,
-        counts,
-        types,
-        span,
-        f,
-        t,
-    );
+    let reported = err_values::members_differ(diagnostics, messages, counts, types, span, f, t);
     state::told(n, used, reported, Member::Differs)
 }
 
@@ -157,17 +149,7 @@ pub fn member(
     let (Answer::Known(f), Answer::Known(m)) = (first, second) else {
         return Ok((Member::Silent, used));
     };
-    member_types(
-        slots,
-        types,
-        diagnostics,
-        messages,
-        used,
-        n,
-        span,
-        f,
-        m,
-    )
+    member_types(slots, types, diagnostics, messages, used, n, span, f, m)
 }
 
 // An array whose members were all visited: an Array of the first's type, unless a member is poisoned.
@@ -317,15 +299,6 @@ pub fn check_return(
         return Ok(((), used));
     }
     let counts = used.told;
-    let reported = err_names::bad_return(
-        diagnostics,
-        messages,
-        counts,
-        types,
-        token,
-        name,
-        ret,
-        w,
-    );
+    let reported = err_names::bad_return(diagnostics, messages, counts, types, token, name, ret, w);
     state::told(n, used, reported, ())
 }
