@@ -28,7 +28,9 @@ abbrev whole : (code : ℕ) → Span → (message primary : List ℕ) → Diagno
 whole code span message primary = record { code = code; span = span; message = message; primary = primary }
 
 module _ (ds ms : List ℕ) (c : Counts) (code : ℕ) (span : Span) (message primary : List ℕ) where
-  tells-room : has_room (output ds ms c) (whole code span message primary) ≡ true → (n : ℕ) → tell n (whole code span message primary) (output ds ms c) ≡ ok tt (added (output ds ms c) (whole code span message primary))
+  tells-room :
+      has_room (output ds ms c) (whole code span message primary) ≡ true → (n : ℕ) →
+      tell n (whole code span message primary) (output ds ms c) ≡ ok tt (added (output ds ms c) (whole code span message primary))
   unfolding tell when
   tells-room e n = rw e
 
@@ -68,11 +70,15 @@ module _ {ds ms ms' : List ℕ} {c : Counts} {code : ℕ} {span : Span} {message
   -- a text had no room
   pub no_room : length ms < c.bytes + length (message ++ primary) → Reports (whole code span message primary) ds ms c ds ms' None
   unfolding ended
-  no_room h = record { step = λ n. tells_none ds ms c code span message primary (ap (λ b. ltb c.diagnostics (most_diagnostics ds) && b) (lt-leb (c.bytes + length (message ++ primary)) (most_bytes ms) (omega arith)) ∙ and-false (ltb c.diagnostics (most_diagnostics ds))) n }
+  no_room h =
+      let l = lt-leb (c.bytes + length (message ++ primary)) (most_bytes ms) (omega arith) in
+      let none = ap (λ b. ltb c.diagnostics (most_diagnostics ds) && b) l ∙ and-false (ltb c.diagnostics (most_diagnostics ds)) in
+      record { step = λ n. tells_none ds ms c code span message primary none n }
 
   -- both texts were written: there is room for all exactly where the record fits
   pub all-written :
-      {m p : ℕ} → c.bytes + length (message ++ primary) ≤ length ms → m ≡ c.bytes + length message → p ≡ c.bytes + length (message ++ primary) → ms' ≡ write ms c.bytes (message ++ primary) →
+      {m p : ℕ} → c.bytes + length (message ++ primary) ≤ length ms → m ≡ c.bytes + length message → p ≡ c.bytes + length (message ++ primary) →
+      ms' ≡ write ms c.bytes (message ++ primary) →
       Reports (whole code span message primary) ds ms c (placed ds c code span (Ok tt) m p) ms' (placed_answer ds c (Ok tt) m p)
   unfolding placed placed_answer ended append six_words
   all-written {m} {p} l em ep e =

@@ -10,7 +10,10 @@ use Rattle.ptype.specs.Ty.{Ty}
 use Rattle.display.specs.NamesWellFormed.{names_well_formed, all_well_formed}
 use Rattle.display.specs.Joined.{sig}
 use Rattle.display.specs.WellFormedLaws.{show_octets, decimal_octets, sig_octets, Each, no_piece, piece, joined_octets}
-use Rattle.err.specs.Message.{Diagnostic, operators, quoted, class_of, wanted, wanted_both, ticked, pkg_name, empty_array, members_differ, no_binding, unsupported, incompatible, bad_unary, let_void, defined_already, bad_return, redundant_cast, bad_cast, no_record, no_field_of, call_through_field, missing_package, undefined_in_package, undefined_own, no_specialisation, argument_count, arg_mismatch, slot_conflict, slot_void, bad_condition, match_cases, empty_import, no_import}
+use Rattle.err.specs.Message.{Diagnostic, operators, quoted, class_of, wanted, wanted_both, ticked, pkg_name, empty_array, members_differ, no_binding, unsupported}
+use Rattle.err.specs.Message.{incompatible, bad_unary, let_void, defined_already, bad_return, redundant_cast}
+use Rattle.err.specs.Message.{bad_cast, no_record, no_field_of, call_through_field, missing_package, undefined_in_package}
+use Rattle.err.specs.Message.{undefined_own, no_specialisation, argument_count, arg_mismatch, slot_conflict, slot_void, bad_condition, match_cases, empty_import, no_import}
 
 -- ---- the statement
 pub record WellFormed (d : Diagnostic) : Type 0 where
@@ -86,7 +89,10 @@ empty_array-well token = said (ascii_octets (text "Can not infer the element typ
 
 pub members_differ-well : (span : Span) (first : Ty) (ty : Ty) → Names first → Names ty → WellFormed (members_differ span first ty)
 unfolding members_differ text
-members_differ-well span first ty e f = said (ascii_octets (text "Array members must all have the same type, expected ") refl then show_octets first e then ascii_octets (text " but got ") refl then show_octets ty f) (ascii_octets (text "this member is of type ") refl then show_octets ty f)
+members_differ-well span first ty e f =
+    said (ascii_octets (text "Array members must all have the same type, expected ") refl then show_octets first e
+    then ascii_octets (text " but got ") refl then show_octets ty f)
+    (ascii_octets (text "this member is of type ") refl then show_octets ty f)
 
 pub no_binding-well : (token : ℕ) (name : List ℕ) → Name name → WellFormed (no_binding token name)
 unfolding no_binding text
@@ -94,15 +100,20 @@ no_binding-well token name e = said (ascii_octets (text "binding ") refl then ti
 
 pub unsupported-well : (token : ℕ) (op : ℕ) (left : Ty) → Names left → WellFormed (unsupported token op left)
 unfolding unsupported text
-unsupported-well token op left e = said (ascii_octets (text "Unsupported type ") refl then show_octets left e then ascii_octets (text " for ") refl then quoted_octets op then wanted_octets (class_of op)) none
+unsupported-well token op left e =
+    said (ascii_octets (text "Unsupported type ") refl then show_octets left e then ascii_octets (text " for ") refl then quoted_octets op
+    then wanted_octets (class_of op)) none
 
 pub incompatible-well : (token : ℕ) (op : ℕ) (left : Ty) (right : Ty) → Names left → Names right → WellFormed (incompatible token op left right)
 unfolding incompatible text
-incompatible-well token op left right e f = said (ascii_octets (text "Incompatible types ") refl then show_octets left e then ascii_octets (text " and ") refl then show_octets right f then ascii_octets (text " for ") refl then quoted_octets op then wanted_both_octets (class_of op)) none
+incompatible-well token op left right e f =
+    said (ascii_octets (text "Incompatible types ") refl then show_octets left e then ascii_octets (text " and ") refl then show_octets right f
+    then ascii_octets (text " for ") refl then quoted_octets op then wanted_both_octets (class_of op)) none
 
 pub bad_unary-well : (token : ℕ) (op : ℕ) (inner : Ty) → Names inner → WellFormed (bad_unary token op inner)
 unfolding bad_unary text
-bad_unary-well token op inner e = said (ascii_octets (text "Unary ") refl then quoted_octets op then ascii_octets (text " requires Int or Double, got ") refl then show_octets inner e) none
+bad_unary-well token op inner e =
+    said (ascii_octets (text "Unary ") refl then quoted_octets op then ascii_octets (text " requires Int or Double, got ") refl then show_octets inner e) none
 
 pub let_void-well : (name : ℕ) → WellFormed (let_void name)
 unfolding let_void text
@@ -114,11 +125,15 @@ defined_already-well token name e = said (ticked_octets name e then ascii_octets
 
 pub bad_return-well : (token : ℕ) (name : List ℕ) (ret : Ty) (computed : Ty) → Name name → Names ret → Names computed → WellFormed (bad_return token name ret computed)
 unfolding bad_return text
-bad_return-well token name ret computed e f g = said (ticked_octets name e then ascii_octets (text " should return ") refl then show_octets ret f then ascii_octets (text ", but returns ") refl then show_octets computed g) none
+bad_return-well token name ret computed e f g =
+    said (ticked_octets name e then ascii_octets (text " should return ") refl then show_octets ret f then ascii_octets (text ", but returns ") refl
+    then show_octets computed g) none
 
 pub redundant_cast-well : (token : ℕ) (ty : Ty) → Names ty → WellFormed (redundant_cast token ty)
 unfolding redundant_cast text
-redundant_cast-well token ty e = said (ascii_octets (text "Can not cast ") refl then show_octets ty e then ascii_octets (text " to ") refl then show_octets ty e) (ascii_octets (text "unnecessary cast") refl)
+redundant_cast-well token ty e =
+    said (ascii_octets (text "Can not cast ") refl then show_octets ty e then ascii_octets (text " to ") refl
+    then show_octets ty e) (ascii_octets (text "unnecessary cast") refl)
 
 pub bad_cast-well : (token : ℕ) (from : Ty) (to : Ty) → Names from → Names to → WellFormed (bad_cast token from to)
 unfolding bad_cast text
@@ -148,26 +163,41 @@ pub undefined_own-well : (token : ℕ) (name : List ℕ) → Name name → WellF
 unfolding undefined_own text
 undefined_own-well token name e = said (ascii_octets (text "Call to undefined function ") refl then ticked_octets name e) none
 
-pub no_specialisation-well : (token : ℕ) (call_name : List ℕ) (provided : List Ty) (candidates : List (List Ty)) → Name call_name → AllNames provided → candidates_well_formed candidates ≡ true → WellFormed (no_specialisation token call_name provided candidates)
+pub no_specialisation-well : (token : ℕ) (call_name : List ℕ) (provided : List Ty) (candidates : List (List Ty)) →
+    Name call_name → AllNames provided → candidates_well_formed candidates ≡ true → WellFormed (no_specialisation token call_name provided candidates)
 unfolding no_specialisation text
-no_specialisation-well token call_name provided candidates e f g = said (ascii_octets (text "no specialisation of ") refl then ticked_octets call_name e then ascii_octets (text " accepts (") refl then sig_octets provided f then ascii_octets (text "); available: ") refl
+no_specialisation-well token call_name provided candidates e f g =
+    said (ascii_octets (text "no specialisation of ") refl then ticked_octets call_name e then ascii_octets (text " accepts (") refl
+    then sig_octets provided f then ascii_octets (text "); available: ") refl
     then joined_octets (ascii_octets (text " | ") refl) (sigs_octets candidates g)) none
 
 pub argument_count-well : (token : ℕ) (call_name : List ℕ) (required : ℕ) (given : ℕ) → Name call_name → WellFormed (argument_count token call_name required given)
 unfolding argument_count text
-argument_count-well token call_name required given e = said (ticked_octets call_name e then ascii_octets (text " requires ") refl then decimal_octets required then ascii_octets (text " arguments, got ") refl then decimal_octets given) none
+argument_count-well token call_name required given e =
+    said (ticked_octets call_name e then ascii_octets (text " requires ") refl then decimal_octets required
+    then ascii_octets (text " arguments, got ") refl then decimal_octets given) none
 
-pub arg_mismatch-well : (span : Span) (call_name : List ℕ) (argName : List ℕ) (expected : Ty) (provided : Ty) → Name call_name → Name argName → Names expected → Names provided → WellFormed (arg_mismatch span call_name argName expected provided)
+pub arg_mismatch-well : (span : Span) (call_name : List ℕ) (argName : List ℕ) (expected : Ty) (provided : Ty) →
+    Name call_name → Name argName → Names expected → Names provided → WellFormed (arg_mismatch span call_name argName expected provided)
 unfolding arg_mismatch text
-arg_mismatch-well span call_name argName expected provided e f g h = said (ticked_octets call_name e then ascii_octets (text " expected ") refl then octets_of argName f then ascii_octets (text ":") refl then show_octets expected g then ascii_octets (text ", got ") refl then octets_of argName f then ascii_octets (text ":") refl then show_octets provided h then ascii_octets (text " instead") refl) (ascii_octets (text "this argument is of type ") refl then show_octets provided h)
+arg_mismatch-well span call_name argName expected provided e f g h =
+    said (ticked_octets call_name e then ascii_octets (text " expected ") refl then octets_of argName f then ascii_octets (text ":") refl
+    then show_octets expected g then ascii_octets (text ", got ") refl then octets_of argName f then ascii_octets (text ":") refl then show_octets provided h then ascii_octets (text " instead") refl)
+    (ascii_octets (text "this argument is of type ") refl then show_octets provided h)
 
-pub slot_conflict-well : (span : Span) (call_name : List ℕ) (slot : List ℕ) (existing : Ty) (new : Ty) → Name call_name → Name slot → Names existing → Names new → WellFormed (slot_conflict span call_name slot existing new)
+pub slot_conflict-well : (span : Span) (call_name : List ℕ) (slot : List ℕ) (existing : Ty) (new : Ty) →
+    Name call_name → Name slot → Names existing → Names new → WellFormed (slot_conflict span call_name slot existing new)
 unfolding slot_conflict text
-slot_conflict-well span call_name slot existing new e f g h = said (ticked_octets call_name e then ascii_octets (text " can not bind ") refl then octets_of slot f then ascii_octets (text " to ") refl then show_octets new h then ascii_octets (text ", it is already bound to ") refl then show_octets existing g) (ascii_octets (text "this argument binds ") refl then octets_of slot f then ascii_octets (text " to ") refl then show_octets new h)
+slot_conflict-well span call_name slot existing new e f g h =
+    said (ticked_octets call_name e then ascii_octets (text " can not bind ") refl then octets_of slot f then ascii_octets (text " to ") refl
+    then show_octets new h then ascii_octets (text ", it is already bound to ") refl then show_octets existing g)
+    (ascii_octets (text "this argument binds ") refl then octets_of slot f then ascii_octets (text " to ") refl then show_octets new h)
 
 pub slot_void-well : (span : Span) (call_name : List ℕ) (slot : List ℕ) → Name call_name → Name slot → WellFormed (slot_void span call_name slot)
 unfolding slot_void text
-slot_void-well span call_name slot e f = said (ticked_octets call_name e then ascii_octets (text " can not bind ") refl then octets_of slot f then ascii_octets (text " to Void") refl) (ascii_octets (text "this argument is of type Void") refl)
+slot_void-well span call_name slot e f =
+    said (ticked_octets call_name e then ascii_octets (text " can not bind ") refl then octets_of slot f then ascii_octets (text " to Void") refl)
+    (ascii_octets (text "this argument is of type Void") refl)
 
 pub bad_condition-well : (token : ℕ) (ty : Ty) → Names ty → WellFormed (bad_condition token ty)
 unfolding bad_condition text
@@ -175,7 +205,9 @@ bad_condition-well token ty e = said (ascii_octets (text "Match conditions must 
 
 pub match_cases-well : (token : ℕ) (default : Ty) (ty : Ty) → Names default → Names ty → WellFormed (match_cases token default ty)
 unfolding match_cases text
-match_cases-well token default ty e f = said (ascii_octets (text "Match cases must resolve to the same type, but got ") refl then show_octets default e then ascii_octets (text " and ") refl then show_octets ty f) none
+match_cases-well token default ty e f =
+    said (ascii_octets (text "Match cases must resolve to the same type, but got ") refl then show_octets default e
+    then ascii_octets (text " and ") refl then show_octets ty f) none
 
 pub empty_import-well : (token : ℕ) → WellFormed (empty_import token)
 unfolding empty_import text

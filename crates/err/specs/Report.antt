@@ -1,5 +1,6 @@
 -- One diagnostic written (document 01, "An answer", refusal 9): its record and its bytes, and the room that they need. Definitions.
-use Rattle.std.specs.Prelude.{ℕ, ◌+◌, ◌*◌, ◌-◌, ◌/◌, ◌%◌, ◌^◌, min, ◌≡◌, Bool, ◌&&◌, cond, List, [], ◌∷◌, ◌++◌, length, leb, ltb, Option, Some, None, Ok, Err, ⊤}
+use Rattle.std.specs.Prelude.{ℕ, ◌+◌, ◌*◌, ◌-◌, ◌/◌, ◌%◌, ◌^◌, min, ◌≡◌, Bool, ◌&&◌, cond, leb, ltb}
+use Rattle.std.specs.Prelude.{List, [], ◌∷◌, ◌++◌, length, Option, Some, None, Ok, Err, ⊤}
 use Rattle.std.specs.Prelude.{Result as Answered}
 use Rattle.tok.specs.Word.{word_of}
 use Rattle.tok.specs.Step.{Result, ok, refused, Step, Refusal, refusal, ◌>>=◌, look, give, refuse, when}

@@ -8,12 +8,13 @@ ghost use Rattle.ptype.specs.Types.{type_at};
 ghost use Rattle.err.specs.Message.{call_name, arg_mismatch, slot_conflict, slot_void};
 ghost use Rattle.err.specs.Report.{Reports};
 
-use display::Writer;
 use err::{CallName, Counts};
+use err_text::Piece;
 use ptype::Types;
 use tok::{Span, Texts};
 
 // 20: An argument of another type.
+#[tactic(auto, unfolding(err::specs::Message::arg_mismatch, err_text::specs::Pieces::said, err_text::specs::Pieces::said_after, err_text::specs::Pieces::text_of, tok::specs::Text::text))]
 pub fn arg_mismatch(
     diagnostics: &mut [u32],
     messages: &mut [u8],
@@ -29,25 +30,27 @@ pub fn arg_mismatch(
         Reports (arg_mismatch span (call_name T callee) (name_bytes T name) (U expected) (U provided))
         diagnostics.old messages.old counts diagnostics.new messages.new result }
 {
-    let (_, rest) = err_text::split_at_first_free(messages, counts);
-    let mut out = Writer::new(rest);
-    let a = err_text::put_call_name(&mut out, types.texts, callee);
-    let b = a.and(out.put(b" expected "));
-    let c = b.and(err_text::put_name(&mut out, types.texts, name));
-    let d = c.and(out.put(b":"));
-    let e = d.and(display::show_type(&mut out, types, expected));
-    let f = e.and(out.put(b", got "));
-    let g = f.and(err_text::put_name(&mut out, types.texts, name));
-    let h = g.and(out.put(b":"));
-    let i = h.and(display::show_type(&mut out, types, provided));
-    let j = i.and(out.put(b" instead"));
-    let message = out.at;
-    let k = out.put(b"this argument is of type ");
-    let l = k.and(display::show_type(&mut out, types, provided));
-    err_text::report(diagnostics, counts, 20, span, j.and(l), message, out.at)
+    let message = [
+        Piece::Call(types.texts, callee),
+        Piece::Text(b" expected "),
+        Piece::Name(types.texts, name),
+        Piece::Text(b":"),
+        Piece::TypeOf(&*types, expected),
+        Piece::Text(b", got "),
+        Piece::Name(types.texts, name),
+        Piece::Text(b":"),
+        Piece::TypeOf(&*types, provided),
+        Piece::Text(b" instead"),
+    ];
+    let primary = [
+        Piece::Text(b"this argument is of type "),
+        Piece::TypeOf(&*types, provided),
+    ];
+    err_text::tell(diagnostics, messages, counts, 20, span, &message, &primary)
 }
 
 // 21: An argument that binds a slot to another type than an earlier one did.
+#[tactic(auto, unfolding(err::specs::Message::slot_conflict, err_text::specs::Pieces::said, err_text::specs::Pieces::said_after, err_text::specs::Pieces::text_of, tok::specs::Text::text))]
 pub fn slot_conflict(
     diagnostics: &mut [u32],
     messages: &mut [u8],
@@ -63,24 +66,26 @@ pub fn slot_conflict(
         Reports (slot_conflict span (call_name T callee) (name_bytes T slot) (U existing) (U new))
         diagnostics.old messages.old counts diagnostics.new messages.new result }
 {
-    let (_, rest) = err_text::split_at_first_free(messages, counts);
-    let mut out = Writer::new(rest);
-    let a = err_text::put_call_name(&mut out, types.texts, callee);
-    let b = a.and(out.put(b" can not bind "));
-    let c = b.and(err_text::put_name(&mut out, types.texts, slot));
-    let d = c.and(out.put(b" to "));
-    let e = d.and(display::show_type(&mut out, types, new));
-    let f = e.and(out.put(b", it is already bound to "));
-    let g = f.and(display::show_type(&mut out, types, existing));
-    let message = out.at;
-    let h = out.put(b"this argument binds ");
-    let i = h.and(err_text::put_name(&mut out, types.texts, slot));
-    let j = i.and(out.put(b" to "));
-    let k = j.and(display::show_type(&mut out, types, new));
-    err_text::report(diagnostics, counts, 21, span, g.and(k), message, out.at)
+    let message = [
+        Piece::Call(types.texts, callee),
+        Piece::Text(b" can not bind "),
+        Piece::Name(types.texts, slot),
+        Piece::Text(b" to "),
+        Piece::TypeOf(&*types, new),
+        Piece::Text(b", it is already bound to "),
+        Piece::TypeOf(&*types, existing),
+    ];
+    let primary = [
+        Piece::Text(b"this argument binds "),
+        Piece::Name(types.texts, slot),
+        Piece::Text(b" to "),
+        Piece::TypeOf(&*types, new),
+    ];
+    err_text::tell(diagnostics, messages, counts, 21, span, &message, &primary)
 }
 
 // 22: An argument that binds a slot to Void.
+#[tactic(auto, unfolding(err::specs::Message::slot_void, err_text::specs::Pieces::said, err_text::specs::Pieces::said_after, err_text::specs::Pieces::text_of, tok::specs::Text::text))]
 pub fn slot_void(
     diagnostics: &mut [u32],
     messages: &mut [u8],
@@ -92,13 +97,12 @@ pub fn slot_void(
 ) -> Option<Counts>
     ensures { Reports (slot_void span (call_name texts.now callee) (name_bytes texts.now slot)) diagnostics.old messages.old counts diagnostics.new messages.new result }
 {
-    let (_, rest) = err_text::split_at_first_free(messages, counts);
-    let mut out = Writer::new(rest);
-    let a = err_text::put_call_name(&mut out, texts, callee);
-    let b = a.and(out.put(b" can not bind "));
-    let c = b.and(err_text::put_name(&mut out, texts, slot));
-    let d = c.and(out.put(b" to Void"));
-    let message = out.at;
-    let e = out.put(b"this argument is of type Void");
-    err_text::report(diagnostics, counts, 22, span, d.and(e), message, out.at)
+    let message = [
+        Piece::Call(texts, callee),
+        Piece::Text(b" can not bind "),
+        Piece::Name(texts, slot),
+        Piece::Text(b" to Void"),
+    ];
+    let primary = [Piece::Text(b"this argument is of type Void")];
+    err_text::tell(diagnostics, messages, counts, 22, span, &message, &primary)
 }

@@ -36,7 +36,9 @@ module _ (t : Texts) (types words : List ℕ) where
       (starts : List ℕ) {i : ℕ} → i < length starts →
       owed starts i ≡ separated i (text " | ") ++ sig (candidate_at t types words (get_or starts i 0)) ++ owed starts (i + 1)
   candidates-turn starts {i} h =
-      rw (drop-cons starts i 0 h, add-one) (rw add-one at (joined-turn i (text " | ") (sig (candidate_at t types words (get_or starts i 0))) (map sig (candidates_at t types words (drop (i + 1) starts)))))
+      let next = sig (candidate_at t types words (get_or starts i 0)) in
+      let others = map sig (candidates_at t types words (drop (i + 1) starts)) in
+      rw (drop-cons starts i 0 h, add-one) (rw add-one at (joined-turn i (text " | ") next others))
 
   pub candidates-end : (starts : List ℕ) {i : ℕ} → length starts ≤ i → owed starts i ≡ []
   candidates-end starts {i} h = rw (drop_of_length-le starts {i = i} h) (joined_end i (text " | "))

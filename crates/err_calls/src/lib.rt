@@ -13,10 +13,12 @@ ghost use Rattle.err_calls.specs.Candidates.{candidate_at, candidates_at, Writes
 
 use display::{Full, Writer};
 use err::{CallName, Counts};
+use err_text::Piece;
 use ptype::Types;
 use tok::Texts;
 
 // 14: A call through a field of what is no name.
+#[tactic(auto, unfolding(err::specs::Message::call_through_field, err_text::specs::Pieces::said, err_text::specs::Pieces::said_after, err_text::specs::Pieces::text_of, tok::specs::Text::text))]
 pub fn call_through_field(
     diagnostics: &mut [u32],
     messages: &mut [u8],
@@ -25,21 +27,12 @@ pub fn call_through_field(
 ) -> Option<Counts>
     ensures { Reports (call_through_field name) diagnostics.old messages.old counts diagnostics.new messages.new result }
 {
-    let (_, rest) = err_text::split_at_first_free(messages, counts);
-    let mut out = Writer::new(rest);
-    let a = out.put(b"only package functions can be called through field syntax");
-    err_text::report(
-        diagnostics,
-        counts,
-        14,
-        tok::token_span(name),
-        a,
-        out.at,
-        out.at,
-    )
+    let message = [Piece::Text(b"only package functions can be called through field syntax")];
+    err_text::tell_at(diagnostics, messages, counts, 14, name, &message, &[])
 }
 
 // 15: A call into a package that is not held.
+#[tactic(auto, unfolding(err::specs::Message::missing_package, err_text::specs::Pieces::said, err_text::specs::Pieces::said_after, err_text::specs::Pieces::text_of, tok::specs::Text::text))]
 pub fn missing_package(
     diagnostics: &mut [u32],
     messages: &mut [u8],
@@ -49,21 +42,12 @@ pub fn missing_package(
 ) -> Option<Counts>
     ensures { Reports (missing_package pkg (name_bytes texts.now pkg)) diagnostics.old messages.old counts diagnostics.new messages.new result }
 {
-    let (_, rest) = err_text::split_at_first_free(messages, counts);
-    let mut out = Writer::new(rest);
-    let a = out.put(b"Can't find package ");
-    let b = a.and(err_text::put_ticked(&mut out, texts, pkg));
-    let message = out.at;
-    let c = out.put(b"package used here");
-    err_text::report(
-        diagnostics,
-        counts,
-        15,
-        tok::token_span(pkg),
-        b.and(c),
-        message,
-        out.at,
-    )
+    let message = [
+        Piece::Text(b"Can't find package "),
+        Piece::Ticked(texts, pkg),
+    ];
+    let primary = [Piece::Text(b"package used here")];
+    err_text::tell_at(diagnostics, messages, counts, 15, pkg, &message, &primary)
 }
 
 // 16: A call of a function that the package does not have.
@@ -78,22 +62,15 @@ pub fn undefined_in_package(
     ensures { Reports (undefined_in_package name (pkg_name (name_bytes texts.now pkg) (name_bytes texts.now name))) diagnostics.old messages.old counts diagnostics.new
         messages.new result }
 {
-    let (_, rest) = err_text::split_at_first_free(messages, counts);
-    let mut out = Writer::new(rest);
-    let a = out.put(b"Call to undefined function ");
-    let b = a.and(err_text::put_call_name(&mut out, texts, CallName::OfPackage(pkg, name)));
-    err_text::report(
-        diagnostics,
-        counts,
-        16,
-        tok::token_span(name),
-        b,
-        out.at,
-        out.at,
-    )
+    let message = [
+        Piece::Text(b"Call to undefined function "),
+        Piece::Call(texts, CallName::OfPackage(pkg, name)),
+    ];
+    err_text::tell_at(diagnostics, messages, counts, 16, name, &message, &[])
 }
 
 // 17: A call of a function that the script does not have.
+#[tactic(auto, unfolding(err::specs::Message::undefined_own, err_text::specs::Pieces::said, err_text::specs::Pieces::said_after, err_text::specs::Pieces::text_of, tok::specs::Text::text))]
 pub fn undefined_own(
     diagnostics: &mut [u32],
     messages: &mut [u8],
@@ -103,19 +80,11 @@ pub fn undefined_own(
 ) -> Option<Counts>
     ensures { Reports (undefined_own name (name_bytes texts.now name)) diagnostics.old messages.old counts diagnostics.new messages.new result }
 {
-    let (_, rest) = err_text::split_at_first_free(messages, counts);
-    let mut out = Writer::new(rest);
-    let a = out.put(b"Call to undefined function ");
-    let b = a.and(err_text::put_ticked(&mut out, texts, name));
-    err_text::report(
-        diagnostics,
-        counts,
-        17,
-        tok::token_span(name),
-        b,
-        out.at,
-        out.at,
-    )
+    let message = [
+        Piece::Text(b"Call to undefined function "),
+        Piece::Ticked(texts, name),
+    ];
+    err_text::tell_at(diagnostics, messages, counts, 17, name, &message, &[])
 }
 
 // Writes the types of the arguments of the signature that begins at a place of `words`, joined by `, `; none where the place is past them.
@@ -208,6 +177,7 @@ pub fn no_specialisation_at(
 }
 
 // 19: A call with another number of arguments.
+#[tactic(auto, unfolding(err::specs::Message::argument_count, err_text::specs::Pieces::said, err_text::specs::Pieces::said_after, err_text::specs::Pieces::text_of, tok::specs::Text::text))]
 pub fn argument_count(
     diagnostics: &mut [u32],
     messages: &mut [u8],
@@ -220,20 +190,12 @@ pub fn argument_count(
 ) -> Option<Counts>
     ensures { Reports (argument_count token (call_name texts.now callee) required given) diagnostics.old messages.old counts diagnostics.new messages.new result }
 {
-    let (_, rest) = err_text::split_at_first_free(messages, counts);
-    let mut out = Writer::new(rest);
-    let a = err_text::put_call_name(&mut out, texts, callee);
-    let b = a.and(out.put(b" requires "));
-    let c = b.and(out.put_decimal(required));
-    let d = c.and(out.put(b" arguments, got "));
-    let e = d.and(out.put_decimal(given));
-    err_text::report(
-        diagnostics,
-        counts,
-        19,
-        tok::token_span(token),
-        e,
-        out.at,
-        out.at,
-    )
+    let message = [
+        Piece::Call(texts, callee),
+        Piece::Text(b" requires "),
+        Piece::Number(required),
+        Piece::Text(b" arguments, got "),
+        Piece::Number(given),
+    ];
+    err_text::tell_at(diagnostics, messages, counts, 19, token, &message, &[])
 }

@@ -1,6 +1,7 @@
 -- "A message is written from the first free byte onwards": "the rest of the message buffer is lent on to each writer as a mutable part" (document 01).
 -- Definitions.
 use Rattle.std.specs.Prelude.{ℕ, min, ◌≡◌, List, ◌++◌, length, Option}
+use Rattle.tok.specs.declared.Span.{Span}
 use Rattle.err.specs.declared.Counts.{Counts}
 use Rattle.err.specs.Message.{Diagnostic}
 use Rattle.err.specs.Report.{Reports}
@@ -13,3 +14,7 @@ first_free ms c = min c.bytes (length ms)
 -- Whatever bytes stand before the rest, up to the first free one: in the whole buffer the diagnostic is told, and they stay.
 pub record ReportsIn (d : Diagnostic) (ds rest : List ℕ) (c : Counts) (ds' rest' : List ℕ) (r : Option Counts) : Type 0 where
   pub whole : (before : List ℕ) → length before ≡ first_free (before ++ rest) c → Reports d ds (before ++ rest) c ds' (before ++ rest') r
+
+-- A diagnostic of a code, a place and its two texts.
+abbrev pub told : (code : ℕ) → Span → (message primary : List ℕ) → Diagnostic
+told code span message primary = record { code = code; span = span; message = message; primary = primary }

@@ -1,16 +1,19 @@
-// A diagnostic's record, and the pieces that several messages have (err.rs; typedefs.rs, `CallName`).
+// A diagnostic's record, and the pieces that messages are made of (err.rs; typedefs.rs, `CallName`).
 #![tactic(auto, using(display::specs::WritingLaws::writing))]
 
 ghost use Rattle.std.specs.Prelude.{◌≡◌, ◌++◌, ◌+◌, length};
 ghost use Rattle.std.specs.Borrow.{sem, LendsBoth, Array, u8};
 ghost use Rattle.tok.specs.Text.{name_bytes};
+ghost use Rattle.tok.specs.Span.{token_span};
 ghost use Rattle.display.specs.Writing.{Writes};
-ghost use Rattle.err.specs.Message.{ticked, call_name, quoted, class_of, wanted, wanted_both};
-ghost use Rattle.err.specs.Report.{most_diagnostics, as_word, fits, placed, placed_answer};
-ghost use Rattle.err_text.specs.Rest.{first_free};
+ghost use Rattle.err.specs.Message.{Diagnostic, ticked, call_name, quoted, class_of, wanted, wanted_both};
+ghost use Rattle.err.specs.Report.{Reports, most_diagnostics, as_word, fits, placed, placed_answer};
+ghost use Rattle.err_text.specs.Rest.{first_free, told};
+ghost use Rattle.err_text.specs.Pieces.{text_of, said};
 
 use display::{Full, Writer};
 use err::{CallName, Counts};
+use ptype::Types;
 use tok::{Span, Texts};
 
 // The record.
@@ -158,4 +161,94 @@ pub fn put_wanted_both(out: &mut Writer, class: usize) -> Result<(), Full>
 {
     let all = b"|, want both sides Int|, want both sides Int, Bool or Str||";
     out.put(display::one_of(all, class))
+}
+
+// What a message is made of.
+#[derive(Clone, Copy)]
+pub enum Piece<'a> {
+    // Fixed wording.
+    Text(&'a [u8]),
+    // A name, and a name between backquotes.
+    Name(&'a Texts<'a>, u32),
+    Ticked(&'a Texts<'a>, u32),
+    // How a call names its function, between backquotes.
+    Call(&'a Texts<'a>, CallName),
+    // The type of a word.
+    TypeOf(&'a Types<'a>, u32),
+    // A number in decimal.
+    Number(usize),
+    // The operator of a number, in double quotes.
+    Operator(u32),
+    // What the operator of a number wants, after `Unsupported type ..`.
+    Wanted(u32),
+    // And after `Incompatible types ..`.
+    WantedBoth(u32),
+}
+
+// Writes a piece.
+fn put_piece(out: &mut Writer, piece: &Piece) -> Result<(), Full>
+    ensures { Writes out.old out.new result (text_of piece.now) }
+{
+    match *piece {
+        Piece::Text(text) => out.put(text),
+        Piece::Name(texts, name) => put_name(out, texts, name),
+        Piece::Ticked(texts, name) => put_ticked(out, texts, name),
+        Piece::Call(texts, callee) => put_call_name(out, texts, callee),
+        Piece::TypeOf(types, word) => display::show_type(out, types, word),
+        Piece::Number(n) => out.put_decimal(n),
+        Piece::Operator(op) => put_operator(out, op),
+        Piece::Wanted(op) => put_wanted(out, class_of(op)),
+        Piece::WantedBoth(op) => put_wanted_both(out, class_of(op)),
+    }
+}
+
+// Writes pieces, one after the other.
+pub fn put_pieces(out: &mut Writer, pieces: &[Piece]) -> Result<(), Full>
+    ensures { Writes out.old out.new result (said pieces.now) }
+{
+    for piece in pieces {
+        put_piece(out, piece)?;
+    }
+    out.put(b"")
+}
+
+// Tells a diagnostic of these pieces.
+pub fn tell(
+    diagnostics: &mut [u32],
+    messages: &mut [u8],
+    counts: Counts,
+    code: u8,
+    span: Span,
+    message: &[Piece],
+    primary: &[Piece],
+) -> Option<Counts>
+    ensures { let d : Diagnostic = told code span (said message.now) (said primary.now) in
+        Reports d diagnostics.old messages.old counts diagnostics.new messages.new result }
+{
+    if counts.bytes > messages.len() {
+        return None;
+    }
+    let (_, rest) = split_at_first_free(messages, counts);
+    let mut out = Writer::new(rest);
+    let a = put_pieces(&mut out, message);
+    let end = out.at;
+    let b = put_pieces(&mut out, primary);
+    report(diagnostics, counts, code, span, a.and(b), end, out.at)
+}
+
+// The same, at a token of the script.
+pub fn tell_at(
+    diagnostics: &mut [u32],
+    messages: &mut [u8],
+    counts: Counts,
+    code: u8,
+    token: u32,
+    message: &[Piece],
+    primary: &[Piece],
+) -> Option<Counts>
+    ensures { let d : Diagnostic = told code (token_span token) (said message.now) (said primary.now) in
+        Reports d diagnostics.old messages.old counts diagnostics.new messages.new result }
+{
+    let span = tok::token_span(token);
+    tell(diagnostics, messages, counts, code, span, message, primary)
 }

@@ -1,14 +1,9 @@
--- `err_calls::undefined_in_package` meets its contract: its text, its span and its record, one after the other. Assumes nothing.
-use borrow.Author.Rules.{rules}
+-- `err_calls::undefined_in_package` meets its contract: its pieces say its message. Assumes nothing.
 use Rattle.tok.specs.Text.{text}
-use Rattle.display.specs.WritingLaws.{both}
 use Rattle.err.specs.Message.{undefined_in_package, call_name}
-use Rattle.err_text.specs.RestLaws.{tells-rest-alone, told_in_whole}
+use Rattle.err_text.specs.Pieces.{text_of, said_after, said}
 use Rattle.err_calls.proofs.undefined_in_package.Goals as goal
 
 pub returns : goal.returns
-unfolding undefined_in_package call_name text
-returns c =
-    let to_b = both _ _ _ _ c.put-a.ensures.1 c.put_call_name.ensures.1 c.and-b.ensures in
-    told_in_whole _ c.split_at_first_free-rest.ensures.parts
-    (tells-rest-alone c.new-out.ensures.from_the_start to_b (search rules) c.token_span.ensures (c.report.ensures.six_words, c.report.ensures.answer))
+unfolding undefined_in_package call_name text said said_after text_of
+returns c = c.tell_at.ensures
