@@ -99,22 +99,18 @@ fn sum(text: &[u8], n: usize) -> usize {
 // Printing.
 
 fn say(rt: &impl Print, texts: &Texts, name: u32) -> io::Result<()> {
-    commands::print(rt, tok::name_bytes(texts, name))?;
-    Ok(())
+    rt.write_all(tok::name_bytes(texts, name))
 }
 
 // A blank and a number.
 fn number(rt: &impl Print, n: usize) -> io::Result<()> {
-    commands::print(rt, b" ")?;
-    commands::print_number(rt, n)?;
-    Ok(())
+    print!(rt; " {n}")
 }
 
 // A blank and the first n bytes.
 fn front(rt: &impl Print, text: &[u8], n: usize) -> io::Result<()> {
-    commands::print(rt, b" ")?;
-    commands::print(rt, &text[..n.min(text.len())])?;
-    Ok(())
+    print!(rt; " ")?;
+    rt.write_all(&text[..n.min(text.len())])
 }
 
 // How many bytes are told of: the first 50 of the buffer, or those written, or more than there are.
@@ -368,12 +364,8 @@ fn obey(
         | Operation::Apply => grown(rt, types, lists, texts, operation, a, b, c)?,
         Operation::Bound => bound(rt, types, lists, texts, a)?,
         Operation::Show => show(rt, types, texts, a, b as usize, c)?,
-        Operation::Depth => {
-            commands::print_number(rt, ptype::depth(types, a))?;
-        }
-        Operation::Ask => {
-            commands::print_number(rt, usize::from(whether(types, texts, a, b, c)))?;
-        }
+        Operation::Depth => print!(rt; "{}", ptype::depth(types, a))?,
+        Operation::Ask => print!(rt; "{}", u8::from(whether(types, texts, a, b, c)))?,
         Operation::List | Operation::Bind | Operation::Count | Operation::Print => {}
     }
     Ok(())
