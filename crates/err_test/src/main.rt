@@ -42,7 +42,7 @@ fn part<T>(s: &[T], at: usize, len: usize) -> &[T] {
 
 // Cases.
 
-// A code and its parameters; the first two are a span as well, and the last two a callee.
+// A code and its parameters.
 #[derive(Clone, Copy)]
 struct Case {
     code: u32,
@@ -53,8 +53,6 @@ struct Case {
     e: u32,
     f: u32,
     g: u32,
-    at: Span,
-    callee: CallName,
 }
 
 // A package that is 0 is none.
@@ -66,24 +64,22 @@ fn callee(pkg: u32, name: u32) -> CallName {
 }
 
 fn case_of(words: &[u32]) -> Case {
-    let a = tok::word_at(words, 1);
-    let b = tok::word_at(words, 2);
-    let f = tok::word_at(words, 6);
-    let g = tok::word_at(words, 7);
     Case {
         code: tok::word_at(words, 0),
-        a,
-        b,
+        a: tok::word_at(words, 1),
+        b: tok::word_at(words, 2),
         c: tok::word_at(words, 3),
         d: tok::word_at(words, 4),
         e: tok::word_at(words, 5),
-        f,
-        g,
-        at: Span {
-            start: a as usize,
-            len: b as usize,
-        },
-        callee: callee(f, g),
+        f: tok::word_at(words, 6),
+        g: tok::word_at(words, 7),
+    }
+}
+
+fn span(start: u32, len: u32) -> Span {
+    Span {
+        start: start as usize,
+        len: len as usize,
     }
 }
 
@@ -136,7 +132,27 @@ fn no_specialisation(
     )
 }
 
-// The diagnostic of a case, by its code.
+// The three of one argument.
+fn of_argument(
+    diagnostics: &mut [u32],
+    messages: &mut [u8],
+    counts: Counts,
+    types: &Types,
+    c: Case,
+) -> Option<Counts> {
+    let at = span(c.a, c.b);
+    let to = callee(c.f, c.g);
+    match c.code {
+        20 => arg_mismatch(diagnostics, messages, counts, types, at, to, c.c, c.d, c.e),
+        21 => slot_conflict(diagnostics, messages, counts, types, at, to, c.c, c.d, c.e),
+        _ => {
+            let to = callee(c.d, c.e);
+            slot_void(diagnostics, messages, counts, types.texts, at, to, c.c)
+        }
+    }
+}
+
+// The diagnostic of a case, by its code. Each that takes few parameters has its line; of the others a small function reads them.
 fn told(
     diagnostics: &mut [u32],
     messages: &mut [u8],
@@ -146,9 +162,10 @@ fn told(
 ) -> Option<Counts> {
     let types = &from.types;
     let texts = types.texts;
+    let at = span(c.a, c.b);
     match c.code {
         1 => empty_array(diagnostics, messages, counts, c.a),
-        2 => members_differ(diagnostics, messages, counts, types, c.at, c.c, c.d),
+        2 => members_differ(diagnostics, messages, counts, types, at, c.c, c.d),
         3 => no_binding(diagnostics, messages, counts, texts, c.a),
         4 => unsupported(diagnostics, messages, counts, types, c.a, c.b, c.c),
         5 => incompatible(diagnostics, messages, counts, types, c.a, c.b, c.c, c.d),
@@ -166,37 +183,7 @@ fn told(
         17 => undefined_own(diagnostics, messages, counts, texts, c.a),
         18 => no_specialisation(diagnostics, messages, counts, from, c),
         19 => argument_count(diagnostics, messages, counts, texts, c),
-        20 => arg_mismatch(
-            diagnostics,
-            messages,
-            counts,
-            types,
-            c.at,
-            c.callee,
-            c.c,
-            c.d,
-            c.e,
-        ),
-        21 => slot_conflict(
-            diagnostics,
-            messages,
-            counts,
-            types,
-            c.at,
-            c.callee,
-            c.c,
-            c.d,
-            c.e,
-        ),
-        22 => slot_void(
-            diagnostics,
-            messages,
-            counts,
-            texts,
-            c.at,
-            callee(c.d, c.e),
-            c.c,
-        ),
+        20..=22 => of_argument(diagnostics, messages, counts, types, c),
         23 => bad_condition(diagnostics, messages, counts, types, c.a, c.b),
         24 => match_cases(diagnostics, messages, counts, types, c.a, c.b, c.c),
         25 => empty_import(diagnostics, messages, counts, c.a),

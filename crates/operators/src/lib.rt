@@ -107,7 +107,7 @@ fn result_kind(op: u32, left: TypeKind, right: TypeKind) -> Option<TypeKind>
     if class >= 4 || l >= 6 || r >= 6 {
         return None;
     }
-    match TypeKind::from(u32::from(TABLES[class][l][r])) {
+    match TypeKind::from(TABLES[class][l][r] as u32) {
         TypeKind::None => None,
         kind => Some(kind),
     }
