@@ -43,16 +43,7 @@ pub fn condition(
 {
     let used = st.used;
     let token = image.word_at(at);
-    let step = values::condition(
-        slots,
-        types,
-        diagnostics,
-        messages,
-        used,
-        n,
-        token,
-        answer,
-    );
+    let step = values::condition(slots, types, diagnostics, messages, used, n, token, answer);
     visit::answered(st, step)
 }
 

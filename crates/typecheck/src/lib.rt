@@ -246,7 +246,10 @@ fn bin(
     )?;
     operands::bin_end(
         slots,
-        &Types { words: &types[..], texts },
+        &Types {
+            words: &types[..],
+            texts: &*texts,
+        },
         diagnostics,
         messages,
         image,
@@ -296,7 +299,10 @@ fn one(
     )?;
     operands::one_end(
         slots,
-        &Types { words: &types[..], texts },
+        &Types {
+            words: &types[..],
+            texts: &*texts,
+        },
         diagnostics,
         messages,
         scratch,
@@ -346,7 +352,10 @@ fn cast(
     )?;
     operands::cast_end(
         slots,
-        &Types { words: &types[..], texts },
+        &Types {
+            words: &types[..],
+            texts: &*texts,
+        },
         diagnostics,
         messages,
         image,
@@ -505,7 +514,10 @@ fn func(
     )?;
     bodies::end(
         slots,
-        &Types { words: &types[..], texts },
+        &Types {
+            words: &types[..],
+            texts: &*texts,
+        },
         diagnostics,
         messages,
         image,
@@ -555,7 +567,10 @@ fn case(
     )?;
     let (_, begun) = branches::condition(
         &slots[..],
-        &Types { words: &types[..], texts },
+        &Types {
+            words: &types[..],
+            texts: &*texts,
+        },
         diagnostics,
         messages,
         image,
@@ -653,7 +668,10 @@ fn cases(
     }
     branches::end(
         slots,
-        &Types { words: &types[..], texts },
+        &Types {
+            words: &types[..],
+            texts: &*texts,
+        },
         diagnostics,
         messages,
         image,
@@ -828,7 +846,10 @@ fn array(
         )?;
         let (turn, on) = members::member(
             &slots[..],
-            &Types { words: &types[..], texts },
+            &Types {
+                words: &types[..],
+                texts: &*texts,
+            },
             diagnostics,
             messages,
             image,
