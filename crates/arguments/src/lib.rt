@@ -43,7 +43,8 @@ pub fn compared(
     arg: Argument,
     provided: u32,
 ) -> Step<()>
-    ensures { let T : Texts = types.now.texts.now in let U : ℕ → Ty = type_at types.now in
+    ensures { let T : Texts = types.now.texts.now in
+        let U : ℕ → Ty = type_at types.now in
         Compares T n (call_name T callee) arg.name arg.span (U arg.expected) (U provided) types.now.words.now diagnostics.old messages.old used
         diagnostics.new messages.new result }
 {
@@ -76,7 +77,8 @@ pub fn plain_argument(
     arg: Argument,
 ) -> Step<()>
     ensures { let T : Texts = types.now.texts.now in
-        Leaves T (λ c. argument c n (call_name T callee) false (param arg.name arg.expected) (given arg.slot arg.span)) slots.now types.now.words.now diagnostics.old messages.old used diagnostics.new messages.new result }
+        Leaves T (λ c. argument c n (call_name T callee) false (param arg.name arg.expected) (given arg.slot arg.span)) slots.now
+        types.now.words.now diagnostics.old messages.old used diagnostics.new messages.new result }
 {
     let w = tok::word_at(slots, arg.slot as usize);
     if is_unchecked(types.words, w) {

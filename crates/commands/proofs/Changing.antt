@@ -1,8 +1,10 @@
 -- The ways out of the functions that change lists: a law for each. Assumes nothing.
-use Rattle.std.proofs.Common.{◌≡◌, ℕ, suc, ◌+◌, ◌-◌, ◌/◌, ◌%◌, ◌^◌, ◌<◌, ◌≤◌, List, get_or, set, sym, ◌∙◌, arith, eq-eqb, ne_eqb, le-leb}
+use Rattle.std.proofs.Common.{◌≡◌, ℕ, suc, ◌+◌, ◌-◌, ◌/◌, ◌%◌, ◌^◌, ◌<◌, ◌≤◌, List, get_or, set, refl, sym, ◌∙◌, arith, eq-eqb, ne_eqb, le-leb}
 use native.Mathlib.Nat.{sub-zero}
 use borrow.Author.Tests.{lt-leb}
-use Rattle.commands.specs.Changes.{low_byte, whole, filled, four_bytes, Lists, lists, on_list, patterned, fill_of, data_of, changed}
+use Rattle.commands.specs.declared.Lists.{Lists as Lent}
+use Rattle.commands.specs.Changes.{low_byte, whole, filled, four_bytes, Lists, lists, on_list, with_registers, patterned, fill_of, data_of, changed}
+use Rattle.commands.specs.Becoming.{SameLent}
 
 -- ---- fills
 module _ {T : Type 0} (held : ℕ → T) (stride step : ℕ) where
@@ -83,23 +85,26 @@ module _ (s i t l : List ℕ) (list at a b : ℕ) where
   data_library p q h e r = on-library s i t l r _ _ _ p q h e
 
 -- ---- `change`
-module _ (s i t l r : List ℕ) (op a b c : ℕ) where
-  pub change_pattern : {x : List ℕ} → op ≡ 1 → x ≡ patterned a b c r → changed op a b c (lists s i t l r) ≡ lists s i t l x
-  unfolding changed
-  change_pattern h e = rw (eq-eqb op 1 h, e)
+pub same_lent : (l : Lent) → SameLent l l
+same_lent l = (refl, refl, refl, refl, refl)
 
-  pub change_fill : {x : Lists} → (op ≡ 1 → ⊥) → op ≡ 2 → fill_of a b (lists s i t l r) ≡ x → changed op a b c (lists s i t l r) ≡ x
+module _ (s : Lists) (op a b c : ℕ) where
+  pub change_pattern : op ≡ 1 → changed op a b c s ≡ with_registers s (patterned a b c s.registers)
   unfolding changed
-  change_fill n h e = rw (ne_eqb op 1 n, eq-eqb op 2 h) e
+  change_pattern h = rw (eq-eqb op 1 h) refl
 
-  pub change_length : {x : List ℕ} {k : ℕ} → (op ≡ 1 → ⊥) → (op ≡ 2 → ⊥) → op ≡ 3 → k ≡ a → x ≡ set r k b → changed op a b c (lists s i t l r) ≡ lists s i t l x
+  pub change_fill : (op ≡ 1 → ⊥) → op ≡ 2 → changed op a b c s ≡ fill_of a b s
   unfolding changed
-  change_length n m h e p = rw (ne_eqb op 1 n, ne_eqb op 2 m, eq-eqb op 3 h, p, e)
+  change_fill n h = rw (ne_eqb op 1 n, eq-eqb op 2 h) refl
 
-  pub change_data : {x : Lists} {k : ℕ} → (op ≡ 1 → ⊥) → (op ≡ 2 → ⊥) → (op ≡ 3 → ⊥) → 8 ≤ op → k ≡ op → data_of (k - 8) a b c (lists s i t l r) ≡ x → changed op a b c (lists s i t l r) ≡ x
+  pub change_length : (op ≡ 1 → ⊥) → (op ≡ 2 → ⊥) → op ≡ 3 → changed op a b c s ≡ with_registers s (set s.registers a b)
   unfolding changed
-  change_data n m p h e q = rw (ne_eqb op 1 n, ne_eqb op 2 m, ne_eqb op 3 p, le-leb 8 op h) (rw e at q)
+  change_length n m h = rw (ne_eqb op 1 n, ne_eqb op 2 m, eq-eqb op 3 h) refl
 
-  pub change_other : (op ≡ 1 → ⊥) → (op ≡ 2 → ⊥) → (op ≡ 3 → ⊥) → op < 8 → changed op a b c (lists s i t l r) ≡ lists s i t l r
+  pub change_data : (op ≡ 1 → ⊥) → (op ≡ 2 → ⊥) → (op ≡ 3 → ⊥) → 8 ≤ op → changed op a b c s ≡ data_of (op - 8) a b c s
   unfolding changed
-  change_other n m p h = rw (ne_eqb op 1 n, ne_eqb op 2 m, ne_eqb op 3 p, lt-leb 8 op h)
+  change_data n m p h = rw (ne_eqb op 1 n, ne_eqb op 2 m, ne_eqb op 3 p, le-leb 8 op h) refl
+
+  pub change_other : (op ≡ 1 → ⊥) → (op ≡ 2 → ⊥) → (op ≡ 3 → ⊥) → op < 8 → changed op a b c s ≡ s
+  unfolding changed
+  change_other n m p h = rw (ne_eqb op 1 n, ne_eqb op 2 m, ne_eqb op 3 p, lt-leb 8 op h) refl

@@ -3,8 +3,9 @@
 #![tactic(auto)]
 
 ghost use Rattle.std.specs.Prelude.{◌≡◌, ℕ, ◌+◌, ◌%◌, ◌^◌, ◌<◌, ◌≤◌, min, List, length, take, slice_index, slice_set, IfOk};
-ghost use Rattle.commands.specs.Words.{word_in, ByteAt, CommandIn, SomeCommand};
-ghost use Rattle.commands.specs.Changes.{whole, low_byte, filled, four_bytes, lists, patterned, fill_of, data_of, changed};
+ghost use Rattle.commands.specs.Words.{CommandIn, SomeCommand};
+ghost use Rattle.commands.specs.Changes.{whole, low_byte, filled, four_bytes, with_registers, patterned, fill_of, data_of, changed};
+ghost use Rattle.commands.specs.Becoming.{lists_of, Becomes};
 ghost use Rattle.commands.specs.Printed.{NumberBytes, RefusedBytes};
 
 use display::Writer;
@@ -41,6 +42,16 @@ const COUNT: usize = 12;
 // .. and how many cases were run. The registers after it are the program's own.
 pub const CASES: usize = 13;
 
+// The four lists that a case is made of, and the registers, which say among others how much of each list counts.
+#[derive(Drop)]
+pub struct Lists<'a> {
+    pub script: &'a mut [u8],
+    pub image: &'a mut [u32],
+    pub text: &'a mut [u8],
+    pub library: &'a mut [u32],
+    pub registers: &'a mut [u32],
+}
+
 // Reading commands.
 
 // What commands do: the next fill is told, a list filled, a register set, ..
@@ -62,30 +73,15 @@ pub struct Command {
     pub c: u32,
 }
 
-// The byte at an index, and 0 past the end.
-pub fn byte(bytes: &[u8], i: usize) -> u32
-    ensures { ByteAt bytes.now i result }
-{
-    tok::byte_at(bytes, i)
-}
-
-// The little-endian word at a place.
-#[tactic(auto, unfolding(crate::specs::Words::word_in, tok::specs::LittleEndian::little_endian))]
-fn word(bytes: &[u8], at: usize) -> u32
-    ensures { result ≡ word_in bytes.now at }
-{
-    tok::little_endian(bytes, at)
-}
-
 // The four words of a command.
 pub fn command_in(bytes: &[u8]) -> Command
     ensures { CommandIn bytes.now result.op result.a result.b result.c }
 {
     Command {
-        op: word(bytes, 0),
-        a: word(bytes, 4),
-        b: word(bytes, 8),
-        c: word(bytes, 12),
+        op: tok::little_endian(bytes, 0),
+        a: tok::little_endian(bytes, 4),
+        b: tok::little_endian(bytes, 8),
+        c: tok::little_endian(bytes, 12),
     }
 }
 
@@ -235,37 +231,6 @@ pub fn words_of<'a>(words: &'a [u32], registers: &[u32], which: usize) -> &'a [u
 
 // What commands do.
 
-fn pattern(registers: &mut [u32], c: Command)
-    ensures { registers.new ≡ patterned c.a c.b c.c registers.old }
-{
-    put(registers, LIST, c.a);
-    put(registers, START, c.b);
-    put(registers, COUNT, c.c);
-}
-
-fn fill(
-    script: &mut [u8],
-    image: &mut [u32],
-    text: &mut [u8],
-    library: &mut [u32],
-    registers: &[u32],
-    c: Command,
-)
-    ensures { fill_of c.a c.b (lists script.old image.old text.old library.old registers.now)
-        ≡ lists script.new image.new text.new library.new registers.now }
-{
-    let list = register(registers, LIST);
-    let stride = list / 4;
-    let start = register(registers, START);
-    let count = register(registers, COUNT);
-    match list % 4 {
-        SCRIPT => fill_bytes(script, stride, start, count, c.a, c.b),
-        IMAGE => fill_words(image, stride, start, count, c.a, c.b),
-        TEXT => fill_bytes(text, stride, start, count, c.a, c.b),
-        _ => fill_words(library, stride, start, count, c.a, c.b),
-    }
-}
-
 fn two_words(out: &mut [u32], at: u32, a: u32, b: u32)
     ensures { out.new ≡ slice_set (slice_set out.old at a) (at + 1) b }
 {
@@ -282,45 +247,58 @@ fn eight_bytes(out: &mut [u8], at: u32, a: u32, b: u32)
     put_bytes(out, i + 4, b);
 }
 
-fn put_data(
-    script: &mut [u8],
-    image: &mut [u32],
-    text: &mut [u8],
-    library: &mut [u32],
-    list: usize,
-    c: Command,
-)
-    ensures { (R : List ℕ) →
-        data_of list c.a c.b c.c (lists script.old image.old text.old library.old R)
-        ≡ lists script.new image.new text.new library.new R }
-{
-    match list {
-        SCRIPT => eight_bytes(script, c.a, c.b, c.c),
-        IMAGE => two_words(image, c.a, c.b, c.c),
-        TEXT => eight_bytes(text, c.a, c.b, c.c),
-        _ => two_words(library, c.a, c.b, c.c),
+impl<'a> Lists<'a> {
+    fn register(&self, which: usize) -> usize
+        ensures { result ≡ slice_index self.now.registers.now which }
+    {
+        register(self.registers, which)
     }
-}
 
-// Does what a command says of lists and lengths; other commands are the program's.
-pub fn change(
-    script: &mut [u8],
-    image: &mut [u32],
-    text: &mut [u8],
-    library: &mut [u32],
-    registers: &mut [u32],
-    c: Command,
-)
-    ensures { changed c.op c.a c.b c.c
-        (lists script.old image.old text.old library.old registers.old)
-        ≡ lists script.new image.new text.new library.new registers.new }
-{
-    match c.op {
-        PATTERN => pattern(registers, c),
-        FILL => fill(script, image, text, library, registers, c),
-        LENGTH => put(registers, c.a as usize, c.b),
-        DATA.. => put_data(script, image, text, library, (c.op - DATA) as usize, c),
-        _ => {}
+    fn pattern(&mut self, c: Command)
+        ensures { Becomes self.old self.new (with_registers (lists_of self.old) (patterned c.a c.b c.c self.old.registers.now)) }
+    {
+        put(self.registers, LIST, c.a);
+        put(self.registers, START, c.b);
+        put(self.registers, COUNT, c.c);
+    }
+
+    fn fill(&mut self, c: Command)
+        ensures { Becomes self.old self.new (fill_of c.a c.b (lists_of self.old)) }
+    {
+        let list = self.register(LIST);
+        let stride = list / 4;
+        let start = self.register(START);
+        let count = self.register(COUNT);
+        match list % 4 {
+            SCRIPT => fill_bytes(self.script, stride, start, count, c.a, c.b),
+            IMAGE => fill_words(self.image, stride, start, count, c.a, c.b),
+            TEXT => fill_bytes(self.text, stride, start, count, c.a, c.b),
+            _ => fill_words(self.library, stride, start, count, c.a, c.b),
+        }
+    }
+
+    fn put_data(&mut self, list: usize, c: Command)
+        ensures { Becomes self.old self.new (data_of list c.a c.b c.c (lists_of self.old)) }
+    {
+        match list {
+            SCRIPT => eight_bytes(self.script, c.a, c.b, c.c),
+            IMAGE => two_words(self.image, c.a, c.b, c.c),
+            TEXT => eight_bytes(self.text, c.a, c.b, c.c),
+            _ => two_words(self.library, c.a, c.b, c.c),
+        }
+    }
+
+    // Does what a command says of lists and lengths; other commands are the program's.
+    pub fn change(&mut self, c: Command)
+        ensures { Becomes self.old self.new (changed c.op c.a c.b c.c (lists_of self.old)) }
+    {
+        match c.op {
+            PATTERN => self.pattern(c),
+            FILL => self.fill(c),
+            LENGTH => put(self.registers, c.a as usize, c.b),
+            DATA.. => self.put_data((c.op - DATA) as usize, c),
+            _ => {}
+        }
     }
 }
 

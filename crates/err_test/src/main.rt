@@ -5,6 +5,17 @@
 #![tactic(auto)]
 
 use err::{CallName, Counts};
+use err_arguments::{arg_mismatch, slot_conflict, slot_void};
+use err_calls::{call_through_field, missing_package, undefined_in_package, undefined_own};
+use err_names::{
+    bad_condition, bad_return, defined_already, empty_import, let_void, match_cases, no_binding,
+    no_import,
+};
+use err_values::{
+    bad_cast, bad_unary, empty_array, incompatible, members_differ, no_field, no_record,
+    redundant_cast, unsupported,
+};
+use ptype::Types;
 use std::io;
 use tok::{Span, Texts, little_endian};
 
@@ -31,6 +42,7 @@ fn part<T>(s: &[T], at: usize, len: usize) -> &[T] {
 
 // Cases.
 
+// A code and its parameters.
 #[derive(Clone, Copy)]
 struct Case {
     code: u32,
@@ -41,6 +53,14 @@ struct Case {
     e: u32,
     f: u32,
     g: u32,
+}
+
+// A package that is 0 is none.
+fn callee(pkg: u32, name: u32) -> CallName {
+    if pkg == 0 {
+        return CallName::Own(name);
+    }
+    CallName::OfPackage(pkg, name)
 }
 
 fn case_of(words: &[u32]) -> Case {
@@ -63,282 +83,170 @@ fn span(start: u32, len: u32) -> Span {
     }
 }
 
-// A package that is 0 is none.
-fn callee(pkg: u32, name: u32) -> CallName {
-    if pkg == 0 {
-        return CallName::Own(name);
-    }
-    CallName::OfPackage(pkg, name)
+// What the parameters of cases speak of: types, the words of the library's functions, and lists.
+#[derive(Drop)]
+struct Sources<'a> {
+    types: Types<'a>,
+    functions: &'a [u32],
+    lists: &'a [u32],
 }
 
-fn of_values(
+fn argument_count(
     diagnostics: &mut [u32],
     messages: &mut [u8],
     counts: Counts,
-    types: &[u32],
     texts: &Texts,
     c: Case,
 ) -> Option<Counts> {
-    match c.code {
-        1 => err_values::empty_array(diagnostics, messages, counts, c.a),
-        2 => err_values::members_differ(
-            diagnostics,
-            messages,
-            counts,
-            types,
-            texts,
-            span(c.a, c.b),
-            c.c,
-            c.d,
-        ),
-        4 => err_values::unsupported(diagnostics, messages, counts, types, texts, c.a, c.b, c.c),
-        5 => err_values::incompatible(
-            diagnostics,
-            messages,
-            counts,
-            types,
-            texts,
-            c.a,
-            c.b,
-            c.c,
-            c.d,
-        ),
-        6 => err_values::bad_unary(diagnostics, messages, counts, types, texts, c.a, c.b, c.c),
-        _ => of_casts_and_fields(diagnostics, messages, counts, types, texts, c),
-    }
+    let callee = callee(c.d, c.e);
+    let (taken, given) = (c.b as usize, c.c as usize);
+    err_calls::argument_count(
+        diagnostics,
+        messages,
+        counts,
+        texts,
+        c.a,
+        callee,
+        taken,
+        given,
+    )
 }
 
-fn of_casts_and_fields(
+fn no_specialisation(
     diagnostics: &mut [u32],
     messages: &mut [u8],
     counts: Counts,
-    types: &[u32],
-    texts: &Texts,
+    from: &Sources,
     c: Case,
 ) -> Option<Counts> {
-    match c.code {
-        10 => err_values::redundant_cast(diagnostics, messages, counts, types, texts, c.a, c.b),
-        11 => err_values::bad_cast(diagnostics, messages, counts, types, texts, c.a, c.b, c.c),
-        12 => err_values::no_record(diagnostics, messages, counts, types, texts, c.a, c.b),
-        13 => err_values::no_field(diagnostics, messages, counts, types, texts, c.a, c.b),
-        _ => of_names(diagnostics, messages, counts, types, texts, c),
-    }
+    err_calls::no_specialisation_at(
+        diagnostics,
+        messages,
+        counts,
+        &from.types,
+        c.a,
+        callee(c.b, c.c),
+        part(from.lists, c.d as usize, c.e as usize),
+        from.functions,
+        part(from.lists, c.f as usize, c.g as usize),
+    )
 }
 
-fn of_names(
+// The three of one argument.
+fn of_argument(
     diagnostics: &mut [u32],
     messages: &mut [u8],
     counts: Counts,
-    types: &[u32],
-    texts: &Texts,
-    c: Case,
-) -> Option<Counts> {
-    match c.code {
-        3 => err_names::no_binding(diagnostics, messages, counts, texts, c.a),
-        7 => err_names::let_void(diagnostics, messages, counts, c.a),
-        8 => err_names::defined_already(diagnostics, messages, counts, texts, c.a),
-        9 => err_names::bad_return(
-            diagnostics,
-            messages,
-            counts,
-            types,
-            texts,
-            c.a,
-            c.b,
-            c.c,
-            c.d,
-        ),
-        _ => of_matches_and_imports(diagnostics, messages, counts, types, texts, c),
-    }
-}
-
-fn of_matches_and_imports(
-    diagnostics: &mut [u32],
-    messages: &mut [u8],
-    counts: Counts,
-    types: &[u32],
-    texts: &Texts,
-    c: Case,
-) -> Option<Counts> {
-    match c.code {
-        23 => err_names::bad_condition(diagnostics, messages, counts, types, texts, c.a, c.b),
-        24 => err_names::match_cases(diagnostics, messages, counts, types, texts, c.a, c.b, c.c),
-        25 => err_names::empty_import(diagnostics, messages, counts, c.a),
-        26 => err_names::no_import(diagnostics, messages, counts, texts, c.a),
-        _ => of_arguments(diagnostics, messages, counts, types, texts, c),
-    }
-}
-
-fn of_arguments(
-    diagnostics: &mut [u32],
-    messages: &mut [u8],
-    counts: Counts,
-    types: &[u32],
-    texts: &Texts,
+    types: &Types,
     c: Case,
 ) -> Option<Counts> {
     let at = span(c.a, c.b);
+    let to = callee(c.f, c.g);
     match c.code {
-        20 => err_arguments::arg_mismatch(
-            diagnostics,
-            messages,
-            counts,
-            types,
-            texts,
-            at,
-            callee(c.f, c.g),
-            c.c,
-            c.d,
-            c.e,
-        ),
-        21 => err_arguments::slot_conflict(
-            diagnostics,
-            messages,
-            counts,
-            types,
-            texts,
-            at,
-            callee(c.f, c.g),
-            c.c,
-            c.d,
-            c.e,
-        ),
-        22 => err_arguments::slot_void(
-            diagnostics,
-            messages,
-            counts,
-            texts,
-            at,
-            callee(c.d, c.e),
-            c.c,
-        ),
+        20 => arg_mismatch(diagnostics, messages, counts, types, at, to, c.c, c.d, c.e),
+        21 => slot_conflict(diagnostics, messages, counts, types, at, to, c.c, c.d, c.e),
+        _ => {
+            let to = callee(c.d, c.e);
+            slot_void(diagnostics, messages, counts, types.texts, at, to, c.c)
+        }
+    }
+}
+
+// The diagnostic of a case, by its code. Each that takes few parameters has its line; of the others a small function reads them.
+fn told(
+    diagnostics: &mut [u32],
+    messages: &mut [u8],
+    counts: Counts,
+    from: &Sources,
+    c: Case,
+) -> Option<Counts> {
+    let types = &from.types;
+    let texts = types.texts;
+    let at = span(c.a, c.b);
+    match c.code {
+        1 => empty_array(diagnostics, messages, counts, c.a),
+        2 => members_differ(diagnostics, messages, counts, types, at, c.c, c.d),
+        3 => no_binding(diagnostics, messages, counts, texts, c.a),
+        4 => unsupported(diagnostics, messages, counts, types, c.a, c.b, c.c),
+        5 => incompatible(diagnostics, messages, counts, types, c.a, c.b, c.c, c.d),
+        6 => bad_unary(diagnostics, messages, counts, types, c.a, c.b, c.c),
+        7 => let_void(diagnostics, messages, counts, c.a),
+        8 => defined_already(diagnostics, messages, counts, texts, c.a),
+        9 => bad_return(diagnostics, messages, counts, types, c.a, c.b, c.c, c.d),
+        10 => redundant_cast(diagnostics, messages, counts, types, c.a, c.b),
+        11 => bad_cast(diagnostics, messages, counts, types, c.a, c.b, c.c),
+        12 => no_record(diagnostics, messages, counts, types, c.a, c.b),
+        13 => no_field(diagnostics, messages, counts, types, c.a, c.b),
+        14 => call_through_field(diagnostics, messages, counts, c.a),
+        15 => missing_package(diagnostics, messages, counts, texts, c.a),
+        16 => undefined_in_package(diagnostics, messages, counts, texts, c.a, c.b),
+        17 => undefined_own(diagnostics, messages, counts, texts, c.a),
+        18 => no_specialisation(diagnostics, messages, counts, from, c),
+        19 => argument_count(diagnostics, messages, counts, texts, c),
+        20..=22 => of_argument(diagnostics, messages, counts, types, c),
+        23 => bad_condition(diagnostics, messages, counts, types, c.a, c.b),
+        24 => match_cases(diagnostics, messages, counts, types, c.a, c.b, c.c),
+        25 => empty_import(diagnostics, messages, counts, c.a),
+        26 => no_import(diagnostics, messages, counts, texts, c.a),
         _ => None,
-    }
-}
-
-fn of_calls(
-    diagnostics: &mut [u32],
-    messages: &mut [u8],
-    counts: Counts,
-    types: &[u32],
-    texts: &Texts,
-    c: Case,
-) -> Option<Counts> {
-    match c.code {
-        14 => err_calls::call_through_field(diagnostics, messages, counts, c.a),
-        15 => err_calls::missing_package(diagnostics, messages, counts, texts, c.a),
-        16 => err_calls::undefined_in_package(diagnostics, messages, counts, texts, c.a, c.b),
-        17 => err_calls::undefined_own(diagnostics, messages, counts, texts, c.a),
-        19 => err_calls::argument_count(
-            diagnostics,
-            messages,
-            counts,
-            texts,
-            c.a,
-            callee(c.d, c.e),
-            c.b as usize,
-            c.c as usize,
-        ),
-        _ => of_values(diagnostics, messages, counts, types, texts, c),
-    }
-}
-
-fn of_groups(
-    diagnostics: &mut [u32],
-    messages: &mut [u8],
-    counts: Counts,
-    types: &[u32],
-    texts: &Texts,
-    words: &[u32],
-    lists: &[u32],
-    c: Case,
-) -> Option<Counts> {
-    match c.code {
-        18 => err_calls::no_specialisation_at(
-            diagnostics,
-            messages,
-            counts,
-            types,
-            texts,
-            c.a,
-            callee(c.b, c.c),
-            part(lists, c.d as usize, c.e as usize),
-            words,
-            part(lists, c.f as usize, c.g as usize),
-        ),
-        _ => of_calls(diagnostics, messages, counts, types, texts, c),
     }
 }
 
 // Printing.
 
-fn print(rt: &impl Print, s: &[u8]) -> io::Result<()> {
-    rt.write_all(s)
-}
-
-fn print_word(rt: &impl Print, w: u32) -> io::Result<()> {
-    rt.print(w)?;
-    print(rt, b" ")
-}
-
 fn print_diagnostic(rt: &impl Print, record: &[u32], messages: &[u8]) -> io::Result<()> {
+    let head = tok::word_at(record, 0);
+    if tok::kind(head) != DIAGNOSTIC {
+        return println!(rt; "no diagnostic");
+    }
     let start = tok::word_at(record, 3) as usize;
     let len = tok::word_at(record, 4) as usize;
     let primary = tok::word_at(record, 5) as usize;
-    let head = tok::word_at(record, 0);
-    if tok::kind(head) != DIAGNOSTIC {
-        return print(rt, b"no diagnostic\n");
-    }
-    print(rt, b"diag ")?;
-    print_word(rt, head % 0x1000_0000)?;
-    print_word(rt, tok::word_at(record, 1))?;
-    print_word(rt, tok::word_at(record, 2))?;
-    print(rt, part(messages, start, len))?;
-    print(rt, b"\n")?;
+    let (code, from, to) = (
+        tok::payload(head),
+        tok::word_at(record, 1),
+        tok::word_at(record, 2),
+    );
+    print!(rt; "diag {code} {from} {to} ")?;
+    rt.write_all(part(messages, start, len))?;
+    println!(rt;)?;
     if primary != 0 {
-        print(rt, b"primary ")?;
-        print(rt, part(messages, start + len, primary))?;
-        print(rt, b"\n")?;
+        print!(rt; "primary ")?;
+        rt.write_all(part(messages, start + len, primary))?;
+        println!(rt;)?;
     }
     Ok(())
 }
 
 // The cases, one after the other, and then what was told; a case that is refused says so.
-fn run(
-    rt: &impl Print,
-    diagnostics: &mut [u32],
-    messages: &mut [u8],
-    types: &[u32],
-    texts: &Texts,
-    words: &[u32],
-    lists: &[u32],
-    cases: &[u32],
-) -> io::Result<()> {
+fn run(rt: &impl Print, from: &Sources, cases: &[u32]) -> io::Result<()> {
+    let mut diagnostics = [0u32; 1536];
+    let mut messages = [0u8; LARGE];
     let mut counts = Counts {
         diagnostics: 0,
         bytes: 0,
     };
     for case in cases.chunks_exact(8) {
-        let c = case_of(case);
-        match of_groups(diagnostics, messages, counts, types, texts, words, lists, c) {
+        match told(&mut diagnostics, &mut messages, counts, from, case_of(case)) {
             Some(told) => counts = told,
-            None => print(rt, b"refused 9\n")?,
+            None => println!(rt; "refused 9")?,
         }
     }
     for record in diagnostics.chunks_exact(6).take(counts.diagnostics) {
-        print_diagnostic(rt, record, messages)?;
+        print_diagnostic(rt, record, &messages)?;
     }
     Ok(())
 }
 
-// What a row of refusal 9 begins with: a part of one literal, since a check pays for each.
-fn begin(rt: &impl Print, at: usize, len: usize, n: u32) -> io::Result<()> {
-    print(rt, part(b"words bytes diagnostics limit ", at, len))?;
-    print_word(rt, n)
-}
-
-// Refusal 9: an empty array's diagnostic in buffers of so many words and bytes, after so many diagnostics and bytes.
-fn room(rt: &impl Print, words: usize, bytes: usize, told: usize, used: usize) -> io::Result<()> {
+// Refusal 9: an empty array's diagnostic in buffers of so many words and bytes, after so many diagnostics and bytes. A row begins with what is tried.
+fn room(
+    rt: &impl Print,
+    tried: &str,
+    words: usize,
+    bytes: usize,
+    told: usize,
+    used: usize,
+) -> io::Result<()> {
     let mut diagnostics = [0u32; 2000];
     let mut messages = [0u8; 70_000];
     let last = words.min(2000);
@@ -347,62 +255,49 @@ fn room(rt: &impl Print, words: usize, bytes: usize, told: usize, used: usize) -
         diagnostics: told,
         bytes: used,
     };
-    let r = err_values::empty_array(&mut diagnostics[..last], &mut messages[..end], counts, 0);
-    let Some(_) = r else {
-        return print(rt, b"refused\n");
-    };
-    print(rt, b"told\n")
+    let r = empty_array(&mut diagnostics[..last], &mut messages[..end], counts, 0);
+    let answer = if r.is_some() { "told" } else { "refused" };
+    println!(rt; "{tried} {answer}")
 }
 
 // Buffers that just hold it, and smaller ones.
 fn room_lent(rt: &impl Print) -> io::Result<()> {
-    begin(rt, 0, 6, 6)?;
-    room(rt, 6, 59, 0, 0)?;
-    begin(rt, 0, 6, 5)?;
-    room(rt, 5, 59, 0, 0)?;
-    begin(rt, 6, 6, 59)?;
-    room(rt, 6, 59, 0, 0)?;
-    begin(rt, 6, 6, 58)?;
-    room(rt, 6, 58, 0, 0)
+    room(rt, "words 6", 6, 59, 0, 0)?;
+    room(rt, "words 5", 5, 59, 0, 0)?;
+    room(rt, "bytes 59", 6, 59, 0, 0)?;
+    room(rt, "bytes 58", 6, 58, 0, 0)
 }
 
 // The limits of document 01, in larger buffers.
 fn room_at_limits(rt: &impl Print) -> io::Result<()> {
-    begin(rt, 12, 12, 256)?;
-    room(rt, 2000, 70_000, 255, 0)?;
-    begin(rt, 12, 12, 257)?;
-    room(rt, 2000, 70_000, 256, 0)?;
-    begin(rt, 24, 6, 65_536)?;
-    room(rt, 2000, 70_000, 0, 65_477)?;
-    begin(rt, 24, 6, 65_537)?;
-    room(rt, 2000, 70_000, 0, 65_478)
+    room(rt, "diagnostics 256", 2000, 70_000, 255, 0)?;
+    room(rt, "diagnostics 257", 2000, 70_000, 256, 0)?;
+    room(rt, "limit 65536", 2000, 70_000, 0, 65_477)?;
+    room(rt, "limit 65537", 2000, 70_000, 0, 65_478)
 }
 
 fn parts(rt: &impl Print, input: &[u8]) -> io::Result<()> {
     let script = little_endian(input, 0) as usize;
     let library = little_endian(input, 4) as usize;
     let types = little_endian(input, 8) as usize;
-    let words = little_endian(input, 12) as usize;
+    let functions = little_endian(input, 12) as usize;
     let lists = little_endian(input, 16) as usize;
     let cases = little_endian(input, 20) as usize;
-    let mut w = [0u32; 2048];
-    fill(&mut w, part(input, 24 + script + library, LARGE));
-    let mut diagnostics = [0u32; 1536];
-    let mut messages = [0u8; LARGE];
+    let mut words = [0u32; 2048];
+    fill(&mut words, part(input, 24 + script + library, LARGE));
     let texts = Texts {
         script: part(input, 24, script),
         library: part(input, 24 + script, library),
     };
-    run(
-        rt,
-        &mut diagnostics,
-        &mut messages,
-        part(&w, 0, types),
-        &texts,
-        part(&w, types, words),
-        part(&w, types + words, lists),
-        part(&w, types + words + lists, cases),
-    )
+    let from = Sources {
+        types: Types {
+            words: part(&words, 0, types),
+            texts: &texts,
+        },
+        functions: part(&words, types, functions),
+        lists: part(&words, types + functions, lists),
+    };
+    run(rt, &from, part(&words, types + functions + lists, cases))
 }
 
 fn main(rt: HostRuntime) -> io::Result<()> {

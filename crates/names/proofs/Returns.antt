@@ -21,8 +21,7 @@ use Rattle.state.specs.Store.{env_up}
 use Rattle.state.specs.World.{More, Step, with_answer, Steps}
 use Rattle.scope.specs.declared.Binding.{Binding}
 use Rattle.scope.specs.declared.Binding.TheVariants as B
-use Rattle.scope.specs.Found.{binding_of}
-use Rattle.values.specs.Answers.{found_of}
+use Rattle.scope.specs.Found.{bound_of, binding_of}
 use Rattle.visit.specs.declared.State.{State}
 use Rattle.visit.specs.Whole.{Visit, lent, visited}
 use Rattle.visit.specs.Within.{top, Within, within_same, within-from, goes, Visits}
@@ -62,23 +61,23 @@ module _ {st : State} {e : List ℕ} {name : ℕ} (h : Bindable st e name) (u : 
   within : (x w : ℕ) → Within 2 0 (with_used st u) (lent s f t d m e o) (one_more st u) (lent s f t d m (write e (top st) (x ∷ w ∷ [])) o)
   within x w = within-from (within-bound h.free x w u s f t d m s t d m o) (omega arith) (omega arith)
 
-  binds : (bound : Found ℕ) → Visits (env_insert name (found_of bound)) 2 0 words (with_used st u) (lent s f t d m e o) (lent s f t d m (write e (top st) (local_words name bound)) o)
+  binds : (bound : Binding) → Visits (env_insert name (bound_of bound)) 2 0 words (with_used st u) (lent s f t d m e o) (lent s f t d m (write e (top st) (local_words name bound)) o)
       (Ok (tt, one_more st u))
-  unfolding env_insert found_of local_words visited
-  binds (Some w) = record { step = rw (packages-kept h.free name w words, env-bound e st.names.base st.names.depth name w h.kind (fits h.free)) refl; keeps = goes (within name w) }
-  binds None = record {
+  unfolding env_insert local_words visited
+  binds (B.Bound w) = record { step = rw (packages-kept h.free name w words, env-bound e st.names.base st.names.depth name w h.kind (fits h.free)) refl; keeps = goes (within name w) }
+  binds B.Poisoned = record {
     step = rw (packages-kept h.free (name + 2 ^ 28) 0 words, env-unbound e st.names.base st.names.depth name 0 h.kind (fits h.free)) refl;
     keeps = goes (within (name + 2 ^ 28) 0);
   }
 
-module _ (n slot name : ℕ) (answer : Answer) {st : State} {e : List ℕ} {s d m d' m' : List ℕ} {r : Step (Found ℕ)}
-    (p : (t : List ℕ) → Steps (let_binding n name answer) s t d m st.used s t d' m' (with_answer (λ x. found_of x) r)) where
+module _ (n slot name : ℕ) (answer : Answer) {st : State} {e : List ℕ} {s d m d' m' : List ℕ} {r : Step Binding}
+    (p : (t : List ℕ) → Steps (let_binding n name answer) s t d m st.used s t d' m' (with_answer (λ b. bound_of b) r)) where
   pub let_refused : {x : Refusal} {q : Visit Answer} → r ≡ Err x → IsErrAnd q (λ y. y ≡ x)
       → (words f t : List ℕ) (o : More) → Visits (let_end n slot name answer) 2 0 words st (lent s f t d m e o) (lent s f t d' m' e o) q
   unfolding let_end with_answer visit_of
   let_refused {q = q} er eq words f t o = rw (passed q eq) (visits-stop _ (steps-visits (rw er at (p t)) words f e o) 2 0)
 
-  pub let_bound : {bound : Found ℕ} {u : Used} {e' s' : List ℕ} {st' : State} {w : Step Answer} {q : Visit Answer} → Bindable st e name → r ≡ Ok (bound, u)
+  pub let_bound : {bound : Binding} {u : Used} {e' s' : List ℕ} {st' : State} {w : Step Answer} {q : Visit Answer} → Bindable st e name → r ≡ Ok (bound, u)
       → e' ≡ write e (2 * (st.names.base + st.names.depth)) (local_words name bound) → st' ≡ one_more st u
       → ((t d m : List ℕ) → Steps (set_known slot void_word) s t d m st'.used s' t d m w) → q ≡ visit_of st' w
       → (words f t : List ℕ) (o : More) → Visits (let_end n slot name answer) 2 0 words st (lent s f t d m e o) (lent s' f t d' m' e' o) q

@@ -1,5 +1,5 @@
 -- One more name in scope, and the end of a let. Definitions; laws of it. Assumes nothing.
-use Rattle.std.specs.Prelude.{ℕ, ◌+◌, ◌*◌, ◌^◌, ◌≤◌, ◌≡◌, refl, List, [], ◌∷◌, length, Option, Some, None}
+use Rattle.std.specs.Prelude.{ℕ, ◌+◌, ◌*◌, ◌^◌, ◌≤◌, ◌≡◌, refl, List, [], ◌∷◌, length}
 use Rattle.std.proofs.Common.{arith}
 use Rattle.tok.specs.Word.{kind_of}
 use Rattle.tok.specs.Step.{◌>>=◌, ◌>>◌}
@@ -13,6 +13,8 @@ use Rattle.rules.specs.Steps.{env_insert, set_known}
 use Rattle.rules.specs.Rules.{let_binding, node}
 use Rattle.state.specs.declared.Used.{Used}
 use Rattle.state.specs.Store.{held_from}
+use Rattle.scope.specs.declared.Binding.{Binding}
+use Rattle.scope.specs.declared.Binding.TheVariants.{Bound, Poisoned}
 use Rattle.visit.specs.declared.State.{State}
 use Rattle.state.specs.World.{More}
 use Rattle.visit.specs.Whole.{lent}
@@ -20,10 +22,10 @@ use Rattle.visit.specs.Within.{top, Within}
 use Rattle.visit.specs.Free.{Free, free-top}
 use Rattle.visit.specs.StoreLaws.{write-alike, held-past, reach-past}
 
--- the words of a name and its type; without a type the binding is poisoned, and the name has kind 13 in place of 12
-unfoldable pub local_words : (name : ℕ) → (type : Option ℕ) → List ℕ
-local_words name (Some w) = name ∷ w ∷ []
-local_words name None = (name + 2 ^ 28) ∷ 0 ∷ []
+-- the words of a name and its type; where the binding is poisoned, the name has kind 13 in place of 12
+unfoldable pub local_words : (name : ℕ) → Binding → List ℕ
+local_words name (Bound w) = name ∷ w ∷ []
+local_words name Poisoned = (name + 2 ^ 28) ∷ 0 ∷ []
 
 -- the state with one more name in scope
 abbrev pub one_more : State → Used → State

@@ -37,15 +37,15 @@ pub fn bind_poisoned(scratch: &mut [u32], names: Names, name: u32)
     add::set_pair(scratch, 2 * (names.base + names.depth), name + tok::KIND, 0);
 }
 
-// Either of the two, by whether there is a type.
+// Either of the two.
 #[tactic(auto, unfolding(crate::specs::Bound::local_words))]
-fn bind(scratch: &mut [u32], names: Names, name: u32, ty: Option<u32>)
+fn bind(scratch: &mut [u32], names: Names, name: u32, binding: Binding)
     requires { (names.base + names.depth ≤ 4096) × (kind_of name ≡ 12) }
-    ensures { scratch.new ≡ write scratch.old (2 * (names.base + names.depth)) (local_words name ty) }
+    ensures { scratch.new ≡ write scratch.old (2 * (names.base + names.depth)) (local_words name binding) }
 {
-    match ty {
-        Some(w) => bind_name(scratch, names, name, w),
-        None => bind_poisoned(scratch, names, name),
+    match binding {
+        Binding::Bound(w) => bind_name(scratch, names, name, w),
+        Binding::Poisoned => bind_poisoned(scratch, names, name),
     }
 }
 
@@ -112,8 +112,9 @@ pub fn let_end(
         let b' : Lent = lent slots.new f t diagnostics.new messages.new scratch.new o in
         Visits (let_end n slot name answer) 2 0 words st b b' result) }
 {
-    let (ty, used) = values::let_binding(slots, diagnostics, messages, st.used, n, name, answer)?;
-    bind(scratch, st.names, name, ty);
+    let used = st.used;
+    let (binding, used) = values::let_binding(slots, diagnostics, messages, used, n, name, answer)?;
+    bind(scratch, st.names, name, binding);
     let st = one_more(st, used);
     visit::answered(st, operators::set_known(slots, st.used, slot, VOID_WORD))
 }

@@ -3,7 +3,7 @@
 // of document 01. The input is a run of commands of four little-endian words: oracle/refusals/stream.py says what each does.
 #![tactic(auto)]
 
-use commands::{CASES, Command};
+use commands::{CASES, Command, Lists};
 use ending::Refused;
 use std::io;
 
@@ -13,20 +13,13 @@ const AGREE: usize = 14;
 // Cases.
 
 // What is found of the lists, with buffers as long as the registers say, as document 01's table numbers it.
-fn found<'a>(
-    script: &'a [u8],
-    image: &[u32],
-    text: &'a [u8],
-    library: &[u32],
-    registers: &[u32],
-    words: &[u32],
-    bytes: &[u8],
-) -> Result<(), Refused> {
+fn found(lists: &Lists, words: &[u32], bytes: &[u8]) -> Result<(), Refused> {
+    let registers: &[u32] = lists.registers;
     refuse::refuse(
-        commands::bytes_of(script, registers, commands::SCRIPT),
-        commands::words_of(image, registers, commands::IMAGE),
-        commands::bytes_of(text, registers, commands::TEXT),
-        commands::words_of(library, registers, commands::LIBRARY),
+        commands::bytes_of(lists.script, registers, commands::SCRIPT),
+        commands::words_of(lists.image, registers, commands::IMAGE),
+        commands::bytes_of(lists.text, registers, commands::TEXT),
+        commands::words_of(lists.library, registers, commands::LIBRARY),
         commands::words_of(words, registers, commands::SLOTS),
         commands::words_of(words, registers, commands::FUNCTIONS),
         commands::words_of(words, registers, commands::TYPES),
@@ -39,11 +32,12 @@ fn found<'a>(
 
 fn print_answer(rt: &impl Print, got: Result<(), Refused>) -> io::Result<()> {
     match got {
-        Ok(()) => commands::print(rt, b" accepted")?,
-        Err(refused) => commands::print_refused(rt, refused.number as usize, refused.place)?,
-    };
-    commands::print(rt, b"\n")?;
-    Ok(())
+        Ok(()) => print!(rt; " accepted")?,
+        Err(refused) => {
+            commands::print_refused(rt, refused.number as usize, refused.place)?;
+        }
+    }
+    println!(rt;)
 }
 
 // Whether a command expects the answer: it tells number and place, both 0 where none of the six comes.
@@ -71,38 +65,16 @@ fn told(
 
 fn obey(
     rt: &impl Print,
-    script: &mut [u8],
-    image: &mut [u32],
-    text: &mut [u8],
-    library: &mut [u32],
-    registers: &mut [u32],
+    lists: &mut Lists,
     words: &[u32],
     bytes: &[u8],
     c: Command,
 ) -> io::Result<()> {
     if c.op == commands::CASE {
-        let got = found(script, image, text, library, registers, words, bytes);
-        return told(rt, registers, got, c);
+        let got = found(lists, words, bytes);
+        return told(rt, lists.registers, got, c);
     }
-    commands::change(script, image, text, library, registers, c);
-    Ok(())
-}
-
-fn run(
-    rt: &(impl Input + Print),
-    script: &mut [u8],
-    image: &mut [u32],
-    text: &mut [u8],
-    library: &mut [u32],
-    registers: &mut [u32],
-    words: &[u32],
-    bytes: &[u8],
-    count: usize,
-) -> io::Result<()> {
-    for _ in 0..count {
-        let c = commands::next_command(rt)?;
-        obey(rt, script, image, text, library, registers, words, bytes, c)?;
-    }
+    lists.change(c);
     Ok(())
 }
 
@@ -112,23 +84,23 @@ fn main(rt: HostRuntime) -> io::Result<()> {
     let mut text = [0u8; 65_552];
     let mut library = [0u32; 8_208];
     let mut registers = [0u32; 16];
+    let mut lists = Lists {
+        script: &mut script,
+        image: &mut image,
+        text: &mut text,
+        library: &mut library,
+        registers: &mut registers,
+    };
     let words = [0u32; 32_768];
     let bytes = [0u8; 65_536];
     let first = commands::next_command(&rt)?;
-    run(
-        &rt,
-        &mut script,
-        &mut image,
-        &mut text,
-        &mut library,
-        &mut registers,
-        &words,
-        &bytes,
-        first.a as usize,
-    )?;
-    commands::print_number(&rt, commands::register(&registers, AGREE))?;
-    commands::print(&rt, b" of ")?;
-    commands::print_number(&rt, commands::register(&registers, CASES))?;
-    commands::print(&rt, b" agree\n")?;
-    Ok(())
+    for _ in 0..first.a {
+        let c = commands::next_command(&rt)?;
+        obey(&rt, &mut lists, &words, &bytes, c)?;
+    }
+    println!(rt;
+        "{} of {} agree",
+        commands::register(lists.registers, AGREE),
+        commands::register(lists.registers, CASES)
+    )
 }

@@ -32,7 +32,7 @@ fn one_case(rt: &(impl Input + Print), length: usize) -> io::Result<()> {
 fn all_cases(rt: &(impl Input + Print), count: usize) -> io::Result<()> {
     for i in 0..count {
         if i > 0 {
-            rt.write_all(b"--\n")?;
+            println!(rt; "--")?;
         }
         one_case(rt, next_word(rt)?)?;
     }

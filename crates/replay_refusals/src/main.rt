@@ -5,7 +5,7 @@
 
 ghost use Rattle.std.specs.Prelude.{◌<◌};
 
-use commands::Command;
+use commands::{Command, Lists};
 use ending::Checked;
 use std::io;
 
@@ -143,20 +143,14 @@ fn case<'a>(
 }
 
 // The case that the registers tell: as much of the lists and of buffers of its own as they say.
-fn told_case<'a>(
-    rt: &impl Print,
-    script: &'a [u8],
-    image: &[u32],
-    text: &'a [u8],
-    library: &[u32],
-    registers: &[u32],
-) -> io::Result<()> {
+fn told_case(rt: &impl Print, lists: &Lists) -> io::Result<()> {
     let mut slots = [0u32; 4_112];
     let mut functions = [0u32; 8_208];
     let mut types = [0u32; 8_208];
     let mut diagnostics = [0u32; 1_568];
     let mut messages = [0u8; 65_552];
     let mut scratch = [0u32; 32_768];
+    let registers: &[u32] = lists.registers;
     let a = commands::lent(registers, commands::SLOTS, slots.len());
     let b = commands::lent(registers, commands::FUNCTIONS, functions.len());
     let c = commands::lent(registers, commands::TYPES, types.len());
@@ -165,10 +159,10 @@ fn told_case<'a>(
     let f = commands::lent(registers, commands::SCRATCH, scratch.len());
     case(
         rt,
-        commands::bytes_of(script, registers, commands::SCRIPT),
-        commands::words_of(image, registers, commands::IMAGE),
-        commands::bytes_of(text, registers, commands::TEXT),
-        commands::words_of(library, registers, commands::LIBRARY),
+        commands::bytes_of(lists.script, registers, commands::SCRIPT),
+        commands::words_of(lists.image, registers, commands::IMAGE),
+        commands::bytes_of(lists.text, registers, commands::TEXT),
+        commands::words_of(lists.library, registers, commands::LIBRARY),
         &mut slots[0..a],
         &mut functions[0..b],
         &mut types[0..c],
@@ -180,41 +174,17 @@ fn told_case<'a>(
     )
 }
 
-fn obey(
-    rt: &impl Print,
-    script: &mut [u8],
-    image: &mut [u32],
-    text: &mut [u8],
-    library: &mut [u32],
-    registers: &mut [u32],
-    c: Command,
-) -> io::Result<()> {
+fn obey(rt: &impl Print, lists: &mut Lists, c: Command) -> io::Result<()> {
     match c.op {
         commands::CASE => {
-            commands::begin_line(rt, registers)?;
-            told_case(rt, script, image, text, library, registers)?;
+            commands::begin_line(rt, lists.registers)?;
+            told_case(rt, lists)?;
         }
         LENT => {
-            commands::put(registers, VALUE, c.a);
-            commands::put(registers, STEP, c.b);
+            commands::put(lists.registers, VALUE, c.a);
+            commands::put(lists.registers, STEP, c.b);
         }
-        _ => commands::change(script, image, text, library, registers, c),
-    }
-    Ok(())
-}
-
-fn run(
-    rt: &(impl Input + Print),
-    script: &mut [u8],
-    image: &mut [u32],
-    text: &mut [u8],
-    library: &mut [u32],
-    registers: &mut [u32],
-    count: usize,
-) -> io::Result<()> {
-    for _ in 0..count {
-        let c = commands::next_command(rt)?;
-        obey(rt, script, image, text, library, registers, c)?;
+        _ => lists.change(c),
     }
     Ok(())
 }
@@ -225,14 +195,17 @@ fn main(rt: HostRuntime) -> io::Result<()> {
     let mut text = [0u8; 65_552];
     let mut library = [0u32; 8_208];
     let mut registers = [0u32; 16];
+    let mut lists = Lists {
+        script: &mut script,
+        image: &mut image,
+        text: &mut text,
+        library: &mut library,
+        registers: &mut registers,
+    };
     let first = commands::next_command(&rt)?;
-    run(
-        &rt,
-        &mut script,
-        &mut image,
-        &mut text,
-        &mut library,
-        &mut registers,
-        first.a as usize,
-    )
+    for _ in 0..first.a {
+        let c = commands::next_command(&rt)?;
+        obey(&rt, &mut lists, c)?;
+    }
+    Ok(())
 }

@@ -10,10 +10,14 @@ use Rattle.scope.specs.declared.Binding.TheVariants as B
 use Rattle.scope.specs.declared.Held.{Held}
 use Rattle.scope.specs.declared.Held.TheVariants as H
 
--- a name's binding: none where there is none, some none where it is poisoned
+-- what a binding gives: a type's word, or none where it is poisoned
+abbrev pub bound_of : Binding → Option ℕ
+bound_of (B.Bound w) = some w
+bound_of B.Poisoned = none
+
+-- a name's binding, or none where it has none
 abbrev pub binding_of : Found Binding → Option (Option ℕ)
-binding_of (Some (B.Bound w)) = some (some w)
-binding_of (Some B.Poisoned) = some none
+binding_of (Some b) = some (bound_of b)
 binding_of None = none
 
 -- the signature of an own function

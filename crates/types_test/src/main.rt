@@ -8,7 +8,9 @@
 #![tactic(auto)]
 
 use add::{AddError, Added, Arena};
+use commands::Command;
 use display::{Full, Writer};
+use ptype::Types;
 use slots::{Bind, BindError, Bindings};
 use std::io;
 use tok::Texts;
@@ -99,22 +101,18 @@ fn sum(text: &[u8], n: usize) -> usize {
 // Printing.
 
 fn say(rt: &impl Print, texts: &Texts, name: u32) -> io::Result<()> {
-    commands::print(rt, tok::name_bytes(texts, name))?;
-    Ok(())
+    rt.write_all(tok::name_bytes(texts, name))
 }
 
 // A blank and a number.
 fn number(rt: &impl Print, n: usize) -> io::Result<()> {
-    commands::print(rt, b" ")?;
-    commands::print_number(rt, n)?;
-    Ok(())
+    print!(rt; " {n}")
 }
 
 // A blank and the first n bytes.
 fn front(rt: &impl Print, text: &[u8], n: usize) -> io::Result<()> {
-    commands::print(rt, b" ")?;
-    commands::print(rt, &text[..n.min(text.len())])?;
-    Ok(())
+    print!(rt; " ")?;
+    rt.write_all(&text[..n.min(text.len())])
 }
 
 // How many bytes are told of: the first 50 of the buffer, or those written, or more than there are.
@@ -142,54 +140,41 @@ fn told(rt: &impl Print, out: &[u8; ROOM], texts: &Texts, n: usize, how: u32) ->
 }
 
 // Writes what a word stands for: a type, or a number, or a list that stands behind the types.
-fn write(out: &mut Writer, types: &[u32], texts: &Texts, what: u32, w: u32) -> Result<(), Full> {
+fn write(out: &mut Writer, types: &Types, what: u32, w: u32) -> Result<(), Full> {
     match what {
-        0 => display::show_type(out, types, texts, w),
+        0 => display::show_type(out, types, w),
         1 => out.put_decimal(w as usize),
-        2 => display::show_signature(out, types, texts, part(types, w)),
-        3 => display::show_arg_types(out, types, texts, part(types, w)),
-        _ => display::show_types(out, types, texts, part(types, w)),
+        2 => display::show_signature(out, types, part(types.words, w)),
+        3 => display::show_arg_types(out, types, part(types.words, w)),
+        _ => display::show_types(out, types, part(types.words, w)),
     }
 }
 
 // How many bytes it wrote, where all had room.
-fn written(out: &mut [u8], types: &[u32], texts: &Texts, what: u32, w: u32) -> Option<usize> {
+fn written(out: &mut [u8], types: &Types, what: u32, w: u32) -> Option<usize> {
     let mut writer = Writer::new(out);
-    write(&mut writer, types, texts, what, w).ok()?;
+    write(&mut writer, types, what, w).ok()?;
     Some(writer.at)
 }
 
 // Writes into so many bytes of a buffer of dots, and tells of it.
-fn show(
-    rt: &impl Print,
-    types: &[u32],
-    texts: &Texts,
-    form: u32,
-    room: usize,
-    w: u32,
-) -> io::Result<()> {
+fn show(rt: &impl Print, types: &Types, form: u32, room: usize, w: u32) -> io::Result<()> {
     let mut out = [b'.'; ROOM];
-    let n = written(&mut out[..room.min(ROOM)], types, texts, form % 8, w);
-    told(rt, &out, texts, length(n, form / 8), form / 8)
+    let n = written(&mut out[..room.min(ROOM)], types, form % 8, w);
+    told(rt, &out, types.texts, length(n, form / 8), form / 8)
 }
 
-fn text(rt: &impl Print, types: &[u32], texts: &Texts, w: u32) -> io::Result<()> {
-    show(rt, types, texts, 0, ROOM, w)
+fn text(rt: &impl Print, types: &Types, w: u32) -> io::Result<()> {
+    show(rt, types, 0, ROOM, w)
 }
 
 // Commands that write nothing.
 
 // What a slot is bound to.
-fn bound(
-    rt: &impl Print,
-    types: &[u32],
-    bindings: &Bindings,
-    texts: &Texts,
-    slot: u32,
-) -> io::Result<()> {
-    match bindings.bound_to(texts, slot) {
-        Some(w) => text(rt, types, texts, w),
-        None => say(rt, texts, UNBOUND),
+fn bound(rt: &impl Print, types: &Types, bindings: &Bindings, slot: u32) -> io::Result<()> {
+    match bindings.bound_to(types.texts, slot) {
+        Some(w) => text(rt, types, w),
+        None => say(rt, types.texts, UNBOUND),
     }
 }
 
@@ -198,22 +183,23 @@ fn shallow(types: &[u32], pool: &[u32]) -> bool {
     add::pool_is_shallow(types, pool, &mut known)
 }
 
-fn whether(types: &[u32], texts: &Texts, a: u32, b: u32, what: u32) -> bool {
+fn whether(types: &Types, a: u32, b: u32, what: u32) -> bool {
+    let words = types.words;
     match what {
-        0 => ptype::contains_unknown(types, a),
-        1 => ptype::contains_slot(types, a),
-        2 => ptype::same_type(types, texts, a, b),
-        3 => ptype::field_type(types, a as usize) == ptype::field_type(types, b as usize),
-        _ => shallow(types, part(types, a)),
+        0 => ptype::contains_unknown(words, a),
+        1 => ptype::contains_slot(words, a),
+        2 => ptype::same_type(types, a, b),
+        3 => ptype::field_type(words, a as usize) == ptype::field_type(words, b as usize),
+        _ => shallow(words, part(words, a)),
     }
 }
 
 // Binding.
 
 // What binding answered.
-fn answered(rt: &impl Print, types: &[u32], texts: &Texts, r: Bind) -> io::Result<()> {
+fn answered(rt: &impl Print, types: &Types, r: Bind) -> io::Result<()> {
     match r {
-        Ok(()) => say(rt, texts, DONE),
+        Ok(()) => say(rt, types.texts, DONE),
         Err(
             BindError::Conflict {
                 slot,
@@ -221,34 +207,27 @@ fn answered(rt: &impl Print, types: &[u32], texts: &Texts, r: Bind) -> io::Resul
                 new,
             },
         ) => {
-            say(rt, texts, CONFLICT)?;
-            text(rt, types, texts, slot)?;
-            text(rt, types, texts, existing)?;
-            text(rt, types, texts, new)
+            say(rt, types.texts, CONFLICT)?;
+            text(rt, types, slot)?;
+            text(rt, types, existing)?;
+            text(rt, types, new)
         }
         Err(BindError::Void { slot }) => {
-            say(rt, texts, VOID)?;
-            text(rt, types, texts, slot)
+            say(rt, types.texts, VOID)?;
+            text(rt, types, slot)
         }
-        Err(BindError::NoRoom) => say(rt, texts, FULL),
+        Err(BindError::NoRoom) => say(rt, types.texts, FULL),
     }
 }
 
 // Binds slots after the pairs that are there, in so many words. Where they had no room, no pair counts any more.
-fn bind(
-    lists: &mut Bindings,
-    types: &[u32],
-    texts: &Texts,
-    expected: u32,
-    provided: u32,
-    room: usize,
-) -> Bind {
+fn bind(lists: &mut Bindings, types: &Types, expected: u32, provided: u32, room: usize) -> Bind {
     let end = room.min(lists.pairs.len());
     let mut bindings = Bindings {
         pairs: &mut lists.pairs[..end],
         count: lists.count,
     };
-    let r = slots::bind_slots(&mut bindings, types, texts, expected, provided);
+    let r = slots::bind_slots(&mut bindings, types, expected, provided);
     lists.count = match r {
         Err(BindError::NoRoom) => 0,
         _ => bindings.count,
@@ -259,22 +238,18 @@ fn bind(
 // Commands that write into the lists: put two words there, bind slots, or say how many pairs count.
 fn relist(
     rt: &impl Print,
-    types: &[u32],
+    types: &Types,
     lists: &mut Bindings,
-    texts: &Texts,
     operation: Operation,
-    a: u32,
-    b: u32,
-    c: u32,
+    c: Command,
 ) -> io::Result<()> {
     match operation {
-        Operation::List => add::set_pair(lists.pairs, a as usize, b, c),
+        Operation::List => add::set_pair(lists.pairs, c.a as usize, c.b, c.c),
         Operation::Bind => {
-            let r = bind(lists, types, texts, a, b, c as usize);
-            answered(rt, types, texts, r)?;
+            let r = bind(lists, types, c.a, c.b, c.c as usize);
+            answered(rt, types, r)?;
         }
-        Operation::Count => lists.count = a as usize,
-        _ => {}
+        _ => lists.count = c.a as usize,
     }
     Ok(())
 }
@@ -282,23 +257,16 @@ fn relist(
 // Adding.
 
 // What adding answered, where so many words were used before, and a word that it may be the same as.
-fn added(
-    rt: &impl Print,
-    types: &[u32],
-    texts: &Texts,
-    r: Added,
-    used: usize,
-    old: u32,
-) -> io::Result<()> {
+fn added(rt: &impl Print, types: &Types, r: Added, used: usize, old: u32) -> io::Result<()> {
     match r {
         Ok((w, u)) => {
-            say(rt, texts, PUT)?;
+            say(rt, types.texts, PUT)?;
             number(rt, u.saturating_sub(used))?;
             number(rt, usize::from(w == old))?;
-            text(rt, types, texts, w)
+            text(rt, types, w)
         }
-        Err(AddError::Full) => say(rt, texts, FULL),
-        Err(AddError::TooDeep) => say(rt, texts, DEEP),
+        Err(AddError::Full) => say(rt, types.texts, FULL),
+        Err(AddError::TooDeep) => say(rt, types.texts, DEEP),
     }
 }
 
@@ -324,21 +292,26 @@ fn grow(
 // Adds to the words that are lent, and tells of it where a word is given.
 fn grown(
     rt: &impl Print,
-    types: &mut [u32],
+    words: &mut [u32],
     lists: &Bindings,
     texts: &Texts,
     operation: Operation,
-    a: u32,
-    b: u32,
-    old: u32,
+    c: Command,
 ) -> io::Result<()> {
-    let end = (tok::word_at(lists.pairs, LENT) as usize).min(types.len());
-    let r = grow(&mut types[..end], lists, texts, operation, a, b as usize);
-    if old != 0 {
-        let used = tok::word_at(lists.pairs, BEFORE) as usize;
-        added(rt, types, texts, r, used, old)?;
+    let end = (tok::word_at(lists.pairs, LENT) as usize).min(words.len());
+    let r = grow(
+        &mut words[..end],
+        lists,
+        texts,
+        operation,
+        c.a,
+        c.b as usize,
+    );
+    if c.c == 0 {
+        return Ok(());
     }
-    Ok(())
+    let used = tok::word_at(lists.pairs, BEFORE) as usize;
+    added(rt, &Types { words, texts }, r, used, c.c)
 }
 
 // Copies a part of the lists to the front of so many words of the types, and tells whether it fits.
@@ -347,49 +320,58 @@ fn copy(rt: &impl Print, types: &mut [u32], words: &[u32], lent: usize) -> io::R
     number(rt, usize::from(add::copy_pool(&mut types[..end], words)))
 }
 
-// Commands that leave the lists as they are.
-fn obey(
+// Commands that only tell of types.
+fn tell(
     rt: &impl Print,
-    types: &mut [u32],
+    types: &Types,
     lists: &Bindings,
-    texts: &Texts,
     operation: Operation,
-    a: u32,
-    b: u32,
-    c: u32,
+    c: Command,
 ) -> io::Result<()> {
     match operation {
-        Operation::Pair => add::set_pair(types, a as usize, b, c),
-        Operation::Copy => copy(rt, types, part(lists.pairs, a), b as usize)?,
+        Operation::Bound => bound(rt, types, lists, c.a),
+        Operation::Show => show(rt, types, c.a, c.b as usize, c.c),
+        Operation::Depth => print!(rt; "{}", ptype::depth(types.words, c.a)),
+        Operation::Ask => print!(rt; "{}", u8::from(whether(types, c.a, c.b, c.c))),
+        _ => Ok(()),
+    }
+}
+
+// One command.
+fn obey(
+    rt: &impl Print,
+    words: &mut [u32],
+    lists: &mut Bindings,
+    texts: &Texts,
+    c: Command,
+) -> io::Result<()> {
+    let operation = Operation::from(tok::kind(c.op));
+    match operation {
+        Operation::Pair => {
+            add::set_pair(words, c.a as usize, c.b, c.c);
+            Ok(())
+        }
+        Operation::Copy => copy(rt, words, part(lists.pairs, c.a), c.b as usize),
         Operation::Option
         | Operation::Array
         | Operation::Open
         | Operation::Close
-        | Operation::Apply => grown(rt, types, lists, texts, operation, a, b, c)?,
-        Operation::Bound => bound(rt, types, lists, texts, a)?,
-        Operation::Show => show(rt, types, texts, a, b as usize, c)?,
-        Operation::Depth => {
-            commands::print_number(rt, ptype::depth(types, a))?;
+        | Operation::Apply => grown(rt, words, lists, texts, operation, c),
+        Operation::List | Operation::Bind | Operation::Count => {
+            relist(rt, &Types { words, texts }, lists, operation, c)
         }
-        Operation::Ask => {
-            commands::print_number(rt, usize::from(whether(types, texts, a, b, c)))?;
-        }
-        Operation::List | Operation::Bind | Operation::Count | Operation::Print => {}
+        _ => tell(rt, &Types { words, texts }, lists, operation, c),
     }
-    Ok(())
 }
 
-// Each command goes to both functions, so that neither is lent more than one buffer to write; one of them has nothing to do.
 fn run(rt: &(impl Input + Print), texts: &Texts, commands: usize) -> io::Result<()> {
     let mut types = [0u32; 8448];
     let mut words = [0u32; 256];
     let mut lists = Bindings::new(&mut words);
     for _ in 0..commands {
         let c = commands::next_command(rt)?;
-        let operation = Operation::from(tok::kind(c.op));
         say(rt, texts, c.op)?;
-        relist(rt, &types, &mut lists, texts, operation, c.a, c.b, c.c)?;
-        obey(rt, &mut types, &lists, texts, operation, c.a, c.b, c.c)?;
+        obey(rt, &mut types, &mut lists, texts, c)?;
     }
     Ok(())
 }

@@ -61,21 +61,18 @@ fn parts(text: &[u8], i: usize) -> Tally {
     t
 }
 
-fn row(rt: &impl Print, name: &[u8], i: usize, t: Tally) -> io::Result<()> {
-    let count = t.count;
-    let sum = t.sum;
-    rt.write_all(name)?;
-    println!(rt; " {i:02x} {count} {sum}")
+fn row(rt: &impl Print, name: &str, i: usize, t: Tally) -> io::Result<()> {
+    println!(rt; "{name} {i:02x} {} {}", t.count, t.sum)
 }
 
-fn first_bytes(rt: &impl Print, name: &[u8], len: usize, count: usize) -> io::Result<()> {
+fn first_bytes(rt: &impl Print, name: &str, len: usize, count: usize) -> io::Result<()> {
     for i in 0..256usize {
         row(rt, name, i, strings(len, count, byte(i)))?;
     }
     Ok(())
 }
 
-fn starts(rt: &impl Print, name: &[u8], text: &[u8]) -> io::Result<()> {
+fn starts(rt: &impl Print, name: &str, text: &[u8]) -> io::Result<()> {
     for i in 0..text.len() {
         row(rt, name, i, parts(text, i))?;
     }
@@ -83,18 +80,18 @@ fn starts(rt: &impl Print, name: &[u8], text: &[u8]) -> io::Result<()> {
 }
 
 fn main(rt: HostRuntime) -> io::Result<()> {
-    first_bytes(&rt, b"two", 2, 256)?;
-    first_bytes(&rt, b"three", 3, 625)?;
-    first_bytes(&rt, b"four", 4, 15625)?;
+    first_bytes(&rt, "two", 2, 256)?;
+    first_bytes(&rt, "three", 3, 625)?;
+    first_bytes(&rt, "four", 4, 15625)?;
     // the examples of RFC 3629, section 7
-    starts(&rt, b"not-identical", b"\x41\xE2\x89\xA2\xCE\x91\x2E")?;
-    starts(&rt, b"hangugeo", b"\xED\x95\x9C\xEA\xB5\xAD\xEC\x96\xB4")?;
-    starts(&rt, b"nihongo", b"\xE6\x97\xA5\xE6\x9C\xAC\xE8\xAA\x9E")?;
-    starts(&rt, b"stump", b"\xEF\xBB\xBF\xF0\xA3\x8E\xB4")?;
+    starts(&rt, "not-identical", b"\x41\xE2\x89\xA2\xCE\x91\x2E")?;
+    starts(&rt, "hangugeo", b"\xED\x95\x9C\xEA\xB5\xAD\xEC\x96\xB4")?;
+    starts(&rt, "nihongo", b"\xE6\x97\xA5\xE6\x9C\xAC\xE8\xAA\x9E")?;
+    starts(&rt, "stump", b"\xEF\xBB\xBF\xF0\xA3\x8E\xB4")?;
     // the first and the last character of each length
     starts(
         &rt,
-        b"ends",
+        "ends",
         b"\x00\x7F\xC2\x80\xDF\xBF\xE0\xA0\x80\xEF\xBF\xBF\xF0\x90\x80\x80\xF4\x8F\xBF\xBF",
     )
 }

@@ -1,4 +1,4 @@
--- What the answers mean: of looking a field up, of a let; and parts of rules that are functions of the code. Definitions.
+-- What looking a field up answers; and parts of rules that are functions of the code. Definitions.
 use Rattle.std.specs.Prelude.{ℕ, ◌≡◌, refl, List, ◌∷◌, Some, None, Option as Found}
 use Rattle.std.proofs.Math.Option.{Option, none, some}
 use Rattle.tok.specs.Step.{◌>>=◌, ◌>>◌, when}
@@ -10,7 +10,7 @@ use Rattle.rules.specs.World.{Ctx, Walk}
 use Rattle.rules.specs.Steps.{Done, skip, known, if_known, ty, ty_tree, set_known, report}
 use Rattle.rules.specs.Rules.{Branch, compare_branches, matched}
 
--- a type's word, or none: of a field, of what a let binds
+-- a field's type, by its word, or none
 unfoldable pub found_of : Found ℕ → Option ℕ
 found_of (Some w) = some w
 found_of None = none

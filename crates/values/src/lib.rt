@@ -15,12 +15,14 @@ ghost use Rattle.rules.specs.Rules.{find_field, field_type, field, member_types,
 ghost use Rattle.state.specs.Context.{ctx};
 ghost use Rattle.state.specs.declared.Used.{Used};
 ghost use Rattle.state.specs.World.{Steps, with_answer};
+ghost use Rattle.scope.specs.Found.{bound_of};
 ghost use Rattle.values.specs.Answers.{found_of, alias, compare_branch};
 
 use add::Arena;
 use operators::{set_known, store};
 use ptype::{BOOL_WORD, TypeKind, Types, UNKNOWN_WORD, contains_unknown, same_type};
 use rules::{Answer, Member};
+use scope::Binding;
 use state::{Step, Used};
 use tok::{Span, word_at};
 
@@ -247,8 +249,8 @@ pub fn alias(slots: &mut [u32], used: Used, slot: u32, from: u32) -> Step<Answer
 
 // Bindings and returns.
 
-// What a let binds its name to: Poison and Void bind to nothing, Void with 7.
-#[tactic(auto, unfolding(rules::specs::Rules::let_binding, rules::specs::Steps::ty, tok::specs::Step::when, state::specs::World::stepped, state::specs::World::with_answer, crate::specs::Answers::found_of))]
+// What a let binds its name to: Poison and Void poison the binding, Void with 7.
+#[tactic(auto, unfolding(rules::specs::Rules::let_binding, rules::specs::Steps::ty, tok::specs::Step::when, state::specs::World::stepped, state::specs::World::with_answer))]
 pub fn let_binding(
     slots: &[u32],
     diagnostics: &mut [u32],
@@ -257,20 +259,20 @@ pub fn let_binding(
     n: u32,
     name: u32,
     answer: Answer,
-) -> Step<Option<u32>>
+) -> Step<Binding>
     ensures { (t : List ℕ) → Steps (let_binding n name answer) slots.now t diagnostics.old messages.old used slots.now t diagnostics.new
-        messages.new (with_answer found_of result) }
+        messages.new (with_answer bound_of result) }
 {
     let Answer::Known(right) = answer else {
-        return Ok((None, used));
+        return Ok((Binding::Poisoned, used));
     };
     let w = word_at(slots, right as usize);
     let TypeKind::Void = TypeKind::of(w) else {
-        return Ok((Some(w), used));
+        return Ok((Binding::Bound(w), used));
     };
     let counts = used.told;
     let reported = err_names::let_void(diagnostics, messages, counts, name);
-    state::told(n, used, reported, None)
+    state::told(n, used, reported, Binding::Poisoned)
 }
 
 // A function's body against its return type, whose token is given: 9 where they differ.
