@@ -16,6 +16,14 @@ binding_of (Some (B.Bound w)) = some (some w)
 binding_of (Some B.Poisoned) = some none
 binding_of None = none
 
+-- the own functions: so many entries of the functions buffer
+pub record Owned : Type 0 where
+  pub words : List ℕ
+  pub count : ℕ
+
+abbrev pub owned : List ℕ → ℕ → Owned
+owned words count = record { words = words; count = count }
+
 -- the signature of an own function
 abbrev pub own_of : (functions : List ℕ) → Found ℕ → Option Signature
 own_of functions (Some at) = some (signature_at functions at false)
