@@ -90,6 +90,18 @@ pub trait Sink {
         ensures { Wrote self.old self.new result piece.now };
 
     ghost laws: { SinkLaws Self Wrote };
+
+    // Writes a separator beside `count` other pieces: none where there are none.
+    #[tactic(auto, using(crate::specs::JoinedLaws::separating))]
+    final fn put_separator(&mut self, count: usize, separator: &[u8]) -> Result<(), Full>
+        ensures { Wrote self.old self.new result (separated count separator.now) }
+    {
+        if count == 0 {
+            self.write(b"")
+        } else {
+            self.write(separator)
+        }
+    }
 }
 
 impl<'a> Sink for Writer<'a> {
@@ -99,18 +111,6 @@ impl<'a> Sink for Writer<'a> {
 
     fn write(&mut self, piece: &[u8]) -> Result<(), Full> {
         self.put(piece)
-    }
-}
-
-// Writes a separator beside `count` other pieces: none where there are none.
-#[tactic(auto, using(crate::specs::JoinedLaws::separating))]
-fn put_separator<S: Sink>(out: &mut S, count: usize, separator: &[u8]) -> Result<(), Full>
-    ensures { S.Wrote out.old out.new result (separated count separator.now) }
-{
-    if count == 0 {
-        out.write(b"")
-    } else {
-        out.write(separator)
     }
 }
 
@@ -273,7 +273,7 @@ fn show_fields<S: Sink>(
         out.write(ptype::field_name(words, texts, at))?;
         out.write(b": ")?;
         show_within(out, types, texts, ptype::field_type(words, at), depth)?;
-        put_separator(out, left, b" ")?;
+        out.put_separator(left, b" ")?;
         at = behind(words, at);
     }
     out.write(b"")
@@ -332,7 +332,7 @@ fn show_every(
     ensures { Writes out.old out.new result (sig (every (ty_of texts.now types.now) words.now first step count)) }
 {
     for done in 0..count {
-        put_separator(out, done, b", ")?;
+        out.put_separator(done, b", ")?;
         show_type(out, types, texts, tok::word_at(words, first + step * done))?;
     }
     out.put(b"")
