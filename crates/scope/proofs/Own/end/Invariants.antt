@@ -1,7 +1,7 @@
--- `scope::own_end` meets its contract. The loop's invariant: the entries left end where all end. Assumes nothing.
+-- `scope::Own::end` meets its contract. The loop's invariant: the entries left end where all end. Assumes nothing.
 use Rattle.std.proofs.Common.{◌-◌}
 use Rattle.scope.proofs.OwnWays.{Left}
-use Rattle.scope.proofs.own_end.Given as goal
+use Rattle.scope.proofs.Own.end.Given as goal
 
 abbrev pub invariant-loop : goal.invariant-loop
-invariant-loop l = Left l.functions l.k l.at (l.k - l.counter)
+invariant-loop l = Left l.self-inside.words.now l.self-inside.count l.at (l.self-inside.count - l.counter)
