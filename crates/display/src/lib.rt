@@ -3,8 +3,10 @@
 
 ghost use Rattle.std.specs.Prelude.{◌≡◌, List, ℕ, Result, ⊤, [], ◌∷◌, ◌++◌, map, ◌+◌, ◌*◌, ◌^◌, ◌≤◌, ◌<◌, get_or};
 ghost use Rattle.tok.specs.Word.{kind_of};
+ghost use Rattle.tok.specs.Text.{Texts};
 ghost use Rattle.ptype.specs.Ty.{Fields};
-ghost use Rattle.ptype.specs.Words.{fields_from, unfolded, ty_of};
+ghost use Rattle.ptype.specs.Words.{fields_from, unfolded};
+ghost use Rattle.ptype.specs.Types.{type_at, type_within};
 ghost use Rattle.ptype.specs.TypeKind.{number_of_type};
 ghost use Rattle.ptype.specs.Show.{plain_names, openings, show, show_fields, digits, decimal};
 ghost use Rattle.display.specs.declared.Full.{Full};
@@ -18,7 +20,7 @@ ghost use Rattle.display.specs.Every.{every};
 ghost use Rattle.display.specs.Pieces.{one_of};
 ghost use Rattle.display.specs.Signature.{show_signature, arg_types, args_of, ret_of};
 
-use ptype::{LEVELS, TypeKind};
+use ptype::{LEVELS, TypeKind, Types};
 use tok::Texts;
 
 // That a piece had no room.
@@ -219,12 +221,11 @@ fn show_leaf<S: Sink>(out: &mut S, texts: &Texts, w: u32) -> Result<(), Full>
 #[cycle(show_fields_show_within)]
 fn show_within<S: Sink>(
     out: &mut S,
-    types: &[u32],
-    texts: &Texts,
+    types: &Types,
     w: u32,
     depth: usize,
 ) -> Result<(), Full>
-    ensures { S.Wrote out.old out.new result (show (unfolded texts.now types.now depth w)) }
+    ensures { S.Wrote out.old out.new result (show (type_within types.now depth w)) }
 {
     if depth == 0 {
         return out.write(plain_name(TypeKind::Unknown));
@@ -233,17 +234,17 @@ fn show_within<S: Sink>(
     match kind {
         TypeKind::Option | TypeKind::Array => {
             out.write(opening(kind))?;
-            show_within(out, types, texts, ptype::inner(types, w), depth - 1)?;
+            show_within(out, types, ptype::inner(types.words, w), depth - 1)?;
             out.write(b">")
         }
         TypeKind::Record => {
             out.write(opening(kind))?;
             let i = tok::payload(w) + 1;
-            let n = ptype::field_count(types, w);
-            show_fields(out, types, texts, types, i, n, depth - 1)?;
+            let n = ptype::field_count(types.words, w);
+            show_fields(out, types, types.words, i, n, depth - 1)?;
             out.write(b">")
         }
-        _ => show_leaf(out, texts, w),
+        _ => show_leaf(out, types.texts, w),
     }
 }
 
@@ -258,21 +259,20 @@ fn behind(words: &[u32], i: usize) -> usize
 #[cycle(show_fields_show_within)]
 fn show_fields<S: Sink>(
     out: &mut S,
-    types: &[u32],
-    texts: &Texts,
+    types: &Types,
     words: &[u32],
     i: usize,
     n: usize,
     depth: usize,
 ) -> Result<(), Full>
-    ensures { let F : Fields = fields_from (unfolded texts.now types.now depth) texts.now words.now i n in
+    ensures { let F : Fields = fields_from (type_within types.now depth) types.now.texts.now words.now i n in
         S.Wrote out.old out.new result (show_fields F) }
 {
     let mut at = i;
     for left in (0..n).rev() {
-        out.write(ptype::field_name(words, texts, at))?;
+        out.write(ptype::field_name(words, types.texts, at))?;
         out.write(b": ")?;
-        show_within(out, types, texts, ptype::field_type(words, at), depth)?;
+        show_within(out, types, ptype::field_type(words, at), depth)?;
         out.put_separator(left, b" ")?;
         at = behind(words, at);
     }
@@ -280,80 +280,77 @@ fn show_fields<S: Sink>(
 }
 
 // Writes a type as `Display` shows it.
-pub fn show_type<S: Sink>(out: &mut S, types: &[u32], texts: &Texts, w: u32) -> Result<(), Full>
-    ensures { S.Wrote out.old out.new result (show (ty_of texts.now types.now w)) }
+pub fn show_type<S: Sink>(out: &mut S, types: &Types, w: u32) -> Result<(), Full>
+    ensures { S.Wrote out.old out.new result (show (type_at types.now w)) }
 {
-    show_within(out, types, texts, w, LEVELS)
+    show_within(out, types, w, LEVELS)
 }
 
 // Writes n arguments as `Display` shows them, whose names and types stand in `words` from the index i on.
 pub fn show_arguments<S: Sink>(
     out: &mut S,
-    types: &[u32],
-    texts: &Texts,
+    types: &Types,
     words: &[u32],
     i: usize,
     n: usize,
 ) -> Result<(), Full>
-    ensures { let F : Fields = fields_from (ty_of texts.now types.now) texts.now words.now i n in
+    ensures { let F : Fields = fields_from (type_at types.now) types.now.texts.now words.now i n in
         S.Wrote out.old out.new result (show_fields F) }
 {
-    show_fields(out, types, texts, words, i, n, LEVELS)
+    show_fields(out, types, words, i, n, LEVELS)
 }
 
 // Writes the signature that `words` begins with, as `Display` shows it.
 #[tactic(auto, using(crate::specs::WritingLaws::writing, crate::proofs::ShownLaws::bracket), unfolding(crate::specs::Signature::show_signature, ptype::specs::Words::ty_of, tok::specs::Text::text))]
 pub fn show_signature(
     out: &mut Writer,
-    types: &[u32],
-    texts: &Texts,
+    types: &Types,
     words: &[u32],
 ) -> Result<(), Full>
-    ensures { Writes out.old out.new result (show_signature (args_of texts.now types.now words.now) (ret_of texts.now types.now words.now)) }
+    ensures { let T : Texts = types.now.texts.now in let ts : List ℕ = types.now.words.now in
+        Writes out.old out.new result (show_signature (args_of T ts words.now) (ret_of T ts words.now)) }
 {
     let n = tok::word_at(words, 0) as usize;
     out.put(b"(")?;
-    show_arguments(out, types, texts, words, 1, n)?;
+    show_arguments(out, types, words, 1, n)?;
     out.put(b") -> ")?;
-    show_type(out, types, texts, tok::word_at(words, 1 + 2 * n))
+    show_type(out, types, tok::word_at(words, 1 + 2 * n))
 }
 
 // Writes the types of `count` words, joined by `, `; they stand in `words`, the first at an index and each other a step further.
 fn show_every(
     out: &mut Writer,
-    types: &[u32],
-    texts: &Texts,
+    types: &Types,
     words: &[u32],
     first: usize,
     step: usize,
     count: usize,
 ) -> Result<(), Full>
     requires { (step ≤ 2) × (first + 2 * count < 2 ^ 63) }
-    ensures { Writes out.old out.new result (sig (every (ty_of texts.now types.now) words.now first step count)) }
+    ensures { Writes out.old out.new result (sig (every (type_at types.now) words.now first step count)) }
 {
     for done in 0..count {
         out.put_separator(done, b", ")?;
-        show_type(out, types, texts, tok::word_at(words, first + step * done))?;
+        show_type(out, types, tok::word_at(words, first + step * done))?;
     }
     out.put(b"")
 }
 
 // Writes the types of words, joined by `, `.
-pub fn show_types(out: &mut Writer, types: &[u32], texts: &Texts, words: &[u32]) -> Result<(), Full>
-    ensures { Writes out.old out.new result (sig (map (ty_of texts.now types.now) words.now)) }
+pub fn show_types(out: &mut Writer, types: &Types, words: &[u32]) -> Result<(), Full>
+    ensures { Writes out.old out.new result (sig (map (type_at types.now) words.now)) }
 {
-    show_every(out, types, texts, words, 0, 1, words.len())
+    show_every(out, types, words, 0, 1, words.len())
 }
 
 // Writes the types of the arguments of the signature that `words` begins with, joined by `, `.
 pub fn show_arg_types(
     out: &mut Writer,
-    types: &[u32],
-    texts: &Texts,
+    types: &Types,
     words: &[u32],
 ) -> Result<(), Full>
-    ensures { Writes out.old out.new result (sig (arg_types (args_of texts.now types.now words.now))) }
+    ensures { Writes out.old out.new result (sig (arg_types (args_of types.now.texts.now types.now.words.now words.now))) }
 {
     let n = tok::word_at(words, 0) as usize;
-    show_every(out, types, texts, words, 2, 2, n)
+    show_every(out, types, words, 2, 2, n)
 }

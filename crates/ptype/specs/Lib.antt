@@ -1,6 +1,7 @@
 -- Types: the definitions, and laws that other crates cite.
 pub mod Ty
 pub mod Words
+pub mod Types
 pub mod Show
 pub mod Add
 pub mod Slots

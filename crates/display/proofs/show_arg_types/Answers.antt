@@ -4,4 +4,4 @@ use Rattle.display.proofs.EveryLaws.{arguments}
 use Rattle.display.proofs.show_arg_types.Goals as goal
 
 pub returns : goal.returns
-returns c = rw (arguments c.args.texts.now c.args.types.now c.args.words.now c.word_at-n.ensures refl) c.show_every.ensures
+returns c = rw (arguments c.args.types.now.texts.now c.args.types.now.words.now c.args.words.now c.word_at-n.ensures refl) c.show_every.ensures

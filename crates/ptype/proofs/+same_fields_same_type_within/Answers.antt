@@ -13,17 +13,17 @@ same_fields-loop-k-init t c = same-all _ _ _ _ _ c.field_count-n.ensures c.field
 
 pub same_fields-returns-then-not-same_name : goal.same_fields-returns-then-not-same_name
 same_fields-returns-then-not-same_name t c =
-    differ-name _ _ _ _ _ c.loop-k.invariant (omega arith) c.word_at.ensures c.word_at-in-loop-k.ensures c.same_name.ensures c.if-not-same_name.true
+    differ-name _ _ _ _ _ c.loop-k.invariant (omega arith) c.word_at-x.ensures c.word_at-y.ensures c.same_name.ensures c.if-not-same_name.true
 
 pub same_fields-returns-then-not-same_type_within : goal.same_fields-returns-then-not-same_type_within
 same_fields-returns-then-not-same_type_within t c =
-    differ-type _ _ _ _ _ c.loop-k.invariant (omega arith) c.word_at.ensures c.word_at-in-loop-k.ensures c.same_name.ensures c.if-not-same_name.false
-    c.field_type.ensures c.field_type-in-loop-k.ensures c.same_type_within.ensures c.if-not-same_type_within.true
+    differ-type _ _ _ _ _ c.loop-k.invariant (omega arith) c.word_at-x.ensures c.word_at-y.ensures c.same_name.ensures c.if-not-same_name.false
+    c.field_type-x.ensures c.field_type-y.ensures c.same_type_within.ensures c.if-not-same_type_within.true
 
 pub same_fields-loop-k-preserved : goal.same_fields-loop-k-preserved
 same_fields-loop-k-preserved t c =
-    same_rest _ _ _ _ _ c.loop-k.invariant (omega arith) c.word_at.ensures c.word_at-in-loop-k.ensures c.same_name.ensures c.if-not-same_name.false
-    c.field_type.ensures c.field_type-in-loop-k.ensures c.same_type_within.ensures (omega arith) (omega arith) (omega arith) c.if-not-same_type_within.false
+    same_rest _ _ _ _ _ c.loop-k.invariant (omega arith) c.word_at-x.ensures c.word_at-y.ensures c.same_name.ensures c.if-not-same_name.false
+    c.field_type-x.ensures c.field_type-y.ensures c.same_type_within.ensures (omega arith) (omega arith) (omega arith) c.if-not-same_type_within.false
 
 pub same_fields-returns : goal.same_fields-returns
 same_fields-returns t c = same_end _ _ _ _ _ c.loop-k.invariant (omega arith)

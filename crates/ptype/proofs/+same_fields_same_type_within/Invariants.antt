@@ -13,7 +13,8 @@ abbrev pub decreases-same_type_within : goal.decreases-same_type_within
 decreases-same_type_within l = 2 * l.depth
 
 abbrev pub invariant-same_fields-loop-k : goal.invariant-same_fields-loop-k
-invariant-same_fields-loop-k l = let x = l.texts in
-    let U = unfolded x l.types l.depth in
-    same_fields (fields_of U x l.types l.a) (fields_of U x l.types l.b)
-    ≡ same_fields (fields_from U x l.types (l.at + 2 * l.k) (l.n - l.k)) (fields_from U x l.types (l.to + 2 * l.k) (l.n - l.k))
+invariant-same_fields-loop-k l = let T = l.types.words.now in
+    let x = l.types.texts.now in
+    let U = unfolded x T l.depth in
+    same_fields (fields_of U x T l.a) (fields_of U x T l.b)
+    ≡ same_fields (fields_from U x T (l.at + 2 * l.k) (l.n - l.k)) (fields_from U x T (l.to + 2 * l.k) (l.n - l.k))
