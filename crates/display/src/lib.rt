@@ -219,12 +219,7 @@ fn show_leaf<S: Sink>(out: &mut S, texts: &Texts, w: u32) -> Result<(), Full>
 
 // Writes a type, unfolded `depth` levels deep.
 #[cycle(show_fields_show_within)]
-fn show_within<S: Sink>(
-    out: &mut S,
-    types: &Types,
-    w: u32,
-    depth: usize,
-) -> Result<(), Full>
+fn show_within<S: Sink>(out: &mut S, types: &Types, w: u32, depth: usize) -> Result<(), Full>
     ensures { S.Wrote out.old out.new result (show (type_within types.now depth w)) }
 {
     if depth == 0 {
@@ -302,11 +297,7 @@ pub fn show_arguments<S: Sink>(
 
 // Writes the signature that `words` begins with, as `Display` shows it.
 #[tactic(auto, using(crate::specs::WritingLaws::writing, crate::proofs::ShownLaws::bracket), unfolding(crate::specs::Signature::show_signature, ptype::specs::Words::ty_of, tok::specs::Text::text))]
-pub fn show_signature(
-    out: &mut Writer,
-    types: &Types,
-    words: &[u32],
-) -> Result<(), Full>
+pub fn show_signature(out: &mut Writer, types: &Types, words: &[u32]) -> Result<(), Full>
     ensures { let T : Texts = types.now.texts.now in let ts : List ℕ = types.now.words.now in
         Writes out.old out.new result (show_signature (args_of T ts words.now) (ret_of T ts words.now)) }
 {
@@ -344,11 +335,7 @@ pub fn show_types(out: &mut Writer, types: &Types, words: &[u32]) -> Result<(), 
 }
 
 // Writes the types of the arguments of the signature that `words` begins with, joined by `, `.
-pub fn show_arg_types(
-    out: &mut Writer,
-    types: &Types,
-    words: &[u32],
-) -> Result<(), Full>
+pub fn show_arg_types(out: &mut Writer, types: &Types, words: &[u32]) -> Result<(), Full>
     ensures { Writes out.old out.new result (sig (arg_types (args_of types.now.texts.now types.now.words.now words.now))) }
 {
     let n = tok::word_at(words, 0) as usize;
