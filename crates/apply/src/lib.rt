@@ -13,7 +13,7 @@ ghost use Rattle.apply.specs.Sizes.{sizes_of, size_within, word_before, pairs_af
 ghost use Rattle.apply.specs.Setting.{Setting};
 
 use add::{AddError, Added, Arena, MOST_LEVELS, word_of};
-use ptype::{TypeKind, field_count, field_type, inner};
+use ptype::{TypeKind, Types, field_count, field_type, inner};
 use slots::Bindings;
 use tok::{Texts, payload, word_at};
 
@@ -58,7 +58,11 @@ fn apply_within(
     if let TypeKind::Slot = kind {
         return Ok(slot_type(texts, bindings, w));
     }
-    if !slots::has_bound_slot_within(bindings, arena.first(base), texts, w, depth) {
+    let old = Types {
+        words: arena.first(base),
+        texts: &*texts,
+    };
+    if !slots::has_bound_slot_within(bindings, &old, w, depth) {
         return Ok(w);
     }
     match kind {
@@ -138,67 +142,70 @@ fn set_pairs(
     let mut end = used;
     for i in 0..fields {
         let here = at + 2 * i;
-        let name = word_at(&types[..base], here);
-        let x = field_type(&types[..base], here);
-        let size = applied_size(&types[..base], texts, bindings, x, depth);
+        let old = Types {
+            words: &types[..base],
+            texts: &*texts,
+        };
+        let name = word_at(old.words, here);
+        let x = field_type(old.words, here);
+        let size = applied_size(&old, bindings, x, depth);
         end += size;
-        let new = applied_word(&types[..base], texts, bindings, x, depth, end, size);
+        let new = applied_word(&old, bindings, x, depth, end, size);
         add::set_pair(types, place + 2 * i, name, new);
     }
 }
 
 // The word that was put for w, when `end` words were used, of which the last `size` were added for it.
 fn applied_word(
-    old: &[u32],
-    texts: &Texts,
+    old: &Types,
     bindings: &Bindings,
     w: u32,
     depth: usize,
     end: usize,
     size: usize,
 ) -> u32
-    requires { (size ≡ size_within texts.now (bindings_of texts.now bindings.now) old.now depth w) × ((size ≤ end) × (end ≤ 8192)) }
-    ensures { result ≡ word_before texts.now (bindings_of texts.now bindings.now) old.now depth end size w }
+    requires { (size ≡ size_within old.now.texts.now (bindings_of old.now.texts.now bindings.now) old.now.words.now depth w) × ((size ≤ end) × (end ≤ 8192)) }
+    ensures { result ≡ word_before old.now.texts.now (bindings_of old.now.texts.now bindings.now) old.now.words.now depth end size w }
 {
     if depth == 0 {
         return w;
     }
     let kind = TypeKind::of(w);
     if let TypeKind::Slot = kind {
-        return slot_type(texts, bindings, w);
+        return slot_type(old.texts, bindings, w);
     }
     if size == 0 {
         return w;
     }
     match kind {
         TypeKind::Option | TypeKind::Array => word_of(kind, end - 1),
-        _ => word_of(TypeKind::Record, end - (1 + 2 * field_count(old, w))),
+        _ => word_of(TypeKind::Record, end - (1 + 2 * field_count(old.words, w))),
     }
 }
 
 // How many words putting types for the slots of w added. It is asked only where that was just done: the new types have at most 32 levels
 // and fit the buffer, and each field met is two words of it, so it takes no more steps than there are words, for each level at most once.
 #[cycle(applied_size_applied_sizes)]
-fn applied_size(old: &[u32], texts: &Texts, bindings: &Bindings, w: u32, depth: usize) -> usize
-    requires { size_within texts.now (bindings_of texts.now bindings.now) old.now depth w ≤ 8192 }
-    ensures { result ≡ size_within texts.now (bindings_of texts.now bindings.now) old.now depth w }
+fn applied_size(old: &Types, bindings: &Bindings, w: u32, depth: usize) -> usize
+    requires { size_within old.now.texts.now (bindings_of old.now.texts.now bindings.now) old.now.words.now depth w ≤ 8192 }
+    ensures { result ≡ size_within old.now.texts.now (bindings_of old.now.texts.now bindings.now) old.now.words.now depth w }
 {
     if depth == 0 {
         return 0;
     }
     match TypeKind::of(w) {
         TypeKind::Option | TypeKind::Array => {
-            if !slots::has_bound_slot_within(bindings, old, texts, w, depth) {
+            if !slots::has_bound_slot_within(bindings, old, w, depth) {
                 return 0;
             }
-            applied_size(old, texts, bindings, inner(old, w), depth - 1) + 1
+            applied_size(old, bindings, inner(old.words, w), depth - 1) + 1
         }
         TypeKind::Record => {
-            if !slots::has_bound_slot_within(bindings, old, texts, w, depth) {
+            if !slots::has_bound_slot_within(bindings, old, w, depth) {
                 return 0;
             }
-            let n = field_count(old, w);
-            applied_sizes(old, texts, bindings, payload(w) + 1, n, depth - 1) + (1 + 2 * n)
+            let n = field_count(old.words, w);
+            applied_sizes(old, bindings, payload(w) + 1, n, depth - 1) + (1 + 2 * n)
         }
         _ => 0,
     }
@@ -206,20 +213,13 @@ fn applied_size(old: &[u32], texts: &Texts, bindings: &Bindings, w: u32, depth: 
 
 // How many words were added for the fields from index `at` on.
 #[cycle(applied_size_applied_sizes)]
-fn applied_sizes(
-    old: &[u32],
-    texts: &Texts,
-    bindings: &Bindings,
-    at: usize,
-    fields: usize,
-    depth: usize,
-) -> usize
-    requires { (at + 2 * fields < 2 ^ 40) × (sizes_of (size_within texts.now (bindings_of texts.now bindings.now) old.now depth) old.now at fields ≤ 8192) }
-    ensures { result ≡ sizes_of (size_within texts.now (bindings_of texts.now bindings.now) old.now depth) old.now at fields }
+fn applied_sizes(old: &Types, bindings: &Bindings, at: usize, fields: usize, depth: usize) -> usize
+    requires { (at + 2 * fields < 2 ^ 40) × (sizes_of (size_within old.now.texts.now (bindings_of old.now.texts.now bindings.now) old.now.words.now depth) old.now.words.now at fields ≤ 8192) }
+    ensures { result ≡ sizes_of (size_within old.now.texts.now (bindings_of old.now.texts.now bindings.now) old.now.words.now depth) old.now.words.now at fields }
 {
     let mut sum: usize = 0;
     for i in 0..fields {
-        sum += applied_size(old, texts, bindings, field_type(old, at + 2 * i), depth);
+        sum += applied_size(old, bindings, field_type(old.words, at + 2 * i), depth);
     }
     sum
 }

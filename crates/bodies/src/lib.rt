@@ -11,6 +11,7 @@ ghost use Rattle.visiting.specs.Blocks.{left_of};
 ghost use Rattle.bodies.specs.Bodies.{BeginReady, EndReady, Begins, end_at};
 
 use places::Image;
+use ptype::Types;
 use rules::Answer;
 use tok::Texts;
 use visit::{State, Visit};
@@ -70,10 +71,9 @@ pub fn begin(
 // After the body, which answered `computed` and ended in the state `inside`, with the names in scope that were there before it.
 pub fn end(
     slots: &mut [u32],
-    types: &[u32],
+    types: &Types,
     diagnostics: &mut [u32],
     messages: &mut [u8],
-    texts: &Texts,
     image: &Image,
     at: usize,
     inside: State,
@@ -84,16 +84,15 @@ pub fn end(
 ) -> Visit<Answer>
     requires { EndReady image.now.words image.now.places at }
     ensures { ((ls : List Package) (v : ℕ) (words f e : List ℕ) (o : More) →
-        let b : Lent = lent slots.old f types.now diagnostics.old messages.old e o in
-        let b' : Lent = lent slots.new f types.now diagnostics.new messages.new e o in
-        Visits (end_at (ctx texts.now ls v) image.now.words at n ret computed) 0 0 words (left_of inside before) b b' result) }
+        let b : Lent = lent slots.old f types.now.words.now diagnostics.old messages.old e o in
+        let b' : Lent = lent slots.new f types.now.words.now diagnostics.new messages.new e o in
+        Visits (end_at (ctx types.now.texts.now ls v) image.now.words at n ret computed) 0 0 words (left_of inside before) b b' result) }
 {
     let step = functions::fn_end(
         slots,
         types,
         diagnostics,
         messages,
-        texts,
         image,
         inside.used,
         n,

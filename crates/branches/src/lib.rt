@@ -1,5 +1,5 @@
 // Node::Match beside its visits (typecheck/lib.rs): a case's condition, what its branches answered, and the branches compared with the
-// default. The buffers are lent in one order: slots, types, diagnostics, messages; then the texts, the image.
+// default. The buffers are lent in one order: slots, types (with the texts), diagnostics, messages; then the image.
 #![tactic(auto)]
 
 ghost use Rattle.std.specs.Prelude.{◌≡◌, List, ℕ, ◌+◌, ◌≤◌, eqb};
@@ -18,19 +18,18 @@ ghost use Rattle.branches.specs.Branches.{is_field, node_answer, body_answer, br
 use ast::NodeKind;
 use call_args::slot_of;
 use places::Image;
-use ptype::TypeKind;
+use ptype::{TypeKind, Types};
 use rules::Answer;
 use state::{Step, Used};
-use tok::{Texts, word_at};
+use tok::word_at;
 use visit::{State, Visit};
 
 // The condition of the case at word `at`, of what it answered: 23 where it is not Bool.
 pub fn condition(
     slots: &[u32],
-    types: &[u32],
+    types: &Types,
     diagnostics: &mut [u32],
     messages: &mut [u8],
-    texts: &Texts,
     image: &Image,
     at: usize,
     st: State,
@@ -38,23 +37,13 @@ pub fn condition(
     answer: Answer,
 ) -> Visit<()>
     ensures { ((ls : List Package) (v : ℕ) (words f e : List ℕ) (o : More) →
-        let b : Lent = lent slots.now f types.now diagnostics.old messages.old e o in
-        let b' : Lent = lent slots.now f types.now diagnostics.new messages.new e o in
-        Visits (condition (ctx texts.now ls v) n (word_at image.now.words at) answer) 0 0 words st b b' result) }
+        let b : Lent = lent slots.now f types.now.words.now diagnostics.old messages.old e o in
+        let b' : Lent = lent slots.now f types.now.words.now diagnostics.new messages.new e o in
+        Visits (condition (ctx types.now.texts.now ls v) n (word_at image.now.words at) answer) 0 0 words st b b' result) }
 {
     let used = st.used;
     let token = image.word_at(at);
-    let step = values::condition(
-        slots,
-        types,
-        diagnostics,
-        messages,
-        texts,
-        used,
-        n,
-        token,
-        answer,
-    );
+    let step = values::condition(slots, types, diagnostics, messages, used, n, token, answer);
     visit::answered(st, step)
 }
 
@@ -118,10 +107,9 @@ fn body_answer(slots: &[u32], image: &Image, n: u32, at: usize, count: usize) ->
 // The branches of the Match n, whose cases stand from word `at` on, against the default's slot, in order: 24 for each that differs.
 fn compare_branches(
     slots: &[u32],
-    types: &[u32],
+    types: &Types,
     diagnostics: &mut [u32],
     messages: &mut [u8],
-    texts: &Texts,
     image: &Image,
     at: usize,
     count: usize,
@@ -130,8 +118,8 @@ fn compare_branches(
     default: u32,
 ) -> Step<()>
     requires { CasesReady image.now.words image.now.places n at count }
-    ensures { ((ls : List Package) (v : ℕ) → Steps (compare_branches (ctx texts.now ls v) n default (branches_from image.now.words slots.now at count)) slots.now
-        types.now diagnostics.old messages.old used slots.now types.now diagnostics.new messages.new result) }
+    ensures { ((ls : List Package) (v : ℕ) → Steps (compare_branches (ctx types.now.texts.now ls v) n default (branches_from image.now.words slots.now at count)) slots.now
+        types.now.words.now diagnostics.old messages.old used slots.now types.now.words.now diagnostics.new messages.new result) }
 {
     let mut here = used;
     let mut place = at;
@@ -143,7 +131,6 @@ fn compare_branches(
             types,
             diagnostics,
             messages,
-            texts,
             here,
             n,
             default,
@@ -159,10 +146,9 @@ fn compare_branches(
 // The end of the Match n, whose record stands at `at`, of what the default's body answered: "self.alias(*id, first_type)".
 pub fn end(
     slots: &mut [u32],
-    types: &[u32],
+    types: &Types,
     diagnostics: &mut [u32],
     messages: &mut [u8],
-    texts: &Texts,
     image: &Image,
     at: usize,
     st: State,
@@ -172,9 +158,9 @@ pub fn end(
     requires { CasesReady image.now.words image.now.places n (at + 3) (word_at image.now.words (at + 2)) }
     ensures { let I : List ℕ = image.now.words in
         ((ls : List Package) (v : ℕ) (words f e : List ℕ) (o : More) →
-        let b : Lent = lent slots.old f types.now diagnostics.old messages.old e o in
-        let b' : Lent = lent slots.new f types.now diagnostics.new messages.new e o in
-        Visits (matched (ctx texts.now ls v) n (word_at I (at + 1)) (branches_from I slots.old (at + 3) (word_at I (at + 2))) default) 0 0 words st b b' result) }
+        let b : Lent = lent slots.old f types.now.words.now diagnostics.old messages.old e o in
+        let b' : Lent = lent slots.new f types.now.words.now diagnostics.new messages.new e o in
+        Visits (matched (ctx types.now.texts.now ls v) n (word_at I (at + 1)) (branches_from I slots.old (at + 3) (word_at I (at + 2))) default) 0 0 words st b b' result) }
 {
     let Answer::Known(slot) = default else {
         return Ok((Answer::Poison, st));
@@ -186,7 +172,6 @@ pub fn end(
         types,
         diagnostics,
         messages,
-        texts,
         image,
         at + 3,
         count,

@@ -2,9 +2,9 @@
 #![tactic(auto)]
 
 ghost use Rattle.std.specs.Prelude.{ℕ, List, map};
-ghost use Rattle.tok.specs.Text.{name_bytes, text};
+ghost use Rattle.tok.specs.Text.{Texts, name_bytes, text};
 ghost use Rattle.ptype.specs.Ty.{Ty};
-ghost use Rattle.ptype.specs.Words.{ty_of};
+ghost use Rattle.ptype.specs.Types.{type_at};
 ghost use Rattle.display.specs.Writing.{Writes};
 ghost use Rattle.display.specs.Joined.{joined, sig};
 ghost use Rattle.err.specs.Message.{pkg_name, call_name, no_specialisation, call_through_field, missing_package, undefined_in_package, undefined_own, argument_count};
@@ -13,6 +13,7 @@ ghost use Rattle.err_calls.specs.Candidates.{candidate_at, candidates_at, Writes
 
 use display::{Full, Sink, Writer};
 use err::{CallName, Counts};
+use ptype::Types;
 use tok::Texts;
 
 // 14: A call through a field of what is no name.
@@ -118,31 +119,27 @@ pub fn undefined_own(
 }
 
 // Writes the types of the arguments of the signature that begins at a place of `words`, joined by `, `; none where the place is past them.
-pub fn put_candidate(
-    out: &mut Writer,
-    types: &[u32],
-    texts: &Texts,
-    words: &[u32],
-    at: usize,
-) -> Result<(), Full>
-    ensures { Writes out.old out.new result (sig (candidate_at texts.now types.now words.now at)) }
+pub fn put_candidate(out: &mut Writer, types: &Types, words: &[u32], at: usize) -> Result<(), Full>
+    ensures { let T : Texts = types.now.texts.now in
+        Writes out.old out.new result (sig (candidate_at T types.now.words.now words.now at)) }
 {
-    display::show_arg_types(out, types, texts, &words[at.min(words.len())..])
+    display::show_arg_types(out, types, &words[at.min(words.len())..])
 }
 
 // Writes the candidates whose signatures begin at the places `starts` of `words`, joined by ` | `.
 fn put_candidates(
     out: &mut Writer,
-    types: &[u32],
-    texts: &Texts,
+    types: &Types,
     words: &[u32],
     starts: &[u32],
 ) -> Result<(), Full>
-    ensures { Writes out.old out.new result (joined (text " | ") (map sig (candidates_at texts.now types.now words.now starts.now))) }
+    ensures { let T : Texts = types.now.texts.now in
+        let cs : List (List Ty) = candidates_at T types.now.words.now words.now starts.now in
+        Writes out.old out.new result (joined (text " | ") (map sig cs)) }
 {
     for (i, start) in starts.iter().enumerate() {
         out.put_separator(i, b" | ")?;
-        put_candidate(out, types, texts, words, *start as usize)?;
+        put_candidate(out, types, words, *start as usize)?;
     }
     out.put(b"")
 }
@@ -152,24 +149,23 @@ pub fn no_specialisation<F: Fn(&mut Writer) -> Result<(), Full>>(
     diagnostics: &mut [u32],
     messages: &mut [u8],
     counts: Counts,
-    types: &[u32],
-    texts: &Texts,
+    types: &Types,
     token: u32,
     callee: CallName,
     provided: &[u32],
     candidates: F,
 ) -> Option<Counts>
     requires { F.IsAlwaysCallable candidates }
-    ensures { let U : ℕ → Ty = ty_of texts.now types.now in
+    ensures { let T : Texts = types.now.texts.now in let U : ℕ → Ty = type_at types.now in
         ((cs : List (List Ty)) → WritesCandidates (F.post candidates) cs →
-        Reports (no_specialisation token (call_name texts.now callee) (map U provided.now) cs) diagnostics.old messages.old counts diagnostics.new messages.new result) }
+        Reports (no_specialisation token (call_name T callee) (map U provided.now) cs) diagnostics.old messages.old counts diagnostics.new messages.new result) }
 {
     let (_, rest) = err_text::split_at_first_free(messages, counts);
     let mut out = Writer::new(rest);
     let a = out.put(b"no specialisation of ");
-    let b = a.and(err_text::put_call_name(&mut out, texts, callee));
+    let b = a.and(err_text::put_call_name(&mut out, types.texts, callee));
     let c = b.and(out.put(b" accepts ("));
-    let d = c.and(display::show_types(&mut out, types, texts, provided));
+    let d = c.and(display::show_types(&mut out, types, provided));
     let e = d.and(out.put(b"); available: "));
     let f = e.and(candidates(&mut out));
     err_text::report(
@@ -188,28 +184,26 @@ pub fn no_specialisation_at(
     diagnostics: &mut [u32],
     messages: &mut [u8],
     counts: Counts,
-    types: &[u32],
-    texts: &Texts,
+    types: &Types,
     token: u32,
     callee: CallName,
     provided: &[u32],
     words: &[u32],
     starts: &[u32],
 ) -> Option<Counts>
-    ensures { let U : ℕ → Ty = ty_of texts.now types.now in
-        Reports (no_specialisation token (call_name texts.now callee) (map U provided.now) (candidates_at texts.now types.now words.now starts.now))
-        diagnostics.old messages.old counts diagnostics.new messages.new result }
+    ensures { let T : Texts = types.now.texts.now in let U : ℕ → Ty = type_at types.now in
+        let cs : List (List Ty) = candidates_at T types.now.words.now words.now starts.now in
+        Reports (no_specialisation token (call_name T callee) (map U provided.now) cs) diagnostics.old messages.old counts diagnostics.new messages.new result }
 {
     no_specialisation(
         diagnostics,
         messages,
         counts,
         types,
-        texts,
         token,
         callee,
         provided,
-        |out: &mut Writer| put_candidates(out, types, texts, words, starts),
+        |out: &mut Writer| put_candidates(out, types, words, starts),
     )
 }
 

@@ -1,15 +1,16 @@
 // The diagnostics of names, functions, matches and imports (typecheck/lib.rs).
 #![tactic(auto)]
 
-ghost use Rattle.std.specs.Prelude.{ℕ};
+ghost use Rattle.std.specs.Prelude.{ℕ, List};
 ghost use Rattle.tok.specs.Text.{name_bytes};
 ghost use Rattle.ptype.specs.Ty.{Ty};
-ghost use Rattle.ptype.specs.Words.{ty_of};
+ghost use Rattle.ptype.specs.Types.{type_at};
 ghost use Rattle.err.specs.Message.{no_binding, let_void, defined_already, bad_return, bad_condition, match_cases, empty_import, no_import};
 ghost use Rattle.err.specs.Report.{Reports};
 
 use display::Writer;
 use err::Counts;
+use ptype::Types;
 use tok::Texts;
 
 // 3: A name that is not bound.
@@ -91,23 +92,22 @@ pub fn bad_return(
     diagnostics: &mut [u32],
     messages: &mut [u8],
     counts: Counts,
-    types: &[u32],
-    texts: &Texts,
+    types: &Types,
     token: u32,
     name: u32,
     ret: u32,
     computed: u32,
 ) -> Option<Counts>
-    ensures { let U : ℕ → Ty = ty_of texts.now types.now in
-        Reports (bad_return token (name_bytes texts.now name) (U ret) (U computed)) diagnostics.old messages.old counts diagnostics.new messages.new result }
+    ensures { let N : List ℕ = name_bytes types.now.texts.now name in let U : ℕ → Ty = type_at types.now in
+        Reports (bad_return token N (U ret) (U computed)) diagnostics.old messages.old counts diagnostics.new messages.new result }
 {
     let (_, rest) = err_text::split_at_first_free(messages, counts);
     let mut out = Writer::new(rest);
-    let a = err_text::put_ticked(&mut out, texts, name);
+    let a = err_text::put_ticked(&mut out, types.texts, name);
     let b = a.and(out.put(b" should return "));
-    let c = b.and(display::show_type(&mut out, types, texts, ret));
+    let c = b.and(display::show_type(&mut out, types, ret));
     let d = c.and(out.put(b", but returns "));
-    let e = d.and(display::show_type(&mut out, types, texts, computed));
+    let e = d.and(display::show_type(&mut out, types, computed));
     err_text::report(
         diagnostics,
         counts,
@@ -124,18 +124,17 @@ pub fn bad_condition(
     diagnostics: &mut [u32],
     messages: &mut [u8],
     counts: Counts,
-    types: &[u32],
-    texts: &Texts,
+    types: &Types,
     token: u32,
     ty: u32,
 ) -> Option<Counts>
-    ensures { let U : ℕ → Ty = ty_of texts.now types.now in
+    ensures { let U : ℕ → Ty = type_at types.now in
         Reports (bad_condition token (U ty)) diagnostics.old messages.old counts diagnostics.new messages.new result }
 {
     let (_, rest) = err_text::split_at_first_free(messages, counts);
     let mut out = Writer::new(rest);
     let a = out.put(b"Match conditions must be Bool, got ");
-    let b = a.and(display::show_type(&mut out, types, texts, ty));
+    let b = a.and(display::show_type(&mut out, types, ty));
     let c = b.and(out.put(b" instead"));
     err_text::report(
         diagnostics,
@@ -153,21 +152,20 @@ pub fn match_cases(
     diagnostics: &mut [u32],
     messages: &mut [u8],
     counts: Counts,
-    types: &[u32],
-    texts: &Texts,
+    types: &Types,
     token: u32,
     default: u32,
     ty: u32,
 ) -> Option<Counts>
-    ensures { let U : ℕ → Ty = ty_of texts.now types.now in
+    ensures { let U : ℕ → Ty = type_at types.now in
         Reports (match_cases token (U default) (U ty)) diagnostics.old messages.old counts diagnostics.new messages.new result }
 {
     let (_, rest) = err_text::split_at_first_free(messages, counts);
     let mut out = Writer::new(rest);
     let a = out.put(b"Match cases must resolve to the same type, but got ");
-    let b = a.and(display::show_type(&mut out, types, texts, default));
+    let b = a.and(display::show_type(&mut out, types, default));
     let c = b.and(out.put(b" and "));
-    let d = c.and(display::show_type(&mut out, types, texts, ty));
+    let d = c.and(display::show_type(&mut out, types, ty));
     err_text::report(
         diagnostics,
         counts,

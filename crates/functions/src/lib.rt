@@ -20,6 +20,7 @@ ghost use Rattle.functions.specs.Entering.{CopyRoom, EntryRoom, FnReady};
 
 use parameters::fn_arguments;
 use places::Image;
+use ptype::Types;
 use rules::Answer;
 use scope::Own;
 use state::{Step, Used};
@@ -136,10 +137,9 @@ pub fn fn_begin(
 // Node::Fn after its body: 9 where the body is not of the return type; the function's slot has its return type.
 pub fn fn_end(
     slots: &mut [u32],
-    types: &[u32],
+    types: &Types,
     diagnostics: &mut [u32],
     messages: &mut [u8],
-    texts: &Texts,
     image: &Image,
     used: Used,
     n: u32,
@@ -150,8 +150,8 @@ pub fn fn_end(
     computed: Answer,
 ) -> Step<Answer>
     requires { TypeReady image.now.words image.now.places expr }
-    ensures { ((ls : List Package) (v : ℕ) → Steps (fn_end (ctx texts.now ls v) n slot name (type_of image.now.words expr) ret computed) slots.old types.now
-        diagnostics.old messages.old used slots.new types.now diagnostics.new messages.new result) }
+    ensures { ((ls : List Package) (v : ℕ) → Steps (fn_end (ctx types.now.texts.now ls v) n slot name (type_of image.now.words expr) ret computed) slots.old types.now.words.now
+        diagnostics.old messages.old used slots.new types.now.words.now diagnostics.new messages.new result) }
 {
     let token = type_expr::type_token(image, expr);
     let (_, after) = values::check_return(
@@ -159,7 +159,6 @@ pub fn fn_end(
         types,
         diagnostics,
         messages,
-        texts,
         used,
         n,
         name,

@@ -18,8 +18,8 @@ ghost use Rattle.visit.specs.Within.{Visits};
 ghost use Rattle.members.specs.Turns.{member_turn};
 
 use places::Image;
+use ptype::Types;
 use rules::{Answer, Member};
-use tok::Texts;
 use visit::{State, Visit};
 
 // An array of no members, whose record stands at `at`: 1.
@@ -46,10 +46,9 @@ pub fn empty(
 // else whether a member is poisoned so far.
 pub fn member(
     slots: &[u32],
-    types: &[u32],
+    types: &Types,
     diagnostics: &mut [u32],
     messages: &mut [u8],
-    texts: &Texts,
     image: &Image,
     st: State,
     n: u32,
@@ -60,9 +59,9 @@ pub fn member(
 ) -> Visit<Option<bool>>
     requires { NodeReady image.now.words image.now.places part }
     ensures { ((ls : List Package) (v : ℕ) (words f e : List ℕ) (o : More) →
-        let b : Lent = lent slots.now f types.now diagnostics.old messages.old e o in
-        let b' : Lent = lent slots.now f types.now diagnostics.new messages.new e o in
-        Visits (member_turn (ctx texts.now ls v) n (span_of (tree_of image.now.words part)) first second poisoned) 0 0 words st b b' result) }
+        let b : Lent = lent slots.now f types.now.words.now diagnostics.old messages.old e o in
+        let b' : Lent = lent slots.now f types.now.words.now diagnostics.new messages.new e o in
+        Visits (member_turn (ctx types.now.texts.now ls v) n (span_of (tree_of image.now.words part)) first second poisoned) 0 0 words st b b' result) }
 {
     let used = st.used;
     let span = spans::span_of(image, part);
@@ -71,7 +70,6 @@ pub fn member(
         types,
         diagnostics,
         messages,
-        texts,
         used,
         n,
         span,

@@ -1,6 +1,6 @@
 // What the rules of one and two operands do beside visiting these (typecheck/lib.rs: Node::Bin, Unary, Let, Field, Cast). The node is n,
 // its record stands at word `at` of the image.
-// The buffers are lent in one order: slots, types, diagnostics, messages, scratch; then the texts, the image.
+// The buffers are lent in one order: slots, types (with the texts), diagnostics, messages, scratch; then the image.
 #![tactic(auto)]
 
 ghost use Rattle.std.specs.Prelude.{◌≡◌, List, ℕ, ◌+◌, ◌≤◌};
@@ -15,8 +15,8 @@ ghost use Rattle.operands.specs.Ready.{OneReady, CastReady};
 
 use ast::NodeKind;
 use places::Image;
+use ptype::Types;
 use rules::Answer;
-use tok::Texts;
 use visit::{State, Visit};
 
 // The number of the operand of a Unary, a Let or a Field.
@@ -35,10 +35,9 @@ pub fn operand_of(image: &Image, at: usize) -> u32
 // Node::Bin after its operands: "a Known answer yields its slot, otherwise Poison ends the rule".
 pub fn bin_end(
     slots: &mut [u32],
-    types: &[u32],
+    types: &Types,
     diagnostics: &mut [u32],
     messages: &mut [u8],
-    texts: &Texts,
     image: &Image,
     at: usize,
     st: State,
@@ -48,9 +47,9 @@ pub fn bin_end(
 ) -> Visit<Answer>
     requires { at ≤ 8192 }
     ensures { ((ls : List Package) (v : ℕ) (words f e : List ℕ) (o : More) →
-        let b : Lent = lent slots.old f types.now diagnostics.old messages.old e o in
-        let b' : Lent = lent slots.new f types.now diagnostics.new messages.new e o in
-        Visits (bin_end (ctx texts.now ls v) image.now.words n at left right) 0 0 words st b b' result) }
+        let b : Lent = lent slots.old f types.now.words.now diagnostics.old messages.old e o in
+        let b' : Lent = lent slots.new f types.now.words.now diagnostics.new messages.new e o in
+        Visits (bin_end (ctx types.now.texts.now ls v) image.now.words n at left right) 0 0 words st b b' result) }
 {
     let Answer::Known(left_slot) = left else {
         return Ok((Answer::Poison, st));
@@ -69,7 +68,6 @@ pub fn bin_end(
             types,
             diagnostics,
             messages,
-            texts,
             used,
             n,
             slot,
@@ -84,11 +82,10 @@ pub fn bin_end(
 // Node::Unary, Node::Let and Node::Field after their operand.
 pub fn one_end(
     slots: &mut [u32],
-    types: &[u32],
+    types: &Types,
     diagnostics: &mut [u32],
     messages: &mut [u8],
     scratch: &mut [u32],
-    texts: &Texts,
     image: &Image,
     at: usize,
     st: State,
@@ -97,9 +94,9 @@ pub fn one_end(
 ) -> Visit<Answer>
     requires { OneReady image.now.words at st scratch.old }
     ensures { ((ls : List Package) (v : ℕ) (words f : List ℕ) (o : More) →
-        let b : Lent = lent slots.old f types.now diagnostics.old messages.old scratch.old o in
-        let b' : Lent = lent slots.new f types.now diagnostics.new messages.new scratch.new o in
-        Visits (one_end (ctx texts.now ls v) image.now.words n at answer) (one_room image.now.words at) 0 words st b b' result) }
+        let b : Lent = lent slots.old f types.now.words.now diagnostics.old messages.old scratch.old o in
+        let b' : Lent = lent slots.new f types.now.words.now diagnostics.new messages.new scratch.new o in
+        Visits (one_end (ctx types.now.texts.now ls v) image.now.words n at answer) (one_room image.now.words at) 0 words st b b' result) }
 {
     let slot = image.word_at(at + 1);
     let second = image.word_at(at + 2);
@@ -128,7 +125,6 @@ pub fn one_end(
                     types,
                     diagnostics,
                     messages,
-                    texts,
                     used,
                     n,
                     slot,
@@ -149,7 +145,6 @@ pub fn one_end(
                     types,
                     diagnostics,
                     messages,
-                    texts,
                     used,
                     n,
                     slot,
@@ -178,10 +173,9 @@ pub fn cast_begin(types: &mut [u32], image: &Image, at: usize, st: State, n: u32
 // Node::Cast after its operand.
 pub fn cast_end(
     slots: &mut [u32],
-    types: &[u32],
+    types: &Types,
     diagnostics: &mut [u32],
     messages: &mut [u8],
-    texts: &Texts,
     image: &Image,
     at: usize,
     st: State,
@@ -191,9 +185,9 @@ pub fn cast_end(
 ) -> Visit<Answer>
     requires { at ≤ 8192 }
     ensures { ((ls : List Package) (v : ℕ) (words f e : List ℕ) (o : More) →
-        let b : Lent = lent slots.old f types.now diagnostics.old messages.old e o in
-        let b' : Lent = lent slots.new f types.now diagnostics.new messages.new e o in
-        Visits (cast_end (ctx texts.now ls v) image.now.words n at to answer) 0 0 words st b b' result) }
+        let b : Lent = lent slots.old f types.now.words.now diagnostics.old messages.old e o in
+        let b' : Lent = lent slots.new f types.now.words.now diagnostics.new messages.new e o in
+        Visits (cast_end (ctx types.now.texts.now ls v) image.now.words n at to answer) 0 0 words st b b' result) }
 {
     let Answer::Known(value) = answer else {
         return Ok((Answer::Poison, st));
@@ -208,7 +202,6 @@ pub fn cast_end(
             types,
             diagnostics,
             messages,
-            texts,
             used,
             n,
             slot,

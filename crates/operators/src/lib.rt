@@ -1,5 +1,5 @@
 // Operators and casts (typecheck/lib.rs: `set_known`, `fuse`, the Unary arm, `cast`).
-// The buffers are lent in one order: slots, types, diagnostics, messages; then the texts.
+// The buffers are lent in one order: slots, types, diagnostics, messages. Who only reads types takes them with the texts.
 #![tactic(auto)]
 
 ghost use Rattle.std.specs.Prelude.{◌≡◌, ◌&&◌, ◌||◌, List, ℕ, ◌<◌, cond, eqb, leb, set, None, Some};
@@ -11,10 +11,10 @@ ghost use Rattle.rules.specs.Operators.{result_kind, fuse, unary, castable, cast
 ghost use Rattle.state.specs.Context.{ctx};
 ghost use Rattle.state.specs.World.{Steps};
 
-use ptype::TypeKind;
+use ptype::{TypeKind, Types};
 use rules::Answer;
 use state::{Step, Used};
-use tok::{Texts, word_at};
+use tok::word_at;
 
 // Slots.
 
@@ -109,10 +109,9 @@ fn result_kind(op: u32, left: TypeKind, right: TypeKind) -> Option<TypeKind>
 // Typechecker::fuse, of two slots: the table's type; else 4 where both types are equal, 5 where they differ.
 pub fn fuse(
     slots: &mut [u32],
-    types: &[u32],
+    types: &Types,
     diagnostics: &mut [u32],
     messages: &mut [u8],
-    texts: &Texts,
     used: Used,
     n: u32,
     slot: u32,
@@ -121,8 +120,8 @@ pub fn fuse(
     left: u32,
     right: u32,
 ) -> Step<Answer>
-    ensures { ((ls : List Package) (v : ℕ) → Steps (fuse (ctx texts.now ls v) n slot token op left right) slots.old types.now diagnostics.old
-        messages.old used slots.new types.now diagnostics.new messages.new result) }
+    ensures { ((ls : List Package) (v : ℕ) → Steps (fuse (ctx types.now.texts.now ls v) n slot token op left right) slots.old types.now.words.now diagnostics.old
+        messages.old used slots.new types.now.words.now diagnostics.new messages.new result) }
 {
     let l = word_at(slots, left as usize);
     let r = word_at(slots, right as usize);
@@ -130,30 +129,11 @@ pub fn fuse(
         return set_known(slots, used, slot, plain_word(kind));
     }
     let counts = used.told;
-    if ptype::same_type(types, texts, l, r) {
-        let told = err_values::unsupported(
-            diagnostics,
-            messages,
-            counts,
-            types,
-            texts,
-            token,
-            op,
-            l,
-        );
+    if ptype::same_type(types, l, r) {
+        let told = err_values::unsupported(diagnostics, messages, counts, types, token, op, l);
         return state::told(n, used, told, Answer::Poison);
     }
-    let told = err_values::incompatible(
-        diagnostics,
-        messages,
-        counts,
-        types,
-        texts,
-        token,
-        op,
-        l,
-        r,
-    );
+    let told = err_values::incompatible(diagnostics, messages, counts, types, token, op, l, r);
     state::told(n, used, told, Answer::Poison)
 }
 
@@ -170,10 +150,9 @@ fn takes(op: u32, kind: TypeKind) -> bool
 // The Unary arm, of a slot: Int or Double under + or -, else 6.
 pub fn unary(
     slots: &mut [u32],
-    types: &[u32],
+    types: &Types,
     diagnostics: &mut [u32],
     messages: &mut [u8],
-    texts: &Texts,
     used: Used,
     n: u32,
     slot: u32,
@@ -181,8 +160,8 @@ pub fn unary(
     op: u32,
     right: u32,
 ) -> Step<Answer>
-    ensures { ((ls : List Package) (v : ℕ) → Steps (unary (ctx texts.now ls v) n slot token op right) slots.old types.now diagnostics.old messages.old
-        used slots.new types.now diagnostics.new messages.new result) }
+    ensures { ((ls : List Package) (v : ℕ) → Steps (unary (ctx types.now.texts.now ls v) n slot token op right) slots.old types.now.words.now diagnostics.old messages.old
+        used slots.new types.now.words.now diagnostics.new messages.new result) }
 {
     let r = word_at(slots, right as usize);
     let kind = TypeKind::of(r);
@@ -190,7 +169,7 @@ pub fn unary(
         return set_known(slots, used, slot, plain_word(kind));
     }
     let counts = used.told;
-    let told = err_values::bad_unary(diagnostics, messages, counts, types, texts, token, op, r);
+    let told = err_values::bad_unary(diagnostics, messages, counts, types, token, op, r);
     state::told(n, used, told, Answer::Poison)
 }
 
@@ -211,10 +190,9 @@ fn castable(from: TypeKind, to: TypeKind) -> bool
 // Typechecker::cast, of a slot to a type: a cast to the same type is reported (10), yet known; one that does not exist is 11.
 pub fn cast(
     slots: &mut [u32],
-    types: &[u32],
+    types: &Types,
     diagnostics: &mut [u32],
     messages: &mut [u8],
-    texts: &Texts,
     used: Used,
     n: u32,
     slot: u32,
@@ -222,27 +200,19 @@ pub fn cast(
     left: u32,
     to: u32,
 ) -> Step<Answer>
-    ensures { ((ls : List Package) (v : ℕ) → Steps (cast (ctx texts.now ls v) n slot token left to) slots.old types.now diagnostics.old messages.old used
-        slots.new types.now diagnostics.new messages.new result) }
+    ensures { ((ls : List Package) (v : ℕ) → Steps (cast (ctx types.now.texts.now ls v) n slot token left to) slots.old types.now.words.now diagnostics.old messages.old used
+        slots.new types.now.words.now diagnostics.new messages.new result) }
 {
     let i = word_at(slots, left as usize);
     if castable(TypeKind::of(i), TypeKind::of(to)) {
         return set_known(slots, used, slot, to);
     }
     let counts = used.told;
-    if !ptype::same_type(types, texts, i, to) {
-        let bad = err_values::bad_cast(diagnostics, messages, counts, types, texts, token, i, to);
+    if !ptype::same_type(types, i, to) {
+        let bad = err_values::bad_cast(diagnostics, messages, counts, types, token, i, to);
         return state::told(n, used, bad, Answer::Poison);
     }
-    let reported = err_values::redundant_cast(
-        diagnostics,
-        messages,
-        counts,
-        types,
-        texts,
-        token,
-        i,
-    );
+    let reported = err_values::redundant_cast(diagnostics, messages, counts, types, token, i);
     let (_, used) = state::told(n, used, reported, ())?;
     set_known(slots, used, slot, to)
 }

@@ -4,12 +4,13 @@
 ghost use Rattle.std.specs.Prelude.{◌≡◌, List, ◌∷◌, ℕ, ◌+◌, ◌*◌, ◌<◌, ◌^◌};
 ghost use Rattle.tok.specs.Text.{Texts, name_bytes};
 ghost use Rattle.ptype.specs.Ty.{Fields};
-ghost use Rattle.ptype.specs.Words.{fields_from, fields_of, unfolded, ty_of};
+ghost use Rattle.ptype.specs.Words.{fields_from, fields_of};
+ghost use Rattle.ptype.specs.Types.{type_at, type_within};
 ghost use Rattle.ptype.specs.Marks.{Free};
 ghost use Rattle.ptype.specs.Slots.{Binding, binding, bound_to, is_some, all_bound, bind_one, bind_slots, bind_fields, has_bound_slot, any_bound_slot};
 ghost use Rattle.slots.specs.Bindings.{bindings_of, found_of, Binds};
 
-use ptype::{MOST_WORDS, TypeKind, field_count, field_type, inner, same_type};
+use ptype::{LEVELS, MOST_WORDS, TypeKind, Types, field_count, field_type, inner, same_type};
 use tok::{Texts, kind, payload, same_name, word_at};
 
 // The bindings of slots: pairs of words, a slot's and its type's, in a lent part of scratch, and how many of them there are. The newest is the last.
@@ -18,9 +19,6 @@ pub struct Bindings<'a> {
     pub pairs: &'a mut [u32],
     pub count: usize,
 }
-
-// "type depth 32": one level more tells a type that is deeper.
-const LEVELS: usize = 33;
 
 // Why a slot is not bound: it is bound to another type (21), or the type is Void (22); or the lent part is too short for the bindings. What was
 // bound before an error stays.
@@ -78,16 +76,17 @@ impl<'a> Bindings<'a> {
 }
 
 // A slot meets a type: it is bound to it, or the type is held to what the slot is bound to.
-fn bind_one(bindings: &mut Bindings, types: &[u32], texts: &Texts, slot: u32, ty: u32) -> Bind
-    ensures { Binds texts.now (bind_one texts.now types.now (name_bytes texts.now slot) ty) bindings.old result bindings.new }
+fn bind_one(bindings: &mut Bindings, types: &Types, slot: u32, ty: u32) -> Bind
+    ensures { let T : Texts = types.now.texts.now in let W : List ℕ = types.now.words.now in
+        Binds T (bind_one T W (name_bytes T slot) ty) bindings.old result bindings.new }
 {
     if let TypeKind::Void = TypeKind::of(ty) {
         return Err(BindError::Void { slot });
     }
-    let Some(existing) = bindings.bound_to(texts, slot) else {
+    let Some(existing) = bindings.bound_to(types.texts, slot) else {
         return bindings.push(slot, ty);
     };
-    if same_type(types, texts, existing, ty) {
+    if same_type(types, existing, ty) {
         Ok(())
     } else {
         Err(BindError::Conflict {
@@ -99,36 +98,31 @@ fn bind_one(bindings: &mut Bindings, types: &[u32], texts: &Texts, slot: u32, ty
 }
 
 // Binds the slots of the type `expected` to what stands in their places in the type `provided`. What was bound before an error stays.
-pub fn bind_slots(
-    bindings: &mut Bindings,
-    types: &[u32],
-    texts: &Texts,
-    expected: u32,
-    provided: u32,
-) -> Bind
-    ensures { Binds texts.now (bind_slots texts.now types.now (ty_of texts.now types.now expected) provided) bindings.old result bindings.new }
+pub fn bind_slots(bindings: &mut Bindings, types: &Types, expected: u32, provided: u32) -> Bind
+    ensures { let T : Texts = types.now.texts.now in let W : List ℕ = types.now.words.now in
+        Binds T (bind_slots T W (type_at types.now expected) provided) bindings.old result bindings.new }
 {
-    bind_within(bindings, types, texts, expected, provided, LEVELS)
+    bind_within(bindings, types, expected, provided, LEVELS)
 }
 
 // The same, as deep as `depth` says.
 #[cycle(bind_fields_bind_within)]
 fn bind_within(
     bindings: &mut Bindings,
-    types: &[u32],
-    texts: &Texts,
+    types: &Types,
     expected: u32,
     provided: u32,
     depth: usize,
 ) -> Bind
-    ensures { Binds texts.now (bind_slots texts.now types.now (unfolded texts.now types.now depth expected) provided) bindings.old result bindings.new }
+    ensures { let T : Texts = types.now.texts.now in let W : List ℕ = types.now.words.now in
+        Binds T (bind_slots T W (type_within types.now depth expected) provided) bindings.old result bindings.new }
 {
     if depth == 0 {
         return Ok(());
     }
     let wanted = TypeKind::of(expected);
     if let TypeKind::Slot = wanted {
-        return bind_one(bindings, types, texts, expected, provided);
+        return bind_one(bindings, types, expected, provided);
     }
     if kind(expected) != kind(provided) {
         return Ok(());
@@ -137,19 +131,17 @@ fn bind_within(
         TypeKind::Option | TypeKind::Array => bind_within(
             bindings,
             types,
-            texts,
-            inner(types, expected),
-            inner(types, provided),
+            inner(types.words, expected),
+            inner(types.words, provided),
             depth - 1,
         ),
         TypeKind::Record => bind_fields(
             bindings,
             types,
-            texts,
             payload(expected) + 1,
-            field_count(types, expected),
+            field_count(types.words, expected),
             payload(provided) + 1,
-            field_count(types, provided),
+            field_count(types.words, provided),
             depth - 1,
         ),
         _ => Ok(()),
@@ -160,8 +152,7 @@ fn bind_within(
 #[cycle(bind_fields_bind_within)]
 fn bind_fields(
     bindings: &mut Bindings,
-    types: &[u32],
-    texts: &Texts,
+    types: &Types,
     i: usize,
     m: usize,
     j: usize,
@@ -169,16 +160,15 @@ fn bind_fields(
     depth: usize,
 ) -> Bind
     requires { (i + 2 * m < 2 ^ 40) × (j + 2 * n < 2 ^ 40) }
-    ensures { let T : Texts = texts.now in
-        Binds T (bind_fields T types.now (fields_from (unfolded T types.now depth) T types.now i m) j n) bindings.old result bindings.new }
+    ensures { let T : Texts = types.now.texts.now in let W : List ℕ = types.now.words.now in
+        Binds T (bind_fields T W (fields_from (type_within types.now depth) T W i m) j n) bindings.old result bindings.new }
 {
     for k in 0..m.min(n) {
         bind_within(
             bindings,
             types,
-            texts,
-            field_type(types, i + 2 * k),
-            field_type(types, j + 2 * k),
+            field_type(types.words, i + 2 * k),
+            field_type(types.words, j + 2 * k),
             depth,
         )?;
     }
@@ -188,71 +178,53 @@ fn bind_fields(
 // Whether a slot that is bound stands in a type, as deep as `depth` says. The marks (crate `ptype`) are in this frame, which no caller takes into its
 // own; a type of few words needs none.
 #[inline(never)]
-pub fn has_bound_slot_within(
-    bindings: &Bindings,
-    types: &[u32],
-    texts: &Texts,
-    w: u32,
-    depth: usize,
-) -> bool
-    ensures { result ≡ has_bound_slot (bindings_of texts.now bindings.now) (unfolded texts.now types.now depth w) }
+pub fn has_bound_slot_within(bindings: &Bindings, types: &Types, w: u32, depth: usize) -> bool
+    ensures { result ≡ has_bound_slot (bindings_of types.now.texts.now bindings.now) (type_within types.now depth w) }
 {
-    if ptype::is_small(types, w) {
-        bound_slot_in(bindings, types, texts, w, depth, &mut [])
+    if ptype::is_small(types.words, w) {
+        bound_slot_in(bindings, types, w, depth, &mut [])
     } else {
-        bound_slot_in(bindings, types, texts, w, depth, &mut [0; MOST_WORDS])
+        bound_slot_in(bindings, types, w, depth, &mut [0; MOST_WORDS])
     }
 }
 
 // Whether one stands in a type; `free` has the levels, and 1, in which none stands in the list at an index.
 #[cycle(any_bound_slot_bound_slot_in)]
-fn bound_slot_in(
-    bindings: &Bindings,
-    types: &[u32],
-    texts: &Texts,
-    w: u32,
-    depth: usize,
-    free: &mut [u8],
-) -> bool
-    requires { Free (any_bound_slot (bindings_of texts.now bindings.now)) texts.now types.now free.old }
-    ensures { let B : List Binding = bindings_of texts.now bindings.now in
-        (result ≡ has_bound_slot B (unfolded texts.now types.now depth w)) × Free (any_bound_slot B) texts.now types.now free.new }
+fn bound_slot_in(bindings: &Bindings, types: &Types, w: u32, depth: usize, free: &mut [u8]) -> bool
+    requires { let T : Texts = types.now.texts.now in Free (any_bound_slot (bindings_of T bindings.now)) T types.now.words.now free.old }
+    ensures { let T : Texts = types.now.texts.now in let W : List ℕ = types.now.words.now in
+        let B : List Binding = bindings_of T bindings.now in
+        (result ≡ has_bound_slot B (type_within types.now depth w)) × Free (any_bound_slot B) T W free.new }
 {
     if depth == 0 {
         return false;
     }
     match TypeKind::of(w) {
         TypeKind::Option | TypeKind::Array => {
-            bound_slot_in(bindings, types, texts, inner(types, w), depth - 1, free)
+            bound_slot_in(bindings, types, inner(types.words, w), depth - 1, free)
         }
-        TypeKind::Record => any_bound_slot(bindings, types, texts, w, depth - 1, free),
-        TypeKind::Slot => bindings.is_bound(texts, w),
+        TypeKind::Record => any_bound_slot(bindings, types, w, depth - 1, free),
+        TypeKind::Slot => bindings.is_bound(types.texts, w),
         _ => false,
     }
 }
 
 // Whether one stands in the fields of a Record: in fewer levels than a mark tells of, none either.
 #[cycle(any_bound_slot_bound_slot_in)]
-fn any_bound_slot(
-    bindings: &Bindings,
-    types: &[u32],
-    texts: &Texts,
-    w: u32,
-    depth: usize,
-    free: &mut [u8],
-) -> bool
-    requires { Free (any_bound_slot (bindings_of texts.now bindings.now)) texts.now types.now free.old }
-    ensures { let B : List Binding = bindings_of texts.now bindings.now in
-        let F : Fields = fields_of (unfolded texts.now types.now depth) texts.now types.now w in
-        (result ≡ any_bound_slot B F) × Free (any_bound_slot B) texts.now types.now free.new }
+fn any_bound_slot(bindings: &Bindings, types: &Types, w: u32, depth: usize, free: &mut [u8]) -> bool
+    requires { let T : Texts = types.now.texts.now in Free (any_bound_slot (bindings_of T bindings.now)) T types.now.words.now free.old }
+    ensures { let T : Texts = types.now.texts.now in let W : List ℕ = types.now.words.now in
+        let B : List Binding = bindings_of T bindings.now in
+        let F : Fields = fields_of (type_within types.now depth) T W w in
+        (result ≡ any_bound_slot B F) × Free (any_bound_slot B) T W free.new }
 {
     let at = payload(w);
     if depth < ptype::mark_at(free, at) {
         return false;
     }
-    for i in 0..field_count(types, w) {
-        let x = field_type(types, at + 1 + 2 * i);
-        if bound_slot_in(bindings, types, texts, x, depth, free) {
+    for i in 0..field_count(types.words, w) {
+        let x = field_type(types.words, at + 1 + 2 * i);
+        if bound_slot_in(bindings, types, x, depth, free) {
             return true;
         }
     }

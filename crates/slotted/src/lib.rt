@@ -13,6 +13,7 @@ ghost use Rattle.slotted.specs.Meant.{Meant, ArgumentMeant};
 
 use arguments::Argument;
 use err::CallName;
+use ptype::Types;
 use slots::{Bind, BindError, Bindings};
 use state::{Refusal, Step, Used};
 use tok::Texts;
@@ -36,11 +37,14 @@ fn applied(
 {
     let added = apply::apply_slot_binding(types, used.types, texts, bindings, arg.expected);
     let (word, used) = state::added(n, used, added)?;
+    let types = Types {
+        words: &types[..],
+        texts: &*texts,
+    };
     arguments::compared(
-        &types[..],
+        &types,
         diagnostics,
         messages,
-        texts,
         used,
         n,
         callee,
@@ -89,12 +93,15 @@ fn after_binding(
                 existing,
                 new,
             } => {
+                let types = Types {
+                    words: &types[..],
+                    texts: &*texts,
+                };
                 let reported = err_arguments::slot_conflict(
                     diagnostics,
                     messages,
                     used.told,
-                    &types[..],
-                    texts,
+                    &types,
                     arg.span,
                     callee,
                     slot,
@@ -145,7 +152,11 @@ pub fn slotted_argument(
     if ptype::contains_slot(&types[..], w) {
         return Ok(((), used));
     }
-    let bound = slots::bind_slots(bindings, &types[..], texts, arg.expected, w);
+    let read = Types {
+        words: &types[..],
+        texts: &*texts,
+    };
+    let bound = slots::bind_slots(bindings, &read, arg.expected, w);
     after_binding(
         types,
         diagnostics,

@@ -12,6 +12,7 @@ ghost use Rattle.walking.specs.Visited.{ClassVisit, ListVisit, CaseVisit, NodeVi
 
 use ast::NodeKind;
 use places::Image;
+use ptype::Types;
 use rules::Answer;
 use tok::{Texts, payload};
 use visit::{State, Visit};
@@ -245,10 +246,12 @@ fn bin(
     )?;
     operands::bin_end(
         slots,
-        &types[..],
+        &Types {
+            words: &types[..],
+            texts: &*texts,
+        },
         diagnostics,
         messages,
-        texts,
         image,
         at,
         end,
@@ -296,11 +299,13 @@ fn one(
     )?;
     operands::one_end(
         slots,
-        &types[..],
+        &Types {
+            words: &types[..],
+            texts: &*texts,
+        },
         diagnostics,
         messages,
         scratch,
-        texts,
         image,
         at,
         end,
@@ -347,10 +352,12 @@ fn cast(
     )?;
     operands::cast_end(
         slots,
-        &types[..],
+        &Types {
+            words: &types[..],
+            texts: &*texts,
+        },
         diagnostics,
         messages,
-        texts,
         image,
         at,
         end,
@@ -507,10 +514,12 @@ fn func(
     )?;
     bodies::end(
         slots,
-        &types[..],
+        &Types {
+            words: &types[..],
+            texts: &*texts,
+        },
         diagnostics,
         messages,
-        texts,
         image,
         at,
         inside,
@@ -558,10 +567,12 @@ fn case(
     )?;
     let (_, begun) = branches::condition(
         &slots[..],
-        &types[..],
+        &Types {
+            words: &types[..],
+            texts: &*texts,
+        },
         diagnostics,
         messages,
-        texts,
         image,
         at,
         tested,
@@ -657,10 +668,12 @@ fn cases(
     }
     branches::end(
         slots,
-        &types[..],
+        &Types {
+            words: &types[..],
+            texts: &*texts,
+        },
         diagnostics,
         messages,
-        texts,
         image,
         at,
         visiting::left(end, here),
@@ -833,10 +846,12 @@ fn array(
         )?;
         let (turn, on) = members::member(
             &slots[..],
-            &types[..],
+            &Types {
+                words: &types[..],
+                texts: &*texts,
+            },
             diagnostics,
             messages,
-            texts,
             image,
             next,
             n,

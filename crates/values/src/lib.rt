@@ -1,5 +1,5 @@
 // Fields, array members, match conditions and cases, let bindings and returns (typecheck/lib.rs, `node`).
-// The buffers are lent in one order: slots, types, diagnostics, messages; then the texts.
+// The buffers are lent in one order: slots, types, diagnostics, messages. Who only reads types takes them with the texts.
 #![tactic(auto)]
 
 ghost use Rattle.std.specs.Prelude.{◌≡◌, List, ℕ, ◌+◌};
@@ -19,24 +19,24 @@ ghost use Rattle.values.specs.Answers.{found_of, alias, compare_branch};
 
 use add::Arena;
 use operators::{set_known, store};
-use ptype::{BOOL_WORD, TypeKind, UNKNOWN_WORD, contains_unknown, same_type};
+use ptype::{BOOL_WORD, TypeKind, Types, UNKNOWN_WORD, contains_unknown, same_type};
 use rules::{Answer, Member};
 use state::{Step, Used};
-use tok::{Span, Texts, word_at};
+use tok::{Span, word_at};
 
 // Fields.
 
 // Looks up the first field of a name in a record, by the record's type word.
-pub fn find_field(types: &[u32], texts: &Texts, name: u32, word: u32) -> Option<u32>
-    ensures { let W : List ℕ = types.now in
-        found_of result ≡ find_field texts.now W (name_bytes texts.now name) (payload_of word + 1) (field_count W word) }
+pub fn find_field(types: &Types, name: u32, word: u32) -> Option<u32>
+    ensures { let T : Texts = types.now.texts.now in let W : List ℕ = types.now.words.now in
+        found_of result ≡ find_field T W (name_bytes T name) (payload_of word + 1) (field_count W word) }
 {
-    let count = ptype::field_count(types, word);
+    let count = ptype::field_count(types.words, word);
     let first = tok::payload(word) + 1;
     for i in 0..count {
         let at = first + 2 * i;
-        if tok::same_name(texts, name, word_at(types, at)) {
-            return Some(ptype::field_type(types, at));
+        if tok::same_name(types.texts, name, word_at(types.words, at)) {
+            return Some(ptype::field_type(types.words, at));
         }
     }
     None
@@ -59,28 +59,27 @@ pub fn field_type(slots: &mut [u32], used: Used, slot: u32, word: u32) -> Step<A
 // Node::Field, of the target's slot: 12 where the target is no record, 13 where it has no such field.
 pub fn field(
     slots: &mut [u32],
-    types: &[u32],
+    types: &Types,
     diagnostics: &mut [u32],
     messages: &mut [u8],
-    texts: &Texts,
     used: Used,
     n: u32,
     slot: u32,
     name: u32,
     target: u32,
 ) -> Step<Answer>
-    ensures { ((ls : List Package) (v : ℕ) → Steps (field (ctx texts.now ls v) n slot name target) slots.old types.now diagnostics.old messages.old used
-        slots.new types.now diagnostics.new messages.new result) }
+    ensures { ((ls : List Package) (v : ℕ) → Steps (field (ctx types.now.texts.now ls v) n slot name target) slots.old types.now.words.now diagnostics.old messages.old used
+        slots.new types.now.words.now diagnostics.new messages.new result) }
 {
     let w = word_at(slots, target as usize);
     let counts = used.told;
     let TypeKind::Record = TypeKind::of(w) else {
-        let other = err_values::no_record(diagnostics, messages, counts, types, texts, name, w);
+        let other = err_values::no_record(diagnostics, messages, counts, types, name, w);
         return state::told(n, used, other, Answer::Poison);
     };
-    let found = find_field(types, texts, name, w);
+    let found = find_field(types, name, w);
     let Some(t) = found else {
-        let none = err_values::no_field(diagnostics, messages, counts, types, texts, name, w);
+        let none = err_values::no_field(diagnostics, messages, counts, types, name, w);
         return state::told(n, used, none, Answer::Poison);
     };
     field_type(slots, used, slot, t)
@@ -106,38 +105,28 @@ pub fn empty_array(
 // An array's member against the first, of their slots: 2 where their types differ.
 fn member_types(
     slots: &[u32],
-    types: &[u32],
+    types: &Types,
     diagnostics: &mut [u32],
     messages: &mut [u8],
-    texts: &Texts,
     used: Used,
     n: u32,
     span: Span,
     first: u32,
     member: u32,
 ) -> Step<Member>
-    ensures { ((ls : List Package) (v : ℕ) → Steps (member_types (ctx texts.now ls v) n span first member) slots.now types.now diagnostics.old
-        messages.old used slots.now types.now diagnostics.new messages.new result) }
+    ensures { ((ls : List Package) (v : ℕ) → Steps (member_types (ctx types.now.texts.now ls v) n span first member) slots.now types.now.words.now diagnostics.old
+        messages.old used slots.now types.now.words.now diagnostics.new messages.new result) }
 {
     let f = word_at(slots, first as usize);
     let t = word_at(slots, member as usize);
-    if contains_unknown(types, t) || contains_unknown(types, f) {
+    if contains_unknown(types.words, t) || contains_unknown(types.words, f) {
         return Ok((Member::Silent, used));
     }
-    if same_type(types, texts, t, f) {
+    if same_type(types, t, f) {
         return Ok((Member::Alike, used));
     }
     let counts = used.told;
-    let reported = err_values::members_differ(
-        diagnostics,
-        messages,
-        counts,
-        types,
-        texts,
-        span,
-        f,
-        t,
-    );
+    let reported = err_values::members_differ(diagnostics, messages, counts, types, span, f, t);
     state::told(n, used, reported, Member::Differs)
 }
 
@@ -145,34 +134,22 @@ fn member_types(
 #[tactic(auto, unfolding(rules::specs::Rules::member, state::specs::World::stepped))]
 pub fn member(
     slots: &[u32],
-    types: &[u32],
+    types: &Types,
     diagnostics: &mut [u32],
     messages: &mut [u8],
-    texts: &Texts,
     used: Used,
     n: u32,
     span: Span,
     first: Answer,
     second: Answer,
 ) -> Step<Member>
-    ensures { ((ls : List Package) (v : ℕ) → Steps (member (ctx texts.now ls v) n span first second) slots.now types.now diagnostics.old messages.old
-        used slots.now types.now diagnostics.new messages.new result) }
+    ensures { ((ls : List Package) (v : ℕ) → Steps (member (ctx types.now.texts.now ls v) n span first second) slots.now types.now.words.now diagnostics.old messages.old
+        used slots.now types.now.words.now diagnostics.new messages.new result) }
 {
     let (Answer::Known(f), Answer::Known(m)) = (first, second) else {
         return Ok((Member::Silent, used));
     };
-    member_types(
-        slots,
-        types,
-        diagnostics,
-        messages,
-        texts,
-        used,
-        n,
-        span,
-        f,
-        m,
-    )
+    member_types(slots, types, diagnostics, messages, used, n, span, f, m)
 }
 
 // An array whose members were all visited: an Array of the first's type, unless a member is poisoned.
@@ -208,27 +185,26 @@ pub fn array_of(
 #[tactic(auto, unfolding(rules::specs::Rules::condition, rules::specs::Steps::if_known, state::specs::World::stepped))]
 pub fn condition(
     slots: &[u32],
-    types: &[u32],
+    types: &Types,
     diagnostics: &mut [u32],
     messages: &mut [u8],
-    texts: &Texts,
     used: Used,
     n: u32,
     token: u32,
     answer: Answer,
 ) -> Step<()>
-    ensures { ((ls : List Package) (v : ℕ) → Steps (condition (ctx texts.now ls v) n token answer) slots.now types.now diagnostics.old messages.old used
-        slots.now types.now diagnostics.new messages.new result) }
+    ensures { ((ls : List Package) (v : ℕ) → Steps (condition (ctx types.now.texts.now ls v) n token answer) slots.now types.now.words.now diagnostics.old messages.old used
+        slots.now types.now.words.now diagnostics.new messages.new result) }
 {
     let Answer::Known(slot) = answer else {
         return Ok(((), used));
     };
     let w = word_at(slots, slot as usize);
-    if same_type(types, texts, w, BOOL_WORD) {
+    if same_type(types, w, BOOL_WORD) {
         return Ok(((), used));
     }
     let counts = used.told;
-    let reported = err_names::bad_condition(diagnostics, messages, counts, types, texts, token, w);
+    let reported = err_names::bad_condition(diagnostics, messages, counts, types, token, w);
     state::told(n, used, reported, ())
 }
 
@@ -236,29 +212,28 @@ pub fn condition(
 #[tactic(auto, unfolding(crate::specs::Answers::compare_branch, rules::specs::Steps::if_known, state::specs::World::stepped))]
 pub fn compare_branch(
     slots: &[u32],
-    types: &[u32],
+    types: &Types,
     diagnostics: &mut [u32],
     messages: &mut [u8],
-    texts: &Texts,
     used: Used,
     n: u32,
     default: u32,
     token: u32,
     answer: Answer,
 ) -> Step<()>
-    ensures { ((ls : List Package) (v : ℕ) → Steps (compare_branch (ctx texts.now ls v) n default token answer) slots.now types.now diagnostics.old
-        messages.old used slots.now types.now diagnostics.new messages.new result) }
+    ensures { ((ls : List Package) (v : ℕ) → Steps (compare_branch (ctx types.now.texts.now ls v) n default token answer) slots.now types.now.words.now diagnostics.old
+        messages.old used slots.now types.now.words.now diagnostics.new messages.new result) }
 {
     let Answer::Known(slot) = answer else {
         return Ok(((), used));
     };
     let w = word_at(slots, slot as usize);
     let d = word_at(slots, default as usize);
-    if same_type(types, texts, w, d) {
+    if same_type(types, w, d) {
         return Ok(((), used));
     }
     let counts = used.told;
-    let reported = err_names::match_cases(diagnostics, messages, counts, types, texts, token, d, w);
+    let reported = err_names::match_cases(diagnostics, messages, counts, types, token, d, w);
     state::told(n, used, reported, ())
 }
 
@@ -302,10 +277,9 @@ pub fn let_binding(
 #[tactic(auto, unfolding(rules::specs::Rules::check_return, rules::specs::Steps::if_known, state::specs::World::stepped))]
 pub fn check_return(
     slots: &[u32],
-    types: &[u32],
+    types: &Types,
     diagnostics: &mut [u32],
     messages: &mut [u8],
-    texts: &Texts,
     used: Used,
     n: u32,
     name: u32,
@@ -313,27 +287,18 @@ pub fn check_return(
     ret: u32,
     computed: Answer,
 ) -> Step<()>
-    ensures { ((ls : List Package) (v : ℕ) (e : TypeExpr) → type_token e ≡ token → Steps (check_return (ctx texts.now ls v) n name e ret computed) slots.now types.now
-        diagnostics.old messages.old used slots.now types.now diagnostics.new messages.new result) }
+    ensures { let T : Texts = types.now.texts.now in let W : List ℕ = types.now.words.now in
+        ((ls : List Package) (v : ℕ) (e : TypeExpr) → type_token e ≡ token → Steps (check_return (ctx T ls v) n name e ret computed) slots.now W
+        diagnostics.old messages.old used slots.now W diagnostics.new messages.new result) }
 {
     let Answer::Known(slot) = computed else {
         return Ok(((), used));
     };
     let w = word_at(slots, slot as usize);
-    if same_type(types, texts, w, ret) {
+    if same_type(types, w, ret) {
         return Ok(((), used));
     }
     let counts = used.told;
-    let reported = err_names::bad_return(
-        diagnostics,
-        messages,
-        counts,
-        types,
-        texts,
-        token,
-        name,
-        ret,
-        w,
-    );
+    let reported = err_names::bad_return(diagnostics, messages, counts, types, token, name, ret, w);
     state::told(n, used, reported, ())
 }

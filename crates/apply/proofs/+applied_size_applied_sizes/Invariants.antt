@@ -13,5 +13,8 @@ abbrev pub decreases-applied_sizes : goal.decreases-applied_sizes
 decreases-applied_sizes l = l.depth * 2 + 1
 
 abbrev pub invariant-applied_sizes-loop-i : goal.invariant-applied_sizes-loop-i
-invariant-applied_sizes-loop-i l = sizes_of (size_within l.texts (bindings_of l.texts l.bindings) l.old l.depth) l.old l.at l.fields
-    ≡ l.sum + sizes_of (size_within l.texts (bindings_of l.texts l.bindings) l.old l.depth) l.old (l.at + 2 * l.i) (l.fields - l.i)
+invariant-applied_sizes-loop-i l =
+    let T = l.old.texts.now in
+    let W = l.old.words.now in
+    let sizes = sizes_of (size_within T (bindings_of T l.bindings) W l.depth) W in
+    sizes l.at l.fields ≡ l.sum + sizes (l.at + 2 * l.i) (l.fields - l.i)

@@ -9,5 +9,6 @@ use Rattle.err_calls.proofs.put_candidates.Given as goal
 
 abbrev pub invariant-loop-i : goal.invariant-loop-i
 invariant-loop-i l =
-    let t = l.texts in
-    Owes l.initial.out (joined (text " | ") (map sig (candidates_at t l.types l.words l.starts))) l.out (owed t l.types l.words l.starts l.i)
+    let t = l.types.texts.now in
+    let types = l.types.words.now in
+    Owes l.initial.out (joined (text " | ") (map sig (candidates_at t types l.words l.starts))) l.out (owed t types l.words l.starts l.i)

@@ -3,7 +3,8 @@
 use mathlib.Core.Path.{◌≡◌}
 use lib.ListN.{length}
 use Rattle.ptype.specs.Slots.{any_bound_slot}
-use Rattle.ptype.specs.Words.{unfolded, fields_from, fields_of}
+use Rattle.ptype.specs.Words.{fields_from, fields_of}
+use Rattle.ptype.specs.Types.{type_within}
 use Rattle.ptype.specs.Marks.{Free}
 use Rattle.slots.specs.Bindings.{bindings_of}
 use Prim.Native.Nat.{◌+◌, ◌-◌, ◌*◌}
@@ -16,6 +17,10 @@ abbrev pub decreases-bound_slot_in : goal.decreases-bound_slot_in
 decreases-bound_slot_in l = l.depth * 2
 
 abbrev pub invariant-any_bound_slot-loop-i : goal.invariant-any_bound_slot-loop-i
-invariant-any_bound_slot-loop-i l = (any_bound_slot (bindings_of l.texts l.bindings) (fields_of (unfolded l.texts l.types l.depth) l.texts l.types l.w)
-    ≡ any_bound_slot (bindings_of l.texts l.bindings) (fields_from (unfolded l.texts l.types l.depth) l.texts l.types (l.at + 1 + 2 * l.i) (l.i-end - l.i)))
-    × Free (any_bound_slot (bindings_of l.texts l.bindings)) l.texts l.types l.free × (length l.free ≡ length l.initial.free)
+invariant-any_bound_slot-loop-i l =
+    let T = l.types.texts.now in
+    let W = l.types.words.now in
+    let B = bindings_of T l.bindings in
+    let go = type_within l.types l.depth in
+    (any_bound_slot B (fields_of go T W l.w) ≡ any_bound_slot B (fields_from go T W (l.at + 1 + 2 * l.i) (l.i-end - l.i)))
+    × Free (any_bound_slot B) T W l.free × (length l.free ≡ length l.initial.free)

@@ -27,5 +27,5 @@ returns-in_default-found c ls v =
 pub returns : goal.returns
 unfolding field ty tree when on_option found_of
 returns c ls v =
-    same-steps (c.field_type.ensures c.args.types.now c.args.diagnostics.now c.args.messages.now)
+    same-steps (c.field_type.ensures c.args.types.now.words.now c.args.diagnostics.now c.args.messages.now)
     (λ rest. rw (← c.word_at-w.ensures, type-number _ c.in-Record.ensures, ← c.find_field-found.ensures, c.in-Some.is))

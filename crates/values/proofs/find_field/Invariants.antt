@@ -9,5 +9,5 @@ use Rattle.values.proofs.find_field.Given as goal
 
 abbrev pub invariant-loop-i : goal.invariant-loop-i
 invariant-loop-i l =
-    let find = find_field l.texts l.types (name_bytes l.texts l.name) in
-    find (payload_of l.word + 1) (field_count l.types l.word) ≡ find (l.first + 2 * l.i) (l.count - l.i)
+    let find = find_field l.types.texts.now l.types.words.now (name_bytes l.types.texts.now l.name) in
+    find (payload_of l.word + 1) (field_count l.types.words.now l.word) ≡ find (l.first + 2 * l.i) (l.count - l.i)
