@@ -7,6 +7,7 @@ ghost use Rattle.refuse.specs.Answer.{inputs_of, buffers_of};
 ghost use Rattle.rows_begin.specs.Beginning.{Runs, Begins};
 ghost use Rattle.printing.specs.Handed.{Benched};
 
+use ptype::Types;
 use rows_begin::Begun;
 use rows_part::{Answer, Row};
 use std::io;
@@ -110,9 +111,11 @@ pub fn bench(rt: &impl Print, bytes: &[u8], full: bool) -> io::Result<Option<usi
         library: rows_input::library_text(bytes),
     };
     let answer = Answer {
-        texts: &texts,
+        types: &Types {
+            words: &types,
+            texts: &texts,
+        },
         slots: &slots,
-        types: &types,
         functions: &functions,
         diagnostics: &diagnostics,
         messages: &messages,

@@ -22,6 +22,7 @@ use call_args::Call;
 use pkg_group::PackageCall;
 use places::Image;
 use rules::Answer;
+use scope::Own;
 use tok::Texts;
 use visit::{State, Visit};
 
@@ -114,13 +115,16 @@ fn resolve_own(
         let b' : Lent = lent slots.new functions.now types.now diagnostics.new messages.new e o in
         Visits (resolve_call (ctx texts.now ls v) call.n call.slot name (given_from image.now.words call.args call.count)) 0 0 words st b b' result) }
 {
+    let own = Own {
+        words: functions,
+        count: st.functions,
+    };
     let step = own_call::resolve_call(
         slots,
         types,
         diagnostics,
         messages,
-        functions,
-        st.functions,
+        &own,
         texts,
         image,
         st.used,

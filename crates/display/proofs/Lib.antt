@@ -5,3 +5,4 @@ pub mod DigitLaws
 pub mod ShownLaws
 pub mod EveryLaws
 pub mod Examples
+mod Sinks

@@ -1,11 +1,13 @@
 -- The text of a type, by the kind of its word, and of fields one by one: the branches of `show_within` and the turns of `show_fields`. Assumes nothing.
-use Prim.Native.Nat.{ℕ, zero, suc, ◌+◌, ◌-◌, ◌<◌}
+use Prim.Native.Nat.{ℕ, zero, suc, ◌+◌, ◌-◌, ◌<◌, ◌≤◌}
 use mathlib.Core.Path.{◌≡◌, refl, sym, ap, ◌∙◌}
-use mathlib.Core.Bool.{true, true≢false}
+use mathlib.Core.Bool.{Bool, true, false, cond, true≢false}
 use mathlib.Core.Logic.{◌⊎◌, ⊎_elim}
 use mathlib.Core.List.{List, [], ◌++◌, append-nil, append_assoc}
 use native.Mathlib.Omega.{arith}
-use lib.ListN.{get_or}
+use lib.ListN.{get_or, length, get_or-eq_default}
+use lib.Dec.{ltb}
+use borrow.Author.Tests.{ltb-false}
 use Rattle.std.proofs.Common.{rules}
 use Rattle.std.proofs.lemmas.List.{get_or_past}
 use Rattle.facts.specs.Lists.{EachAt, each_at}
@@ -20,6 +22,7 @@ use Rattle.ptype.specs.TypeKind.{kinds_of_types, kind_of_type, number_of_type}
 use Rattle.ptype.specs.TypeKindLaws.{type-number, type-not, type-wraps, type-flat, type-nameless}
 use Rattle.ptype.specs.Kinds.{wraps, one_of, Plain, shape, is_plain, is_wrap, is_record, is_named}
 use Rattle.ptype.proofs.UnfoldLaws.{one_less, unfolded-none, unfolded-plain, unfolded-wrap, unfolded_record, unfolded-named, fields-none, fields-more}
+use Rattle.display.specs.Behind.{behind_of}
 use Rattle.display.specs.Leaf.{Leaf}
 use Rattle.display.specs.Joined.{separated}
 use Rattle.display.specs.Writing.{written}
@@ -112,6 +115,34 @@ module _ (go : ℕ → Ty) (t : Texts) (words : List ℕ) (i : ℕ) where
   fields-turn {k} h en ew =
       let e : k ≡ suc (k - 1) = omega arith in
       rw (fields-more go t words i e, gap_is (i + 2) (k - 1), en, ew) (simp append_assoc)
+
+module _ (go : ℕ → Ty) (t : Texts) (words : List ℕ) where
+  -- past the end of the words any index will do
+  fields-past : (k i j : ℕ) → length words ≤ i → length words ≤ j → fields_from go t words i k ≡ fields_from go t words j k
+  unfolding fields_from
+  fields-past zero i j h l = refl
+  fields-past (suc k) i j h l =
+      rw (
+        get_or-eq_default words 0 h,
+        get_or-eq_default words 0 l,
+        get_or-eq_default words 0 {n = i + 1} (omega arith),
+        get_or-eq_default words 0 {n = j + 1} (omega arith),
+        fields-past k (i + 2) (j + 2) (omega arith) (omega arith),
+      )
+
+  fields-behind : (k i : ℕ) → fields_from go t words (i + 2) k ≡ fields_from go t words (behind_of words i) k
+  unfolding behind_of
+  fields-behind k i = by (ltb i (length words)) refl
+    where
+      by : (b : Bool) → ltb i (length words) ≡ b → fields_from go t words (i + 2) k ≡ fields_from go t words (cond b (i + 2) i) k
+      by true e = refl
+      by false e = let l = ltb-false i (length words) e in fields-past k (i + 2) i (omega arith) (omega arith)
+
+  -- the same, where the next field is read behind this one
+  pub turn-behind :
+      (i : ℕ) {k w next : ℕ} {name : List ℕ} → 0 < k → name ≡ name_bytes t (get_or words i 0) → w ≡ get_or words (i + 1) 0 → next ≡ behind_of words i →
+      show_fields (fields_from go t words i k) ≡ name ++ text ": " ++ show (go w) ++ separated (k - 1) (text " ") ++ show_fields (fields_from go t words next (k - 1))
+  turn-behind i {k} h en ew e = fields-turn go t words i h en ew ∙ rw (e, fields-behind (k - 1) i)
 
 -- ---- signatures
 pub bracket : (o : List ℕ) (n : ℕ) (s : List ℕ) → written o n (text "(" ++ s) ≡ written_next (written o n (text "(")) s

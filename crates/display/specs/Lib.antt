@@ -1,5 +1,8 @@
 -- Writing text into the rest of a message buffer: what the contracts of the crate cite, and the laws that its callers cite.
 pub mod Writing
+pub mod Sink
+pub mod SinkLaws
+pub mod Behind
 pub mod Joined
 pub mod Signature
 pub mod NamesWellFormed

@@ -1,7 +1,7 @@
 // Writing pieces, numbers, types and signatures into the rest of a message buffer (`format!`, `impl Display`).
 #![tactic(auto, using(crate::specs::WritingLaws::writing))]
 
-ghost use Rattle.std.specs.Prelude.{◌≡◌, ℕ, List, [], ◌∷◌, ◌++◌, map, ◌+◌, ◌*◌, ◌^◌, ◌≤◌, ◌<◌, get_or};
+ghost use Rattle.std.specs.Prelude.{◌≡◌, List, ℕ, Result, ⊤, [], ◌∷◌, ◌++◌, map, ◌+◌, ◌*◌, ◌^◌, ◌≤◌, ◌<◌, get_or};
 ghost use Rattle.tok.specs.Word.{kind_of};
 ghost use Rattle.tok.specs.Text.{Texts};
 ghost use Rattle.ptype.specs.Ty.{Fields};
@@ -9,7 +9,11 @@ ghost use Rattle.ptype.specs.Words.{fields_from, unfolded};
 ghost use Rattle.ptype.specs.Types.{type_at, type_within};
 ghost use Rattle.ptype.specs.TypeKind.{number_of_type};
 ghost use Rattle.ptype.specs.Show.{plain_names, openings, show, show_fields, digits, decimal};
+ghost use Rattle.display.specs.declared.Full.{Full};
 ghost use Rattle.display.specs.Writing.{Writes};
+ghost use Rattle.display.specs.Sink.{SinkLaws};
+ghost use Rattle.display.specs.SinkLaws.{writer_laws};
+ghost use Rattle.display.specs.Behind.{behind_of};
 ghost use Rattle.display.specs.Leaf.{Leaf};
 ghost use Rattle.display.specs.Joined.{separated, sig};
 ghost use Rattle.display.specs.Every.{every};
@@ -69,24 +73,46 @@ impl<'a> Writer<'a> {
         self.put(after)
     }
 
-    // Writes a separator beside `count` other pieces: none where there are none.
-    #[tactic(auto, using(crate::specs::JoinedLaws::separating))]
-    pub fn put_separator(&mut self, count: usize, separator: &[u8]) -> Result<(), Full>
-        ensures { Writes self.old self.new result (separated count separator.now) }
-    {
-        if count == 0 {
-            self.put(b"")
-        } else {
-            self.put(separator)
-        }
-    }
-
     // Writes a number in decimal.
     #[tactic(auto, unfolding(ptype::specs::Show::decimal))]
     pub fn put_decimal(&mut self, n: usize) -> Result<(), Full>
         ensures { Writes self.old self.new result (decimal n) }
     {
         put_digits(self, MOST_DIGITS, n)
+    }
+}
+
+// What texts are written to, piece by piece: once a piece has no room, nothing is written any more.
+pub trait Sink {
+    // That a text was written to the first, which is the second now, and what was answered.
+    ghost Wrote: { Self → Self → Result ⊤ Full → List ℕ → Type 0 };
+
+    // Writes a piece, as far as it has room.
+    fn write(&mut self, piece: &[u8]) -> Result<(), Full>
+        ensures { Wrote self.old self.new result piece.now };
+
+    ghost laws: { SinkLaws Self Wrote };
+
+    // Writes a separator beside `count` other pieces: none where there are none.
+    #[tactic(auto, using(crate::specs::JoinedLaws::separating))]
+    final fn put_separator(&mut self, count: usize, separator: &[u8]) -> Result<(), Full>
+        ensures { Wrote self.old self.new result (separated count separator.now) }
+    {
+        if count == 0 {
+            self.write(b"")
+        } else {
+            self.write(separator)
+        }
+    }
+}
+
+impl<'a> Sink for Writer<'a> {
+    ghost Wrote = { Writes };
+
+    ghost laws = { writer_laws };
+
+    fn write(&mut self, piece: &[u8]) -> Result<(), Full> {
+        self.put(piece)
     }
 }
 
@@ -175,73 +201,98 @@ fn plain_name(kind: TypeKind) -> &'static [u8]
 }
 
 // Writes a type that has no type inside. No word of the types buffer is read.
-fn show_leaf(out: &mut Writer, texts: &Texts, w: u32) -> Result<(), Full>
+fn show_leaf<S: Sink>(out: &mut S, texts: &Texts, w: u32) -> Result<(), Full>
     requires { Leaf (kind_of w) }
-    ensures { Writes out.old out.new result (show (unfolded texts.now [] 1 w)) }
+    ensures { S.Wrote out.old out.new result (show (unfolded texts.now [] 1 w)) }
 {
     let kind = TypeKind::of(w);
     match kind {
-        TypeKind::Foreign => out.put_around(opening(kind), tok::name_bytes(texts, w), b">"),
-        TypeKind::Slot => out.put(tok::name_bytes(texts, w)),
-        _ => out.put(plain_name(kind)),
+        TypeKind::Foreign => {
+            out.write(opening(kind))?;
+            out.write(tok::name_bytes(texts, w))?;
+            out.write(b">")
+        }
+        TypeKind::Slot => out.write(tok::name_bytes(texts, w)),
+        _ => out.write(plain_name(kind)),
     }
 }
 
 // Writes a type, unfolded `depth` levels deep.
 #[cycle(show_fields_show_within)]
-fn show_within(out: &mut Writer, types: &Types, w: u32, depth: usize) -> Result<(), Full>
-    ensures { Writes out.old out.new result (show (type_within types.now depth w)) }
+fn show_within<S: Sink>(out: &mut S, types: &Types, w: u32, depth: usize) -> Result<(), Full>
+    ensures { S.Wrote out.old out.new result (show (type_within types.now depth w)) }
 {
     if depth == 0 {
-        return out.put(plain_name(TypeKind::Unknown));
+        return out.write(plain_name(TypeKind::Unknown));
     }
     let kind = TypeKind::of(w);
     match kind {
         TypeKind::Option | TypeKind::Array => {
-            out.put(opening(kind))?;
+            out.write(opening(kind))?;
             show_within(out, types, ptype::inner(types.words, w), depth - 1)?;
-            out.put(b">")
+            out.write(b">")
         }
         TypeKind::Record => {
-            out.put(opening(kind))?;
+            out.write(opening(kind))?;
             let i = tok::payload(w) + 1;
             let n = ptype::field_count(types.words, w);
             show_fields(out, types, types.words, i, n, depth - 1)?;
-            out.put(b">")
+            out.write(b">")
         }
         _ => show_leaf(out, types.texts, w),
     }
 }
 
+// The index behind the two words of a field, as far as there are words: past their end all are read as 0.
+fn behind(words: &[u32], i: usize) -> usize
+    ensures { result ≡ behind_of words.now i }
+{
+    if i < words.len() { i + 2 } else { i }
+}
+
 // Writes n fields, or arguments, whose names and types stand in `words` from the index i on.
 #[cycle(show_fields_show_within)]
-fn show_fields(
-    out: &mut Writer,
+fn show_fields<S: Sink>(
+    out: &mut S,
     types: &Types,
     words: &[u32],
     i: usize,
     n: usize,
     depth: usize,
 ) -> Result<(), Full>
-    requires { i + 2 * n < 2 ^ 40 }
     ensures { let F : Fields = fields_from (type_within types.now depth) types.now.texts.now words.now i n in
-        Writes out.old out.new result (show_fields F) }
+        S.Wrote out.old out.new result (show_fields F) }
 {
-    for k in 0..n {
-        let at = i + 2 * k;
-        out.put(ptype::field_name(words, types.texts, at))?;
-        out.put(b": ")?;
+    let mut at = i;
+    for left in (0..n).rev() {
+        out.write(ptype::field_name(words, types.texts, at))?;
+        out.write(b": ")?;
         show_within(out, types, ptype::field_type(words, at), depth)?;
-        out.put_separator(n - 1 - k, b" ")?;
+        out.put_separator(left, b" ")?;
+        at = behind(words, at);
     }
-    out.put(b"")
+    out.write(b"")
 }
 
 // Writes a type as `Display` shows it.
-pub fn show_type(out: &mut Writer, types: &Types, w: u32) -> Result<(), Full>
-    ensures { Writes out.old out.new result (show (type_at types.now w)) }
+pub fn show_type<S: Sink>(out: &mut S, types: &Types, w: u32) -> Result<(), Full>
+    ensures { S.Wrote out.old out.new result (show (type_at types.now w)) }
 {
     show_within(out, types, w, LEVELS)
+}
+
+// Writes n arguments as `Display` shows them, whose names and types stand in `words` from the index i on.
+pub fn show_arguments<S: Sink>(
+    out: &mut S,
+    types: &Types,
+    words: &[u32],
+    i: usize,
+    n: usize,
+) -> Result<(), Full>
+    ensures { let F : Fields = fields_from (type_at types.now) types.now.texts.now words.now i n in
+        S.Wrote out.old out.new result (show_fields F) }
+{
+    show_fields(out, types, words, i, n, LEVELS)
 }
 
 // Writes the signature that `words` begins with, as `Display` shows it.
@@ -252,7 +303,7 @@ pub fn show_signature(out: &mut Writer, types: &Types, words: &[u32]) -> Result<
 {
     let n = tok::word_at(words, 0) as usize;
     out.put(b"(")?;
-    show_fields(out, types, words, 1, n, LEVELS)?;
+    show_arguments(out, types, words, 1, n)?;
     out.put(b") -> ")?;
     show_type(out, types, tok::word_at(words, 1 + 2 * n))
 }

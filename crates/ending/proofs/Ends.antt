@@ -36,7 +36,8 @@ zeros_as_long : (l l' : List ℕ) → length l ≡ length l' → zeros l ≡ zer
 zeros_as_long l l' p = ap (λ n. replicate n 0) p
 
 -- of the buffers before it, an end takes only the lengths
-end_as_long : (s f t d m e s' f' t' d' m' e' : List ℕ) → length s ≡ length s' → length f ≡ length f' → length t ≡ length t' → length d ≡ length d' → length m ≡ length m' → length e ≡ length e'
+end_as_long : (s f t d m e s' f' t' d' m' e' : List ℕ) → length s ≡ length s' → length f ≡ length f' → length t ≡ length t'
+    → length d ≡ length d' → length m ≡ length m' → length e ≡ length e'
     → (x : Result World Refusal Done) → end_of (buffers_of s f t d m e) x ≡ end_of (buffers_of s' f' t' d' m' e') x
 unfolding end_of zeroed
 end_as_long s f t d m e s' f' t' d' m' e' p₁ p₂ p₃ p₄ p₅ p₆ (ok a w) = rw p₆

@@ -10,6 +10,8 @@ use Rattle.rules.specs.World.{World}
 use Rattle.rules.specs.Steps.{Done, skip}
 use Rattle.rules.specs.Walk.{walk_of}
 use Rattle.rules.specs.Check.{Ended, refused_with}
+use Rattle.state.specs.declared.Refusal.{Refusal as InWalk}
+use Rattle.state.specs.Refused.{refusal_of}
 use Rattle.state.specs.Signatures.{entries_end}
 use Rattle.visit.specs.declared.State.{State}
 use Rattle.visit.specs.Whole.{Lent, Visit, visited}
@@ -53,6 +55,10 @@ before_of (Image word) = record { number = 3; place = word }
 before_of (Claims node) = record { number = 4; place = node }
 before_of (Depth node) = record { number = 5; place = node }
 before_of Room = record { number = 6; place = 0 }
+
+-- what is found in the walk
+abbrev pub within_of : InWalk → Refused
+within_of e = record { number = (refusal_of e).number; place = (refusal_of e).place }
 
 -- what is used where the walk has ended
 abbrev pub counts_of : (functions : List ℕ) → State → AnswerCounts

@@ -2,19 +2,20 @@
 // The buffers are lent in one order: slots, functions, types, diagnostics, messages, scratch.
 #![tactic(auto)]
 
-ghost use Rattle.std.specs.Prelude.{◌≡◌, List, ℕ, ◌≤◌, length};
+ghost use Rattle.std.specs.Prelude.{◌≡◌, List, ℕ};
 ghost use Rattle.refusals.specs.Inputs.{Buffers};
 ghost use Rattle.refuse.specs.Answer.{buffers_of};
 ghost use Rattle.rules.specs.Check.{end_of};
-ghost use Rattle.state.specs.Signatures.{entries_end};
 ghost use Rattle.state.specs.World.{no_more};
 ghost use Rattle.visit.specs.Whole.{Lent, lent};
 ghost use Rattle.ending.specs.Numbers.{numbers_of};
-ghost use Rattle.ending.specs.Ended.{EndsAs, counts_of, over_of, EndsWell};
+ghost use Rattle.ending.specs.Ended.{EndsAs, over_of, EndsWell};
 
 use refuse::Cause;
 use rules::Answer;
-use visit::{State, Visit};
+use scope::Own;
+use state::Refusal;
+use visit::Visit;
 
 // How much of the buffers an answer uses.
 #[derive(Clone, Copy, Debug, PartialEq, Eq)]
@@ -73,16 +74,18 @@ impl From<Cause> for Refused {
     }
 }
 
-// How much is used where the walk has ended.
-fn counts(functions: &[u32], st: State) -> AnswerCounts
-    requires { entries_end functions.now 0 0 st.functions ≤ length functions.now }
-    ensures { result ≡ counts_of functions.now st }
-{
-    AnswerCounts {
-        function_words: scope::own_end(functions, st.functions),
-        type_words: st.used.types,
-        diagnostics: st.used.told.diagnostics,
-        message_bytes: st.used.told.bytes,
+// What is found in the walk.
+impl From<Refusal> for Refused {
+    ghost use Rattle.std.specs.Prelude.{◌≡◌};
+    ghost use Rattle.ending.specs.Ended.{within_of};
+
+    ghost from_gives = { λ refusal r. r ≡ within_of refusal };
+
+    fn from(refusal: Refusal) -> Refused {
+        Refused {
+            number: refusal.number(),
+            place: refusal.place() as usize,
+        }
     }
 }
 
@@ -105,14 +108,20 @@ pub fn finish(
     match visit {
         Ok((_, st)) => {
             scratch.fill(0);
-            Ok(counts(functions, st))
+            let own = Own {
+                words: &functions[..],
+                count: st.functions,
+            };
+            Ok(AnswerCounts {
+                function_words: own.end(),
+                type_words: st.used.types,
+                diagnostics: st.used.told.diagnostics,
+                message_bytes: st.used.told.bytes,
+            })
         }
         Err(refusal) => {
             zero::zero_all(slots, functions, types, diagnostics, messages, scratch);
-            Err(Refused {
-                number: refusal.number(),
-                place: refusal.place() as usize,
-            })
+            Err(Refused::from(refusal))
         }
     }
 }

@@ -11,7 +11,7 @@ ghost use Rattle.err.specs.Message.{pkg_name, call_name, no_specialisation, call
 ghost use Rattle.err.specs.Report.{Reports};
 ghost use Rattle.err_calls.specs.Candidates.{candidate_at, candidates_at, WritesCandidates};
 
-use display::{Full, Writer};
+use display::{Full, Sink, Writer};
 use err::{CallName, Counts};
 use err_text::Piece;
 use ptype::Types;

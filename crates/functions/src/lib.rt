@@ -22,6 +22,7 @@ use parameters::fn_arguments;
 use places::Image;
 use ptype::Types;
 use rules::Answer;
+use scope::Own;
 use state::{Step, Used};
 use tok::{Texts, word_at};
 use type_expr::type_from_type_expr;
@@ -43,8 +44,11 @@ pub fn unless_defined(
         let b' : Lent = lent s functions.now t diagnostics.new messages.new e o in
         Visits (is_new (ctx texts.now ls v) n name) 0 0 words st b b' (visit_of st result)) }
 {
-    let own = scope::find_own(texts, functions, st.functions, name);
-    let Some(_) = own else {
+    let own = Own {
+        words: functions,
+        count: st.functions,
+    };
+    let Some(_) = own.find(texts, name) else {
         return Ok((true, st.used));
     };
     let counts = st.used.told;
@@ -77,7 +81,11 @@ pub fn enter(
     requires { EntryRoom functions.old entries from count }
     ensures { functions.new ≡ write functions.old (entries_end functions.old 0 0 entries) (entry_of name (params_from scratch.now from count) ret) }
 {
-    let at = scope::own_end(&functions[..], entries);
+    let own = Own {
+        words: &functions[..],
+        count: entries,
+    };
+    let at = own.end();
     add::set_pair(functions, at, name, count as u32);
     copy_pairs(functions, at + 2, scratch, from, count);
     operators::store(functions, at + 2 + 2 * count, ret);

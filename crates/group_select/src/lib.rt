@@ -15,7 +15,7 @@ ghost use Rattle.library.specs.Entries.{flag_words};
 ghost use Rattle.selection.specs.Candidates.{group, param_types};
 ghost use Rattle.group_select.specs.Selects.{candidate_types, NoneFits, Selects};
 
-use display::{Full, Writer};
+use display::{Full, Sink, Writer};
 use err::CallName;
 use rules::Answer;
 use signatures::Entries;

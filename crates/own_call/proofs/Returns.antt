@@ -32,7 +32,8 @@ module _ {texts : Texts} {n slot name : ℕ} {given : List Provided} {functions 
   }
 
   pub found_at : {at : ℕ} {s' d' m' : List ℕ} {r : Step Answer} → found ≡ Some at
-      → ((library : List Package) (void : ℕ) → Steps (check_call_args (ctx texts library void) n slot name (call_name texts (Own name)) (signature_at functions at false) given) s t d m u s' t d' m' r)
+      → ((library : List Package) (void : ℕ)
+      → Steps (check_call_args (ctx texts library void) n slot name (call_name texts (Own name)) (signature_at functions at false) given) s t d m u s' t d' m' r)
       → OwnCalls texts n slot name given functions k s t d m u s' d' m' r
   unfolding resolve_call on_option call_name
   found_at o c = record { step = λ library void rest own. rw (ap (find_function texts (name_bytes texts name)) own ∙ sym e ∙ ap (own_of functions) o) ((c library void).step rest) }

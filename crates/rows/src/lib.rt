@@ -8,10 +8,11 @@ ghost use Rattle.rules.specs.Rows.{fn_row};
 ghost use Rattle.rows_window.specs.Showing.{Shows};
 ghost use Rattle.rows.specs.Lines.{slot_row, fn_line, diag_line, diag_row, end_row, refused_row, input_row};
 
+use ptype::Types;
 use rows_input::bytes_in;
 use rows_types::{show_arguments, show_type};
 use rows_window::Window;
-use tok::{Texts, name_bytes, word_at};
+use tok::{name_bytes, word_at};
 
 // A number, and a blank behind it.
 fn put_number(w: &mut Window, n: usize)
@@ -22,8 +23,8 @@ fn put_number(w: &mut Window, n: usize)
 }
 
 // "`slot` lines (number, `Display` of the type) for slots that have a type": the slot of that number and word.
-pub fn slot_row(w: &mut Window, types: &[u32], texts: &Texts, slot: usize, word: u32)
-    ensures { Shows w.old w.new (slot_row texts.now types.now slot word) }
+pub fn slot_row(w: &mut Window, types: &Types, slot: usize, word: u32)
+    ensures { Shows w.old w.new (slot_row types.now.texts.now types.now.words.now slot word) }
 {
     if word == 0 {
         w.put(b"");
@@ -31,41 +32,40 @@ pub fn slot_row(w: &mut Window, types: &[u32], texts: &Texts, slot: usize, word:
     }
     w.put(b"slot ");
     put_number(w, slot);
-    show_type(w, types, texts, word);
+    show_type(w, types, word);
     w.put(b"\n");
 }
 
 // A function's row from its name, its n arguments from a place on, and its return type.
 fn put_fn(
     w: &mut Window,
-    types: &[u32],
-    texts: &Texts,
+    types: &Types,
     functions: &[u32],
     name: u32,
     at: usize,
     n: usize,
     ret: u32,
 )
-    ensures { Shows w.old w.new (fn_line texts.now types.now functions.now name at n ret) }
+    ensures { Shows w.old w.new (fn_line types.now.texts.now types.now.words.now functions.now name at n ret) }
 {
     w.put(b"fn ");
-    w.put(name_bytes(texts, name));
+    w.put(name_bytes(types.texts, name));
     w.put(b" (");
-    show_arguments(w, types, texts, functions, at, n, b") -> ");
-    show_type(w, types, texts, ret);
+    show_arguments(w, types, functions, at, n, b") -> ");
+    show_type(w, types, ret);
     w.put(b"\n");
 }
 
 // "`fn` lines with name and `Display` of the signature": the entry at a place of the functions buffer.
-pub fn fn_row(w: &mut Window, types: &[u32], texts: &Texts, functions: &[u32], at: u32)
+pub fn fn_row(w: &mut Window, types: &Types, functions: &[u32], at: u32)
     ensures { let F : List ℕ = functions.now in
-        Shows w.old w.new (fn_row texts.now types.now F at (get_or F (at + 1) 0)) }
+        Shows w.old w.new (fn_row types.now.texts.now types.now.words.now F at (get_or F (at + 1) 0)) }
 {
     let i = at as usize;
     let name = word_at(functions, i);
     let n = word_at(functions, i + 1) as usize;
     let ret = word_at(functions, i + 2 + 2 * n);
-    put_fn(w, types, texts, functions, name, i + 2, n, ret);
+    put_fn(w, types, functions, name, i + 2, n, ret);
 }
 
 // A diagnostic's row from its code, its span and its message.

@@ -45,7 +45,8 @@ module _ (i : Inputs) (b b' : Buffers) where
   after_is (Ok c) = refl
   after_is (Err x) = refl
 
-  pub runs : {r : Begun} {v : ℕ} (c : Checked) → check_of i b ≡ ended_of c b' → c ≡ checked_of (check_of i b) → length b.functions ≡ 8192 → r ≡ begun_of v c → v ≡ slot_count i.image → Runs i b b' r
+  pub runs : {r : Begun} {v : ℕ} (c : Checked) → check_of i b ≡ ended_of c b' → c ≡ checked_of (check_of i b) → length b.functions ≡ 8192
+      → r ≡ begun_of v c → v ≡ slot_count i.image → Runs i b b' r
   runs {v = v} c e a l p q = record {
     begun = p ∙ begun-is v c e a l ∙ rw (← e, q);
     after = after_is c ∙ ap (λ x. x.after) (sym e);

@@ -5,9 +5,10 @@ ghost use Rattle.std.specs.Prelude.{◌≡◌};
 ghost use Rattle.rows_window.specs.Showing.{Shows};
 ghost use Rattle.rows_part.specs.Printing.{Answer, answer_of, row_of, diag_from, fn_from, next_in, Prints};
 
+use ptype::Types;
 use rows_window::Window;
 use std::marker::Model;
-use tok::{Texts, word_at};
+use tok::word_at;
 
 // A row: a slot's by its number, a function's by the place of its entry, a diagnostic's by its number; the last of an answer; a refusal's with number
 // and place; that of an input that does not fit; and none, behind the last.
@@ -30,12 +31,11 @@ pub struct Part {
     pub skip: usize,
 }
 
-// What rows are printed from: the texts, the buffers, V, and how many function words and diagnostics are used.
+// What rows are printed from: the types with the texts of their names, the other buffers, V, and how many function words and diagnostics are used.
 #[derive(Drop)]
 pub struct Answer<'a> {
-    pub texts: &'a Texts<'a>,
+    pub types: &'a Types<'a>,
     pub slots: &'a [u32],
-    pub types: &'a [u32],
     pub functions: &'a [u32],
     pub diagnostics: &'a [u32],
     pub messages: &'a [u8],
@@ -47,7 +47,7 @@ pub struct Answer<'a> {
 impl<'a> Model for Answer<'a> {
     ghost Value = { Answer };
 
-    ghost view = { λ a. answer_of a.texts.now a.slots.now a.types.now a.functions.now
+    ghost view = { λ a. answer_of a.types.now.texts.now a.slots.now a.types.now.words.now a.functions.now
         a.diagnostics.now a.messages.now a.last a.words a.count };
 }
 
@@ -61,10 +61,10 @@ impl<'a> Answer<'a> {
             Row::Slot(i) => {
                 let slot = i as usize;
                 let word = word_at(self.slots, slot);
-                rows::slot_row(w, self.types, self.texts, slot, word);
+                rows::slot_row(w, self.types, slot, word);
             }
             Row::Fn(at) => {
-                rows::fn_row(w, self.types, self.texts, self.functions, at);
+                rows::fn_row(w, self.types, self.functions, at);
             }
             Row::Diag(k) => {
                 rows::diag_row(w, self.diagnostics, self.messages, k);

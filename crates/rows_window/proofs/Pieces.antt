@@ -57,7 +57,8 @@ digits-short (suc k) n = go (ltb n 10) refl (digits-short k (n / 10))
     go false e more = rw (e, digits, length-append (digits k (n / 10)) ((48 + n % 10) ∷ [])) (omega arith)
 
 pub decimal-room :
-    (o : List ℕ) {o₀ : List ℕ} {i : ℕ} {r : Result ⊤ Full} {x : Full} {p : List ℕ × ℕ} (n : ℕ) → (o ≡ o₀) × (i ≡ 0) → (r, p) ≡ written o i (decimal n) → 10 ≤ length o₀ → r ≡ Err x → ⊥
+    (o : List ℕ) {o₀ : List ℕ} {i : ℕ} {r : Result ⊤ Full} {x : Full} {p : List ℕ × ℕ} (n : ℕ) →
+    (o ≡ o₀) × (i ≡ 0) → (r, p) ≡ written o i (decimal n) → 10 ≤ length o₀ → r ≡ Err x → ⊥
 unfolding decimal
 decimal-room o {i = i} {p = p} n s e h k =
     let g = written_err o i (digits 10 n) (ap (λ z. (z, p)) (sym k) ∙ e) in

@@ -1,6 +1,7 @@
 -- What is written of a text through a window: the part of it that begins so many bytes from its start, as much as has room. Definitions.
-use Rattle.std.specs.Prelude.{ℕ, ◌+◌, ◌-◌, min, ◌≡◌, Bool, ◌&&◌, List, length, drop, eqb, leb}
+use Rattle.std.specs.Prelude.{ℕ, ◌+◌, ◌-◌, min, ◌≡◌, Bool, ◌&&◌, cond, List, length, drop, eqb, leb, Result, Ok, Err, ⊤}
 use Rattle.ptype.specs.Add.{write}
+use Rattle.display.specs.declared.Full.{Full}
 use Rattle.rows_window.specs.declared.Window.{Window}
 
 -- The contract of every writer: w came in, the text s was written, w' is the window now. The same buffer is lent to it still.
@@ -14,3 +15,7 @@ pub record Shows (w w' : Window) (s : List ℕ) : Type 0 where
 -- nothing is passed over any more, and nothing has room
 unfoldable pub is_full : Window → Bool
 is_full w = eqb w.skip 0 && leb (length w.buffer.now) w.at
+
+-- the same as a sink's: what is answered is whether the window is full then
+abbrev pub Shown : (w w' : Window) → (r : Result ⊤ Full) → (s : List ℕ) → Type 0
+Shown w w' r s = Shows w w' s × (r ≡ cond (is_full w') (Err (record {})) (Ok tt))

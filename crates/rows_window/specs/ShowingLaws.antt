@@ -1,16 +1,17 @@
 -- Laws of windows: one text after another is their concatenation; windows one behind the other show the whole text. Assumes nothing.
-use Rattle.std.specs.Prelude.{ℕ, zero, suc, ◌+◌, ◌-◌, ◌≤◌, min, ◌≡◌, refl, Bool, true, false, List, [], ◌∷◌, ◌++◌, length, take, drop, eqb, Result, Ok, ⊤}
+use Rattle.std.specs.Prelude.{ℕ, zero, suc, ◌+◌, ◌-◌, ◌≤◌, min, ◌≡◌, refl, Bool, true, false, List, [], ◌∷◌, ◌++◌, length, take, drop, eqb, cond, Result, Ok, Err, ⊤}
 use Rattle.std.proofs.Common.{sym, ap, ◌∙◌, true≢false, arith, length-append, length-drop, length-take, eqb-true, leb-true}
 use Rattle.std.proofs.Math.Nat.{sub-zero, zero-sub, suc-sub-suc, sub-add-eq}
 use Rattle.std.proofs.Math.Seq.{take-length}
 use Rattle.facts.specs.Tests.{by_order}
 use Rattle.ptype.specs.Add.{overwrite, write}
 use Rattle.display.specs.declared.Full.{Full}
+use Rattle.display.specs.Sink.{SinkLaws}
 use Rattle.display.specs.Writing.{written}
 use Rattle.display.specs.WritingLaws.{written_buffer, written_place, written_ok}
 use Rattle.display.specs.WriteLaws.{write-past, length-write, write-append}
 use Rattle.rows_window.specs.declared.Window.{Window}
-use Rattle.rows_window.specs.Showing.{Shows, is_full}
+use Rattle.rows_window.specs.Showing.{Shows, is_full, Shown}
 
 -- what is left of two texts behind k bytes
 drop-both : (k : ℕ) (s t : List ℕ) → drop k (s ++ t) ≡ drop k s ++ drop (k - length s) t
@@ -73,6 +74,27 @@ shows_full w s h = go (eqb w.skip 0) refl
         let l : length w.buffer.now ≤ w.at = leb-true (length w.buffer.now) w.at (rw e at h) in
         record { buffer = refl; bytes = sym (write-past w.buffer.now w.at (drop w.skip s) l); skips = omega arith; place = omega arith }
     go false e = absurd (true≢false (sym (rw e at h)))
+
+-- ---- a window is a sink
+full-is : (w : Window) (x : Full) → ◌≡◌ {A = Result ⊤ Full} (Err x) (cond (is_full w) (Err (record {})) (Ok tt)) → is_full w ≡ true
+full-is w x e = go (is_full w) e
+  where
+    go : (b : Bool) → ◌≡◌ {A = Result ⊤ Full} (Err x) (cond b (Err (record {})) (Ok tt)) → b ≡ true
+    go true k = refl
+    go false k = let z : ◌≡◌ {A = ℕ} 0 1 = cc in absurd (omega arith)
+
+module _ (a b : Window) (s t : List ℕ) where
+  window_more : (c : Window) (x : ⊤) (r : Result ⊤ Full) → Shown a b (Ok x) s → Shown b c r t → Shown a c r (s ++ t)
+  window_more c x r p q = (p.0 and_then q.0, q.1)
+
+  window_stop : (x : Full) → Shown a b (Err x) s → Shown a b (Err x) (s ++ t)
+  window_stop x p = (p.0 and_then shows_full b t (full-is b x p.1), p.1)
+
+pub window_laws : SinkLaws Window Shown
+window_laws = record {
+  more = λ {a} {b} {c} {x} {r} {s} {t} p q. window_more a b s t c x r p q;
+  stop = λ {a} {b} {x} {s} t p. window_stop a b s t x p;
+}
 
 -- ---- pieces that were written into a buffer of their own
 pub take-over : (n : ℕ) (o s : List ℕ) → n ≤ length s → n ≤ length o → take n (overwrite o s) ≡ take n s

@@ -3,9 +3,10 @@
 
 ghost use Rattle.std.specs.Prelude.{◌≡◌, length};
 ghost use Rattle.ptype.specs.Show.{decimal};
-ghost use Rattle.rows_window.specs.Showing.{Shows, is_full};
+ghost use Rattle.rows_window.specs.Showing.{Shows, is_full, Shown};
+ghost use Rattle.rows_window.specs.ShowingLaws.{window_laws};
 
-use display::Writer;
+use display::{Full, Sink, Writer};
 
 // The buffer that is lent to be written into, how many bytes of the text are still passed over, and where the next byte goes.
 #[derive(Drop)]
@@ -51,5 +52,17 @@ impl<'a> Window<'a> {
         };
         let end = writer.at;
         self.put(&digits[..end]);
+    }
+}
+
+// A full window tells so, that no more of a text is gone through.
+impl<'a> Sink for Window<'a> {
+    ghost Wrote = { Shown };
+
+    ghost laws = { window_laws };
+
+    fn write(&mut self, piece: &[u8]) -> Result<(), Full> {
+        self.put(piece);
+        if self.is_full() { Err(Full) } else { Ok(()) }
     }
 }

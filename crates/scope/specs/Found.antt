@@ -20,6 +20,14 @@ abbrev pub binding_of : Found Binding → Option (Option ℕ)
 binding_of (Some b) = some (bound_of b)
 binding_of None = none
 
+-- the own functions: so many entries of the functions buffer
+pub record Owned : Type 0 where
+  pub words : List ℕ
+  pub count : ℕ
+
+abbrev pub owned : List ℕ → ℕ → Owned
+owned words count = record { words = words; count = count }
+
 -- the signature of an own function
 abbrev pub own_of : (functions : List ℕ) → Found ℕ → Option Signature
 own_of functions (Some at) = some (signature_at functions at false)

@@ -7,8 +7,9 @@ ghost use Rattle.library.specs.Package.{find_function, find_package};
 ghost use Rattle.rules.specs.Steps.{env_get};
 ghost use Rattle.state.specs.Signatures.{entries_end, own_in};
 ghost use Rattle.state.specs.Store.{poisoned, local_name, env_up, held_at, held_size, held_from, held_end};
-ghost use Rattle.scope.specs.Found.{binding_of, own_of, package_of, held_of};
+ghost use Rattle.scope.specs.Found.{Owned, owned, binding_of, own_of, package_of, held_of};
 
+use std::marker::Model;
 use tok::{Texts, kind, name_bytes, word_at};
 
 // The names in scope: `depth` of them, from name number `base` on.
@@ -71,33 +72,48 @@ pub fn env_get(texts: &Texts, scratch: &[u32], names: Names, name: u32) -> Optio
     None
 }
 
-// Where k entries of the functions buffer end.
-pub fn own_end(functions: &[u32], k: usize) -> usize
-    requires { entries_end functions.now 0 0 k ≤ length functions.now }
-    ensures { result ≡ entries_end functions.now 0 0 k }
-{
-    let mut at = 0;
-    for _ in 0..k {
-        at += 3 + 2 * word_at(functions, at + 1) as usize;
-    }
-    at
+// The own functions: `count` entries of the functions buffer, which lie in it.
+#[derive(Drop)]
+pub struct Own<'a> {
+    pub words: &'a [u32],
+    pub count: usize,
 }
 
-// The newest own function of a name, among k entries.
-pub fn find_own(texts: &Texts, functions: &[u32], k: usize, name: u32) -> Option<usize>
-    requires { entries_end functions.now 0 0 k ≤ length functions.now }
-    ensures { own_of functions.now result ≡ find_function texts.now (name_bytes texts.now name) (own_in functions.now k) }
-{
-    let wanted = name_bytes(texts, name);
-    let mut found = None;
-    let mut entry = 0;
-    for _ in 0..k {
-        if tok::is_name(texts, wanted, word_at(functions, entry)) {
-            found = Some(entry + 1);
+impl<'a> Model for Own<'a> {
+    ghost Value = { Owned };
+
+    ghost view = { λ o. owned o.words.now o.count };
+
+    ghost invariant = { λ o. entries_end o.words.now 0 0 o.count ≤ length o.words.now };
+}
+
+impl<'a> Own<'a> {
+    // Where the entries end.
+    pub fn end(&self) -> usize
+        ensures { result ≡ entries_end self.now.words 0 0 self.now.count }
+    {
+        let mut at = 0;
+        for _ in 0..self.count {
+            at += 3 + 2 * word_at(self.words, at + 1) as usize;
         }
-        entry += 3 + 2 * word_at(functions, entry + 1) as usize;
+        at
     }
-    found
+
+    // The newest own function of a name: the place of its signature.
+    pub fn find(&self, texts: &Texts, name: u32) -> Option<usize>
+        ensures { own_of self.now.words result ≡ find_function texts.now (name_bytes texts.now name) (own_in self.now.words self.now.count) }
+    {
+        let wanted = name_bytes(texts, name);
+        let mut found = None;
+        let mut entry = 0;
+        for _ in 0..self.count {
+            if tok::is_name(texts, wanted, word_at(self.words, entry)) {
+                found = Some(entry + 1);
+            }
+            entry += 3 + 2 * word_at(self.words, entry + 1) as usize;
+        }
+        found
+    }
 }
 
 // Words below are those of library packages, in the list of what is held; an Extern's has this much more than its size.

@@ -57,13 +57,15 @@ module _ (n : ℕ) {d : Diagnostic} {s t ds ms ds' ms' : List ℕ} {u : Used} {r
 -- ---- a step, and what comes after it
 module _ {A B : Type 0} {m : Walk A} {s t d b : List ℕ} {u : Used} {s₁ t₁ d₁ b₁ : List ℕ} where
   -- it went on: the rest takes its answer, its buffers and what is used
-  pub on-steps : (f : A → Walk B) {a : A} {u₁ : Used} {s₂ t₂ d₂ b₂ : List ℕ} {r : Step B} → Steps m s t d b u s₁ t₁ d₁ b₁ (Ok (a, u₁)) → Steps (f a) s₁ t₁ d₁ b₁ u₁ s₂ t₂ d₂ b₂ r
+  pub on-steps : (f : A → Walk B) {a : A} {u₁ : Used} {s₂ t₂ d₂ b₂ : List ℕ} {r : Step B}
+      → Steps m s t d b u s₁ t₁ d₁ b₁ (Ok (a, u₁)) → Steps (f a) s₁ t₁ d₁ b₁ u₁ s₂ t₂ d₂ b₂ r
       → Steps (◌>>=◌ m f) s t d b u s₂ t₂ d₂ b₂ r
   unfolding stepped
   on-steps f p q = record { step = λ rest. rw (p.step rest) (q.step rest) }
 
   -- it was refused: nothing comes after it
-  pub refused-steps : (f : A → Walk B) {e : Refusal} {s₂ t₂ d₂ b₂ : List ℕ} → Steps m s t d b u s₁ t₁ d₁ b₁ (Err e) → Steps (◌>>=◌ m f) s t d b u s₂ t₂ d₂ b₂ (Err e)
+  pub refused-steps : (f : A → Walk B) {e : Refusal} {s₂ t₂ d₂ b₂ : List ℕ}
+      → Steps m s t d b u s₁ t₁ d₁ b₁ (Err e) → Steps (◌>>=◌ m f) s t d b u s₂ t₂ d₂ b₂ (Err e)
   unfolding stepped
   refused-steps f p = record { step = λ rest. rw (p.step rest) }
 
@@ -85,7 +87,8 @@ passed q h =
 
 module _ {A B : Type 0} {m : Walk A} {s t d b : List ℕ} {u : Used} {s₁ t₁ d₁ b₁ : List ℕ} {r : Step A}
     (f : A → Walk B) (p : Steps m s t d b u s₁ t₁ d₁ b₁ r) where
-  pub on-ok : {a : A} {u₁ : Used} {s₂ t₂ d₂ b₂ : List ℕ} {q : Step B} → r ≡ Ok (a, u₁) → Steps (f a) s₁ t₁ d₁ b₁ u₁ s₂ t₂ d₂ b₂ q → Steps (◌>>=◌ m f) s t d b u s₂ t₂ d₂ b₂ q
+  pub on-ok : {a : A} {u₁ : Used} {s₂ t₂ d₂ b₂ : List ℕ} {q : Step B}
+      → r ≡ Ok (a, u₁) → Steps (f a) s₁ t₁ d₁ b₁ u₁ s₂ t₂ d₂ b₂ q → Steps (◌>>=◌ m f) s t d b u s₂ t₂ d₂ b₂ q
   on-ok {a} {u₁} h k = on-steps f {a = a} {u₁ = u₁} (rw (← h) p) k
 
   pub on-err : {e : Refusal} {q : Step B} → r ≡ Err e → IsErrAnd q (λ y. y ≡ e) → Steps (◌>>=◌ m f) s t d b u s₁ t₁ d₁ b₁ q

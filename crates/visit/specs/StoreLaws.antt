@@ -66,7 +66,9 @@ env-front n l l' e base (suc k) h =
 
 module _ (l : List ℕ) (base depth x t : ℕ) (room : 2 * (base + depth) + 2 ≤ length l) where
   first_word : get_or (write l (2 * (base + depth)) (x ∷ t ∷ [])) (2 * (base + depth)) 0 ≡ x
-  first_word = ap (λ i. get_or (write l (2 * (base + depth)) (x ∷ t ∷ [])) i 0) (sym (add-zero (2 * (base + depth)))) ∙ get_d_written l (2 * (base + depth)) (x ∷ t ∷ []) room 0 (omega arith)
+  first_word =
+      ap (λ i. get_or (write l (2 * (base + depth)) (x ∷ t ∷ [])) i 0) (sym (add-zero (2 * (base + depth))))
+      ∙ get_d_written l (2 * (base + depth)) (x ∷ t ∷ []) room 0 (omega arith)
 
   second_word : get_or (write l (2 * (base + depth)) (x ∷ t ∷ [])) (2 * (base + depth) + 1) 0 ≡ t
   second_word = get_d_written l (2 * (base + depth)) (x ∷ t ∷ []) room 1 (omega arith)
@@ -78,7 +80,8 @@ module _ (l : List ℕ) (base depth x t : ℕ) (room : 2 * (base + depth) + 2 �
       let s : depth + 1 ≡ suc depth = omega arith in
       let w : List ℕ = write l (2 * (base + depth)) (x ∷ t ∷ []) in
       ap (env_up w base) s
-      ∙ ap (λ r. local_at w (2 * (base + depth)) ∷ r) (env-front (2 * (base + depth)) l w (front-write l (2 * (base + depth)) (2 * (base + depth)) (x ∷ t ∷ []) (omega arith)) base depth (omega arith))
+      ∙ ap (λ r. local_at w (2 * (base + depth)) ∷ r)
+      (env-front (2 * (base + depth)) l w (front-write l (2 * (base + depth)) (2 * (base + depth)) (x ∷ t ∷ []) (omega arith)) base depth (omega arith))
 
 -- a name and its type,
 pub env-bound : (l : List ℕ) (base depth name t : ℕ) → kind_of name ≡ 12 → 2 * (base + depth) + 2 ≤ length l

@@ -37,7 +37,8 @@ within_same st b = record { base = refl; deeper = omega arith; taken = omega ari
 take_below : (l l' : List ℕ) {n m : ℕ} → m ≤ n → take n l ≡ take n l' → take m l ≡ take m l'
 take_below l l' {n} {m} h e = sym (take-take m n l h) ∙ ap (take m) e ∙ take-take m n l' h
 
-pub within-then : {r₁ r₂ w₁ w₂ : ℕ} {s₁ s₂ s₃ : State} {b₁ b₂ b₃ : Lent} → Within r₁ w₁ s₁ b₁ s₂ b₂ → Within r₂ w₂ s₂ b₂ s₃ b₃ → Within (r₁ + r₂) (w₁ + w₂) s₁ b₁ s₃ b₃
+pub within-then : {r₁ r₂ w₁ w₂ : ℕ} {s₁ s₂ s₃ : State} {b₁ b₂ b₃ : Lent}
+    → Within r₁ w₁ s₁ b₁ s₂ b₂ → Within r₂ w₂ s₂ b₂ s₃ b₃ → Within (r₁ + r₂) (w₁ + w₂) s₁ b₁ s₃ b₃
 within-then {s₁ = s₁} {s₂ = s₂} {b₂ = b₂} {b₃ = b₃} p q =
     let e = p.base in
     let l : top s₁ ≤ top s₂ = omega (arith, p.base, p.deeper) in

@@ -4,4 +4,4 @@ use Rattle.display.proofs.show_type.Goals as goal
 
 pub returns : goal.returns
 unfolding ty_of
-returns c = c.show_within.ensures
+returns g c = c.show_within.ensures

@@ -1,7 +1,6 @@
--- `rows_types::show_arguments` meets its contract: the levels are those of `ty_of`. Assumes nothing.
-use Rattle.ptype.specs.Words.{ty_of}
+-- `rows_types::show_arguments` meets its contract: the arguments, and what comes after them. Assumes nothing.
+use Rattle.rows_window.specs.ShowingLaws.{◌and_then◌}
 use Rattle.rows_types.proofs.show_arguments.Goals as goal
 
 pub returns : goal.returns
-unfolding ty_of
-returns c = c.show_fields.ensures
+returns c = c.show_arguments.ensures.0 and_then c.put.ensures

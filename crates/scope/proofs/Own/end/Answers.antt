@@ -1,9 +1,9 @@
 use Rattle.std.proofs.Common.{◌≡◌, ◌+◌, ◌-◌, refl, arith}
 use Rattle.scope.proofs.OwnWays.{left-begin, left-room, left-more, left_over}
-use Rattle.scope.proofs.own_end.Goals as goal
+use Rattle.scope.proofs.Own.end.Goals as goal
 
 pub loop-init : goal.loop-init
-loop-init c = let e : c.args.k - 0 ≡ c.args.k = omega arith in rw e (left-begin c.requires)
+loop-init c = let e : c.self.inside.count - 0 ≡ c.self.inside.count = omega arith in rw e (left-begin c.self.invariant)
 
 pub overflow_add-at : goal.overflow_add-at
 overflow_add-at c = omega (arith, left-room c.loop.invariant (omega arith) refl)
@@ -13,8 +13,8 @@ overflow_add-at-in-loop-2 c = omega (arith, left-room c.loop.invariant (omega ar
 
 pub loop-preserved : goal.loop-preserved
 loop-preserved c =
-    let e : c.args.k - (c.loop.counter + 1) ≡ c.args.k - c.loop.counter - 1 = omega arith in
+    let e : c.self.inside.count - (c.loop.counter + 1) ≡ c.self.inside.count - c.loop.counter - 1 = omega arith in
     rw e (left-more c.loop.invariant (omega arith) c.word_at.ensures)
 
 pub returns : goal.returns
-returns c = left_over c.loop.invariant (omega arith)
+returns c = rw (← c.self.view_is) (left_over c.loop.invariant (omega arith))

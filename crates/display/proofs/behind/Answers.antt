@@ -1,7 +1,7 @@
--- `rows_types::behind` meets its contract. Assumes nothing.
+-- `display::behind` meets its contract. Assumes nothing.
 use borrow.Author.Tests.{lt-ltb, le-ltb}
-use Rattle.rows_types.specs.Behind.{behind_of}
-use Rattle.rows_types.proofs.behind.Goals as goal
+use Rattle.display.specs.Behind.{behind_of}
+use Rattle.display.proofs.behind.Goals as goal
 
 pub returns-then-i-words : goal.returns-then-i-words
 unfolding behind_of
