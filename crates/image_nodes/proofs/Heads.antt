@@ -36,4 +36,4 @@ no-head w h = let s = beyond (kind_of w) h in rw (s.1, good_node_head) refl
 
 pub no-rest : (from : Reader) (head : ℕ) (h : Here) → 14 ≤ kind_of head → Leads from ((node_kind head).rest h) (Ok from)
 unfolding node_kind node_kinds unanswered gave
-no-rest from head h l = let s = beyond (kind_of head) l in rw s.1 refl
+no-rest from head h l = let s = beyond (kind_of head) l in rw s.1 (refl, refl)
