@@ -4,7 +4,6 @@
 ghost use Rattle.std.specs.Prelude.{◌≡◌, false, ◌&&◌, List, ℕ, ◌+◌, ◌*◌, ◌-◌, ◌%◌, get_or, leb, ltb, eqb};
 ghost use Rattle.tok.specs.Word.{kind_of};
 ghost use Rattle.reader.specs.Reading.{Comes};
-ghost use Rattle.ast.specs.Kinds.{kind_of_node};
 ghost use Rattle.ast.specs.Outline.{Outline};
 ghost use Rattle.ast.specs.NodeRecords.{atom, ident, bin, unary, binding, good_arguments, fn, cases, match, call, field, cast, imports, good_extern_count, extern_functions, good_function_count, extern, record_node, array};
 ghost use Rattle.ast.specs.Nodes.{node_kind, good_node_head, node};
@@ -289,6 +288,7 @@ fn and_pairs(least: usize, long: usize) -> bool
 }
 
 // Whether a record's first word has a kind of node, and a length that the kind may have.
+#[tactic(auto, unfolding(ast::specs::Nodes::node_kinds), using(crate::proofs::Heads::long_by))]
 fn good_head(head: u32) -> bool
     ensures { result ≡ good_node_head head }
 {
@@ -312,17 +312,18 @@ fn good_head(head: u32) -> bool
     }
 }
 
-// The words after the slot, by kind.
+// The words after the slot, by the kind of the record's first word.
+#[tactic(auto, unfolding(ast::specs::Nodes::node_kinds, reader::specs::Reading::gave, image_words::specs::Leads::unanswered), using(crate::proofs::Heads::row))]
 fn rest<'a>(
     from: Reader<'a>,
     site: &Site,
     callable: &[bool],
-    kind: NodeKind,
+    head: u32,
 ) -> Result<Reader<'a>, Fault>
-    ensures { (head : ℕ) (before : List Outline) → kind ≡ kind_of_node (kind_of head) → Kept callable.now before site.now.number → Leads from.entry
+    ensures { (before : List Outline) → Kept callable.now before site.now.number → Leads from.entry
         ((node_kind head).rest (here_of site.now (kind_of head) before)) result }
 {
-    match kind {
+    match NodeKind::of(head) {
         NodeKind::Atom => atom(from, site),
         NodeKind::Ident => ident(from, site),
         NodeKind::Bin => bin(from, site),
@@ -365,5 +366,5 @@ pub fn node<'a>(
         slot,
         left: long.saturating_sub(2),
     };
-    rest(at, &site, callable, NodeKind::of(head))
+    rest(at, &site, callable, head)
 }
