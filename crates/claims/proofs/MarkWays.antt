@@ -10,7 +10,7 @@ use lib.Seq.{set_out}
 use Rattle.ast.specs.Image.{word_at}
 use Rattle.ast.specs.Claims.{count_from}
 use Rattle.image_laws.specs.OutlineAt.{parts_from, case_parts}
-use Rattle.node_parts.specs.Lists.{parts_next, parts_none, cases_next, cases_none, CasesLeft, cases-first, cases_step}
+use Rattle.node_parts.specs.Lists.{parts_next, parts_none, cases_next, cases_none, CasePlace, CasesLeft, cases-first, cases_step}
 use Rattle.claims.specs.Marks.{mark_all, marked, Marking}
 
 -- ── One list after another ──
@@ -146,6 +146,10 @@ pub record CasesToMark (words : List ℕ) (end from count : ℕ) (before marks :
 
 pub cases-to_mark : {words : List ℕ} {end from count : ℕ} {marks : List Bool} → from ≤ length words + 3 → CasesToMark words end from count marks marks from count
 cases-to_mark h = record { long = refl; left = cases-first _ _ _ h; rest = λ after r m. m }
+
+pub cases-placed : {words : List ℕ} {end from count : ℕ} {before marks : List Bool} {at k : ℕ} → CasesToMark words end from count before marks at k
+    → CasePlace words count at k × CasesToMark words end from count before marks at k
+cases-placed h = (h.left.place, h)
 
 module _ {words : List ℕ} {end from count : ℕ} {before marks : List Bool} {at k : ℕ} (h : CasesToMark words end from count before marks at k) where
   module _ {c : ℕ} {marks₁ : List Bool} {b₁ : Bool} (l : 0 < k) (ec : c ≡ word_at words (at + 1)) (m₁ : Marking marks (c ∷ []) marks₁ b₁) where

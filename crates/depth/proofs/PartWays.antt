@@ -8,7 +8,7 @@ use lib.ListN.{length, get_or}
 use Rattle.ast.specs.Image.{word_at}
 use Rattle.ast.specs.Depth.{deepest}
 use Rattle.image_laws.specs.OutlineAt.{parts_from, case_parts}
-use Rattle.node_parts.specs.Lists.{parts_next, parts_none, cases_next, cases_none, CasesLeft, cases-first, cases_step}
+use Rattle.node_parts.specs.Lists.{parts_next, parts_none, cases_next, cases_none, CasePlace, CasesLeft, cases-first, cases_step}
 
 max_assoc : (a b c : ℕ) → max (max a b) c ≡ max a (max b c)
 max_assoc a b c = omega arith
@@ -61,6 +61,10 @@ pub record CasesToMeasure (words depths : List ℕ) (end from count at k d : ℕ
 
 pub cases-to-measure : {words depths : List ℕ} {end from count : ℕ} → from ≤ length words + 3 → CasesToMeasure words depths end from count from count 0
 cases-to-measure {words} {depths} {end} {from} {count} h = record { left = cases-first words count from h; rest = sym (zero-max (deepest depths (case_parts words end from count))) }
+
+pub cases-placed : {words depths : List ℕ} {end from count at k d : ℕ} → CasesToMeasure words depths end from count at k d
+    → CasePlace words count at k × CasesToMeasure words depths end from count at k d
+cases-placed h = (h.left.place, h)
 
 module _ {words depths : List ℕ} {end from count at k d : ℕ} (h : CasesToMeasure words depths end from count at k d) where
   case-rest : (0 < k) → deepest depths (case_parts words end at k)

@@ -62,7 +62,9 @@ depth_same {array = array} {depths = depths} i [] h a = refl
 depth_same {array = array} {depths = depths} i (o ∷ os) h a =
     let e : 1 + deepest array o.parts ≡ 1 + deepest depths o.parts = ap (λ d. 1 + d) (deepest-same array depths o.parts a.each) in
     fault-same _ _ i _ _ (ap (ltb 64) e)
-    (ap (λ d. depth_by (set array i d) (i + 1) os) e ∙ depth_same {array = set array i (1 + deepest depths o.parts)} {depths = depths ++ ((1 + deepest depths o.parts) ∷ [])} (i + 1) os (omega arith) (holds-next (1 + deepest depths o.parts) (omega arith) a))
+    (ap (λ d. depth_by (set array i d) (i + 1) os) e
+    ∙ depth_same {array = set array i (1 + deepest depths o.parts)} {depths = depths ++ ((1 + deepest depths o.parts) ∷ [])} (i + 1) os (omega arith)
+    (holds-next (1 + deepest depths o.parts) (omega arith) a))
 
 holds-none : Holds (replicate 2048 0) [] 0
 holds-none =

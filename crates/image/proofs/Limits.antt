@@ -14,7 +14,7 @@ use Rattle.reader.specs.Reading.{Reader, beginning, next_word, onward, gave, off
 use Rattle.reader.specs.Laws.{owed, onward_begun, onward_long}
 use Rattle.ast.specs.ImageFault.{image, image_read, image_fault}
 use Rattle.reader.specs.Reads.{reads_word, reads-shown}
-use Rattle.image_words.specs.Leads.{Leads}
+use Rattle.image_words.specs.Leads.{unanswered}
 use Rattle.image_words.specs.LeadLaws.{leads_fault}
 
 pub within : (from to : Reader) (good : Bool) (owes a : ℕ) → onward from (owing (λ _. good) (λ _. owes)) ≡ gave a (Ok to) → good ≡ true
@@ -32,6 +32,7 @@ module _ (t : Texts) (words : List ℕ) where
   unfolding image_fault image_read gave fault_of
   long_fault fault e = ap fault_of (sym (onward_long words (length t.script) 4 (image t) fault (record { slots = 0; roots = []; nodes = [] }) e))
 
-  pub read_fault : (from : Reader) (to : Result Reader Fault) → beginning (length t.script) words 4 ≡ Ok from → Leads from (image t) to → offending to ≡ image_fault t words
+  pub read_fault : (from : Reader) (to : Result Reader Fault) → beginning (length t.script) words 4 ≡ Ok from → unanswered (onward from (image t)) ≡ gave tt to
+      → offending to ≡ image_fault t words
   unfolding image_fault image_read
   read_fault from to e l = leads_fault to (onward from (image t)) l ∙ ap fault_of (sym (onward_begun words (length t.script) 4 (image t) from e))

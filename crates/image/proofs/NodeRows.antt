@@ -13,12 +13,12 @@ use lib.Seq.{get_or-set_same, get_or-set_other, get_or_at}
 use Rattle.tok.specs.Word.{kind_of}
 use Rattle.std.specs.Prelude.{Ok, Err}
 use Rattle.reader.specs.declared.Fault.{Fault}
-use Rattle.reader.specs.Reading.{Reader, next_word, onward, gave}
+use Rattle.reader.specs.Reading.{Reader, next_word, gave, Comes}
 use Rattle.ast.specs.Outline.{Outline, Counts}
 use Rattle.ast.specs.NodeRecords.{no_node, callable}
 use Rattle.ast.specs.Nodes.{node, nodes}
 use Rattle.image_laws.specs.OutlineAt.{outline_from}
-use Rattle.image_words.specs.Leads.{unanswered, Leads}
+use Rattle.image_words.specs.Leads.{unanswered, Leads, Left}
 use Rattle.image_nodes.specs.Site.{Kept}
 
 -- the loop before node i: the outlines of the nodes before, of which it is kept whether they may be called; and what the others lead to, all lead to
@@ -26,12 +26,12 @@ pub record Before (from : Reader) (c : Counts) (n : ℕ) (called : List Bool) (t
   pub outlines : List Outline
   pub many : length outlines ≡ i
   pub kept : Kept called outlines i
-  pub rest : unanswered (onward to (nodes c (n - i) i outlines)) ≡ unanswered (onward from (nodes c n 0 []))
+  pub rest : Left from (nodes c n 0 []) to (nodes c (n - i) i outlines)
 
 pub at_first : {from : Reader} {c : Counts} {n : ℕ} (called : List Bool) → Before from c n called from 0
 at_first {n = n} called =
     let e : n - 0 ≡ n = omega arith in
-    record { outlines = []; many = refl; kept = record { kept = λ p h. absurd (not-suc-le-zero h) }; rest = rw e refl }
+    record { outlines = []; many = refl; kept = record { kept = λ p h. absurd (not-suc-le-zero h) }; rest = (rw e refl, refl) }
 
 -- one more
 keep : (called : List Bool) (before : List Outline) (i : ℕ) (o : Outline) → length before ≡ i → i < length called → Kept called before i
@@ -52,7 +52,7 @@ keep called before i o e fits k =
 module _ {from to : Reader} {c : Counts} {n : ℕ} {called : List Bool} {i : ℕ} (b : Before from c n called to i) where
   module _ (h : i < n) where
     pub one_more : (mid : Reader) (may : Bool) → i < length called → may ≡ (eqb (kind_of (next_word to)) 1 || eqb (kind_of (next_word to)) 8)
-        → ((before : List Outline) → Kept called before i → onward to (node c before i) ≡ gave (outline_from to.words to.at) (Ok mid))
+        → ((before : List Outline) → Kept called before i → Comes to (node c before i) (outline_from to.words to.at) (Ok mid))
         → Before from c n (set called i may) mid (i + 1)
     unfolding nodes gave
     one_more mid may fits k read =
@@ -62,17 +62,17 @@ module _ {from to : Reader} {c : Counts} {n : ℕ} {called : List Bool} {i : ℕ
           outlines = b.outlines ++ (o ∷ []);
           many = length-append b.outlines (o ∷ []) ∙ rw b.many refl;
           kept = rw k (keep called b.outlines i o b.many fits b.kept);
-          rest = rw (e, read b.outlines b.kept) at b.rest;
+          rest = let r = read b.outlines b.kept in (rw (e, r.0) at b.rest.0, r.1 ∙ b.rest.1);
         }
 
     pub stops_there : (fault : Fault)
-        → ((before : List Outline) → Kept called before i → onward to (node c before i) ≡ gave (outline_from to.words to.at) (Err fault))
+        → ((before : List Outline) → Kept called before i → Comes to (node c before i) (outline_from to.words to.at) (Err fault))
         → Leads from (nodes c n 0 []) (Err fault)
     unfolding nodes gave unanswered
     stops_there fault read =
         let e : n - i ≡ suc (n - (i + 1)) = omega arith in
-        sym (rw (e, read b.outlines b.kept) at b.rest)
+        (sym (rw (e, (read b.outlines b.kept).0) at b.rest.0), tt)
 
   pub at_last : n ≤ i → Leads from (nodes c n 0 []) (Ok to)
   unfolding nodes gave unanswered
-  at_last h = let e : n - i ≡ 0 = omega arith in sym (rw e at b.rest)
+  at_last h = let e : n - i ≡ 0 = omega arith in (sym (rw e at b.rest.0), b.rest.1)

@@ -1,6 +1,7 @@
 -- The type records, as the code reads them: the rows of the table of kinds, and one record after the other. Assumes nothing.
 use Prim.Native.Nat.{ℕ, suc, ◌+◌, ◌-◌, ◌≤◌, ◌<◌}
 use mathlib.Core.Bool.{false}
+use mathlib.Core.List.{List}
 use mathlib.Core.Path.{◌≡◌, refl, sym, ap, ◌∙◌}
 use native.Mathlib.Omega.{arith}
 use lib.Dec.{eqb}
@@ -16,8 +17,9 @@ use Rattle.ast.specs.Kinds.{kind_of_expr}
 use Rattle.ast.specs.KindLaws.{expr-number}
 use Rattle.ast.specs.Outline.{Counts}
 use Rattle.ast.specs.TypeRecords.{type_inner, type_kinds, type_kind, good_type_head, type_expression, type_expressions}
-use Rattle.image_words.specs.Leads.{unanswered, Leads}
+use Rattle.image_words.specs.Leads.{unanswered}
 use Rattle.image_words.specs.LeadLaws.{leads}
+use Rattle.image.specs.Counted.{LeadsFor}
 
 -- ── The rows of the table of kinds ──
 
@@ -32,9 +34,9 @@ unfolding good_type_head
 head-by w v long p e = ap (λ κ. κ.long long) (sym (same_row w v e)) ∙ ap (type_kind w).long p
 
 -- its words, likewise
-pub rest-by : (from : Reader) (to : Result Reader Fault) (head v : ℕ) (c : Counts) (number left : ℕ) → kind_of head ≡ kind_of v
-    → Leads from ((type_kind v).rest c number left) to → Leads from ((type_kind head).rest c number left) to
-rest-by from to head v c number left e l = rw (same_row head v e) l
+pub rest-by : (from : Reader) (text : List ℕ) (to : Result Reader Fault) (head v number left : ℕ) → kind_of head ≡ kind_of v
+    → LeadsFor from text (λ c. (type_kind v).rest c number left) to → LeadsFor from text (λ c. (type_kind head).rest c number left) to
+rest-by from text to head v number left e l = rw (same_row head v e) l
 
 -- Foreign, Option and Array are two words long
 pub two-long : (w long : ℕ) {x : ExprKind} → long ≡ payload_of w → x ≡ kind_of_expr (kind_of w) → (x ≡ expr.Foreign) ⊎ ((x ≡ expr.Option) ⊎ (x ≡ expr.Array))
@@ -45,11 +47,12 @@ two-long w long p e (inr (inl q)) = head-by w 0x2000_0000 long p (expr-number _ 
 two-long w long p e (inr (inr q)) = head-by w 0x3000_0000 long p (expr-number _ (sym q ∙ e))
 
 -- Option and Array have their inner type
-pub inner-rest : (from : Reader) (to : Result Reader Fault) (head : ℕ) {x : ExprKind} (c : Counts) (number left : ℕ) → x ≡ kind_of_expr (kind_of head)
-    → (x ≡ expr.Option) ⊎ (x ≡ expr.Array) → Leads from (type_inner c number left) to → Leads from ((type_kind head).rest c number left) to
+pub inner-rest : (from : Reader) (text : List ℕ) (to : Result Reader Fault) (head : ℕ) {x : ExprKind} (number left : ℕ) → x ≡ kind_of_expr (kind_of head)
+    → (x ≡ expr.Option) ⊎ (x ≡ expr.Array) → LeadsFor from text (λ c. type_inner c number left) to
+    → LeadsFor from text (λ c. (type_kind head).rest c number left) to
 unfolding type_kind type_kinds
-inner-rest from to head c number left e (inl q) l = rest-by from to head 0x2000_0000 c number left (expr-number _ (sym q ∙ e)) l
-inner-rest from to head c number left e (inr q) l = rest-by from to head 0x3000_0000 c number left (expr-number _ (sym q ∙ e)) l
+inner-rest from text to head number left e (inl q) l = rest-by from text to head 0x2000_0000 number left (expr-number _ (sym q ∙ e)) l
+inner-rest from text to head number left e (inr q) l = rest-by from text to head 0x3000_0000 number left (expr-number _ (sym q ∙ e)) l
 
 -- a number that is none of the table's
 beyond : (k : ℕ) → 5 ≤ k → (j : ℕ) × (k ≡ suc (suc (suc (suc (suc j)))))
@@ -59,9 +62,10 @@ pub no-head : (w : ℕ) → 5 ≤ kind_of w → false ≡ good_type_head w
 unfolding good_type_head type_kind type_kinds
 no-head w h = let s = beyond (kind_of w) h in rw (s.1, good_type_head) refl
 
-pub no-rest : (from : Reader) (head : ℕ) (c : Counts) (number left : ℕ) → 5 ≤ kind_of head → Leads from ((type_kind head).rest c number left) (Ok from)
+pub no-rest : (from : Reader) (text : List ℕ) (head number left : ℕ) → 5 ≤ kind_of head
+    → LeadsFor from text (λ c. (type_kind head).rest c number left) (Ok from)
 unfolding type_kind type_kinds unanswered gave
-no-rest from head c number left h = let s = beyond (kind_of head) h in rw s.1 refl
+no-rest from text head number left h = let s = beyond (kind_of head) h in (λ n t v. rw s.1 refl, refl)
 
 -- ── One record after the other ──
 

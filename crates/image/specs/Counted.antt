@@ -1,6 +1,19 @@
--- The script text and the counts of an image, as the code has them. Definitions.
-use Rattle.std.specs.Prelude.{ℕ, List}
+-- The script text and the counts of an image, as the code has them, and reading by a rule that goes by them. Definitions.
+use Rattle.std.specs.Prelude.{ℕ, ◌≡◌, List, Result}
+use Rattle.tok.specs.Reader.{Read}
+use Rattle.reader.specs.declared.Fault.{Fault}
+use Rattle.reader.specs.Reading.{Reader, onward, gave, Same}
 use Rattle.ast.specs.Outline.{Counts}
+use Rattle.image_words.specs.Leads.{unanswered}
 
 abbrev pub counted : (text : List ℕ) (nodes types slots : ℕ) → Counts
 counted text nodes types slots = record { text = text; nodes = nodes; types = types; slots = slots }
+
+-- Going on from `from` by a rule of type records comes to `to`, in the same words, whatever the counts: such a rule asks only for the text.
+abbrev pub LeadsFor : {A : Type 0} → (from : Reader) → (text : List ℕ) → (Counts → Read A) → Result Reader Fault → Type 0
+LeadsFor from text rule to = ((n t v : ℕ) → unanswered (onward from (rule (counted text n t v))) ≡ gave tt to) × Same from to
+
+-- What a loop keeps that has come from `from` to `to`: what is left leads where all of it leads, in the same words.
+abbrev pub LeftFor : {A : Type 0} → (from : Reader) → (text : List ℕ) → (all : Counts → Read A) → (to : Reader) → (left : Counts → Read A) → Type 0
+LeftFor from text all to left =
+    ((n t v : ℕ) → let c = counted text n t v in unanswered (onward to (left c)) ≡ unanswered (onward from (all c))) × (to.words ≡ from.words)

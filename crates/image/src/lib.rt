@@ -4,14 +4,14 @@
 ghost use Rattle.std.specs.Prelude.{◌≡◌, ◌&&◌, ◌||◌, List, [], ℕ, ◌%◌, ◌≤◌, length, leb, eqb};
 ghost use Rattle.tok.specs.Text.{texts_of};
 ghost use Rattle.tok.specs.Word.{kind_of};
-ghost use Rattle.reader.specs.Reading.{next_word, offending};
+ghost use Rattle.reader.specs.Reading.{next_word, onward, gave, offending};
 ghost use Rattle.ast.specs.Kinds.{kind_of_expr};
 ghost use Rattle.ast.specs.Nodes.{nodes};
 ghost use Rattle.ast.specs.TypeRecords.{type_atom, type_foreign, type_inner, type_record, type_kind, good_type_head, type_expression, type_expressions};
 ghost use Rattle.ast.specs.ImageFault.{image, image_fault};
-ghost use Rattle.image_words.specs.Leads.{Leads};
+ghost use Rattle.image_words.specs.Leads.{unanswered, Leads};
 ghost use Rattle.image_nodes.specs.Site.{counts_of};
-ghost use Rattle.image.specs.Counted.{counted};
+ghost use Rattle.image.specs.Counted.{LeadsFor};
 
 use ast::{ExprKind, NodeKind};
 use image_nodes::Sizes;
@@ -23,7 +23,7 @@ use reader::{Fault, Reader};
 // 0 Atom: token, kind 1 to 5.
 #[tactic(auto, unfolding(ast::specs::TypeRecords::type_atom, reader::specs::Reading::gave, image_words::specs::Leads::unanswered), using(image_words::specs::LeadLaws::leads))]
 fn type_atom<'a>(script: &[u8], from: Reader<'a>) -> Result<Reader<'a>, Fault>
-    ensures { (n t v number left : ℕ) → Leads from.entry (type_atom (counted script.now n t v) number left) result }
+    ensures { (number left : ℕ) → LeadsFor from.entry script.now (λ c. type_atom c number left) result }
 {
     let at = token(script, from)?;
     let kind = at.next_word() as usize;
@@ -33,7 +33,7 @@ fn type_atom<'a>(script: &[u8], from: Reader<'a>) -> Result<Reader<'a>, Fault>
 // 1 Foreign: token.
 #[tactic(auto, unfolding(ast::specs::TypeRecords::type_foreign, reader::specs::Reading::gave, image_words::specs::Leads::unanswered), using(image_words::specs::LeadLaws::leads))]
 fn type_foreign<'a>(script: &[u8], from: Reader<'a>) -> Result<Reader<'a>, Fault>
-    ensures { (n t v number left : ℕ) → Leads from.entry (type_foreign (counted script.now n t v) number left) result }
+    ensures { (number left : ℕ) → LeadsFor from.entry script.now (λ c. type_foreign c number left) result }
 {
     token(script, from)
 }
@@ -41,7 +41,7 @@ fn type_foreign<'a>(script: &[u8], from: Reader<'a>) -> Result<Reader<'a>, Fault
 // 2 Option, 3 Array: inner.
 #[tactic(auto, unfolding(ast::specs::TypeRecords::type_inner, reader::specs::Reading::gave, image_words::specs::Leads::unanswered), using(image_words::specs::LeadLaws::leads))]
 fn type_inner(from: Reader, number: usize) -> Result<Reader, Fault>
-    ensures { (text : List ℕ) (n t v left : ℕ) → Leads from.entry (type_inner (counted text n t v) number left) result }
+    ensures { (text : List ℕ) (left : ℕ) → LeadsFor from.entry text (λ c. type_inner c number left) result }
 {
     from.below(number)
 }
@@ -54,7 +54,7 @@ fn type_record<'a>(
     number: usize,
     left: usize,
 ) -> Result<Reader<'a>, Fault>
-    ensures { (n t v : ℕ) → Leads from.entry (type_record (counted script.now n t v) number left) result }
+    ensures { LeadsFor from.entry script.now (λ c. type_record c number left) result }
 {
     let at = token(script, from)?;
     pairs(script, at, left.saturating_sub(1) / 2, number)
@@ -88,7 +88,7 @@ fn type_rest<'a>(
     number: usize,
     left: usize,
 ) -> Result<Reader<'a>, Fault>
-    ensures { (head n t v : ℕ) → kind ≡ kind_of_expr (kind_of head) → Leads from.entry ((type_kind head).rest (counted script.now n t v) number left) result }
+    ensures { (head : ℕ) → kind ≡ kind_of_expr (kind_of head) → LeadsFor from.entry script.now (λ c. (type_kind head).rest c number left) result }
 {
     match kind {
         ExprKind::Atom => type_atom(script, from),
@@ -102,7 +102,7 @@ fn type_rest<'a>(
 // The record of a type: its first word, and the rest by kind.
 #[tactic(auto, unfolding(ast::specs::TypeRecords::type_expression, reader::specs::Reading::gave, image_words::specs::Leads::unanswered), using(image_words::specs::LeadLaws::leads))]
 fn type_expression<'a>(script: &[u8], from: Reader<'a>, number: usize) -> Result<Reader<'a>, Fault>
-    ensures { (n t v : ℕ) → Leads from.entry (type_expression (counted script.now n t v) number) result }
+    ensures { LeadsFor from.entry script.now (λ c. type_expression c number) result }
 {
     let head = from.next_word();
     let long = tok::payload(head);
@@ -119,7 +119,7 @@ fn type_expression<'a>(script: &[u8], from: Reader<'a>, number: usize) -> Result
 // All `count` type records.
 #[tactic(auto, unfolding(reader::specs::Reading::gave, image_words::specs::Leads::unanswered), using(crate::proofs::TypeRows::types_ways))]
 fn type_expressions<'a>(script: &[u8], from: Reader<'a>, count: usize) -> Result<Reader<'a>, Fault>
-    ensures { (n t v : ℕ) → Leads from.entry (type_expressions (counted script.now n t v) count 0) result }
+    ensures { LeadsFor from.entry script.now (λ c. type_expressions c count 0) result }
 {
     let mut to = from;
     for i in 0..count {
@@ -166,7 +166,7 @@ fn nodes_by<'a>(
 // beside them (docs/PERFORMANCE.md, "Stack").
 #[tactic(auto, unfolding(ast::specs::ImageFault::image, reader::specs::Reading::gave, image_words::specs::Leads::unanswered), using(image_words::specs::LeadLaws::leads))]
 fn whole<'a>(script: &[u8], from: Reader<'a>) -> Result<Reader<'a>, Fault>
-    ensures { (library : List ℕ) → Leads from.entry (image (texts_of script.now library)) result }
+    ensures { (library : List ℕ) → unanswered (onward from.entry (image (texts_of script.now library))) ≡ gave tt result }
 {
     let n = from.next_word() as usize;
     let at = from.owing(n <= 2048, 3 * n)?;

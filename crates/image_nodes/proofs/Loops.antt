@@ -7,9 +7,10 @@ use native.Mathlib.Nat.{not-suc-le-zero}
 use native.Mathlib.Omega.{arith}
 use lib.Dec.{leb}
 use Rattle.tok.specs.Step.{◌>>=◌, return}
-use Rattle.tok.specs.Reader.{word}
-use Rattle.ast.specs.Outline.{Here, token, name, part, parts, type_part, typed_names}
+use Rattle.tok.specs.Reader.{word, many}
+use Rattle.ast.specs.Outline.{Here, token, name, part, parts, type_part, typed_name}
 use Rattle.ast.specs.NodeRecords.{cases, good_extern_count, extern_functions}
+use Rattle.image_laws.proofs.RecordLaws.{pair_rule}
 use Rattle.image_words.specs.LeadLaws.{leads}
 
 -- one case, and those that are left
@@ -37,9 +38,9 @@ pub functions_some : (h : Here) (k room : ℕ) → 0 < k → extern_functions h 
   _ ← name h.counts
   _ ← type_part h.counts
   n ← word (good_extern_count (k - 1) (room - 3))
-  _ ← typed_names h.counts n
+  _ ← many n (pair_rule h.counts.text h.counts.types)
   extern_functions h (k - 1) (room - 3 - 2 * n))
-unfolding extern_functions
+unfolding extern_functions typed_name
 functions_some h zero room g = absurd (not-suc-le-zero g)
 functions_some h (suc k) room g = let d : suc k - 1 ≡ k = omega arith in rw d refl
 

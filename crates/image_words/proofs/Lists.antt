@@ -5,13 +5,13 @@ use mathlib.Core.List.{[], ◌∷◌}
 use native.Mathlib.Omega.{arith}
 use Rattle.tok.specs.Step.{◌>>=◌, return}
 use Rattle.tok.specs.Reader.{Read, many}
-use Rattle.reader.specs.Reading.{Reader, onward}
-use Rattle.image_words.specs.Leads.{unanswered}
+use Rattle.reader.specs.Reading.{Reader}
+use Rattle.image_words.specs.Leads.{Left}
 use Rattle.image_words.specs.LeadLaws.{leads}
 
--- what a loop that has read k of n keeps: those that are left lead where all lead
+-- what a loop that has read k of n keeps: those that are left lead where all lead, in the same words
 abbrev pub Rest : {A : Type 0} (from : Reader) (n : ℕ) (m : Read A) (to : Reader) (k : ℕ) → Type 0
-Rest from n m to k = unanswered (onward to (many (n - k) m)) ≡ unanswered (onward from (many n m))
+Rest from n m to k = Left from (many n m) to (many (n - k) m)
 
 module _ {A : Type 0} (m : Read A) (n k : ℕ) where
   pub many_some : k < n → many (n - k) m ≡ (do

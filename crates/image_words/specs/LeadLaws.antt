@@ -1,14 +1,14 @@
 -- Laws of where reading comes to: one rule after another. Assumes nothing.
 use Rattle.std.specs.Prelude.{ℕ, ◌≡◌, refl, List, Result, Ok, Err}
-use Rattle.std.proofs.Common.{ap}
+use Rattle.std.proofs.Common.{ap, ◌∙◌}
 use Rattle.tok.specs.Step.{ok, refused, next, return}
 use Rattle.tok.specs.Step as step
 use Rattle.tok.specs.Reader.{Cursor, Read, fault_of}
 use Rattle.reader.specs.declared.Fault.{Fault}
-use Rattle.reader.specs.Reading.{Reader, standing, onward, gave, offending}
+use Rattle.reader.specs.Reading.{Reader, standing, onward, gave, Same, offending}
 use Rattle.reader.specs.Laws.{by_rule}
 use Rattle.reader.specs.Reads.{Reads, reads, faults}
-use Rattle.image_words.specs.Leads.{unanswered, Leads}
+use Rattle.image_words.specs.Leads.{unanswered}
 
 -- a word that was read
 pub leads_word : {A : Type 0} (a : A) (to : Result Reader Fault) (r : step.Result Cursor ℕ A) → r ≡ gave a to → unanswered r ≡ gave tt to
@@ -25,7 +25,7 @@ module _ {A B : Type 0} (f : A → Read B) where
   leads_on (refused place) mid end e h = cc
 
   pub leads_then : (r : step.Result Cursor ℕ A) (mid : Reader) (to : Result Reader Fault) → unanswered r ≡ gave tt (Ok mid)
-      → ((a : A) → Leads mid (f a) to) → unanswered (next r f) ≡ gave tt to
+      → ((a : A) → unanswered (onward mid (f a)) ≡ gave tt to) → unanswered (next r f) ≡ gave tt to
   leads_then r mid to e h = leads_on r mid (gave tt to) e h
 
   -- a fault ends all
@@ -57,5 +57,10 @@ leads_fault (Ok to) (refused place) e = cc
 leads_fault (Err fault) (ok a c) e = cc
 leads_fault (Err fault) (refused place) e = let same : place ≡ fault.0 = cc in rw same refl
 
+-- the words that one reading has left as they were, and then another, are the same still
+pub same_on : (from mid : Reader) (to : Result Reader Fault) → mid.words ≡ from.words → Same mid to → Same from to
+same_on from mid (Ok to) p q = q ∙ p
+same_on from mid (Err fault) p q = tt
+
 -- what a reader of words one after the other goes by
-pub ruleset leads = (leads_last, leads_then, leads_stops, by_rule)
+pub ruleset leads = (leads_last, leads_then, leads_stops, by_rule, same_on)

@@ -5,7 +5,7 @@ ghost use Rattle.std.specs.Prelude.{◌≡◌};
 ghost use Rattle.utf8.specs.Rfc3629.{range};
 ghost use Rattle.tok.specs.Name.{good_name, in_script};
 ghost use Rattle.tok.specs.Reader.{word, below, many};
-ghost use Rattle.reader.specs.Reading.{next_word, onward, gave};
+ghost use Rattle.reader.specs.Reading.{next_word, Comes};
 ghost use Rattle.image_laws.proofs.RecordLaws.{pair_rule};
 ghost use Rattle.image_words.specs.Leads.{Leads};
 
@@ -25,7 +25,7 @@ pub fn between(low: usize, high: usize, n: usize) -> bool
 // A name or token of the script text.
 #[tactic(auto, using(reader::specs::Laws::by_rule))]
 pub fn token<'a>(script: &[u8], from: Reader<'a>) -> Result<Reader<'a>, Fault>
-    ensures { onward from.entry (word (good_name in_script script.now)) ≡ gave (next_word from.entry) result }
+    ensures { Comes from.entry (word (good_name in_script script.now)) (next_word from.entry) result }
 {
     let w = from.next_word();
     from.word(tok::good_name(tok::Source::Script.bit(), script, w))

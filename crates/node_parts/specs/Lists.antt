@@ -41,11 +41,15 @@ unfolding case_parts
 cases_none words end at zero l = refl
 cases_none words end at (suc k) l = absurd (not-suc-le-zero l)
 
--- Of `count` cases k are left, the next at word `at`, which can be counted in 64 bits: a body that is not empty has its count in the image, and
--- past the end a case has three words.
+-- Of `count` cases k are left, and the next stands at a place that can be counted in 64 bits: a body that is not empty has its count in the
+-- image, and past the end a case has three words.
+abbrev pub CasePlace : (words : List ℕ) (count at k : ℕ) → Type 0
+CasePlace words count at k = at + 3 * k ≤ length words + 2 ^ 33 + 3 * count
+
+-- of `count` cases k are left, the next at word `at`
 pub record CasesLeft (words : List ℕ) (count at k : ℕ) : Type 0 where
   pub few : k ≤ count
-  pub place : at + 3 * k ≤ length words + 2 ^ 33 + 3 * count
+  pub place : CasePlace words count at k
 
 pub cases-first : (words : List ℕ) (count from : ℕ) → from ≤ length words + 3 → CasesLeft words count from count
 cases-first words count from h = record { few = omega arith; place = omega arith }
