@@ -1,9 +1,10 @@
 -- Names that differ in their length or in a part: one law for each way out of `differs_in`. THE LAW, `differs-other`: such names differ. Assumes
 -- nothing.
-use Prim.Native.Nat.{ℕ, ◌-◌, ◌≤◌, ◌<◌, min}
+use Prim.Native.Nat.{ℕ, ◌+◌, ◌-◌, ◌≤◌, ◌<◌, min}
 use mathlib.Core.Path.{◌≡◌, refl, sym, ap, ◌∙◌}
 use mathlib.Core.Bool.{Bool, true, false, not, ◌&&◌, true≢false}
 use mathlib.Core.List.{List}
+use native.Mathlib.Omega.{arith}
 use lib.Dec.{ltb, leb}
 use lib.ListN.{length, take, drop}
 use borrow.Author.Tests.{lt-ltb, le-ltb, le-leb, lt-leb, eq-eqb, ne_eqb}
@@ -13,10 +14,11 @@ use Rattle.tok.proofs.TextLaws.{same_bytes-true, eq_same_bytes}
 
 -- the part that the code finds, in two strings of one length
 pub part-there : (a b : List ℕ) (part : ℕ) {i : ℕ} {r : Bool} → length a ≡ length b → i ≡ length a - 4 - min part (length a - 4)
-    → r ≡ same_bytes (take 4 (drop i a)) (take 4 (drop i b)) → not r ≡ not (same_bytes (part_of part a) (part_of part b))
+    → r ≡ same_bytes (take (i + 4 - i) (drop i a)) (take (i + 4 - i) (drop i b)) → not r ≡ not (same_bytes (part_of part a) (part_of part b))
 unfolding part_of
 part-there a b part {i} long e h =
-    let same : same_bytes (take 4 (drop i a)) (take 4 (drop i b)) ≡ same_bytes (part_of part a) (part_of part b) = rw (e, long) in
+    let z : i + 4 - i ≡ 4 = omega arith in
+    let same : same_bytes (take (i + 4 - i) (drop i a)) (take (i + 4 - i) (drop i b)) ≡ same_bytes (part_of part a) (part_of part b) = rw (z, e, long) in
     ap not (h ∙ same)
 
 module _ (t : Texts) (name : List ℕ) (w part : ℕ) where

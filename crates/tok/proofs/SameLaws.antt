@@ -1,57 +1,104 @@
--- Comparing byte strings: by std's order; by their ends, as far as they have one; and names by their words. Assumes nothing.
-use Rattle.std.proofs.Common.{ℕ, ◌-◌, ◌≤◌, ◌<◌, ◌≡◌, refl, sym, ap, ◌∙◌, Bool, true, false, ◌&&◌, true≢false, List, [], ◌∷◌, Option, Some, None, Ordering, Less, Equal, Greater, Bor, length, take, drop, length-take, eqb, nat_eq, eq-eqb, ne_eqb, arith}
-use Rattle.std.specs.Array.{IsWholeChunk, IsFirstChunk}
-use Rattle.std.specs.Cmp.Lexicographic.{pointwise, slice_cmp}
-use Rattle.std.specs.Option.{MatchOption, option_eq}
-use Rattle.std.specs.Ordering.{MatchOrdering, nat_cmp, is_eq}
-use Rattle.std.proofs.lemmas.Cmp.{same_from_slice_cmp, ranked}
+-- Comparing byte strings of one length: from the end; many bytes at a time, by an or of exclusive ors, which is 0 exactly where no byte
+-- differs; and part by part. Assumes nothing.
+use Prim.Native.Nat.{ℕ, suc, ◌+◌, ◌-◌, ◌≤◌, ◌<◌}
+use mathlib.Core.Path.{◌≡◌, refl, sym, ap, ◌∙◌}
+use mathlib.Core.Bool.{Bool, true, false, ◌&&◌, and-true, and_assoc, and-eq-true_iff}
+use mathlib.Core.List.{List}
+use native.Mathlib.Numerals.{add-one}
+use native.Mathlib.Omega.{arith}
+use lib.Dec.{eqb, ltb}
+use lib.Bits.{bit_or, bit_xor, or_add_and, xor_add_and, and_le_l, and_le_r, xor_self}
+use lib.ListN.{length, get_or, take, drop, length-take, drop_of_length-le}
+use lib.Seq.{drop-cons, get_or-take, get_or-drop, ext_get_or}
+use borrow.Author.Tests.{eqb-true, eq-eqb, ltb-true, ltb-false}
 use Rattle.tok.specs.Word.{name_length}
 use Rattle.tok.specs.Text.{Texts, same_bytes, name_bytes}
-use Rattle.tok.proofs.TextLaws.{eq_same_bytes, ne_same_bytes}
+use Rattle.tok.proofs.TextLaws.{same_bytes-true, same_bytes-false, eq_same_bytes, ne_same_bytes}
 
--- equal by std's order
-pub same-cmp : (a b : List ℕ) (r : Ordering) → r ≡ slice_cmp nat_cmp a b → is_eq r ≡ same_bytes a b
-unfolding same_bytes
-same-cmp = same_from_slice_cmp nat_cmp is_eq same_bytes refl (λ _ _. refl) (λ _ _. refl) (λ x y s t o h. heads x y s t o (ranked x y o h))
-  where
-    heads : (x y : ℕ) (s t : List ℕ) (o : Ordering) → MatchOrdering o (x < y) (x ≡ y) (y < x)
-        → MatchOrdering o (same_bytes (x ∷ s) (y ∷ t) ≡ is_eq Less) (same_bytes (x ∷ s) (y ∷ t) ≡ same_bytes s t) (same_bytes (x ∷ s) (y ∷ t) ≡ is_eq Greater)
-    heads x y s t Less l = rw (ne_eqb x y (λ e. omega arith)) refl
-    heads x y s t Equal e = rw (eq-eqb x y e) refl
-    heads x y s t Greater l = rw (ne_eqb x y (λ e. omega arith)) refl
+both_true : (p q : Bool) → (p ≡ true → q ≡ true) → (q ≡ true → p ≡ true) → p ≡ q
+both_true true q f g = sym (f refl)
+both_true false true f g = g refl
+both_true false false f g = refl
 
--- equal byte by byte, as std compares arrays
-pub same-pointwise : (a b : List ℕ) → pointwise nat_eq a b ≡ same_bytes a b
-unfolding same_bytes
-same-pointwise [] [] = refl
-same-pointwise [] (b ∷ t) = refl
-same-pointwise (a ∷ s) [] = refl
-same-pointwise (a ∷ s) (b ∷ t) = ap (λ r. eqb a b && r) (same-pointwise s t)
+differ-none : (d a b : ℕ) → bit_or d (bit_xor a b) ≡ 0 → (d ≡ 0) × (a ≡ b)
+differ-none d a b e =
+    let o = or_add_and d (bit_xor a b) in
+    let ol = and_le_l d (bit_xor a b) in
+    let or = and_le_r d (bit_xor a b) in
+    let x = xor_add_and a b in
+    let xl = and_le_l a b in
+    let xr = and_le_r a b in
+    (omega arith, omega arith)
 
--- the last n bytes, or none where there are not so many
-abbrev Ends : (n : ℕ) → List ℕ → Option (Bor (List ℕ)) → Type 0
-Ends n l o = MatchOption o (length l < n) (λ y. (n ≤ length l) × IsWholeChunk (drop (length l - n) l) y.now n)
+none_differ : (d a b : ℕ) → d ≡ 0 → a ≡ b → bit_or d (bit_xor a b) ≡ 0
+none_differ d a b e f = rw (e, f, xor_self b)
 
--- the ends of equal strings are equal
-ends_same : (n : ℕ) (a : List ℕ) (p q : Option (Bor (List ℕ))) → Ends n a p → Ends n a q → option_eq (λ x y. pointwise nat_eq x.now y.now) p q ≡ true
-ends_same n a None None h k = refl
-ends_same n a None (Some y) h k = absurd (omega (arith, h, k.0))
-ends_same n a (Some x) None h k = absurd (omega (arith, h.0, k))
-ends_same n a (Some x) (Some y) h k = same-pointwise x.now y.now ∙ eq_same_bytes x.now y.now (h.1.same ∙ sym k.1.same)
+-- one more byte of each
+differs : (d a b : ℕ) → (eqb d 0 && eqb a b) ≡ eqb (bit_or d (bit_xor a b)) 0
+differs d a b =
+    both_true (eqb d 0 && eqb a b) (eqb (bit_or d (bit_xor a b)) 0)
+    (λ e.
+    let h = (and-eq-true_iff (eqb d 0) (eqb a b)).0 e in
+    eq-eqb (bit_or d (bit_xor a b)) 0 (none_differ d a b (eqb-true d 0 h.0) (eqb-true a b h.1)))
+    (λ e.
+    let h = differ-none d a b (eqb-true (bit_or d (bit_xor a b)) 0 e) in
+    (and-eq-true_iff (eqb d 0) (eqb a b)).1 (eq-eqb d 0 h.0, eq-eqb a b h.1))
 
-pub ends_differ : (n : ℕ) (a b : List ℕ) (p q : Option (Bor (List ℕ))) {r : Bool} → Ends n a p → Ends n b q
-    → r ≡ option_eq (λ x y. pointwise nat_eq x.now y.now) p q → r ≡ false → r ≡ same_bytes a b
-ends_differ n a b p q h k e f = f ∙ sym (ne_same_bytes a b (λ s. let t : Ends n a q = rw s k in absurd (true≢false (sym (ends_same n a p q h t) ∙ sym e ∙ f))))
+-- the bytes before i are told apart by `d`, and those from i on are left
+module _ (a b : List ℕ) (i d : ℕ) (long : length a ≡ length b) (so_far : same_bytes a b ≡ (eqb d 0 && same_bytes (drop i a) (drop i b))) where
+  next_both : i < length a → same_bytes (drop i a) (drop i b) ≡ (eqb (get_or a i 0) (get_or b i 0) && same_bytes (drop (suc i) a) (drop (suc i) b))
+  unfolding same_bytes
+  next_both h = rw (drop-cons a i 0 h, drop-cons b i 0 (omega arith))
 
--- the first n bytes of what has so many
-abbrev Begins : (n : ℕ) → List ℕ → Option (Bor (List ℕ)) → Type 0
-Begins n l o = MatchOption o (length l < n) (λ y. IsFirstChunk l y.now n)
+  pub same_more : i < length a → same_bytes a b ≡ (eqb (bit_or d (bit_xor (get_or a i 0) (get_or b i 0))) 0 && same_bytes (drop (i + 1) a) (drop (i + 1) b))
+  same_more h =
+      so_far ∙ ap (λ r. eqb d 0 && r) (next_both h)
+      ∙ sym (and_assoc (eqb d 0) (eqb (get_or a i 0) (get_or b i 0)) (same_bytes (drop (suc i) a) (drop (suc i) b)))
+      ∙ ap (λ r. r && same_bytes (drop (suc i) a) (drop (suc i) b)) (differs d (get_or a i 0) (get_or b i 0))
+      ∙ ap (λ j. eqb (bit_or d (bit_xor (get_or a i 0) (get_or b i 0))) 0 && same_bytes (drop j a) (drop j b)) (sym (add-one i))
 
-pub begins_same : (n : ℕ) (a b : List ℕ) (p q : Option (Bor (List ℕ))) → n ≤ length a → n ≤ length b → Begins n a p → Begins n b q
-    → option_eq (λ x y. pointwise nat_eq x.now y.now) p q ≡ same_bytes (take n a) (take n b)
-begins_same n a b None q l m h k = absurd (omega arith)
-begins_same n a b (Some x) None l m h k = absurd (omega arith)
-begins_same n a b (Some x) (Some y) l m h k = same-pointwise x.now y.now ∙ rw (h.same, k.same) refl
+  pub same_over : length a ≤ i → eqb d 0 ≡ same_bytes a b
+  unfolding same_bytes
+  same_over h =
+      let k : length b ≤ i = omega arith in
+      sym (so_far ∙ rw (drop_of_length-le a h, drop_of_length-le b k) (and-true (eqb d 0)))
+
+-- ── Part by part ──
+
+at_part : (l : List ℕ) (i m k : ℕ) → i ≤ k → k < i + m → get_or (take m (drop i l)) (k - i) 0 ≡ get_or l k 0
+at_part l i m k h below =
+    let e : i + (k - i) ≡ k = omega arith in
+    get_or-take m (drop i l) (k - i) 0 (omega arith) ∙ get_or-drop i l (k - i) 0 ∙ ap (λ j. get_or l j 0) e
+
+module _ (a b : List ℕ) (i m : ℕ) where
+  part_equal : same_bytes (take m (drop i a)) (take m (drop i b)) ≡ true → (k : ℕ) → i ≤ k → k < i + m → get_or a k 0 ≡ get_or b k 0
+  part_equal e k h below =
+      sym (at_part a i m k h below) ∙ ap (λ s. get_or s (k - i) 0) (same_bytes-true (take m (drop i a)) (take m (drop i b)) e) ∙ at_part b i m k h below
+
+  pub part-differs : {r : Bool} → r ≡ same_bytes (take m (drop i a)) (take m (drop i b)) → r ≡ false → false ≡ same_bytes a b
+  part-differs e f =
+      sym (ne_same_bytes a b (λ q. same_bytes-false (take m (drop i a)) (take m (drop i b)) (sym e ∙ f) (ap (λ s. take m (drop i s)) q)))
+
+  -- the bytes before i are equal
+  module _ (before : (k : ℕ) → k < i → get_or a k 0 ≡ get_or b k 0) where
+    pub parts_more : {r : Bool} {n : ℕ} → m ≡ n → r ≡ same_bytes (take m (drop i a)) (take m (drop i b)) → r ≡ true → (k : ℕ) → k < i + n → get_or a k 0 ≡ get_or b k 0
+    parts_more en e t k h = by (ltb k i) refl
+      where
+        by : (d : Bool) → ltb k i ≡ d → get_or a k 0 ≡ get_or b k 0
+        by true y = before k (ltb-true k i y)
+        by false y = part_equal (sym e ∙ t) k (ltb-false k i y) (omega arith)
+
+-- the last part begins no later than where the bytes before it end
+module _ (a b : List ℕ) (i : ℕ) (before : (k : ℕ) → k < i → get_or a k 0 ≡ get_or b k 0) (long : length a ≡ length b) where
+  pub parts-over : {r : Bool} (last m : ℕ) → last ≤ i → length a ≡ last + m → r ≡ same_bytes (take m (drop last a)) (take m (drop last b)) → r ≡ true → true ≡ same_bytes a b
+  parts-over last m h l e t = sym (eq_same_bytes a b (ext_get_or 0 a b long every))
+    where
+      every : (k : ℕ) → k < length a → get_or a k 0 ≡ get_or b k 0
+      every k below = by (ltb k i) refl
+        where
+          by : (d : Bool) → ltb k i ≡ d → get_or a k 0 ≡ get_or b k 0
+          by true y = before k (ltb-true k i y)
+          by false y = part_equal a b last m (sym e ∙ t) k (omega (arith, ltb-false k i y)) (omega arith)
 
 -- equal words stand for one name
 pub same_word : (t : Texts) (a b : ℕ) → a ≡ b → true ≡ same_bytes (name_bytes t a) (name_bytes t b)

@@ -191,19 +191,52 @@ fn same_short(a: &[u8], b: &[u8]) -> bool
     true
 }
 
+// The same with no way out of the loop, so that many bytes are compared at a time where the length is known.
+fn same_part(a: &[u8], b: &[u8]) -> bool
+    requires { length a.now ≡ length b.now }
+    ensures { result ≡ same_bytes a.now b.now }
+{
+    let mut differ = 0u8;
+    for (x, y) in a.iter().zip(b) {
+        differ |= *x ^ *y;
+    }
+    differ == 0
+}
+
+// The same in parts of N bytes: the last first, where names differ most. The part before it may end within it.
+fn same_by<const N: usize>(a: &[u8], b: &[u8]) -> bool
+    requires { (length a.now ≡ length b.now) × (0 < N) × (N ≤ length a.now) }
+    ensures { result ≡ same_bytes a.now b.now }
+{
+    let last = a.len() - N;
+    if !same_part(&a[last..last + N], &b[last..last + N]) {
+        return false;
+    }
+    for i in (0..last).step_by(N) {
+        if !same_part(&a[i..i + N], &b[i..i + N]) {
+            return false;
+        }
+    }
+    true
+}
+
 // Names of fewer bytes are short.
 const SHORT: usize = 16;
 
-// The same of long ones: their ends first, where names differ most. It stands apart, so that it is compiled once and what compares short names
-// stays small.
+// The same of long ones. It stands apart, so that it is compiled once and what compares short names stays small.
 #[inline(never)]
 fn same_long(a: &[u8], b: &[u8]) -> bool
+    requires { (length a.now ≡ length b.now) × (16 ≤ length a.now) }
     ensures { result ≡ same_bytes a.now b.now }
 {
-    a.last_chunk::<SHORT>() == b.last_chunk::<SHORT>() && a.cmp(b).is_eq()
+    if a.len() < 64 {
+        same_by::<16>(a, b)
+    } else {
+        same_by::<64>(a, b)
+    }
 }
 
-// Whether two byte strings are equal. By `==` alone names that differ at their end, as most do, would take several times as long.
+// Whether two byte strings are equal. By `==` names that differ at their end, as most do, would take several times as long.
 #[inline]
 pub fn same_bytes(a: &[u8], b: &[u8]) -> bool
     ensures { result ≡ same_bytes a.now b.now }
@@ -241,7 +274,7 @@ fn part_differs(a: &[u8], b: &[u8], part: usize) -> bool
 {
     let last = a.len() - 4;
     let i = last - part.min(last);
-    a[i..].first_chunk::<4>() != b[i..].first_chunk::<4>()
+    !same_part(&a[i..i + 4], &b[i..i + 4])
 }
 
 // Parts from here on are none: names have 255 bytes at most.
