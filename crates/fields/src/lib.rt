@@ -52,7 +52,7 @@ fn close(
         return Err(Refusal::TooDeep(n));
     }
     let used = st.used;
-    let step = operators::set_known(slots, used, image.word_at(at + 1), word);
+    let step = operators::set_known(slots, used, image.word_after(at, 1), word);
     visit::answered(st, step)
 }
 
@@ -84,7 +84,7 @@ fn set_pairs(
 {
     for i in 0..count {
         let name = image.word_at(at + 2 * i);
-        let value = image.word_at(at + 2 * i + 1);
+        let value = image.word_after(at + 2 * i, 1);
         let ty = node_value(slots, image, value);
         add::set_pair(types, to + 2 * i, name, ty);
     }

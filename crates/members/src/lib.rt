@@ -38,7 +38,7 @@ pub fn empty(
         Visits (poison n (empty_array (get_or image.now.words (at + 2) 0))) 0 0 words st b b' result) }
 {
     let used = st.used;
-    let step = values::empty_array(diagnostics, messages, used, n, image.word_at(at + 2));
+    let step = values::empty_array(diagnostics, messages, used, n, image.word_after(at, 2));
     visit::answered(st, step)
 }
 
@@ -109,7 +109,7 @@ pub fn end(
         types,
         used,
         n,
-        image.word_at(at + 1),
+        image.word_after(at, 1),
         first,
         poisoned,
     );

@@ -26,9 +26,9 @@ pub fn operand_of(image: &Image, at: usize) -> u32
     ensures { result ≡ operand_at image.now.words at }
 {
     match NodeKind::of(image.word_at(at)) {
-        NodeKind::Unary => image.word_at(at + 4),
-        NodeKind::Let => image.word_at(at + 3),
-        _ => image.word_at(at + 2),
+        NodeKind::Unary => image.word_after(at, 4),
+        NodeKind::Let => image.word_after(at, 3),
+        _ => image.word_after(at, 2),
     }
 }
 
@@ -59,9 +59,9 @@ pub fn bin_end(
         return Ok((Answer::Poison, st));
     };
     let used = st.used;
-    let slot = image.word_at(at + 1);
-    let token = image.word_at(at + 2);
-    let op = image.word_at(at + 3);
+    let slot = image.word_after(at, 1);
+    let token = image.word_after(at, 2);
+    let op = image.word_after(at, 3);
     visit::answered(
         st,
         operators::fuse(
@@ -101,9 +101,9 @@ pub fn one_end(
         let b' : Lent = lent slots.new f types.now diagnostics.new messages.new scratch.new o in
         Visits (one_end (ctx texts.now ls v) image.now.words n at answer) (one_room image.now.words at) 0 words st b b' result) }
 {
-    let slot = image.word_at(at + 1);
-    let second = image.word_at(at + 2);
-    let third = image.word_at(at + 3);
+    let slot = image.word_after(at, 1);
+    let second = image.word_after(at, 2);
+    let third = image.word_after(at, 3);
     let used = st.used;
     match NodeKind::of(image.word_at(at)) {
         NodeKind::Let => names::let_end(
@@ -170,7 +170,7 @@ pub fn cast_begin(types: &mut [u32], image: &Image, at: usize, st: State, n: u32
         Visits (cast_type (ctx T ls v) image.now.words n at) 0 0 words st b b' result) }
 {
     let used = st.used;
-    let expr = image.word_at(at + 4);
+    let expr = image.word_after(at, 4);
     let added = type_expr::type_from_type_expr(types, used.types, image, expr);
     visit::answered(st, state::added(n, used, added))
 }
@@ -199,8 +199,8 @@ pub fn cast_end(
         return Ok((Answer::Poison, st));
     };
     let used = st.used;
-    let slot = image.word_at(at + 1);
-    let token = image.word_at(at + 2);
+    let slot = image.word_after(at, 1);
+    let token = image.word_after(at, 2);
     visit::answered(
         st,
         operators::cast(

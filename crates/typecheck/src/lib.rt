@@ -228,7 +228,7 @@ fn bin(
         image,
         library,
         st,
-        image.word_at(at + 4),
+        image.word_after(at, 4),
     )?;
     let (r, end) = part(
         slots,
@@ -241,7 +241,7 @@ fn bin(
         image,
         library,
         between,
-        image.word_at(at + 5),
+        image.word_after(at, 5),
     )?;
     operands::bin_end(
         slots,
@@ -343,7 +343,7 @@ fn cast(
         image,
         library,
         begun,
-        image.word_at(at + 3),
+        image.word_after(at, 3),
     )?;
     operands::cast_end(
         slots,
@@ -383,7 +383,7 @@ pub fn nodes(
         let b' : Lent = lent slots.new functions.new types.new diagnostics.new messages.new scratch.new no_more in
         ListVisited texts.now image.now.words library.now at k st b b' result }
 {
-    let mut answer = Answer::Known(image.word_at(3));
+    let mut answer = Answer::Known(image.slot_count());
     let mut here = st;
     for place in at..at + k {
         let (a, next) = node(
@@ -428,7 +428,7 @@ fn block(
         let b' : Lent = lent slots.new functions.new types.new diagnostics.new messages.new scratch.new no_more in
         ListVisited texts.now image.now.words library.now at k st b b' result }
 {
-    let mut answer = Answer::Known(image.word_at(3));
+    let mut answer = Answer::Known(image.slot_count());
     let mut here = st;
     for place in at..at + k {
         let (a, next) = part(
@@ -472,7 +472,7 @@ fn func(
         NodeVisited texts.now image.now.words library.now n st b b' result }
 {
     let at = image.node_place(n);
-    let count = image.word_at(at + 4) as usize;
+    let count = image.word_after(at, 4) as usize;
     let (begun, inner) = bodies::begin(
         slots,
         functions,
@@ -554,7 +554,7 @@ fn case(
         image,
         library,
         st,
-        image.word_at(at + 1),
+        image.word_after(at, 1),
     )?;
     let (_, begun) = branches::condition(
         &slots[..],
@@ -568,9 +568,9 @@ fn case(
         n,
         a,
     )?;
-    let mut answer = Answer::Known(image.word_at(3));
+    let mut answer = Answer::Known(image.slot_count());
     let mut here = begun;
-    let left = image.word_at(at + 2) as usize;
+    let left = image.word_after(at, 2) as usize;
     for place in at + 3..at + 3 + left {
         let (a, next) = part(
             slots,
@@ -613,7 +613,7 @@ fn cases(
         NodeVisited texts.now image.now.words library.now n st b b' result }
 {
     let at = image.node_place(n);
-    let count = image.word_at(at + 2) as usize;
+    let count = image.word_after(at, 2) as usize;
     let mut here = st;
     let mut place = at + 3;
     for _ in 0..count {
@@ -636,7 +636,7 @@ fn cases(
     }
     let next = place + 1;
     let left = at + payload(image.word_at(at)) - next;
-    let mut default = Answer::Known(image.word_at(3));
+    let mut default = Answer::Known(image.slot_count());
     let mut end = here;
     for i in 0..left {
         let (a, on) = part(
@@ -650,7 +650,7 @@ fn cases(
             image,
             library,
             end,
-            image.word_at(next + i),
+            image.word_after(next, i),
         )?;
         default = a;
         end = on;
@@ -709,7 +709,7 @@ fn call(
             image,
             library,
             here,
-            image.word_at(at + 3 + i),
+            image.word_after(at + 3, i),
         )?;
         poisoned = calls::or_poison(poisoned, a);
         here = next;
@@ -768,7 +768,7 @@ fn record_node(
             image,
             library,
             here,
-            image.word_at(at + 4 + 2 * i),
+            image.word_after(at + 4, 2 * i),
         )?;
         here = next;
     }
@@ -812,12 +812,12 @@ fn array(
         image,
         library,
         st,
-        image.word_at(at + 3),
+        image.word_after(at, 3),
     )?;
     let mut poisoned = false;
     let mut here = begun;
     for i in 1..count {
-        let member = image.word_at(at + 3 + i);
+        let member = image.word_after(at + 3, i);
         let (a, next) = part(
             slots,
             functions,
