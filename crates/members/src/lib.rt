@@ -2,7 +2,7 @@
 // one that differs ends the visits.
 #![tactic(auto)]
 
-ghost use Rattle.std.specs.Prelude.{◌≡◌, List, ℕ, ◌+◌, ◌≤◌, get_or};
+ghost use Rattle.std.specs.Prelude.{◌≡◌, List, ℕ, ◌+◌, get_or};
 ghost use Rattle.tok.specs.Text.{Texts};
 ghost use Rattle.ast.specs.Node.{tree_of};
 ghost use Rattle.ast.specs.Span.{span_of};
@@ -31,7 +31,6 @@ pub fn empty(
     st: State,
     n: u32,
 ) -> Visit<Answer>
-    requires { at ≤ 8192 }
     ensures { ((words s f t e : List ℕ) (o : More) →
         let b : Lent = lent s f t diagnostics.old messages.old e o in
         let b' : Lent = lent s f t diagnostics.new messages.new e o in
@@ -97,7 +96,6 @@ pub fn end(
     first: Answer,
     poisoned: bool,
 ) -> Visit<Answer>
-    requires { at ≤ 8192 }
     ensures { ((T : Texts) (ls : List Package) (v : ℕ) (words f d m e : List ℕ) (o : More) →
         let b : Lent = lent slots.old f types.old d m e o in
         let b' : Lent = lent slots.new f types.new d m e o in

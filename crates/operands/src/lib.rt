@@ -3,15 +3,17 @@
 // The buffers are lent in one order: slots, types, diagnostics, messages, scratch; then the texts, the image.
 #![tactic(auto)]
 
-ghost use Rattle.std.specs.Prelude.{◌≡◌, List, ℕ, ◌+◌, ◌≤◌};
+ghost use Rattle.std.specs.Prelude.{◌≡◌, List, ℕ, ◌+◌};
 ghost use Rattle.tok.specs.Text.{Texts};
 ghost use Rattle.library.specs.Package.{Package};
+ghost use Rattle.ast.specs.Image.{word_at};
+ghost use Rattle.type_expr.specs.Ready.{TypeReady};
 ghost use Rattle.state.specs.Context.{ctx};
 ghost use Rattle.state.specs.World.{More};
 ghost use Rattle.visit.specs.Whole.{Lent, lent};
 ghost use Rattle.visit.specs.Within.{Visits};
 ghost use Rattle.operands.specs.Ends.{operand_at, bin_end, one_end, one_room, cast_type, cast_end};
-ghost use Rattle.operands.specs.Ready.{OneReady, CastReady};
+ghost use Rattle.operands.specs.Ready.{OneReady};
 
 use ast::NodeKind;
 use places::Image;
@@ -22,7 +24,6 @@ use visit::{State, Visit};
 // The number of the operand of a Unary, a Let or a Field.
 #[tactic(auto, unfolding(crate::specs::Ends::operand_at, crate::specs::Ends::by_kind))]
 pub fn operand_of(image: &Image, at: usize) -> u32
-    requires { at ≤ 8192 }
     ensures { result ≡ operand_at image.now.words at }
 {
     match NodeKind::of(image.word_at(at)) {
@@ -46,7 +47,6 @@ pub fn bin_end(
     left: Answer,
     right: Answer,
 ) -> Visit<Answer>
-    requires { at ≤ 8192 }
     ensures { ((ls : List Package) (v : ℕ) (words f e : List ℕ) (o : More) →
         let b : Lent = lent slots.old f types.now diagnostics.old messages.old e o in
         let b' : Lent = lent slots.new f types.now diagnostics.new messages.new e o in
@@ -163,7 +163,7 @@ pub fn one_end(
 
 // Node::Cast before its operand: the type that it casts to. Gives its word.
 pub fn cast_begin(types: &mut [u32], image: &Image, at: usize, st: State, n: u32) -> Visit<u32>
-    requires { CastReady image.now.words image.now.places at }
+    requires { TypeReady image.now.words image.now.places (word_at image.now.words (at + 4)) }
     ensures { ((T : Texts) (ls : List Package) (v : ℕ) (words s f d m e : List ℕ) (o : More) →
         let b : Lent = lent s f types.old d m e o in
         let b' : Lent = lent s f types.new d m e o in
@@ -189,7 +189,6 @@ pub fn cast_end(
     to: u32,
     answer: Answer,
 ) -> Visit<Answer>
-    requires { at ≤ 8192 }
     ensures { ((ls : List Package) (v : ℕ) (words f e : List ℕ) (o : More) →
         let b : Lent = lent slots.old f types.now diagnostics.old messages.old e o in
         let b' : Lent = lent slots.new f types.now diagnostics.new messages.new e o in

@@ -97,8 +97,11 @@ span_of-span_of-left-requires-in-Cast t c =
 
 pub span_of-type_span-ty-requires : goal.span_of-type_span-ty-requires
 span_of-type_span-ty-requires t c =
-    record
-    { readable = c.requires.readable; below = rw c.word_after-in-Cast-2.ensures (words-cast c.requires c.node_place-at.ensures c.word_at-head.ensures refl (node-number _ c.in-Cast.ensures)).type.under }
+    record {
+      readable = c.requires.readable;
+      below =
+          rw c.word_after-in-Cast-2.ensures (words-cast c.requires c.node_place-at.ensures c.word_at-head.ensures refl (node-number _ c.in-Cast.ensures)).type.under;
+    }
 
 pub span_of-returns-in-Cast : goal.span_of-returns-in-Cast
 span_of-returns-in-Cast t c =
