@@ -46,7 +46,7 @@ fn run<'a>(
         messages,
         scratch,
     );
-    rows_begin::rows_of(checked, tok::word_at(image, 3))
+    rows_begin::rows_of(checked, ast::slot_count(image))
 }
 
 // The rows of an input: `input` where the lengths do not fit, else those of what the check of the four parts ends in.

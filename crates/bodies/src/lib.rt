@@ -37,7 +37,7 @@ pub fn begin(
         let b' : Lent = lent slots.new functions.new types.new diagnostics.new messages.new scratch.new o in
         Begins (ctx texts.now ls v) image.now.words at n words st b b' result) }
 {
-    let name = image.word_at(at + 2);
+    let name = image.word_after(at, 2);
     let (is_new, used) = functions::unless_defined(
         &functions[..],
         diagnostics,
@@ -59,11 +59,11 @@ pub fn begin(
         image,
         visiting::inner(st),
         n,
-        image.word_at(at + 1) as usize + 1,
+        image.word_after(at, 1) as usize + 1,
         name,
-        image.word_at(at + 3),
+        image.word_after(at, 3),
         at + 5,
-        image.word_at(at + 4) as usize,
+        image.word_after(at, 4) as usize,
     )?;
     Ok((Some(ret), inner))
 }
@@ -96,9 +96,9 @@ pub fn end(
         image,
         inside.used,
         n,
-        image.word_at(at + 1),
-        image.word_at(at + 2),
-        image.word_at(at + 3),
+        image.word_after(at, 1),
+        image.word_after(at, 2),
+        image.word_after(at, 3),
         ret,
         computed,
     );

@@ -52,7 +52,7 @@ pub fn case_end(image: &Image, at: usize) -> usize
     requires { at ≤ 8192 }
     ensures { result ≡ at + 3 + word_at image.now.words (at + 2) }
 {
-    at + 3 + image.word_at(at + 2) as usize
+    at + 3 + image.word_after(at, 2) as usize
 }
 
 // The branches, once all bodies are visited: their answers are read from slots, so that no Match keeps room for them while it visits.
@@ -99,9 +99,9 @@ fn body_answer(slots: &[u32], image: &Image, n: u32, at: usize, count: usize) ->
     ensures { result ≡ body_answer image.now.words slots.now at count }
 {
     if count == 0 {
-        return Answer::Known(image.word_at(3));
+        return Answer::Known(image.slot_count());
     }
-    node_answer(slots, image, image.word_at(at + (count - 1)))
+    node_answer(slots, image, image.word_after(at, count - 1))
 }
 
 // The branches of the Match n, whose cases stand from word `at` on, against the default's slot, in order: 24 for each that differs.
@@ -124,7 +124,7 @@ fn compare_branches(
     let mut here = used;
     let mut place = at;
     for _ in 0..count {
-        let body = image.word_at(place + 2) as usize;
+        let body = image.word_after(place, 2) as usize;
         let answer = body_answer(slots, image, n, place + 3, body);
         let (_, after) = values::compare_branch(
             slots,
@@ -166,7 +166,7 @@ pub fn end(
         return Ok((Answer::Poison, st));
     };
     let used = st.used;
-    let count = image.word_at(at + 2) as usize;
+    let count = image.word_after(at, 2) as usize;
     let (_, after) = compare_branches(
         &slots[..],
         types,
@@ -179,6 +179,6 @@ pub fn end(
         n,
         slot,
     )?;
-    let own = image.word_at(at + 1);
+    let own = image.word_after(at, 1);
     visit::answered(st, values::alias(slots, after, own, slot))
 }

@@ -113,8 +113,8 @@ fn claims_by(words: &[u32], nodes: &mut [bool], slots: &mut [bool]) -> Result<()
     ensures { offending result ≡ claims_by nodes.old slots.old 0 (parts_from words.now 1 4 (root_count words.now))
         (outlines_from words.now 0 (node_count words.now)) }
 {
-    let n = word_at(words, 0) as usize;
-    let roots = word_at(words, 2) as usize;
+    let n = ast::node_count(words) as usize;
+    let roots = ast::root_count(words) as usize;
     let mut at = 4 + roots;
     for i in 0..n {
         mark_node(words, at, nodes, slots).or(Err(Fault(i)))?;

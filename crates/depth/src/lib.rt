@@ -94,8 +94,8 @@ fn deepest_part(words: &[u32], at: usize, depths: &[u8]) -> u8
 fn depth_by(words: &[u32], depths: &mut [u8]) -> Result<(), Fault>
     ensures { offending result ≡ depth_by depths.old 0 (outlines_from words.now 0 (node_count words.now)) }
 {
-    let n = word_at(words, 0) as usize;
-    let mut at = 4 + word_at(words, 2) as usize;
+    let n = ast::node_count(words) as usize;
+    let mut at = 4 + ast::root_count(words) as usize;
     for i in 0..n {
         let d = deepest_part(words, at, depths);
         if d >= MOST {

@@ -64,9 +64,6 @@ module _ {image places : List ℕ} (n from at count : ℕ) (t : List ℕ) (u : U
 
 module _ {image places : List ℕ} {n from at count k : ℕ} {t₀ : List ℕ} {u₀ : Used} {e₀ : List ℕ} (h : FunctionsRoom image places e₀ from at count)
     {t : List ℕ} {u : Used} {e : List ℕ} {place to : ℕ} (i : Packing image places n from at count h.end k t₀ u₀ e₀ t u e place to) where
-  pub places-low : place ≤ 8192
-  places-low = omega (arith, functions-after i.left.functions, i.left.low)
-
   room-left : to + (h.end - place) ≤ 8192
   room-left = omega (arith, i.places-alike, h.room, i.after, functions-after i.left.functions)
 
@@ -115,7 +112,8 @@ module _ {image places : List ℕ} {n from at count k : ℕ} {t₀ : List ℕ} {
               (one-stops (λ f. extern_fn (ctx T ls v) n f) (function_in image place) _ ((p.steps T ls v s d m).step rest ∙ rw er refl));
         };
         frame = λ end f. let y = functions-same f h.functions.functions in
-            framed_wide (omega (arith, i.places-alike, ahead, i.after)) (framed_then {a = at} {b = to} {c = to} {d = to + 3 + 2 * word_at image (place + 2)} (omega (arith, i.places-alike, i.after)) (omega arith) i.frame p.frame);
+            framed_wide (omega (arith, i.places-alike, ahead, i.after))
+            (framed_then {a = at} {b = to} {c = to} {d = to + 3 + 2 * word_at image (place + 2)} (omega (arith, i.places-alike, i.after)) (omega arith) i.frame p.frame);
         ends = λ o end f. let no : ◌≡◌ {A = ℕ} 0 1 = cc in absurd (omega arith);
       })
 
@@ -141,7 +139,8 @@ module _ {image places : List ℕ} {n from at count k : ℕ} {t₀ : List ℕ} {
                   ap (λ xs. for_each (λ f. extern_fn (ctx T ls v) n f) xs (world rest s t₀ d m u₀)) (i.split 1)
                   ∙ each-ok (λ f. extern_fn (ctx T ls v) n f) _ (externs_from image from k) (world rest s t₀ d m u₀) ((i.steps T ls v s d m).step rest)
                   (one_ok (λ f. extern_fn (ctx T ls v) n f) (function_in image place) [] ((p.steps T ls v s d m).step rest ∙ rw er refl))
-                  ∙ ap (λ fs. ok fs (world rest s t' d m u')) (sym (ap (entries_from e' 0 at) s₁ ∙ entries-last e' at k ∙ ap (λ fs. fs ++ (entry_at e' 0 (entries_end e' 0 at k) ∷ [])) (entries-front e e' old at k (omega (arith, i.ends)))
+                  ∙ ap (λ fs. ok fs (world rest s t' d m u'))
+                  (sym (ap (entries_from e' 0 at) s₁ ∙ entries-last e' at k ∙ ap (λ fs. fs ++ (entry_at e' 0 (entries_end e' 0 at k) ∷ [])) (entries-front e e' old at k (omega (arith, i.ends)))
                   ∙ ap (λ x. entries_from e 0 at k ++ (entry_at e' 0 x ∷ [])) same));
             };
             ends = ap (entries_end e' 0 at) s₁ ∙ ends_last e' at k ∙ ap (entry_end e' 0) same ∙ entry-end e' to ∙ ap (λ x. to + 3 + 2 * x) p.count;

@@ -48,7 +48,8 @@ module _ {image places : List ℕ} {st : State} {e : List ℕ} {from end count :
   pub held-most : st.held ≤ 8192
   held-most = held_low h.free
 
-  module _ (name : ℕ) {size start : ℕ} (ez : size ≡ 3 + (end - from)) (es : start ≡ st.held - size) {first : ℕ} (ef : first ≡ 8192 + size) {e₁ e₂ : List ℕ} (e1 : e₁ ≡ write e start (first ∷ name ∷ []))
+  module _ (name : ℕ) {size start : ℕ} (ez : size ≡ 3 + (end - from)) (es : start ≡ st.held - size) {first : ℕ}
+      (ef : first ≡ 8192 + size) {e₁ e₂ : List ℕ} (e1 : e₁ ≡ write e start (first ∷ name ∷ []))
       (e2 : e₂ ≡ set e₁ (start + 2) count) where
     ending : start + (3 + (end - from)) ≡ st.held
     ending = omega (arith, room-below)
@@ -135,7 +136,8 @@ module _ {image places : List ℕ} {st : State} {e : List ℕ} {from end count :
       front = sym (take-take (top st) start e' above) ∙ ap (take (top st)) whole-frame.front ∙ take-take (top st) start e above
 
       pub package_done : {done : Done} {after : Used} {s s' : List ℕ} → went ≡ Ok (done, after) → s' ≡ set s slot void_word → (T : Texts) (ls : List Package) (v : ℕ) (words f d m : List ℕ) (o : More)
-          → Visits (extern_rule (ctx T ls v) n slot name (externs_from image from count)) (extern_words (externs_from image from count)) 0 words st (lent s f t d m e o) (lent s' f t' d m e' o) (Ok (Known slot, extern_held st after start))
+          → Visits (extern_rule (ctx T ls v) n slot name (externs_from image from count)) (extern_words (externs_from image from count)) 0 words st
+          (lent s f t d m e o) (lent s' f t' d m e' o) (Ok (Known slot, extern_held st after start))
       unfolding extern_rule with_answer stepped visited hold set_known
       package_done {after = after} {s = s} eg eq T ls v words f d m o = record {
         step = rw ((p.steps T ls v s d m).step (rest_of words st (lent s f t d m e o)), eg, eq, held-extern words, env-front (top st) e e' front st.names.base st.names.depth (omega arith)) refl;

@@ -74,14 +74,16 @@ pub functions-after : {text image : List ℕ} {end at k : ℕ} → FunctionsWord
 functions-after (no_functions e) = omega arith
 functions-after (function_words a b c rest) = omega (arith, functions-after rest)
 
-pub functions-first : {text image : List ℕ} {end at k : ℕ} → FunctionsWords (counts_in text image) image end at (suc k) → FunctionsWords (counts_in text image) image end (at + 3 + 2 * word_at image (at + 2)) k
+pub functions-first : {text image : List ℕ} {end at k : ℕ} → FunctionsWords (counts_in text image) image end at (suc k)
+    → FunctionsWords (counts_in text image) image end (at + 3 + 2 * word_at image (at + 2)) k
 functions-first (function_words a b c rest) = rest
 
 pub functions-over : {text image : List ℕ} {end at : ℕ} → FunctionsWords (counts_in text image) image end at 0 → at ≡ end
 functions-over (no_functions e) = e
 
 -- the first of them, with room for its entry
-pub first-room : {image places scratch : List ℕ} {from end k at : ℕ} → Functions image places from end (suc k) → at + (end - from) ≤ 8192 → 8192 ≤ length scratch → FunctionRoom image places scratch from at
+pub first-room : {image places scratch : List ℕ} {from end k at : ℕ} → Functions image places from end (suc k)
+    → at + (end - from) ≤ 8192 → 8192 ≤ length scratch → FunctionRoom image places scratch from at
 first-room {image} {places} {scratch} {from} {end} {k} {at} f room long = by f.functions
   where
     by : FunctionsWords (counts_in f.readable.text image) image end from (suc k) → FunctionRoom image places scratch from at
@@ -96,4 +98,5 @@ first-room {image} {places} {scratch} {from} {end} {k} {at} f room long = by f.f
 pub extern-size : {text image : List ℕ} {end at : ℕ} (k : ℕ) → FunctionsWords (counts_in text image) image end at k → extern_words (externs_from image at k) ≡ 3 + (end - at)
 unfolding extern_words externs_from
 extern-size {text = text} {image = image} {end = end} {at = at} zero (no_functions e) = omega arith
-extern-size {text = text} {image = image} {end = end} {at = at} (suc k) (function_words a b c rest) = omega (arith, extern-size {text = text} {image = image} {end = end} {at = at + 3 + 2 * word_at image (at + 2)} k rest, functions-after rest, length-args image (at + 3) (word_at image (at + 2)))
+extern-size {text = text} {image = image} {end = end} {at = at} (suc k) (function_words a b c rest) =
+    omega (arith, extern-size {text = text} {image = image} {end = end} {at = at + 3 + 2 * word_at image (at + 2)} k rest, functions-after rest, length-args image (at + 3) (word_at image (at + 2)))

@@ -39,7 +39,7 @@ pub fn extern_functions(
     let mut to = at;
     for _ in 0..count {
         (_, after) = externs::extern_function(types, scratch, image, after, n, place, to)?;
-        let size = 3 + 2 * (image.word_at(place + 2) as usize);
+        let size = 3 + 2 * (image.word_after(place, 2) as usize);
         place += size;
         to += size;
     }

@@ -71,7 +71,8 @@ module _ {image places : List ℕ} {n from at count k : ℕ} {t₀ : List ℕ} {
               (typed T ls v s d m).step rest ∙ rw ea refl in
               ap (λ c. for_each (λ a. extern_arg (ctx T ls v) n a) (args_from image from c) (world rest s t₀ d m u₀)) y
               ∙ ap (λ xs. for_each (λ a. extern_arg (ctx T ls v) n a) xs (world rest s t₀ d m u₀)) (args-split image from k (suc (count - (k + 1))))
-              ∙ each-stops (λ a. extern_arg (ctx T ls v) n a) _ (args_from image from k) (world rest s t₀ d m u₀) ((i.steps T ls v s d m).step rest) (one-stops (λ a. extern_arg (ctx T ls v) n a) _ _ (rw b refl));
+              ∙ each-stops (λ a. extern_arg (ctx T ls v) n a) _ (args_from image from k) (world rest s t₀ d m u₀)
+              ((i.steps T ls v s d m).step rest) (one-stops (λ a. extern_arg (ctx T ls v) n a) _ _ (rw b refl));
         };
         frame = framed_wide (omega arith) i.frame;
       })
@@ -93,7 +94,8 @@ module _ {image places : List ℕ} {n from at count k : ℕ} {t₀ : List ℕ} {
                   let b : type_from_expr (ctx T ls v) n (type_of image (get_or image (from + 2 * k + 1) 0)) (world rest s t d m u) ≡ ok w (world rest s t' d m u') =
                   (typed T ls v s d m).step rest ∙ rw ea refl in
                   ap (λ xs. for_each (λ a. extern_arg (ctx T ls v) n a) xs (world rest s t₀ d m u₀)) (args-split image from k 1)
-                  ∙ each-ok (λ a. extern_arg (ctx T ls v) n a) _ (args_from image from k) (world rest s t₀ d m u₀) ((i.steps T ls v s d m).step rest) (one_ok (λ a. extern_arg (ctx T ls v) n a) _ [] (rw (b, ← en) refl))
+                  ∙ each-ok (λ a. extern_arg (ctx T ls v) n a) _ (args_from image from k) (world rest s t₀ d m u₀)
+                  ((i.steps T ls v s d m).step rest) (one_ok (λ a. extern_arg (ctx T ls v) n a) _ [] (rw (b, ← en) refl))
                   ∙ ap (λ ps. ok ps (world rest s t' d m u')) (sym all);
             };
             frame = framed_then (omega arith) (omega arith) i.frame q;

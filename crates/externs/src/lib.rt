@@ -26,7 +26,7 @@ pub fn extern_arguments(
 {
     let mut after = used;
     for k in 0..count {
-        let t = image.word_at(from + 2 * k + 1);
+        let t = image.word_after(from + 2 * k, 1);
         let added = type_from_type_expr(types, after.types, image, t);
         let (w, next) = state::added(n, after, added)?;
         let name = image.word_at(from + 2 * k);
@@ -50,11 +50,11 @@ pub fn extern_function(
     ensures { EntersExtern image.now.words n from at types.old used scratch.old types.new scratch.new result }
 {
     let name = image.word_at(from);
-    let count = image.word_at(from + 2);
+    let count = image.word_after(from, 2);
     add::set_pair(scratch, at, name, count);
     let arguments = count as usize;
     let (_, used) = extern_arguments(types, scratch, image, used, n, from + 3, at + 2, arguments)?;
-    let t = image.word_at(from + 1);
+    let t = image.word_after(from, 1);
     let added = type_from_type_expr(types, used.types, image, t);
     let (w, used) = state::added(n, used, added)?;
     operators::store(scratch, at + 2 + 2 * arguments, w);

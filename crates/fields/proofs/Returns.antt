@@ -1,57 +1,35 @@
 -- Each return of the functions, from what the callees answered. By rewriting. Assumes nothing.
-use Rattle.std.specs.Prelude.{Bool, ℕ, ◌+◌, ◌*◌, ◌<◌, ◌≤◌, ◌≡◌, List, [], ◌∷◌, ◌++◌, get_or, Ok, Err}
+use Rattle.std.specs.Prelude.{ℕ, ◌+◌, ◌*◌, ◌<◌, ◌≤◌, ◌≡◌, List, [], ◌∷◌, ◌++◌, get_or, length, Result as Answered, Ok, Err}
+use Rattle.std.specs.Result.{IsErrAnd}
 use Rattle.std.proofs.Math.Path.{refl, ap}
-use Rattle.std.proofs.Math.Bool.{true, false, not}
-use Rattle.std.proofs.lemmas.Bool.{not-true, not-false}
 use Rattle.std.proofs.Common.{sym, ◌∙◌, arith}
 use Rattle.tok.specs.Word.{payload_of}
-use Rattle.tok.specs.Text.{Texts, texts_of}
-use Rattle.tok.specs.Step.{when, ◌>>=◌}
-use Rattle.ptype.specs.Add.{buffer, write}
+use Rattle.tok.specs.Text.{Texts}
+use Rattle.tok.specs.Step.{Step as Stepping, Refusal as Refused, next}
+use Rattle.ptype.specs.Add.{Buffer, buffer, write, add_record}
 use Rattle.places.specs.NodesAt.{NodeReady, part-ready}
 use Rattle.spans.specs.Ready.{ValuesReady}
-use Rattle.add.specs.Answer.{Added, result_of}
-use Rattle.add.specs.Parts.{opened, paired, shallow, measured}
-use Rattle.add.specs.WriteLaws.{write_nil, write-append}
+use Rattle.add.specs.declared.AddError.{AddError}
+use Rattle.add.specs.declared.Arena.{Arena}
+use Rattle.add.specs.Answer.{Added, buffer_of, answer_of, result_of, Allocates}
+use Rattle.add.specs.AllocLaws.{allocates_then}
+use Rattle.add.specs.Parts.{opened, paired, measured, record_from}
+use Rattle.add.specs.PartsLaws.{record_parts_lem}
+use Rattle.add.specs.WriteLaws.{write_nil, write-append, length-write}
 use Rattle.rules.specs.declared.Answer.{Answer}
-use Rattle.rules.specs.World.{Walk}
-use Rattle.rules.specs.Steps.{set_known, raised, on_types}
+use Rattle.rules.specs.Steps.{set_known, on_types}
 use Rattle.state.specs.declared.Refusal.{Refusal}
-use Rattle.state.specs.declared.Refusal.TheVariants.{TooDeep}
-use Rattle.state.specs.Refused.{refusal_of}
+use Rattle.state.specs.declared.Used.{Used}
 use Rattle.state.specs.Adding.{added_of, added-step}
-use Rattle.state.specs.World.{More, Step, stepped, Steps}
+use Rattle.state.specs.Reporting.{on-ok}
+use Rattle.state.specs.World.{More, Step, Steps}
 use Rattle.visit.specs.declared.State.{State}
-use Rattle.visit.specs.Whole.{Lent, Visit, lent, whole, visited}
-use Rattle.visit.specs.Within.{stops, Visits}
+use Rattle.visit.specs.Whole.{Visit, lent}
+use Rattle.visit.specs.Within.{Visits}
 use Rattle.visit.specs.Plain.{visit_of, steps-visits}
-use Rattle.visiting.specs.Then.{visits-stop, visits-then}
+use Rattle.visiting.specs.Then.{visits-stop, passed_on}
 use Rattle.fields.specs.Read.{node_value, pairs_read, read_length, read_more}
-use Rattle.fields.specs.Parts.{record_of, record_end, record_parts-are}
-
--- ── A Record is opened ──
-
-module _ (n k : ℕ) (st : State) {t t' : List ℕ} (a : Added) (p : (T : Texts) (n : ℕ) → opened n k (buffer t st.used.types) ≡ result_of n a t') where
-  pub opened-is : {v : Visit ℕ} → v ≡ visit_of st (added_of n st.used a) → (words s f d m e : List ℕ) (o : More)
-      → Visits (on_types (opened n k)) 0 0 words st (lent s f t d m e o) (lent s f t' d m e o) v
-  opened-is ev words s f d m e o = rw ev (steps-visits (added-step n (opened n k) a (p (texts_of [] []) n)) words f e o)
-
--- ── The end of Node::Record ──
-
-module _ (n word : ℕ) (st : State) {s t : List ℕ} {b : Bool} (hb : (T : Texts) → b ≡ shallow T t word) where
-  pub closed_deep : (slot : ℕ) → not b ≡ true → (T : Texts) (words f d m e : List ℕ) (o : More)
-      → Visits (record_end T n slot word) 0 0 words st (lent s f t d m e o) (lent s f t d m e o) (Err (TooDeep n))
-  unfolding record_end on_types raised measured when visited refusal_of
-  closed_deep slot q T words f d m e o = record { step = rw (← hb T, not-true b q); keeps = stops }
-
-  pub closed_set : {s' : List ℕ} {x slot : ℕ} {r : Step Answer} {v : Visit Answer} → not b ≡ false → slot ≡ x
-      → ((t d m : List ℕ) → Steps (set_known slot word) s t d m st.used s' t d m r) → v ≡ visit_of st r
-      → (T : Texts) (words f d m e : List ℕ) (o : More) → Visits (record_end T n x word) 0 0 words st (lent s f t d m e o) (lent s' f t d m e o) v
-  unfolding record_end on_types raised measured when
-  closed_set {s' = s'} {slot = slot} {r = r} q es p ev T words f d m e o = rw (← es, ev) (record { step = rw (← hb T, not-false b q) set.step; keeps = set.keeps })
-    where
-      set : Visits (set_known slot word) 0 0 words st (lent s f t d m e o) (lent s' f t d m e o) (visit_of st r)
-      set = steps-visits (p t d m) words f e o
+use Rattle.fields.specs.Parts.{record_of}
 
 -- ── Pairs read from slots ──
 
@@ -85,36 +63,53 @@ module _ (image slots : List ℕ) (at to : ℕ) (t : List ℕ) where
 pub value-ready : {image places : List ℕ} {n at count i number : ℕ} → ValuesReady image places n at count → i < count → number ≡ get_or image (at + 2 * i + 1) 0 → NodeReady image places number
 value-ready h l e = (part-ready h.ready (h.values.each _ l).value e).ready
 
+-- ── A Record added: opened, its pairs set, and measured ──
+
+module _ (count : ℕ) (image slots : List ℕ) (at : ℕ) where
+  abbrev pairs : List ℕ
+  pairs = pairs_read image slots at count
+
+  abbrev set : (n : ℕ) → Stepping Buffer Refused ℕ
+  set n b = next (opened n count b) (paired 0 pairs)
+
+  parts-are : (T : Texts) (n : ℕ) (b : Buffer) → add_record T n pairs b ≡ next (set n b) (measured T n)
+  unfolding record_from
+  parts-are T n b = record_parts_lem T n pairs count (read_length image slots at count) b
+
+  module _ {a a₁ : Arena} where
+    pub record-refused : {e : AddError} → Allocates (λ T n. opened n count) a (Err e) a₁ → Allocates (λ T n. add_record T n pairs) a (Err e) a₁
+    record-refused g = record { lent = g.lent; keeps = g.keeps; result = λ T n. parts-are T n (buffer_of a) ∙ rw (g.result T n) }
+
+    module _ {w q : ℕ} {a₂ : Arena} (g : Allocates (λ T n. opened n count) a (Ok w) a₁) (eq : q ≡ payload_of w)
+        (el : a₂.words.ghost_name ≡ a₁.words.ghost_name) (eu : a₂.used ≡ a₁.used) (h : a₂.words.now ≡ write a₁.words.now (q + 1) pairs) where
+      set-is : Allocates (λ T n. set n) a (Ok w) a₂
+      unfolding paired
+      set-is =
+          let place : payload_of w + 1 + 2 * 0 ≡ payload_of w + 1 = omega arith in
+          record {
+            lent = el ∙ g.lent;
+            keeps = ap length h ∙ length-write a₁.words.now (q + 1) pairs ∙ g.keeps;
+            result = λ T n. rw (g.result T n, h, eu, eq, place);
+          }
+
+      pub record-closed : {y : Answered ℕ AddError} → ((T : Texts) (n : ℕ) → measured T n w (buffer_of a₂) ≡ result_of n (answer_of y a₂.used) a₂.words.now)
+          → Allocates (λ T n. add_record T n pairs) a y a₂
+      record-closed c = allocates_then (λ T n. measured T n) (λ T n. parts-are T n (buffer_of a)) set-is (record { lent = refl; keeps = refl; result = c })
+
 -- ── Node::Record once its values are visited ──
 
--- pairs written into an opened Record
-pairs_set : {word q : ℕ} (pairs : List ℕ) {t₁ t₂ : List ℕ} (end : State) → q ≡ payload_of word → t₂ ≡ write t₁ (q + 1) pairs → (words s f d m e : List ℕ) (o : More)
-    → Visits (on_types (paired 0 pairs word)) 0 0 words end (lent s f t₁ d m e o) (lent s f t₂ d m e o) (Ok (word, end))
-unfolding on_types raised paired stepped visit_of
-pairs_set {word} {q} pairs {t₁} {t₂} end eq et words s f d m e o = steps-visits set words f e o
-  where
-    set : Steps (on_types (paired 0 pairs word)) s t₁ d m end.used s t₂ d m (Ok (word, end.used))
-    set = record { step = λ rest. let p : payload_of word + 1 + 2 * 0 ≡ q + 1 = omega arith in rw (p, et) refl }
+module _ (n slot : ℕ) (pairs : List ℕ) (st : State) {t t' : List ℕ} {added : Added}
+    (p : (T : Texts) (n : ℕ) → add_record T n pairs (buffer t st.used.types) ≡ result_of n added t') where
+  of_type : (T : Texts) (s d m : List ℕ) → Steps (on_types (add_record T n pairs)) s t d m st.used s t' d m (added_of n st.used added)
+  of_type T s d m = added-step n (add_record T n pairs) added (p T n)
 
-module _ (n count : ℕ) (st : State) (image slots : List ℕ) (at : ℕ) where
-  abbrev pairs : List ℕ
-  pairs = pairs_read image slots (at + 3) count
+  pub made-refused : {x : Refusal} {s : List ℕ} {v : Visit Answer} → added_of n st.used added ≡ Err x → IsErrAnd v (λ y. y ≡ x)
+      → (T : Texts) (words f d m e : List ℕ) (o : More) → Visits (record_of T n slot pairs) 0 0 words st (lent s f t d m e o) (lent s f t' d m e o) v
+  unfolding record_of visit_of
+  made-refused {x} {s} h k T words f d m e o = passed_on k (visits-stop (set_known slot) (rw h at (steps-visits (of_type T s d m) words f e o)) 0 0)
 
-  abbrev set : Walk ℕ
-  set = ◌>>=◌ (on_types (opened n count)) (λ w. on_types (paired 0 pairs w))
-
-  of_parts : (T : Texts) (slot : ℕ) {words : List ℕ} {b b' : Lent} {v : Visit Answer} → Visits (◌>>=◌ set (record_end T n slot)) 0 0 words st b b' v → Visits (record_of T n slot pairs) 0 0 words st b b' v
-  of_parts T slot {words} {b} x = record { step = record_parts-are T n slot count pairs (read_length image slots (at + 3) count) (whole words st b) ∙ x.step; keeps = x.keeps }
-
-  pub made-refused : (slot : ℕ) {r : Refusal} {t t₁ : List ℕ}
-      → ((words s f d m e : List ℕ) (o : More) → Visits (on_types (opened n count)) 0 0 words st (lent s f t d m e o) (lent s f t₁ d m e o) (Err r))
-      → (T : Texts) (words f d m e : List ℕ) (o : More) → Visits (record_of T n slot pairs) 0 0 words st (lent slots f t d m e o) (lent slots f t₁ d m e o) (Err r)
-  made-refused slot x T words f d m e o = of_parts T slot (visits-stop (record_end T n slot) (visits-stop (λ w. on_types (paired 0 pairs w)) (x words slots f d m e o) 0 0) 0 0)
-
-  pub made_closed : (slot : ℕ) {word q : ℕ} {end : State} {t t₁ t₂ s₂ : List ℕ} {v : Visit Answer}
-      → ((words s f d m e : List ℕ) (o : More) → Visits (on_types (opened n count)) 0 0 words st (lent s f t d m e o) (lent s f t₁ d m e o) (Ok (word, end)))
-      → q ≡ payload_of word → t₂ ≡ write t₁ (q + 1) pairs
-      → ((T : Texts) (words f d m e : List ℕ) (o : More) → Visits (record_end T n slot word) 0 0 words end (lent slots f t₂ d m e o) (lent s₂ f t₂ d m e o) v)
-      → (T : Texts) (words f d m e : List ℕ) (o : More) → Visits (record_of T n slot pairs) 0 0 words st (lent slots f t d m e o) (lent s₂ f t₂ d m e o) v
-  made_closed slot {end = end} x eq et z T words f d m e o =
-      of_parts T slot (visits-then (record_end T n slot) (visits-then (λ w. on_types (paired 0 pairs w)) (x words slots f d m e o) (pairs_set pairs end eq et words slots f d m e o)) (z T words f d m e o))
+  pub made-set : {word own : ℕ} {u : Used} {s s' : List ℕ} {r : Step Answer} {v : Visit Answer} → added_of n st.used added ≡ Ok (word, u) → own ≡ slot
+      → ((t d m : List ℕ) → Steps (set_known own word) s t d m u s' t d m r) → v ≡ visit_of st r
+      → (T : Texts) (words f d m e : List ℕ) (o : More) → Visits (record_of T n slot pairs) 0 0 words st (lent s f t d m e o) (lent s' f t' d m e o) v
+  unfolding record_of
+  made-set {own = own} {s = s} h es q ev T words f d m e o = rw (← es, ev) (steps-visits (on-ok (set_known own) (of_type T s d m) h (q t' d m)) words f e o)

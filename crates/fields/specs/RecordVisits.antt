@@ -132,7 +132,8 @@ module _ {T : Texts} {image places words : List ℕ} {n at count : ℕ} {st : St
     abbrev rest : Answer → Walk Answer
     rest a = ◌>>=◌ (value_type a) with_type
 
-    value-leads : Leads (recording T image words n st b) (◌>>=◌ (node (ctx_in T image words) (tree_of image part)) rest) (room (tree_of image part) + value_rooms others) (rows (tree_of image part) + value_rows others) here b'
+    value-leads : Leads (recording T image words n st b) (◌>>=◌ (node (ctx_in T image words) (tree_of image part)) rest)
+        (room (tree_of image part) + value_rooms others) (rows (tree_of image part) + value_rows others) here b'
     unfolding value_rooms value_rows
     value-leads =
         leads_as (◌>>=◌ (node (ctx_in T image words) (tree_of image part)) rest)
@@ -149,7 +150,8 @@ module _ {T : Texts} {image places words : List ℕ} {n at count : ℕ} {st : St
         unfolding node_value
         type-is =
             let e = came_ok x in
-            let t : Tells (Reads (tree_of image part)) (slot_of (tree_of image part)) 0 (ok a (whole words on b₁)) = rw e at (node-tells (ctx_in T image words) (tree_of image part) (whole words here b') (fresh-first _ _ value-fresh)) in
+            let t : Tells (Reads (tree_of image part)) (slot_of (tree_of image part)) 0 (ok a (whole words on b₁)) =
+            rw e at (node-tells (ctx_in T image words) (tree_of image part) (whole words here b') (fresh-first _ _ value-fresh)) in
             value-told (walk_run T image words) t (node-answer (after-node value-ready value-below x))
 
         -- the slots of those done before are as they were
@@ -163,7 +165,8 @@ module _ {T : Texts} {image places words : List ℕ} {n at count : ℕ} {st : St
             ∙ ap (λ p. pairs_read image b₁.slots (at + 3) i ++ (get_or image (place_of at i) 0 ∷ node_value image b₁.slots p ∷ [])) part-is
             ∙ sym (read_more image b₁.slots (at + 3) i)
 
-        next-leads : Leads (recording T image words n st b) (U.values_from (ctx_in T image words) (pairs_read image b₁.slots (at + 3) (i + 1)) others (ending T image n at)) (value_rooms others) (value_rows others) on b₁
+        next-leads : Leads (recording T image words n st b)
+            (U.values_from (ctx_in T image words) (pairs_read image b₁.slots (at + 3) (i + 1)) others (ending T image n at)) (value_rooms others) (value_rows others) on b₁
         next-leads =
             leads_as (U.values_from (ctx_in T image words) (pairs_read image b₁.slots (at + 3) (i + 1)) others (ending T image n at))
             (ap (λ r. next r with_type) type-is ∙ ap (λ ps. U.values_from (ctx_in T image words) ps others (ending T image n at) (whole words on b₁)) told)
@@ -196,13 +199,17 @@ module _ {T : Texts} {image places words : List ℕ} {n at count : ℕ} {st : St
 
   -- ── After the loop ──
 
-  pub record_made : count ≤ i → {b₁ : Lent} {v : Visit Answer} → Visits (record_of T n (word_at image (at + 1)) (pairs_read image b'.slots (at + 3) count)) 0 0 words here b' b₁ v → NodeVisited T image words n st b b₁ v
+  pub record_made : count ≤ i → {b₁ : Lent} {v : Visit Answer}
+      → Visits (record_of T n (word_at image (at + 1)) (pairs_read image b'.slots (at + 3) count)) 0 0 words here b' b₁ v → NodeVisited T image words n st b b₁ v
   unfolding values_from
   record_made l {b₁} {v} y =
       let z : count - i ≡ 0 = omega arith in
       let e : i ≡ count = omega (arith, h.within) in
-      let leads : Leads (recording T image words n st b) (U.values_from (ctx_in T image words) (pairs_read image b'.slots (at + 3) count) no_value (ending T image n at)) _ _ here b' = rw (z, e) at h.leads in
-      leads.onto b₁ v (visits-most (omega arith) (omega arith) (record { step = U.values-end (ctx_in T image words) (pairs_read image b'.slots (at + 3) count) (ending T image n at) (whole words here b') ∙ y.step; keeps = y.keeps }))
+      let leads : Leads (recording T image words n st b)
+      (U.values_from (ctx_in T image words) (pairs_read image b'.slots (at + 3) count) no_value (ending T image n at)) _ _ here b' =
+      rw (z, e) at h.leads in
+      leads.onto b₁ v (visits-most (omega arith) (omega arith)
+      (record { step = U.values-end (ctx_in T image words) (pairs_read image b'.slots (at + 3) count) (ending T image n at) (whole words here b') ∙ y.step; keeps = y.keeps }))
 
 -- ── Node::Record ──
 

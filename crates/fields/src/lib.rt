@@ -4,57 +4,21 @@
 
 ghost use Rattle.std.specs.Prelude.{◌≡◌, List, ℕ, ◌+◌, ◌≤◌, get_or};
 ghost use Rattle.tok.specs.Text.{Texts};
-ghost use Rattle.ptype.specs.Add.{write};
-ghost use Rattle.add.specs.Parts.{opened};
+ghost use Rattle.ptype.specs.Add.{write, add_record};
+ghost use Rattle.add.specs.Answer.{Allocates};
 ghost use Rattle.places.specs.NodesAt.{NodeReady};
 ghost use Rattle.spans.specs.Ready.{ValuesReady};
-ghost use Rattle.rules.specs.Steps.{on_types};
 ghost use Rattle.state.specs.World.{More};
 ghost use Rattle.visit.specs.Whole.{Lent, lent};
 ghost use Rattle.visit.specs.Within.{Visits};
 ghost use Rattle.fields.specs.Read.{node_value, pairs_read};
-ghost use Rattle.fields.specs.Parts.{record_of, record_end};
+ghost use Rattle.fields.specs.Parts.{record_of};
 
-use add::Arena;
+use add::{AddError, Arena};
 use places::Image;
 use ptype::UNKNOWN_WORD;
 use rules::Answer;
-use state::Refusal;
 use visit::{State, Visit};
-
-// Opens the Record of node n, of k fields, and gives its word.
-fn open(types: &mut [u32], st: State, n: u32, k: usize) -> Visit<u32>
-    ensures { (words s f d m e : List ℕ) (o : More) → Visits (on_types (opened n k)) 0 0 words st (lent s f types.old d m e o) (lent s f types.new d m e o) result }
-{
-    let used = st.used;
-    let mut arena = Arena::new(types, used.types);
-    let opened = arena.open_record(k);
-    visit::answered(st, state::added(n, used, arena.answer(opened)))
-}
-
-// The end of Node::Record, whose record stands at `at`: its type's word is measured, and is its slot's.
-fn close(
-    slots: &mut [u32],
-    types: &[u32],
-    image: &Image,
-    at: usize,
-    st: State,
-    n: u32,
-    word: u32,
-) -> Visit<Answer>
-    requires { at ≤ 8192 }
-    ensures { ((T : Texts) (words f d m e : List ℕ) (o : More) →
-        let b : Lent = lent slots.old f types.now d m e o in
-        let b' : Lent = lent slots.new f types.now d m e o in
-        Visits (record_end T n (get_or image.now.words (at + 1) 0) word) 0 0 words st b b' result) }
-{
-    if !add::is_shallow(types, word) {
-        return Err(Refusal::TooDeep(n));
-    }
-    let used = st.used;
-    let step = operators::set_known(slots, used, image.word_at(at + 1), word);
-    visit::answered(st, step)
-}
 
 // The type word of the value of node n: Unknown where it was poisoned.
 #[tactic(auto, unfolding(crate::specs::Read::node_value, crate::specs::Read::value_of))]
@@ -83,11 +47,31 @@ fn set_pairs(
     ensures { types.new ≡ write types.old to (pairs_read image.now.words slots.now at count) }
 {
     for i in 0..count {
-        let name = image.word_at(at + 2 * i);
-        let value = image.word_at(at + 2 * i + 1);
+        let pair = at + 2 * i;
+        let name = image.word_at(pair);
+        let value = image.word_after(pair, 1);
         let ty = node_value(slots, image, value);
         add::set_pair(types, to + 2 * i, name, ty);
     }
+}
+
+// Adds the Record of `count` fields of the node n, whose names and values stand from word `at` of the image on: room for all of it first,
+// then its pairs, then the measure.
+fn add_record(
+    arena: &mut Arena,
+    slots: &[u32],
+    image: &Image,
+    n: u32,
+    at: usize,
+    count: usize,
+) -> Result<u32, AddError>
+    requires { ValuesReady image.now.words image.now.places n at count }
+    ensures { Allocates (λ t n. add_record t n (pairs_read image.now.words slots.now at count)) arena.old result arena.new }
+{
+    let word = arena.open_record(count)?;
+    let to = tok::payload(word) + 1;
+    set_pairs(slots, arena.words, image, n, at, count, to);
+    arena.close_record(word)
 }
 
 // Node::Record after the visits of its `count` values; its record stands at `at`.
@@ -107,8 +91,10 @@ pub fn make(
         let b' : Lent = lent slots.new f types.new d m e o in
         Visits (record_of T n (get_or I (at + 1) 0) (pairs_read I slots.old (at + 3) count)) 0 0 words st b b' result) }
 {
-    let (word, end) = open(types, st, n, count)?;
-    let to = tok::payload(word) + 1;
-    set_pairs(&slots[..], types, image, n, at + 3, count, to);
-    close(slots, &types[..], image, at, end, n, word)
+    let used = st.used;
+    let mut arena = Arena::new(types, used.types);
+    let added = add_record(&mut arena, &slots[..], image, n, at + 3, count);
+    let (word, used) = state::added(n, used, arena.answer(added))?;
+    let step = operators::set_known(slots, used, image.word_after(at, 1), word);
+    visit::answered(st, step)
 }

@@ -35,12 +35,12 @@ pub fn leaf(
 {
     let at = image.node_place(n);
     let head = image.word_at(at);
-    let slot = image.word_at(at + 1);
-    let first = image.word_at(at + 2);
+    let slot = image.word_after(at, 1);
+    let first = image.word_after(at, 2);
     match NodeKind::of(head) {
         NodeKind::Atom => {
             let used = st.used;
-            let w = operators::plain_word(TypeKind::from(image.word_at(at + 3)));
+            let w = operators::plain_word(TypeKind::from(image.word_after(at, 3)));
             visit::answered(st, operators::set_known(slots, used, slot, w))
         }
         NodeKind::Ident => names::ident(
@@ -78,10 +78,10 @@ pub fn leaf(
             st,
             n,
             slot,
-            image.word_at(at + 3),
+            image.word_after(at, 3),
             at + 5,
             at + payload(head),
-            image.word_at(at + 4),
+            image.word_after(at, 4),
         ),
     }
 }

@@ -2,7 +2,7 @@
 // one that differs ends the visits.
 #![tactic(auto)]
 
-ghost use Rattle.std.specs.Prelude.{◌≡◌, List, ℕ, ◌+◌, ◌≤◌, get_or};
+ghost use Rattle.std.specs.Prelude.{◌≡◌, List, ℕ, ◌+◌, get_or};
 ghost use Rattle.tok.specs.Text.{Texts};
 ghost use Rattle.ast.specs.Node.{tree_of};
 ghost use Rattle.ast.specs.Span.{span_of};
@@ -31,14 +31,13 @@ pub fn empty(
     st: State,
     n: u32,
 ) -> Visit<Answer>
-    requires { at ≤ 8192 }
     ensures { ((words s f t e : List ℕ) (o : More) →
         let b : Lent = lent s f t diagnostics.old messages.old e o in
         let b' : Lent = lent s f t diagnostics.new messages.new e o in
         Visits (poison n (empty_array (get_or image.now.words (at + 2) 0))) 0 0 words st b b' result) }
 {
     let used = st.used;
-    let step = values::empty_array(diagnostics, messages, used, n, image.word_at(at + 2));
+    let step = values::empty_array(diagnostics, messages, used, n, image.word_after(at, 2));
     visit::answered(st, step)
 }
 
@@ -95,7 +94,6 @@ pub fn end(
     first: Answer,
     poisoned: bool,
 ) -> Visit<Answer>
-    requires { at ≤ 8192 }
     ensures { ((T : Texts) (ls : List Package) (v : ℕ) (words f d m e : List ℕ) (o : More) →
         let b : Lent = lent slots.old f types.old d m e o in
         let b' : Lent = lent slots.new f types.new d m e o in
@@ -107,7 +105,7 @@ pub fn end(
         types,
         used,
         n,
-        image.word_at(at + 1),
+        image.word_after(at, 1),
         first,
         poisoned,
     );

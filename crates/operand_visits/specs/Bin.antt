@@ -7,7 +7,7 @@ use Rattle.tok.specs.Text.{Texts}
 use Rattle.ast.specs.Image.{word_at, record_kind}
 use Rattle.ast.specs.Node.{tree_of, read_bin}
 use Rattle.image_laws.specs.RecordWords.{BinWords}
-use Rattle.places.specs.NodesAt.{NodeReady, counts_of, record_room, node-bin, words-bin}
+use Rattle.places.specs.NodesAt.{NodeReady, counts_of, node-bin, words-bin}
 use Rattle.rules.specs.declared.Answer.{Answer}
 use Rattle.rules.specs.Rules.{node}
 use Rattle.room_laws.specs.Room.{room, rows}
@@ -39,16 +39,14 @@ module _ {T : Texts} {image places words : List ℕ} {n : ℕ} {st : State} {b :
   words_are : BinWords (counts_of there) image n at
   words_are = words-bin there ea refl refl kind-is
 
-  pub bin-low : at + 6 ≤ 8192
-  bin-low = omega (arith, record_room there ea, words_are.long)
-
   pub left-under : {i : ℕ} → i ≡ get_or image (at + 4) 0 → i < n
   left-under e = rw e words_are.left.under
 
   pub right-under : {i : ℕ} → i ≡ get_or image (at + 5) 0 → i < n
   right-under e = rw e words_are.right.under
 
-  rooms : Ready T image places words (room (tree_of image (word_at image (at + 4))) + room (tree_of image (word_at image (at + 5)))) (rows (tree_of image (word_at image (at + 4))) + rows (tree_of image (word_at image (at + 5)))) st b
+  rooms : Ready T image places words (room (tree_of image (word_at image (at + 4))) + room (tree_of image (word_at image (at + 5))))
+      (rows (tree_of image (word_at image (at + 4))) + rows (tree_of image (word_at image (at + 5)))) st b
   rooms = bin-room pre.visit tree_is
 
   sides : Fresh (visited_from (tree_of image (word_at image (at + 4))) ++ visited_from (tree_of image (word_at image (at + 5)))) b.slots
@@ -82,10 +80,12 @@ module _ {T : Texts} {image places words : List ℕ} {n : ℕ} {st : State} {b :
         pub right-stops : {e : Refusal} → NodeVisited T image words j st₁ b₁ b₂ (Err e) → NodeVisited T image words n st b b₂ (Err e)
         right-stops y = rw tree_is (bin-right-stops _ _ _ _ _ _ _ (left-visited x) (right-visited y))
 
-        ends : {r : Answer} {st₂ : State} {b₃ : Lent} {v₃ : Visit Answer} → NodeVisited T image words j st₁ b₁ b₂ (Ok (r, st₂)) → Visits (bin_end (ctx_in T image words) image n at l r) 0 0 words st₂ b₂ b₃ v₃
+        ends : {r : Answer} {st₂ : State} {b₃ : Lent} {v₃ : Visit Answer} → NodeVisited T image words j st₁ b₁ b₂ (Ok (r, st₂))
+            → Visits (bin_end (ctx_in T image words) image n at l r) 0 0 words st₂ b₂ b₃ v₃
             → Visiting (ctx_in T image words) words (read_bin (tree_of image) image n at) st b b₃ v₃
         unfolding node room rows bin_end
         ends y z = visits-then _ (left-visited x) (visits-most (omega arith) (omega arith) (visits-then _ (right-visited y) z))
 
-        pub bin-ends : {r : Answer} {st₂ : State} {b₃ : Lent} {v₃ : Visit Answer} → NodeVisited T image words j st₁ b₁ b₂ (Ok (r, st₂)) → Visits (bin_end (ctx_in T image words) image n at l r) 0 0 words st₂ b₂ b₃ v₃ → NodeVisited T image words n st b b₃ v₃
+        pub bin-ends : {r : Answer} {st₂ : State} {b₃ : Lent} {v₃ : Visit Answer} → NodeVisited T image words j st₁ b₁ b₂ (Ok (r, st₂))
+            → Visits (bin_end (ctx_in T image words) image n at l r) 0 0 words st₂ b₂ b₃ v₃ → NodeVisited T image words n st b b₃ v₃
         bin-ends y z = rw tree_is (ends y z)

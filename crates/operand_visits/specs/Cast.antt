@@ -9,7 +9,7 @@ use Rattle.tok.specs.Step.{◌>>=◌}
 use Rattle.ast.specs.Image.{word_at, record_kind}
 use Rattle.ast.specs.Node.{tree_of, read_cast}
 use Rattle.image_laws.specs.RecordWords.{CastWords}
-use Rattle.places.specs.NodesAt.{NodeReady, counts_of, record_room, node-cast, words-cast}
+use Rattle.places.specs.NodesAt.{NodeReady, counts_of, node-cast, words-cast}
 use Rattle.rules.specs.declared.Answer.{Answer}
 use Rattle.rules.specs.World.{Walk}
 use Rattle.rules.specs.Rules.{node}
@@ -30,7 +30,7 @@ use Rattle.ready.specs.Asked.{cast-type}
 use Rattle.walking.specs.Kinds.{Is}
 use Rattle.walking.specs.Visited.{ctx_in, NodeVisited, ClassVisit}
 use Rattle.operands.specs.Ends.{cast_type, cast_end}
-use Rattle.operands.specs.Ready.{CastReady}
+use Rattle.type_expr.specs.Ready.{TypeReady}
 
 module _ {T : Texts} {image places words : List ℕ} {n : ℕ} {st : State} {b : Lent} {at : ℕ} (pre : ClassVisit (Is 9) T image places words n st b) (ea : at ≡ get_or places n 0) where
   abbrev there : NodeReady image places n
@@ -45,11 +45,8 @@ module _ {T : Texts} {image places words : List ℕ} {n : ℕ} {st : State} {b :
   words_are : CastWords (counts_of there) image n at
   words_are = words-cast there ea refl refl kind-is
 
-  pub cast-low : at + 5 ≤ 8192
-  cast-low = omega (arith, record_room there ea, words_are.long)
-
-  pub cast-ready : CastReady image places at
-  cast-ready = record { low = omega (arith, cast-low); type = cast-type there ea words_are refl }
+  pub cast-ready : TypeReady image places (word_at image (at + 4))
+  cast-ready = cast-type there ea words_are refl
 
   pub operand-under : {i : ℕ} → i ≡ get_or image (at + 3) 0 → i < n
   operand-under e = rw e words_are.left.under
@@ -85,7 +82,7 @@ module _ {T : Texts} {image places words : List ℕ} {n : ℕ} {st : State} {b :
     module _ {to : ℕ} {begun : State} (g : Visits (cast_type (ctx_in T image words) image n at) 0 0 words st b b₀ (Ok (to, begun))) where
       begun-ready : Ready T image places words (room (tree_of image (word_at image (at + 3)))) (rows (tree_of image (word_at image (at + 3)))) begun b₀
       unfolding cast_type
-      begun-ready = ready-step rooms (visit_passes g (type-gives rooms n (word_at image (at + 4)) cast-ready.type.below))
+      begun-ready = ready-step rooms (visit_passes g (type-gives rooms n (word_at image (at + 4)) cast-ready.below))
 
       begun_fresh : Fresh (visited_from (tree_of image (word_at image (at + 3)))) b₀.slots
       unfolding cast_type
@@ -106,5 +103,6 @@ module _ {T : Texts} {image places words : List ℕ} {n : ℕ} {st : State} {b :
         pub operand-stops : {e : Refusal} → NodeVisited T image words i begun b₀ b₁ (Err e) → NodeVisited T image words n st b b₁ (Err e)
         operand-stops {e} x = as_node_lem (leads.onto b₁ (Err e) (visits-stop (λ a. cast_end (ctx_in T image words) image n at to a) (visited x) _ _))
 
-        pub cast_ends : {a : Answer} {end : State} {b₂ : Lent} {v₂ : Visit Answer} → NodeVisited T image words i begun b₀ b₁ (Ok (a, end)) → Visits (cast_end (ctx_in T image words) image n at to a) 0 0 words end b₁ b₂ v₂ → NodeVisited T image words n st b b₂ v₂
+        pub cast_ends : {a : Answer} {end : State} {b₂ : Lent} {v₂ : Visit Answer} → NodeVisited T image words i begun b₀ b₁ (Ok (a, end))
+            → Visits (cast_end (ctx_in T image words) image n at to a) 0 0 words end b₁ b₂ v₂ → NodeVisited T image words n st b b₂ v₂
         cast_ends {b₂ = b₂} {v₂ = v₂} x z = as_node_lem (leads.onto b₂ v₂ (visits-most (omega arith) (omega arith) (visits-then (λ a. cast_end (ctx_in T image words) image n at to a) (visited x) z)))

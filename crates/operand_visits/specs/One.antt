@@ -8,7 +8,7 @@ use Rattle.std.proofs.Math.Decide.{ℕ_discrete}
 use Rattle.tok.specs.Text.{Texts}
 use Rattle.ast.specs.Image.{word_at, record_kind}
 use Rattle.ast.specs.Node.{tree_of, read_unary, read_let, read_field}
-use Rattle.places.specs.NodesAt.{NodeReady, record_room, node-unary, words-unary, node_let, words_let, node-field, words-field}
+use Rattle.places.specs.NodesAt.{NodeReady, node-unary, words-unary, node_let, words_let, node-field, words-field}
 use Rattle.rules.specs.declared.Answer.{Answer}
 use Rattle.rules.specs.World.{Ctx, World}
 use Rattle.rules.specs.Rules.{node}
@@ -95,9 +95,6 @@ module _ {T : Texts} {image places words : List ℕ} {n : ℕ} {st : State} {b :
   is_one : OneNode (ctx_in T image words) image n at
   is_one = one-node (ctx_in T image words) there ea (rw ea pre.kind)
 
-  pub one-low : at ≤ 8192
-  one-low = omega (arith, record_room there ea)
-
   pub operand-under : {i : ℕ} → i ≡ operand_at image at → i < n
   operand-under e = rw e is_one.under
 
@@ -126,11 +123,11 @@ module _ {T : Texts} {image places words : List ℕ} {n : ℕ} {st : State} {b :
 
       pub end-ready : OneReady image at end b₁.scratch
       end-ready = record {
-        low = one-low;
         binds = λ q. let_bindable left there ea (words_let there ea refl refl q) refl (omega (arith, room_let image at q));
       }
 
       pub one-ends : {b₂ : Lent} {v₂ : Visit Answer} → Visits (one_end (ctx_in T image words) image n at a) (one_room image at) 0 words end b₁ b₂ v₂ → NodeVisited T image words n st b b₂ v₂
       one-ends z =
-          let y = visits-most {r' = room (tree_of image n)} {w' = rows (tree_of image n)} (omega (arith, is_one.room)) (omega (arith, is_one.rows)) (visits-then (λ a. one_end (ctx_in T image words) image n at a) (visited x) z) in
+          let y = visits-most {r' = room (tree_of image n)} {w' = rows (tree_of image n)} (omega (arith, is_one.room))
+          (omega (arith, is_one.rows)) (visits-then (λ a. one_end (ctx_in T image words) image n at a) (visited x) z) in
           record { step = is_one.rule (whole words st b) ∙ y.step; keeps = y.keeps }

@@ -3,15 +3,17 @@
 // The buffers are lent in one order: slots, types (with the texts), diagnostics, messages, scratch; then the image.
 #![tactic(auto)]
 
-ghost use Rattle.std.specs.Prelude.{◌≡◌, List, ℕ, ◌+◌, ◌≤◌};
+ghost use Rattle.std.specs.Prelude.{◌≡◌, List, ℕ, ◌+◌};
 ghost use Rattle.tok.specs.Text.{Texts};
 ghost use Rattle.library.specs.Package.{Package};
+ghost use Rattle.ast.specs.Image.{word_at};
+ghost use Rattle.type_expr.specs.Ready.{TypeReady};
 ghost use Rattle.state.specs.Context.{ctx};
 ghost use Rattle.state.specs.World.{More};
 ghost use Rattle.visit.specs.Whole.{Lent, lent};
 ghost use Rattle.visit.specs.Within.{Visits};
 ghost use Rattle.operands.specs.Ends.{operand_at, bin_end, one_end, one_room, cast_type, cast_end};
-ghost use Rattle.operands.specs.Ready.{OneReady, CastReady};
+ghost use Rattle.operands.specs.Ready.{OneReady};
 
 use ast::NodeKind;
 use places::Image;
@@ -22,13 +24,12 @@ use visit::{State, Visit};
 // The number of the operand of a Unary, a Let or a Field.
 #[tactic(auto, unfolding(crate::specs::Ends::operand_at, crate::specs::Ends::by_kind))]
 pub fn operand_of(image: &Image, at: usize) -> u32
-    requires { at ≤ 8192 }
     ensures { result ≡ operand_at image.now.words at }
 {
     match NodeKind::of(image.word_at(at)) {
-        NodeKind::Unary => image.word_at(at + 4),
-        NodeKind::Let => image.word_at(at + 3),
-        _ => image.word_at(at + 2),
+        NodeKind::Unary => image.word_after(at, 4),
+        NodeKind::Let => image.word_after(at, 3),
+        _ => image.word_after(at, 2),
     }
 }
 
@@ -45,7 +46,6 @@ pub fn bin_end(
     left: Answer,
     right: Answer,
 ) -> Visit<Answer>
-    requires { at ≤ 8192 }
     ensures { ((ls : List Package) (v : ℕ) (words f e : List ℕ) (o : More) →
         let b : Lent = lent slots.old f types.now.words.now diagnostics.old messages.old e o in
         let b' : Lent = lent slots.new f types.now.words.now diagnostics.new messages.new e o in
@@ -58,9 +58,9 @@ pub fn bin_end(
         return Ok((Answer::Poison, st));
     };
     let used = st.used;
-    let slot = image.word_at(at + 1);
-    let token = image.word_at(at + 2);
-    let op = image.word_at(at + 3);
+    let slot = image.word_after(at, 1);
+    let token = image.word_after(at, 2);
+    let op = image.word_after(at, 3);
     visit::answered(
         st,
         operators::fuse(
@@ -98,9 +98,9 @@ pub fn one_end(
         let b' : Lent = lent slots.new f types.now.words.now diagnostics.new messages.new scratch.new o in
         Visits (one_end (ctx types.now.texts.now ls v) image.now.words n at answer) (one_room image.now.words at) 0 words st b b' result) }
 {
-    let slot = image.word_at(at + 1);
-    let second = image.word_at(at + 2);
-    let third = image.word_at(at + 3);
+    let slot = image.word_after(at, 1);
+    let second = image.word_after(at, 2);
+    let third = image.word_after(at, 3);
     let used = st.used;
     match NodeKind::of(image.word_at(at)) {
         NodeKind::Let => names::let_end(
@@ -158,14 +158,14 @@ pub fn one_end(
 
 // Node::Cast before its operand: the type that it casts to. Gives its word.
 pub fn cast_begin(types: &mut [u32], image: &Image, at: usize, st: State, n: u32) -> Visit<u32>
-    requires { CastReady image.now.words image.now.places at }
+    requires { TypeReady image.now.words image.now.places (word_at image.now.words (at + 4)) }
     ensures { ((T : Texts) (ls : List Package) (v : ℕ) (words s f d m e : List ℕ) (o : More) →
         let b : Lent = lent s f types.old d m e o in
         let b' : Lent = lent s f types.new d m e o in
         Visits (cast_type (ctx T ls v) image.now.words n at) 0 0 words st b b' result) }
 {
     let used = st.used;
-    let expr = image.word_at(at + 4);
+    let expr = image.word_after(at, 4);
     let added = type_expr::type_from_type_expr(types, used.types, image, expr);
     visit::answered(st, state::added(n, used, added))
 }
@@ -183,7 +183,6 @@ pub fn cast_end(
     to: u32,
     answer: Answer,
 ) -> Visit<Answer>
-    requires { at ≤ 8192 }
     ensures { ((ls : List Package) (v : ℕ) (words f e : List ℕ) (o : More) →
         let b : Lent = lent slots.old f types.now.words.now diagnostics.old messages.old e o in
         let b' : Lent = lent slots.new f types.now.words.now diagnostics.new messages.new e o in
@@ -193,8 +192,8 @@ pub fn cast_end(
         return Ok((Answer::Poison, st));
     };
     let used = st.used;
-    let slot = image.word_at(at + 1);
-    let token = image.word_at(at + 2);
+    let slot = image.word_after(at, 1);
+    let token = image.word_after(at, 2);
     visit::answered(
         st,
         operators::cast(

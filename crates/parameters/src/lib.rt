@@ -34,7 +34,7 @@ pub fn one_argument(
         Argues (fn_arguments (ctx T ls v) n slot (args_from image.now.words at 1)) 1 words st b b' result) }
 {
     let name = image.word_at(at);
-    let t = image.word_at(at + 1);
+    let t = image.word_after(at, 1);
     let added = type_from_type_expr(types, st.used.types, image, t);
     let (w, used) = state::added(n, st.used, added)?;
     operators::store(slots, slot, w);

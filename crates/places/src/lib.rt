@@ -4,6 +4,7 @@
 
 ghost use Rattle.std.specs.Prelude.{◌≡◌, ◌+◌, ◌-◌, ◌*◌, ◌/◌, ◌<◌, ◌^◌, get_or, set};
 ghost use Rattle.tok.specs.Word.{payload_of};
+ghost use Rattle.ast.specs.Image.{slot_count};
 ghost use Rattle.places.specs.Image.{Image, image_of};
 ghost use Rattle.places.specs.Places.{clipped, place_after, Filled, most_in, levels_inside, levels_at, fill_levels, places_in};
 
@@ -48,6 +49,22 @@ impl<'a> Image<'a> {
         ensures { result ≡ get_or self.now.words at 0 }
     {
         tok::word_at(self.words, at)
+    }
+
+    // The word that stands k after a place; 0 past the end.
+    #[inline]
+    pub fn word_after(&self, at: usize, k: usize) -> u32
+        ensures { result ≡ get_or self.now.words (at + k) 0 }
+    {
+        tok::word_at(self.words, at.saturating_add(k))
+    }
+
+    // V, the number of slots.
+    #[inline]
+    pub fn slot_count(&self) -> u32
+        ensures { result ≡ slot_count self.now.words }
+    {
+        ast::slot_count(self.words)
     }
 
     // Where node n's record stands; 0 where the array has no place for it.
@@ -164,9 +181,9 @@ fn fill_levels(places: &mut [u16], image: &[u32], types: usize)
 pub fn record_places(places: &mut [u16], image: &[u32])
     ensures { places.new ≡ places_in image.now places.old }
 {
-    let nodes = (tok::word_at(image, 0) as usize).min(2048);
-    let types = (tok::word_at(image, 1) as usize).min(512);
-    let first = clipped(4 + tok::word_at(image, 2) as usize);
+    let nodes = (ast::node_count(image) as usize).min(2048);
+    let types = (ast::type_count(image) as usize).min(512);
+    let first = clipped(4 + ast::root_count(image) as usize);
     let first_type = fill(places, image, 0, nodes, first);
     fill(places, image, TYPES, types, first_type);
     fill_levels(places, image, types);

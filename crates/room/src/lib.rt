@@ -26,11 +26,11 @@ fn entry_words(words: &[u32], at: usize) -> usize
 pub fn room(words: &[u32], slots: usize, functions: usize) -> Result<(), Fault>
     ensures { offending result ≡ room_fault slots functions (slot_count words.now) (outlines_from words.now 0 (node_count words.now)) }
 {
-    if slots <= word_at(words, 3) as usize {
+    if slots <= ast::slot_count(words) as usize {
         return Err(Fault(0));
     }
-    let n = word_at(words, 0) as usize;
-    let mut at = 4 + word_at(words, 2) as usize;
+    let n = ast::node_count(words) as usize;
+    let mut at = 4 + ast::root_count(words) as usize;
     let mut left = functions;
     for _ in 0..n {
         let need = entry_words(words, at);

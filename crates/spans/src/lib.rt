@@ -47,7 +47,7 @@ fn cover_args(image: &Image, span: Span, at: usize, k: usize) -> Span
     for i in 0..k {
         let pair = at + 2 * i;
         let named = cover_spans(covered, token_span(image.word_at(pair)));
-        covered = cover_spans(named, type_span(image, image.word_at(pair + 1)));
+        covered = cover_spans(named, type_span(image, image.word_after(pair, 1)));
     }
     covered
 }
@@ -60,10 +60,10 @@ fn cover_externs(image: &Image, span: Span, at: usize, k: usize) -> Span
     let mut covered = span;
     let mut i = at;
     for _ in 0..k {
-        let count = image.word_at(i + 2) as usize;
+        let count = image.word_after(i, 2) as usize;
         let named = cover_spans(covered, token_span(image.word_at(i)));
         let args = cover_args(image, named, i + 3, count);
-        covered = cover_spans(args, type_span(image, image.word_at(i + 1)));
+        covered = cover_spans(args, type_span(image, image.word_after(i, 1)));
         i = i + 3 + 2 * count;
     }
     covered
@@ -76,7 +76,7 @@ fn cases_end(image: &Image, owner: u32, at: usize, k: usize) -> usize
 {
     let mut i = at;
     for _ in 0..k {
-        i = i + 3 + image.word_at(i + 2) as usize;
+        i = i + 3 + image.word_after(i, 2) as usize;
     }
     i
 }
@@ -104,7 +104,7 @@ fn cover_values(image: &Image, owner: u32, span: Span, at: usize, k: usize) -> S
     for i in 0..k {
         let pair = at + 2 * i;
         let named = cover_spans(covered, token_span(image.word_at(pair)));
-        covered = cover_spans(named, span_of(image, image.word_at(pair + 1)));
+        covered = cover_spans(named, span_of(image, image.word_after(pair, 1)));
     }
     covered
 }
@@ -118,9 +118,9 @@ fn cover_cases(image: &Image, owner: u32, span: Span, at: usize, k: usize) -> Sp
     let mut covered = span;
     let mut i = at;
     for _ in 0..k {
-        let count = image.word_at(i + 2) as usize;
+        let count = image.word_after(i, 2) as usize;
         let begun = cover_spans(covered, token_span(image.word_at(i)));
-        let tested = cover_spans(begun, span_of(image, image.word_at(i + 1)));
+        let tested = cover_spans(begun, span_of(image, image.word_after(i, 1)));
         covered = cover_nodes(image, owner, tested, i + 3, count);
         i = i + 3 + count;
     }
@@ -135,7 +135,7 @@ fn match_span(image: &Image, n: u32, at: usize, end: usize) -> Span
     requires { MatchReady image.now.words image.now.places n at end }
     ensures { result ≡ span_of (tree_of image.now.words n) }
 {
-    let count = image.word_at(at + 2) as usize;
+    let count = image.word_after(at, 2) as usize;
     let default = cases_end(image, n, at + 3, count);
     let first = token_span(image.word_at(default));
     let cases = cover_cases(image, n, first, at + 3, count);
@@ -150,21 +150,21 @@ fn list_span(image: &Image, n: u32, at: usize, head: u32) -> Span
     ensures { result ≡ span_of (tree_of image.now.words n) }
 {
     let long = payload(head);
-    let first = token_span(image.word_at(at + 2));
+    let first = token_span(image.word_after(at, 2));
     match NodeKind::of(head) {
         NodeKind::Fn => {
-            let words = 5 + 2 * (image.word_at(at + 4) as usize);
+            let words = 5 + 2 * (image.word_after(at, 4) as usize);
             cover_nodes(image, n, first, at + words, long - words)
         }
         NodeKind::Match => match_span(image, n, at, at + long),
         NodeKind::Call => {
-            let target = span_of(image, image.word_at(at + 2));
+            let target = span_of(image, image.word_after(at, 2));
             cover_nodes(image, n, target, at + 3, long - 3)
         }
         NodeKind::Import => cover_tokens(image, first, at + 3, long - 3),
         NodeKind::Extern => {
-            let named = cover_spans(first, token_span(image.word_at(at + 3)));
-            cover_externs(image, named, at + 5, image.word_at(at + 4) as usize)
+            let named = cover_spans(first, token_span(image.word_after(at, 3)));
+            cover_externs(image, named, at + 5, image.word_after(at, 4) as usize)
         }
         NodeKind::Record => cover_values(image, n, first, at + 3, (long - 3) / 2),
         // an Array: no other kind has a list
@@ -180,23 +180,23 @@ pub fn span_of(image: &Image, n: u32) -> Span
 {
     let at = image.node_place(n);
     let head = image.word_at(at);
-    let first = token_span(image.word_at(at + 2));
+    let first = token_span(image.word_after(at, 2));
     match NodeKind::of(head) {
         NodeKind::Atom | NodeKind::Ident => first,
         NodeKind::Bin => {
-            let left = span_of(image, image.word_at(at + 4));
-            let right = span_of(image, image.word_at(at + 5));
+            let left = span_of(image, image.word_after(at, 4));
+            let right = span_of(image, image.word_after(at, 5));
             cover_spans(cover_spans(left, first), right)
         }
-        NodeKind::Unary => cover_spans(first, span_of(image, image.word_at(at + 4))),
-        NodeKind::Let => cover_spans(first, span_of(image, image.word_at(at + 3))),
+        NodeKind::Unary => cover_spans(first, span_of(image, image.word_after(at, 4))),
+        NodeKind::Let => cover_spans(first, span_of(image, image.word_after(at, 3))),
         NodeKind::Field => {
-            let target = span_of(image, image.word_at(at + 2));
-            cover_spans(target, token_span(image.word_at(at + 3)))
+            let target = span_of(image, image.word_after(at, 2));
+            cover_spans(target, token_span(image.word_after(at, 3)))
         }
         NodeKind::Cast => {
-            let left = span_of(image, image.word_at(at + 3));
-            let ty = type_span(image, image.word_at(at + 4));
+            let left = span_of(image, image.word_after(at, 3));
+            let ty = type_span(image, image.word_after(at, 4));
             cover_spans(cover_spans(left, first), ty)
         }
         _ => list_span(image, n, at, head),

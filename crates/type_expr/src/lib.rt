@@ -30,7 +30,7 @@ pub fn type_token(image: &Image, t: u32) -> u32
     let mut here = t;
     loop {
         let at = image.type_place(here);
-        let w = image.word_at(at + 1);
+        let w = image.word_after(at, 1);
         match ExprKind::of(image.word_at(at)) {
             ExprKind::Option | ExprKind::Array => here = w,
             _ => return w,
@@ -88,7 +88,7 @@ fn deep_part(arena: &mut Arena, image: &Image, t: u32) -> Result<u32, AddError>
             let fields = record_fields(head);
             deep_field(arena, image, t, at + 2, fields)
         }
-        _ => Ok(image.word_at(at + 1)),
+        _ => Ok(image.word_after(at, 1)),
     }
 }
 
@@ -105,7 +105,7 @@ fn deep_field(
         Onward image.now.words image.now.places owner (λ T n b. next (fields_from_exprs T n fs b) (add_record T n)) arena.old result arena.new }
 {
     for i in 0..fields {
-        let t = image.word_at(at + 2 * i + 1);
+        let t = image.word_after(at + 2 * i, 1);
         if image.type_levels(t) > MOST_LEVELS {
             return Ok(t);
         }
@@ -124,19 +124,19 @@ fn build(arena: &mut Arena, image: &Image, t: u32) -> Result<u32, AddError>
     let at = image.type_place(t);
     let head = image.word_at(at);
     match ExprKind::of(head) {
-        ExprKind::Atom => Ok(plain_word(image.word_at(at + 2))),
-        ExprKind::Foreign => Ok(foreign_word(image.word_at(at + 1))),
+        ExprKind::Atom => Ok(plain_word(image.word_after(at, 2))),
+        ExprKind::Foreign => Ok(foreign_word(image.word_after(at, 1))),
         ExprKind::Record => {
             let fields = record_fields(head);
             let word = fields_from_exprs(arena, image, t, at + 2, fields)?;
             arena.close_record(word)
         }
         ExprKind::Option => {
-            let inner = build(arena, image, image.word_at(at + 1))?;
+            let inner = build(arena, image, image.word_after(at, 1))?;
             arena.add_option(inner)
         }
         _ => {
-            let inner = build(arena, image, image.word_at(at + 1))?;
+            let inner = build(arena, image, image.word_after(at, 1))?;
             arena.add_array(inner)
         }
     }
@@ -158,7 +158,7 @@ fn fields_from_exprs(
 {
     let used = arena.used;
     for i in 0..fields {
-        build(arena, image, image.word_at(at + 2 * i + 1))?;
+        build(arena, image, image.word_after(at + 2 * i, 1))?;
     }
     let word = arena.open_record(fields)?;
     set_pairs(
@@ -191,7 +191,7 @@ fn set_pairs(
     let mut end = used;
     for i in 0..fields {
         let here = at + 2 * i;
-        let t = image.word_at(here + 1);
+        let t = image.word_after(here, 1);
         end += type_size(image, t);
         let new = type_word(image, end, t);
         add::set_pair(types, place + 2 * i, image.word_at(here), new);
@@ -206,8 +206,8 @@ fn type_word(image: &Image, end: usize, t: u32) -> u32
     let at = image.type_place(t);
     let head = image.word_at(at);
     match ExprKind::of(head) {
-        ExprKind::Atom => plain_word(image.word_at(at + 2)),
-        ExprKind::Foreign => foreign_word(image.word_at(at + 1)),
+        ExprKind::Atom => plain_word(image.word_after(at, 2)),
+        ExprKind::Foreign => foreign_word(image.word_after(at, 1)),
         ExprKind::Record => {
             let fields = record_fields(head);
             word_of(TypeKind::Record, end - (1 + 2 * fields))
@@ -232,7 +232,7 @@ fn type_size(image: &Image, t: u32) -> usize
             let fields = record_fields(head);
             sizes(image, t, at + 2, fields) + (1 + 2 * fields)
         }
-        _ => type_size(image, image.word_at(at + 1)) + 1,
+        _ => type_size(image, image.word_after(at, 1)) + 1,
     }
 }
 
@@ -244,7 +244,7 @@ fn sizes(image: &Image, owner: u32, at: usize, fields: usize) -> usize
 {
     let mut sum: usize = 0;
     for i in 0..fields {
-        sum += type_size(image, image.word_at(at + 2 * i + 1));
+        sum += type_size(image, image.word_after(at + 2 * i, 1));
     }
     sum
 }

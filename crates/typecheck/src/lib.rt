@@ -229,7 +229,7 @@ fn bin(
         image,
         library,
         st,
-        image.word_at(at + 4),
+        image.word_after(at, 4),
     )?;
     let (r, end) = part(
         slots,
@@ -242,7 +242,7 @@ fn bin(
         image,
         library,
         between,
-        image.word_at(at + 5),
+        image.word_after(at, 5),
     )?;
     operands::bin_end(
         slots,
@@ -348,7 +348,7 @@ fn cast(
         image,
         library,
         begun,
-        image.word_at(at + 3),
+        image.word_after(at, 3),
     )?;
     operands::cast_end(
         slots,
@@ -390,7 +390,7 @@ pub fn nodes(
         let b' : Lent = lent slots.new functions.new types.new diagnostics.new messages.new scratch.new no_more in
         ListVisited texts.now image.now.words library.now at k st b b' result }
 {
-    let mut answer = Answer::Known(image.word_at(3));
+    let mut answer = Answer::Known(image.slot_count());
     let mut here = st;
     for place in at..at + k {
         let (a, next) = node(
@@ -435,7 +435,7 @@ fn block(
         let b' : Lent = lent slots.new functions.new types.new diagnostics.new messages.new scratch.new no_more in
         ListVisited texts.now image.now.words library.now at k st b b' result }
 {
-    let mut answer = Answer::Known(image.word_at(3));
+    let mut answer = Answer::Known(image.slot_count());
     let mut here = st;
     for place in at..at + k {
         let (a, next) = part(
@@ -479,7 +479,7 @@ fn func(
         NodeVisited texts.now image.now.words library.now n st b b' result }
 {
     let at = image.node_place(n);
-    let count = image.word_at(at + 4) as usize;
+    let count = image.word_after(at, 4) as usize;
     let (begun, inner) = bodies::begin(
         slots,
         functions,
@@ -563,7 +563,7 @@ fn case(
         image,
         library,
         st,
-        image.word_at(at + 1),
+        image.word_after(at, 1),
     )?;
     let (_, begun) = branches::condition(
         &slots[..],
@@ -579,9 +579,9 @@ fn case(
         n,
         a,
     )?;
-    let mut answer = Answer::Known(image.word_at(3));
+    let mut answer = Answer::Known(image.slot_count());
     let mut here = begun;
-    let left = image.word_at(at + 2) as usize;
+    let left = image.word_after(at, 2) as usize;
     for place in at + 3..at + 3 + left {
         let (a, next) = part(
             slots,
@@ -624,7 +624,7 @@ fn cases(
         NodeVisited texts.now image.now.words library.now n st b b' result }
 {
     let at = image.node_place(n);
-    let count = image.word_at(at + 2) as usize;
+    let count = image.word_after(at, 2) as usize;
     let mut here = st;
     let mut place = at + 3;
     for _ in 0..count {
@@ -647,7 +647,7 @@ fn cases(
     }
     let next = place + 1;
     let left = at + payload(image.word_at(at)) - next;
-    let mut default = Answer::Known(image.word_at(3));
+    let mut default = Answer::Known(image.slot_count());
     let mut end = here;
     for i in 0..left {
         let (a, on) = part(
@@ -661,7 +661,7 @@ fn cases(
             image,
             library,
             end,
-            image.word_at(next + i),
+            image.word_after(next, i),
         )?;
         default = a;
         end = on;
@@ -722,7 +722,7 @@ fn call(
             image,
             library,
             here,
-            image.word_at(at + 3 + i),
+            image.word_after(at + 3, i),
         )?;
         poisoned = calls::or_poison(poisoned, a);
         here = next;
@@ -781,7 +781,7 @@ fn record_node(
             image,
             library,
             here,
-            image.word_at(at + 4 + 2 * i),
+            image.word_after(at + 4, 2 * i),
         )?;
         here = next;
     }
@@ -825,12 +825,12 @@ fn array(
         image,
         library,
         st,
-        image.word_at(at + 3),
+        image.word_after(at, 3),
     )?;
     let mut poisoned = false;
     let mut here = begun;
     for i in 1..count {
-        let member = image.word_at(at + 3 + i);
+        let member = image.word_after(at + 3, i);
         let (a, next) = part(
             slots,
             functions,

@@ -10,17 +10,11 @@ returns-in_default c = end-poisoned _ c.args.n _ _ c.args.st _ _ _ _ c.in_defaul
 pub overflow_add-at : goal.overflow_add-at
 overflow_add-at c = omega (arith, place-low c.requires)
 
-pub overflow_add-at-2 : goal.overflow_add-at-2
-overflow_add-at-2 c = omega (arith, place-low c.requires)
-
 pub returns-in_err-after : goal.returns-in_err-after
 returns-in_err-after c =
-    end-stops _ c.args.n _ _ c.args.st _ _ _ _ c.in-Known.is (rw c.word_at-count.ensures at c.compare_branches.ensures) c.in_err-after.was c.from_residual.ensures.1
-
-pub overflow_add-at-3 : goal.overflow_add-at-3
-overflow_add-at-3 c = omega (arith, place-low c.requires)
+    end-stops _ c.args.n _ _ c.args.st _ _ _ _ c.in-Known.is (rw c.word_after-count.ensures at c.compare_branches.ensures) c.in_err-after.was c.from_residual.ensures.1
 
 pub returns : goal.returns
 returns c =
-    end-compared _ c.args.n _ _ c.args.st _ _ _ _ c.in-Known.is (rw c.word_at-count.ensures at c.compare_branches.ensures) c.in_ok-after.was c.word_at-own.ensures
+    end-compared _ c.args.n _ _ c.args.st _ _ _ _ c.in-Known.is (rw c.word_after-count.ensures at c.compare_branches.ensures) c.in_ok-after.was c.word_after-own.ensures
     c.alias.ensures c.answered.ensures

@@ -1,11 +1,15 @@
--- `fields::make` meets its contract: one law for each return. Assumes nothing.
-use Rattle.visiting.specs.Then.{passed_on}
-use Rattle.fields.proofs.Returns.{made_closed, made-refused}
+-- `fields::make` meets its contract: the type is added, or refused (7, 8), and recorded. Assumes nothing.
+use Rattle.std.proofs.Common.{sym, rules, ◌∙◌}
+use Rattle.add.specs.AllocLaws.{allocates_made}
+use Rattle.fields.proofs.Returns.{made-refused, made-set}
 use Rattle.fields.proofs.make.Goals as goal
 
 pub returns-in_err-word : goal.returns-in_err-word
-returns-in_err-word c = λ T words f d m e o. passed_on c.from_residual.ensures.1
-    (made-refused c.args.n c.args.count c.args.st c.args.image.now.words _ c.args.at _ c.in_err-word.ensures T words f d m e o)
+returns-in_err-word c =
+    let added = allocates_made c.new-arena.ensures.as_used c.add_record-added.ensures c.answer.ensures (search rules) in
+    made-refused c.args.n _ _ c.args.st added (sym c.added.ensures ∙ c.in_err-word.was) c.from_residual.ensures.1
 
 pub returns : goal.returns
-returns c = made_closed c.args.n c.args.count c.args.st c.args.image.now.words _ c.args.at _ c.in_ok-word.ensures c.payload-to.ensures c.set_pairs.ensures c.close.ensures
+returns c =
+    let added = allocates_made c.new-arena.ensures.as_used c.add_record-added.ensures c.answer.ensures (search rules) in
+    made-set c.args.n _ _ c.args.st added (sym c.added.ensures ∙ c.in_ok-word.was) c.word_after.ensures c.set_known-step.ensures c.answered.ensures

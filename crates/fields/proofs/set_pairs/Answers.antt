@@ -12,20 +12,11 @@ overflow_mul-i c = omega (arith, c.requires.1.room)
 pub overflow_add-at : goal.overflow_add-at
 overflow_add-at c = omega (arith, c.requires.1.room)
 
+pub node_value-ty-requires : goal.node_value-ty-requires
+node_value-ty-requires c = value-ready c.requires.1 (omega arith) c.word_after-value.ensures
+
 pub overflow_mul-i-in-loop-i : goal.overflow_mul-i-in-loop-i
 overflow_mul-i-in-loop-i c = omega (arith, c.requires.1.room)
-
-pub overflow_add-at-in-loop-i : goal.overflow_add-at-in-loop-i
-overflow_add-at-in-loop-i c = omega (arith, c.requires.1.room)
-
-pub overflow_add-at-in-loop-i-2 : goal.overflow_add-at-in-loop-i-2
-overflow_add-at-in-loop-i-2 c = omega (arith, c.requires.1.room)
-
-pub node_value-ty-requires : goal.node_value-ty-requires
-node_value-ty-requires c = value-ready c.requires.1 (omega arith) c.word_at-value.ensures
-
-pub overflow_mul-i-in-loop-i-2 : goal.overflow_mul-i-in-loop-i-2
-overflow_mul-i-in-loop-i-2 c = omega (arith, c.requires.1.room)
 
 pub overflow_add-to : goal.overflow_add-to
 overflow_add-to c =
@@ -33,7 +24,7 @@ overflow_add-to c =
 
 pub loop-i-preserved : goal.loop-i-preserved
 loop-i-preserved c =
-    (one_set _ _ _ _ _ c.loop-i.invariant.0 c.word_at-name.ensures c.word_at-value.ensures c.node_value-ty.ensures c.set_pair.ensures, omega (arith), c.set_pair.auto.types ∙ c.loop-i.invariant.2)
+    (one_set _ _ _ _ _ c.loop-i.invariant.0 c.word_at-name.ensures c.word_after-value.ensures c.node_value-ty.ensures c.set_pair.ensures, omega (arith), c.set_pair.auto.types ∙ c.loop-i.invariant.2)
 
 pub shape_of-types : goal.shape_of-types
 shape_of-types c = c.loop-i.invariant.2

@@ -2,100 +2,56 @@
 use Rattle.std.proofs.Common.{refl, ap}
 use native.Mathlib.Omega.{arith}
 use Rattle.ast.specs.Image.{slot_count}
-use Rattle.ast.specs.KindLaws.{node-number, node-not}
+use Rattle.ast.specs.KindLaws.{node-number}
 use Rattle.places.specs.NodesAt.{record_room, length-there}
 use Rattle.visit.specs.Plain.{steps-visits}
 use Rattle.leaves.specs.Leaves.{atom-word, import_long, import_ready, extern-ready, kind-extern, few-names, atom-visited, ident-visited, import_visited, extern-visited}
 use Rattle.leaves.proofs.leaf.Goals as goal
 
-pub overflow_add-at : goal.overflow_add-at
-overflow_add-at c =
-    let r = c.requires in
-    omega (arith, record_room r.node c.node_place-at.ensures)
-
-pub overflow_add-at-2 : goal.overflow_add-at-2
-overflow_add-at-2 c =
-    let r = c.requires in
-    omega (arith, record_room r.node c.node_place-at.ensures)
-
-pub overflow_add-at-in-Atom : goal.overflow_add-at-in-Atom
-overflow_add-at-in-Atom c =
-    let r = c.requires in
-    omega (arith, record_room r.node c.node_place-at.ensures)
-
 pub returns-in-Atom : goal.returns-in-Atom
 returns-in-Atom c =
-    let r = c.requires in
-    (λ f o. atom-visited _ _ r.node c.node_place-at.ensures c.word_at-head.ensures refl (node-number _ c.in-Atom.ensures) c.word_at-slot.ensures c.word_at.ensures
-    (atom-word r c.node_place-at.ensures c.word_at-head.ensures refl refl (node-number _ c.in-Atom.ensures) c.word_at.ensures c.from.ensures c.plain_word-w.ensures)
-    (rw c.answered.ensures (steps-visits (c.set_known.ensures _ _ _) _ _ _ o)))
+    let q = node-number _ c.in-Atom.ensures in
+    let word = atom-word c.requires c.node_place-at.ensures c.word_at-head.ensures q c.word_after.ensures c.from.ensures c.plain_word-w.ensures in
+    λ f o. atom-visited _ _ c.requires.node c.node_place-at.ensures c.word_at-head.ensures q c.word_after-slot.ensures c.word_after.ensures word
+    (rw c.answered.ensures (steps-visits (c.set_known.ensures _ _ _) _ _ _ o))
 
 pub ident-requires : goal.ident-requires
 ident-requires c = few-names c.requires
 
 pub returns-in-Ident : goal.returns-in-Ident
 returns-in-Ident c =
-    let r = c.requires in
-    ((λ f o. ident-visited _ _ r.node c.node_place-at.ensures c.word_at-head.ensures refl (node-number _ c.in-Ident.ensures) c.word_at-slot.ensures c.word_at-first.ensures
-    (c.ident.ensures _ _ _ _ _ o)))
+    λ f o. ident-visited _ _ c.requires.node c.node_place-at.ensures c.word_at-head.ensures (node-number _ c.in-Ident.ensures) c.word_after-slot.ensures
+    c.word_after-first.ensures (c.ident.ensures _ _ _ _ _ o)
 
-pub overflow_add-at-in-Import : goal.overflow_add-at-in-Import
-overflow_add-at-in-Import c =
-    let r = c.requires in
-    omega (arith, record_room r.node c.node_place-at.ensures)
+pub overflow_add-at : goal.overflow_add-at
+overflow_add-at c = omega (arith, record_room c.requires.node c.node_place-at.ensures)
 
 pub overflow_sub-payload : goal.overflow_sub-payload
-overflow_sub-payload c =
-    let r = c.requires in
-    import_long r c.node_place-at.ensures c.word_at-head.ensures refl c.payload.ensures (node-number _ c.in-Import.ensures)
+overflow_sub-payload c = import_long c.requires c.node_place-at.ensures c.word_at-head.ensures c.payload.ensures (node-number _ c.in-Import.ensures)
 
 pub import_node-requires : goal.import_node-requires
-import_node-requires c =
-    let r = c.requires in
-    (import_ready r c.node_place-at.ensures c.word_at-head.ensures refl c.payload.ensures (node-number _ c.in-Import.ensures))
+import_node-requires c = import_ready c.requires c.node_place-at.ensures c.word_at-head.ensures c.payload.ensures (node-number _ c.in-Import.ensures)
 
 pub returns-in-Import : goal.returns-in-Import
 returns-in-Import c =
-    let r = c.requires in
     let m = ap (λ i. i.words) c.image.view_is in
-    λ f o. import_visited _ _ r.node c.node_place-at.ensures c.word_at-head.ensures refl (node-number _ c.in-Import.ensures) c.word_at-slot.ensures c.word_at-first.ensures c.payload.ensures
-    (rw m at (c.import_node.ensures (slot_count c.image.inside.words.now) f c.args.types.now o))
+    λ f o. import_visited _ _ c.requires.node c.node_place-at.ensures c.word_at-head.ensures (node-number _ c.in-Import.ensures) c.word_after-slot.ensures
+    c.word_after-first.ensures c.payload.ensures (rw m at (c.import_node.ensures (slot_count c.image.inside.words.now) f c.args.types.now o))
 
 pub overflow_add-at-in_default : goal.overflow_add-at-in_default
-overflow_add-at-in_default c =
-    let r = c.requires in
-    omega (arith, record_room r.node c.node_place-at.ensures)
+overflow_add-at-in_default c = omega (arith, record_room c.requires.node c.node_place-at.ensures)
 
 pub overflow_add-at-in_default-2 : goal.overflow_add-at-in_default-2
 overflow_add-at-in_default-2 c =
-    let r = c.requires in
-    omega (arith, record_room r.node c.node_place-at.ensures)
-
-pub overflow_add-at-in_default-3 : goal.overflow_add-at-in_default-3
-overflow_add-at-in_default-3 c =
-    let r = c.requires in
-    omega (arith, record_room r.node c.node_place-at.ensures, length-there r.node c.node_place-at.ensures c.word_at-head.ensures refl c.payload-in_default.ensures)
-
-pub overflow_add-at-in_default-4 : goal.overflow_add-at-in_default-4
-overflow_add-at-in_default-4 c =
-    let r = c.requires in
-    omega (arith, record_room r.node c.node_place-at.ensures)
+    omega (arith, record_room c.requires.node c.node_place-at.ensures, length-there c.requires.node c.node_place-at.ensures c.word_at-head.ensures refl c.payload-in_default.ensures)
 
 pub extern_package-requires : goal.extern_package-requires
 extern_package-requires c =
-    let r = c.requires in
-    let a = node-not _ c.of.ensures c.in_default.not-Atom in
-    let i = node-not _ c.of.ensures c.in_default.not-Ident in
-    let m = node-not _ c.of.ensures c.in_default.not-Import in
-    let e = kind-extern r c.node_place-at.ensures c.word_at-head.ensures refl refl a i m in
-    extern-ready r c.node_place-at.ensures c.word_at-head.ensures refl c.payload-in_default.ensures e c.word_at-in_default-2.ensures
+    let q = kind-extern c.requires c.node_place-at.ensures c.word_at-head.ensures c.of.ensures c.in_default.not-Atom c.in_default.not-Ident c.in_default.not-Import in
+    extern-ready c.requires c.node_place-at.ensures c.word_at-head.ensures c.payload-in_default.ensures q c.word_after-in_default-2.ensures
 
 pub returns-in_default : goal.returns-in_default
 returns-in_default c =
-    let r = c.requires in
-    let a = node-not _ c.of.ensures c.in_default.not-Atom in
-    let i = node-not _ c.of.ensures c.in_default.not-Ident in
-    let m = node-not _ c.of.ensures c.in_default.not-Import in
-    let e = kind-extern r c.node_place-at.ensures c.word_at-head.ensures refl refl a i m in
-    (λ f o. extern-visited _ _ r.node c.node_place-at.ensures c.word_at-head.ensures refl e c.word_at-slot.ensures c.word_at-in_default.ensures c.word_at-in_default-2.ensures
-    (c.extern_package.ensures _ _ _ _ _ _ _ o))
+    let q = kind-extern c.requires c.node_place-at.ensures c.word_at-head.ensures c.of.ensures c.in_default.not-Atom c.in_default.not-Ident c.in_default.not-Import in
+    λ f o. extern-visited _ _ c.requires.node c.node_place-at.ensures c.word_at-head.ensures q c.word_after-slot.ensures c.word_after-in_default.ensures
+    c.word_after-in_default-2.ensures (c.extern_package.ensures _ _ _ _ _ _ _ o)

@@ -13,5 +13,5 @@ returns-in_default-right c = λ ls v words f e o. bin-right _ c.args.image.now.w
 -- src/lib.rt:45:1
 pub returns : goal.returns
 returns c =
-    bin_fused _ c.args.image.now.words c.args.n c.args.at c.args.st c.args.left c.args.right c.in-Known.is c.in-Known-right.is c.word_at-slot.ensures
-    c.word_at-token.ensures c.word_at-op.ensures c.fuse.ensures c.answered.ensures
+    bin_fused _ c.args.image.now.words c.args.n c.args.at c.args.st c.args.left c.args.right c.in-Known.is c.in-Known-right.is c.word_after-slot.ensures
+    c.word_after-token.ensures c.word_after-op.ensures c.fuse.ensures c.answered.ensures

@@ -6,13 +6,10 @@ use Rattle.parameters.specs.Typing.{type-steps}
 use Rattle.operands.proofs.Returns.{cast-typed}
 use Rattle.operands.proofs.cast_begin.Goals as goal
 
-pub overflow_add-at : goal.overflow_add-at
-overflow_add-at c = omega (arith, c.requires.low)
-
 pub type_from_type_expr-added-requires : goal.type_from_type_expr-added-requires
-type_from_type_expr-added-requires c = rw c.word_at-expr.ensures c.requires.type
+type_from_type_expr-added-requires c = rw c.word_after-expr.ensures c.requires
 
 pub returns : goal.returns
-returns c = cast-typed c.args.image.now.words c.args.n c.args.at c.args.st c.word_at-expr.ensures
+returns c = cast-typed c.args.image.now.words c.args.n c.args.at c.args.st c.word_after-expr.ensures
     (λ T ls v. type-steps _ c.type_from_type_expr-added.result c.type_from_type_expr-added.ensures T ls v c.args.n)
     (c.answered.ensures ∙ ap (visit_of c.args.st) c.added.ensures)

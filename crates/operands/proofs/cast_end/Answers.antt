@@ -8,4 +8,4 @@ returns-in_default c = λ ls v words f e o. cast-poisoned _ c.args.image.now.wor
 
 -- src/lib.rt:212:1
 pub returns : goal.returns
-returns c = cast-done _ c.args.image.now.words c.args.n c.args.at c.args.st c.args.to c.args.answer c.in-Known.is c.word_at-slot.ensures c.word_at-token.ensures c.cast.ensures c.answered.ensures
+returns c = cast-done _ c.args.image.now.words c.args.n c.args.at c.args.st c.args.to c.args.answer c.in-Known.is c.word_after-slot.ensures c.word_after-token.ensures c.cast.ensures c.answered.ensures

@@ -5,21 +5,12 @@ use Rattle.ast.specs.KindLaws.{node-number, node-not}
 use Rattle.operands.proofs.Returns.{let_binds, one_let, one-poisoned, one-unary, one_field}
 use Rattle.operands.proofs.one_end.Goals as goal
 
-pub overflow_add-at : goal.overflow_add-at
-overflow_add-at c = omega (arith, c.requires.low)
-
-pub overflow_add-at-2 : goal.overflow_add-at-2
-overflow_add-at-2 c = omega (arith, c.requires.low)
-
-pub overflow_add-at-3 : goal.overflow_add-at-3
-overflow_add-at-3 c = omega (arith, c.requires.low)
-
 pub let_end-requires : goal.let_end-requires
-let_end-requires c = let_binds c.requires c.word_at.ensures refl (node-number _ c.in-Let.ensures) c.word_at-second.ensures
+let_end-requires c = let_binds c.requires c.word_at.ensures refl (node-number _ c.in-Let.ensures) c.word_after-second.ensures
 
 pub returns-in-Let : goal.returns-in-Let
 returns-in-Let c =
-    one_let _ c.args.image.now.words c.args.n c.args.at c.args.st c.args.answer c.word_at.ensures refl (node-number _ c.in-Let.ensures) c.word_at-slot.ensures c.word_at-second.ensures
+    one_let _ c.args.image.now.words c.args.n c.args.at c.args.st c.args.answer c.word_at.ensures refl (node-number _ c.in-Let.ensures) c.word_after-slot.ensures c.word_after-second.ensures
     c.let_end.ensures
 
 pub returns-in_default-answer : goal.returns-in_default-answer
@@ -36,9 +27,9 @@ returns-in_default-answer-2 c =
 pub returns-in-Known : goal.returns-in-Known
 returns-in-Known c =
     one-unary _ c.args.image.now.words c.args.n c.args.at c.args.st c.args.answer c.word_at.ensures refl (node-number _ c.in-Unary.ensures) c.in-Known.is
-    c.word_at-slot.ensures c.word_at-second.ensures c.word_at-third.ensures c.unary.ensures c.answered.ensures _
+    c.word_after-slot.ensures c.word_after-second.ensures c.word_after-third.ensures c.unary.ensures c.answered.ensures _
 
 pub returns-in-Known-answer : goal.returns-in-Known-answer
 returns-in-Known-answer c =
     one_field _ c.args.image.now.words c.args.n c.args.at c.args.st c.args.answer c.word_at.ensures refl (node-not _ c.of.ensures c.in_default.not-Unary) (node-not _ c.of.ensures c.in_default.not-Let)
-    c.in-Known-answer.is c.word_at-slot.ensures c.word_at-third.ensures c.field.ensures c.answered-in_default.ensures _
+    c.in-Known-answer.is c.word_after-slot.ensures c.word_after-third.ensures c.field.ensures c.answered-in_default.ensures _

@@ -6,7 +6,7 @@ use Rattle.places.proofs.record_places.Goals as goal
 
 pub returns : goal.returns
 returns c =
-    all-filled _ c.word_at.ensures refl c.min-nodes.ensures
-    c.word_at-2.ensures refl c.min-types.ensures
-    c.word_at-3.ensures refl c.clipped-first.ensures
+    all-filled _ c.node_count.ensures refl c.min-nodes.ensures
+    c.type_count.ensures refl c.min-types.ensures
+    c.root_count.ensures refl c.clipped-first.ensures
     c.fill-first_type.ensures c.fill.ensures c.fill_levels.ensures

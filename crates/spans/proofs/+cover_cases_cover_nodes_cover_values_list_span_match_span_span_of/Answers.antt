@@ -23,114 +23,90 @@ cover_values-loop-i-init t c = rw (sub-zero, first-pair) (values-all c.requires)
 
 pub cover_values-span_of-requires : goal.cover_values-span_of-requires
 cover_values-span_of-requires t c =
-    let p = values-part (some-left (omega arith)) c.loop-i.invariant.ready c.word_at-in-loop-i.ensures in (omega (arith, c.decreases, p.under), p.ready)
+    let p = values-part (some-left (omega arith)) c.loop-i.invariant.ready c.word_after.ensures in (omega (arith, c.decreases, p.under), p.ready)
 
 pub cover_values-loop-i-preserved : goal.cover_values-loop-i-preserved
 cover_values-loop-i-preserved t c =
     rw (one-less, next-pair)
-    (values-less c.loop-i.invariant (some-left (omega arith)) c.word_at.ensures c.token_span.ensures c.cover_spans-named.ensures c.word_at-in-loop-i.ensures c.span_of.ensures
+    (values-less c.loop-i.invariant (some-left (omega arith)) c.word_at.ensures c.token_span.ensures c.cover_spans-named.ensures c.word_after.ensures c.span_of.ensures
     c.cover_spans-covered.ensures)
 
 pub cover_values-returns : goal.cover_values-returns
 cover_values-returns t c = values-done c.loop-i.invariant (none-left (omega arith))
 
-pub span_of-overflow_add-at : goal.span_of-overflow_add-at
-span_of-overflow_add-at t c = omega (arith, record_room c.requires c.node_place-at.ensures)
-
 pub span_of-returns-in-Atom : goal.span_of-returns-in-Atom
 span_of-returns-in-Atom t c =
-    span-leaf c.requires c.node_place-at.ensures c.word_at-head.ensures refl c.word_at.ensures c.token_span-first.ensures
+    span-leaf c.requires c.node_place-at.ensures c.word_at-head.ensures refl c.word_after.ensures c.token_span-first.ensures
     (leaf-kind _ c.of.ensures c.in-Atom.is)
-
-pub span_of-overflow_add-at-in-Bin : goal.span_of-overflow_add-at-in-Bin
-span_of-overflow_add-at-in-Bin t c = omega (arith, record_room c.requires c.node_place-at.ensures)
 
 pub span_of-span_of-left-requires : goal.span_of-span_of-left-requires
 span_of-span_of-left-requires t c =
     let w = words-bin c.requires c.node_place-at.ensures c.word_at-head.ensures refl (node-number _ c.in-Bin.ensures) in
-    let p = part-ready c.requires w.left c.word_at-in-Bin.ensures in
+    let p = part-ready c.requires w.left c.word_after-in-Bin.ensures in
     (omega (arith, c.decreases, p.under), p.ready)
-
-pub span_of-overflow_add-at-in-Bin-2 : goal.span_of-overflow_add-at-in-Bin-2
-span_of-overflow_add-at-in-Bin-2 t c = omega (arith, record_room c.requires c.node_place-at.ensures)
 
 pub span_of-span_of-right-requires : goal.span_of-span_of-right-requires
 span_of-span_of-right-requires t c =
     let w = words-bin c.requires c.node_place-at.ensures c.word_at-head.ensures refl (node-number _ c.in-Bin.ensures) in
-    let p = part-ready c.requires w.right c.word_at-in-Bin-2.ensures in
+    let p = part-ready c.requires w.right c.word_after-in-Bin-2.ensures in
     (omega (arith, c.decreases, p.under), p.ready)
 
 pub span_of-returns-in-Bin : goal.span_of-returns-in-Bin
 span_of-returns-in-Bin t c =
-    span-bin c.requires c.node_place-at.ensures c.word_at-head.ensures refl c.word_at.ensures c.token_span-first.ensures (node-number _ c.in-Bin.ensures)
-    c.word_at-in-Bin.ensures c.span_of-left.ensures c.word_at-in-Bin-2.ensures c.span_of-right.ensures c.cover_spans.ensures c.cover_spans-in-Bin.ensures
-
-pub span_of-overflow_add-at-in-Unary : goal.span_of-overflow_add-at-in-Unary
-span_of-overflow_add-at-in-Unary t c = omega (arith, record_room c.requires c.node_place-at.ensures)
+    span-bin c.requires c.node_place-at.ensures c.word_at-head.ensures refl c.word_after.ensures c.token_span-first.ensures (node-number _ c.in-Bin.ensures)
+    c.word_after-in-Bin.ensures c.span_of-left.ensures c.word_after-in-Bin-2.ensures c.span_of-right.ensures c.cover_spans.ensures c.cover_spans-in-Bin.ensures
 
 pub span_of-span_of-requires : goal.span_of-span_of-requires
 span_of-span_of-requires t c =
     let w = words-unary c.requires c.node_place-at.ensures c.word_at-head.ensures refl (node-number _ c.in-Unary.ensures) in
-    let p = part-ready c.requires w.right c.word_at-in-Unary.ensures in
+    let p = part-ready c.requires w.right c.word_after-in-Unary.ensures in
     (omega (arith, c.decreases, p.under), p.ready)
 
 pub span_of-returns-in-Unary : goal.span_of-returns-in-Unary
 span_of-returns-in-Unary t c =
-    span-unary c.requires c.node_place-at.ensures c.word_at-head.ensures refl c.word_at.ensures c.token_span-first.ensures
-    (node-number _ c.in-Unary.ensures) c.word_at-in-Unary.ensures c.span_of.ensures c.cover_spans-in-Unary.ensures
-
-pub span_of-overflow_add-at-in-Let : goal.span_of-overflow_add-at-in-Let
-span_of-overflow_add-at-in-Let t c = omega (arith, record_room c.requires c.node_place-at.ensures)
+    span-unary c.requires c.node_place-at.ensures c.word_at-head.ensures refl c.word_after.ensures c.token_span-first.ensures
+    (node-number _ c.in-Unary.ensures) c.word_after-in-Unary.ensures c.span_of.ensures c.cover_spans-in-Unary.ensures
 
 pub span_of-span_of-requires-in-Let : goal.span_of-span_of-requires-in-Let
 span_of-span_of-requires-in-Let t c =
     let w = words_let c.requires c.node_place-at.ensures c.word_at-head.ensures refl (node-number _ c.in-Let.ensures) in
-    let p = part-ready c.requires w.right c.word_at-in-Let.ensures in
+    let p = part-ready c.requires w.right c.word_after-in-Let.ensures in
     (omega (arith, c.decreases, p.under), p.ready)
 
 pub span_of-returns-in-Let : goal.span_of-returns-in-Let
 span_of-returns-in-Let t c =
-    span_let c.requires c.node_place-at.ensures c.word_at-head.ensures refl c.word_at.ensures c.token_span-first.ensures (node-number _ c.in-Let.ensures)
-    c.word_at-in-Let.ensures c.span_of-in-Let.ensures c.cover_spans-in-Let.ensures
-
-pub span_of-overflow_add-at-in-Field : goal.span_of-overflow_add-at-in-Field
-span_of-overflow_add-at-in-Field t c = omega (arith, record_room c.requires c.node_place-at.ensures)
+    span_let c.requires c.node_place-at.ensures c.word_at-head.ensures refl c.word_after.ensures c.token_span-first.ensures (node-number _ c.in-Let.ensures)
+    c.word_after-in-Let.ensures c.span_of-in-Let.ensures c.cover_spans-in-Let.ensures
 
 pub span_of-span_of-target-requires : goal.span_of-span_of-target-requires
 span_of-span_of-target-requires t c =
     let w = words-field c.requires c.node_place-at.ensures c.word_at-head.ensures refl (node-number _ c.in-Field.ensures) in
-    let p = part-ready c.requires w.target c.word_at-in-Field.ensures in
+    let p = part-ready c.requires w.target c.word_after-in-Field.ensures in
     (omega (arith, c.decreases, p.under), p.ready)
-
-pub span_of-overflow_add-at-in-Field-2 : goal.span_of-overflow_add-at-in-Field-2
-span_of-overflow_add-at-in-Field-2 t c = omega (arith, record_room c.requires c.node_place-at.ensures)
 
 pub span_of-returns-in-Field : goal.span_of-returns-in-Field
 span_of-returns-in-Field t c =
-    span-field c.requires c.node_place-at.ensures c.word_at-head.ensures refl (node-number _ c.in-Field.ensures) c.word_at-in-Field.ensures
-    c.span_of-target.ensures c.word_at-in-Field-2.ensures c.token_span.ensures c.cover_spans-in-Field.ensures
-
-pub span_of-overflow_add-at-in-Cast : goal.span_of-overflow_add-at-in-Cast
-span_of-overflow_add-at-in-Cast t c = omega (arith, record_room c.requires c.node_place-at.ensures)
+    span-field c.requires c.node_place-at.ensures c.word_at-head.ensures refl (node-number _ c.in-Field.ensures) c.word_after-in-Field.ensures
+    c.span_of-target.ensures c.word_after-in-Field-2.ensures c.token_span.ensures c.cover_spans-in-Field.ensures
 
 pub span_of-span_of-left-requires-in-Cast : goal.span_of-span_of-left-requires-in-Cast
 span_of-span_of-left-requires-in-Cast t c =
     let w = words-cast c.requires c.node_place-at.ensures c.word_at-head.ensures refl (node-number _ c.in-Cast.ensures) in
-    let p = part-ready c.requires w.left c.word_at-in-Cast.ensures in
+    let p = part-ready c.requires w.left c.word_after-in-Cast.ensures in
     (omega (arith, c.decreases, p.under), p.ready)
-
-pub span_of-overflow_add-at-in-Cast-2 : goal.span_of-overflow_add-at-in-Cast-2
-span_of-overflow_add-at-in-Cast-2 t c = omega (arith, record_room c.requires c.node_place-at.ensures)
 
 pub span_of-type_span-ty-requires : goal.span_of-type_span-ty-requires
 span_of-type_span-ty-requires t c =
-    record
-    { readable = c.requires.readable; below = rw c.word_at-in-Cast-2.ensures (words-cast c.requires c.node_place-at.ensures c.word_at-head.ensures refl (node-number _ c.in-Cast.ensures)).type.under }
+    record {
+      readable = c.requires.readable;
+      below =
+          rw c.word_after-in-Cast-2.ensures (words-cast c.requires c.node_place-at.ensures c.word_at-head.ensures refl (node-number _ c.in-Cast.ensures)).type.under;
+    }
 
 pub span_of-returns-in-Cast : goal.span_of-returns-in-Cast
 span_of-returns-in-Cast t c =
-    span-cast c.requires c.node_place-at.ensures c.word_at-head.ensures refl c.word_at.ensures c.token_span-first.ensures
-    (node-number _ c.in-Cast.ensures) c.word_at-in-Cast.ensures c.span_of-left-in-Cast.ensures c.word_at-in-Cast-2.ensures c.type_span-ty.ensures
+    span-cast c.requires c.node_place-at.ensures c.word_at-head.ensures refl c.word_after.ensures c.token_span-first.ensures
+    (node-number _ c.in-Cast.ensures) c.word_after-in-Cast.ensures c.span_of-left-in-Cast.ensures c.word_after-in-Cast-2.ensures c.type_span-ty.ensures
     c.cover_spans-in-Cast.ensures c.cover_spans-in-Cast-2.ensures
 
 pub span_of-list_span-requires : goal.span_of-list_span-requires
@@ -142,33 +118,33 @@ span_of-list_span-requires t c =
 
 pub list_span-overflow_mul-words : goal.list_span-overflow_mul-words
 list_span-overflow_mul-words t c =
-    let long = fn-long c.requires.ready c.requires.place c.requires.word refl c.payload-long.ensures (node-number _ c.in-Fn.ensures) c.word_at-in-Fn.ensures in
+    let long = fn-long c.requires.ready c.requires.place c.requires.word refl c.payload-long.ensures (node-number _ c.in-Fn.ensures) c.word_after-in-Fn.ensures in
     omega (arith, room c.requires.ready c.requires.place c.requires.word refl c.payload-long.ensures, long)
 
 pub list_span-overflow_add-words : goal.list_span-overflow_add-words
 list_span-overflow_add-words t c =
-    let long = fn-long c.requires.ready c.requires.place c.requires.word refl c.payload-long.ensures (node-number _ c.in-Fn.ensures) c.word_at-in-Fn.ensures in
+    let long = fn-long c.requires.ready c.requires.place c.requires.word refl c.payload-long.ensures (node-number _ c.in-Fn.ensures) c.word_after-in-Fn.ensures in
     omega (arith, room c.requires.ready c.requires.place c.requires.word refl c.payload-long.ensures, long)
 
 pub list_span-overflow_sub-long : goal.list_span-overflow_sub-long
 list_span-overflow_sub-long t c =
-    fn-long c.requires.ready c.requires.place c.requires.word refl c.payload-long.ensures (node-number _ c.in-Fn.ensures) c.word_at-in-Fn.ensures
+    fn-long c.requires.ready c.requires.place c.requires.word refl c.payload-long.ensures (node-number _ c.in-Fn.ensures) c.word_after-in-Fn.ensures
 
 pub list_span-cover_nodes-requires : goal.list_span-cover_nodes-requires
 list_span-cover_nodes-requires t c =
-    (omega (arith, c.decreases), fn-ready c.requires.ready c.requires.place c.requires.word refl c.payload-long.ensures (node-number _ c.in-Fn.ensures) c.word_at-in-Fn.ensures)
+    (omega (arith, c.decreases), fn-ready c.requires.ready c.requires.place c.requires.word refl c.payload-long.ensures (node-number _ c.in-Fn.ensures) c.word_after-in-Fn.ensures)
 
 pub list_span-returns-in-Fn : goal.list_span-returns-in-Fn
 list_span-returns-in-Fn t c =
-    span-fn c.requires.ready c.requires.place c.requires.word refl c.word_at.ensures c.token_span-first.ensures c.payload-long.ensures
-    (node-number _ c.in-Fn.ensures) c.word_at-in-Fn.ensures c.cover_nodes.ensures
+    span-fn c.requires.ready c.requires.place c.requires.word refl c.word_after.ensures c.token_span-first.ensures c.payload-long.ensures
+    (node-number _ c.in-Fn.ensures) c.word_after-in-Fn.ensures c.cover_nodes.ensures
 
 pub list_span-match_span-requires : goal.list_span-match_span-requires
 list_span-match_span-requires t c = (omega (arith, c.decreases), match-ready c.requires.ready c.requires.place c.requires.word refl c.payload-long.ensures (node-number _ c.in-Match.ensures))
 
 pub list_span-span_of-target-requires : goal.list_span-span_of-target-requires
 list_span-span_of-target-requires t c =
-    let p = call-target c.requires.ready c.requires.place c.requires.word refl c.payload-long.ensures (node-number _ c.in-Call.ensures) c.word_at-in-Call.ensures in
+    let p = call-target c.requires.ready c.requires.place c.requires.word refl c.payload-long.ensures (node-number _ c.in-Call.ensures) c.word_after-in-Call.ensures in
     (omega (arith, c.decreases, p.under), p.ready)
 
 pub list_span-overflow_sub-long-in-Call : goal.list_span-overflow_sub-long-in-Call
@@ -180,7 +156,7 @@ list_span-cover_nodes-requires-in-Call t c =
 
 pub list_span-returns-in-Call : goal.list_span-returns-in-Call
 list_span-returns-in-Call t c =
-    span-call c.requires.ready c.requires.place c.requires.word refl c.payload-long.ensures (node-number _ c.in-Call.ensures) c.word_at-in-Call.ensures
+    span-call c.requires.ready c.requires.place c.requires.word refl c.payload-long.ensures (node-number _ c.in-Call.ensures) c.word_after-in-Call.ensures
     c.span_of-target.ensures c.cover_nodes-in-Call.ensures
 
 pub list_span-overflow_sub-long-in-Import : goal.list_span-overflow_sub-long-in-Import
@@ -193,17 +169,17 @@ list_span-cover_tokens-requires t c =
 
 pub list_span-returns-in-Import : goal.list_span-returns-in-Import
 list_span-returns-in-Import t c =
-    span_import c.requires.ready c.requires.place c.requires.word refl c.word_at.ensures c.token_span-first.ensures c.payload-long.ensures
+    span_import c.requires.ready c.requires.place c.requires.word refl c.word_after.ensures c.token_span-first.ensures c.payload-long.ensures
     (node-number _ c.in-Import.ensures) c.cover_tokens.ensures
 
 pub list_span-cover_externs-requires : goal.list_span-cover_externs-requires
 list_span-cover_externs-requires t c =
-    extern-ready c.requires.ready c.requires.place c.requires.word refl c.payload-long.ensures (node-number _ c.in-Extern.ensures) c.word_at-in-Extern-2.ensures
+    extern-ready c.requires.ready c.requires.place c.requires.word refl c.payload-long.ensures (node-number _ c.in-Extern.ensures) c.word_after-in-Extern-2.ensures
 
 pub list_span-returns-in-Extern : goal.list_span-returns-in-Extern
 list_span-returns-in-Extern t c =
-    span-extern c.requires.ready c.requires.place c.requires.word refl c.word_at.ensures c.token_span-first.ensures (node-number _ c.in-Extern.ensures)
-    c.word_at-in-Extern.ensures c.token_span.ensures c.cover_spans-named.ensures c.word_at-in-Extern-2.ensures c.cover_externs.ensures
+    span-extern c.requires.ready c.requires.place c.requires.word refl c.word_after.ensures c.token_span-first.ensures (node-number _ c.in-Extern.ensures)
+    c.word_after-in-Extern.ensures c.token_span.ensures c.cover_spans-named.ensures c.word_after-in-Extern-2.ensures c.cover_externs.ensures
 
 pub list_span-overflow_sub-long-in-Record : goal.list_span-overflow_sub-long-in-Record
 list_span-overflow_sub-long-in-Record t c = record_long c.requires.ready c.requires.place c.requires.word refl c.payload-long.ensures (node-number _ c.in-Record.ensures)
@@ -214,7 +190,7 @@ list_span-cover_values-requires t c =
 
 pub list_span-returns-in-Record : goal.list_span-returns-in-Record
 list_span-returns-in-Record t c =
-    span_record c.requires.ready c.requires.place c.requires.word refl c.word_at.ensures c.token_span-first.ensures c.payload-long.ensures
+    span_record c.requires.ready c.requires.place c.requires.word refl c.word_after.ensures c.token_span-first.ensures c.payload-long.ensures
     (node-number _ c.in-Record.ensures) c.cover_values.ensures
 
 pub list_span-overflow_sub-long-in_default : goal.list_span-overflow_sub-long-in_default
@@ -230,7 +206,7 @@ list_span-cover_nodes-requires-in_default t c =
 pub list_span-returns-in_default : goal.list_span-returns-in_default
 list_span-returns-in_default t c =
     let q = array-left _ c.of.ensures c.requires.listed c.in_default.not-Fn c.in_default.not-Match c.in_default.not-Call c.in_default.not-Import c.in_default.not-Extern c.in_default.not-Record in
-    span-array c.requires.ready c.requires.place c.requires.word refl c.word_at.ensures c.token_span-first.ensures c.payload-long.ensures q
+    span-array c.requires.ready c.requires.place c.requires.word refl c.word_after.ensures c.token_span-first.ensures c.payload-long.ensures q
     c.cover_nodes-in_default.ensures
 
 pub cover_nodes-loop-i-init : goal.cover_nodes-loop-i-init
@@ -251,60 +227,51 @@ cover_nodes-returns t c = nodes-done c.loop-i.invariant (none-left (omega arith)
 pub match_span-overflow_add-at : goal.match_span-overflow_add-at
 match_span-overflow_add-at t c = omega (arith, match-long c.requires)
 
+pub match_span-cases_end-default-requires : goal.match_span-cases_end-default-requires
+match_span-cases_end-default-requires t c = cases-ready c.requires c.word_after-count.ensures
+
 pub match_span-overflow_add-at-2 : goal.match_span-overflow_add-at-2
 match_span-overflow_add-at-2 t c = omega (arith, match-long c.requires)
 
-pub match_span-cases_end-default-requires : goal.match_span-cases_end-default-requires
-match_span-cases_end-default-requires t c = cases-ready c.requires c.word_at-count.ensures
-
-pub match_span-overflow_add-at-3 : goal.match_span-overflow_add-at-3
-match_span-overflow_add-at-3 t c = omega (arith, match-long c.requires)
-
 pub match_span-cover_cases-cases-requires : goal.match_span-cover_cases-cases-requires
-match_span-cover_cases-cases-requires t c = (omega (arith, c.decreases), cases-ready c.requires c.word_at-count.ensures)
+match_span-cover_cases-cases-requires t c = (omega (arith, c.decreases), cases-ready c.requires c.word_after-count.ensures)
 
 pub match_span-overflow_add-default : goal.match_span-overflow_add-default
-match_span-overflow_add-default t c = omega (arith, default_end c.requires c.word_at-count.ensures c.cases_end-default.ensures, match-room c.requires)
+match_span-overflow_add-default t c = omega (arith, default_end c.requires c.word_after-count.ensures c.cases_end-default.ensures, match-room c.requires)
 
 pub match_span-overflow_add-default-2 : goal.match_span-overflow_add-default-2
-match_span-overflow_add-default-2 t c = omega (arith, default_end c.requires c.word_at-count.ensures c.cases_end-default.ensures, match-room c.requires)
+match_span-overflow_add-default-2 t c = omega (arith, default_end c.requires c.word_after-count.ensures c.cases_end-default.ensures, match-room c.requires)
 
 pub match_span-overflow_sub-end : goal.match_span-overflow_sub-end
-match_span-overflow_sub-end t c = default_end c.requires c.word_at-count.ensures c.cases_end-default.ensures
+match_span-overflow_sub-end t c = default_end c.requires c.word_after-count.ensures c.cases_end-default.ensures
 
 pub match_span-cover_nodes-requires : goal.match_span-cover_nodes-requires
-match_span-cover_nodes-requires t c = (omega (arith, c.decreases), default_ready c.requires c.word_at-count.ensures c.cases_end-default.ensures)
+match_span-cover_nodes-requires t c = (omega (arith, c.decreases), default_ready c.requires c.word_after-count.ensures c.cases_end-default.ensures)
 
 pub match_span-returns : goal.match_span-returns
 match_span-returns t c =
-    span-match c.requires c.word_at-count.ensures c.cases_end-default.ensures c.word_at.ensures c.token_span-first.ensures c.cover_cases-cases.ensures
+    span-match c.requires c.word_after-count.ensures c.cases_end-default.ensures c.word_at.ensures c.token_span-first.ensures c.cover_cases-cases.ensures
     c.cover_nodes.ensures
 
 pub cover_cases-loop-init : goal.cover_cases-loop-init
 cover_cases-loop-init t c = rw sub-zero (cases-all c.requires)
 
+pub cover_cases-span_of-requires : goal.cover_cases-span_of-requires
+cover_cases-span_of-requires t c =
+    let p = case-condition (some-left c.loop-test.true) c.loop.invariant.ready c.word_after.ensures in (omega (arith, c.decreases, p.under), p.ready)
+
 pub cover_cases-overflow_add-i : goal.cover_cases-overflow_add-i
 cover_cases-overflow_add-i t c = omega (arith, case-room (some-left c.loop-test.true) c.loop.invariant.ready refl)
+
+pub cover_cases-cover_nodes-covered-requires : goal.cover_cases-cover_nodes-covered-requires
+cover_cases-cover_nodes-covered-requires t c =
+    (omega (arith, c.decreases), case-body (some-left c.loop-test.true) c.loop.invariant.ready c.word_after-count.ensures)
 
 pub cover_cases-overflow_add-i-in-loop : goal.cover_cases-overflow_add-i-in-loop
 cover_cases-overflow_add-i-in-loop t c = omega (arith, case-room (some-left c.loop-test.true) c.loop.invariant.ready refl)
 
-pub cover_cases-span_of-requires : goal.cover_cases-span_of-requires
-cover_cases-span_of-requires t c =
-    let p = case-condition (some-left c.loop-test.true) c.loop.invariant.ready c.word_at-in-loop.ensures in (omega (arith, c.decreases, p.under), p.ready)
-
 pub cover_cases-overflow_add-i-in-loop-2 : goal.cover_cases-overflow_add-i-in-loop-2
-cover_cases-overflow_add-i-in-loop-2 t c = omega (arith, case-room (some-left c.loop-test.true) c.loop.invariant.ready refl)
-
-pub cover_cases-cover_nodes-covered-requires : goal.cover_cases-cover_nodes-covered-requires
-cover_cases-cover_nodes-covered-requires t c =
-    (omega (arith, c.decreases), case-body (some-left c.loop-test.true) c.loop.invariant.ready c.word_at-count.ensures)
-
-pub cover_cases-overflow_add-i-in-loop-3 : goal.cover_cases-overflow_add-i-in-loop-3
-cover_cases-overflow_add-i-in-loop-3 t c = omega (arith, case-room (some-left c.loop-test.true) c.loop.invariant.ready refl)
-
-pub cover_cases-overflow_add-i-in-loop-4 : goal.cover_cases-overflow_add-i-in-loop-4
-cover_cases-overflow_add-i-in-loop-4 t c = omega (arith, case-room (some-left c.loop-test.true) c.loop.invariant.ready c.word_at-count.ensures)
+cover_cases-overflow_add-i-in-loop-2 t c = omega (arith, case-room (some-left c.loop-test.true) c.loop.invariant.ready c.word_after-count.ensures)
 
 pub cover_cases-loop-preserved : goal.cover_cases-loop-preserved
 cover_cases-loop-preserved t c =
@@ -312,7 +279,7 @@ cover_cases-loop-preserved t c =
     let tested = c.cover_spans-tested.ensures in
     let body = c.cover_nodes-covered.ensures in
     rw one-less
-    (cases-less c.loop.invariant left c.word_at-count.ensures c.word_at.ensures c.token_span.ensures c.cover_spans-begun.ensures c.word_at-in-loop.ensures c.span_of.ensures tested body)
+    (cases-less c.loop.invariant left c.word_after-count.ensures c.word_at.ensures c.token_span.ensures c.cover_spans-begun.ensures c.word_after.ensures c.span_of.ensures tested body)
 
 pub cover_cases-returns : goal.cover_cases-returns
 cover_cases-returns t c = cases_done c.loop.invariant (none-left c.loop-test.false)

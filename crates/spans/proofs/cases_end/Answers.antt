@@ -13,13 +13,10 @@ pub overflow_add-i : goal.overflow_add-i
 overflow_add-i c = omega (arith, case-room (some-left c.loop-test.true) c.loop.invariant.ready refl)
 
 pub overflow_add-i-in-loop : goal.overflow_add-i-in-loop
-overflow_add-i-in-loop c = omega (arith, case-room (some-left c.loop-test.true) c.loop.invariant.ready refl)
-
-pub overflow_add-i-in-loop-2 : goal.overflow_add-i-in-loop-2
-overflow_add-i-in-loop-2 c = omega (arith, case-room (some-left c.loop-test.true) c.loop.invariant.ready c.word_at.ensures)
+overflow_add-i-in-loop c = omega (arith, case-room (some-left c.loop-test.true) c.loop.invariant.ready c.word_after.ensures)
 
 pub loop-preserved : goal.loop-preserved
-loop-preserved c = rw one-less (end-less c.loop.invariant (some-left c.loop-test.true) c.word_at.ensures)
+loop-preserved c = rw one-less (end-less c.loop.invariant (some-left c.loop-test.true) c.word_after.ensures)
 
 pub returns : goal.returns
 returns c = end-done c.loop.invariant (none-left c.loop-test.false)

@@ -12,26 +12,20 @@ loop-init c = rw sub-zero (externs_all c.requires)
 pub overflow_add-i : goal.overflow_add-i
 overflow_add-i c = omega (arith, extern-room (some-left c.loop-test.true) c.loop.invariant.ready refl)
 
+pub cover_args-args-requires : goal.cover_args-args-requires
+cover_args-args-requires c = extern-args (some-left c.loop-test.true) c.loop.invariant.ready c.word_after-count.ensures
+
+pub type_span-requires : goal.type_span-requires
+type_span-requires c = extern-ret (some-left c.loop-test.true) c.loop.invariant.ready c.word_after.ensures
+
 pub overflow_add-i-in-loop : goal.overflow_add-i-in-loop
 overflow_add-i-in-loop c = omega (arith, extern-room (some-left c.loop-test.true) c.loop.invariant.ready refl)
 
-pub cover_args-args-requires : goal.cover_args-args-requires
-cover_args-args-requires c = extern-args (some-left c.loop-test.true) c.loop.invariant.ready c.word_at-count.ensures
+pub overflow_mul-i : goal.overflow_mul-i
+overflow_mul-i c = omega (arith, extern-room (some-left c.loop-test.true) c.loop.invariant.ready c.word_after-count.ensures)
 
 pub overflow_add-i-in-loop-2 : goal.overflow_add-i-in-loop-2
-overflow_add-i-in-loop-2 c = omega (arith, extern-room (some-left c.loop-test.true) c.loop.invariant.ready refl)
-
-pub type_span-requires : goal.type_span-requires
-type_span-requires c = extern-ret (some-left c.loop-test.true) c.loop.invariant.ready c.word_at-in-loop.ensures
-
-pub overflow_add-i-in-loop-3 : goal.overflow_add-i-in-loop-3
-overflow_add-i-in-loop-3 c = omega (arith, extern-room (some-left c.loop-test.true) c.loop.invariant.ready refl)
-
-pub overflow_mul-i : goal.overflow_mul-i
-overflow_mul-i c = omega (arith, extern-room (some-left c.loop-test.true) c.loop.invariant.ready c.word_at-count.ensures)
-
-pub overflow_add-i-in-loop-4 : goal.overflow_add-i-in-loop-4
-overflow_add-i-in-loop-4 c = omega (arith, extern-room (some-left c.loop-test.true) c.loop.invariant.ready c.word_at-count.ensures)
+overflow_add-i-in-loop-2 c = omega (arith, extern-room (some-left c.loop-test.true) c.loop.invariant.ready c.word_after-count.ensures)
 
 pub loop-preserved : goal.loop-preserved
 loop-preserved c =
@@ -39,7 +33,7 @@ loop-preserved c =
     let args = c.cover_args-args.ensures in
     let ret = c.type_span.ensures in
     rw one-less
-    (externs_less c.loop.invariant left c.word_at-count.ensures c.word_at.ensures c.token_span.ensures c.cover_spans-named.ensures args c.word_at-in-loop.ensures ret c.cover_spans-covered.ensures)
+    (externs_less c.loop.invariant left c.word_after-count.ensures c.word_at.ensures c.token_span.ensures c.cover_spans-named.ensures args c.word_after.ensures ret c.cover_spans-covered.ensures)
 
 pub returns : goal.returns
 returns c = externs_done c.loop.invariant (none-left c.loop-test.false)

@@ -8,24 +8,18 @@ use Rattle.type_expr.proofs.Returns.{from-atom, from-foreign, record_refused, re
 use Rattle.type_expr.proofs.FieldReturns.{building_all, building_part, building_levels, building_stop, building_next, record_stop, record_room, record_put}
 use Rattle.type_expr.proofs.+build_fields_from_exprs.Goals as goal
 
-pub build-overflow_add-at : goal.build-overflow_add-at
-build-overflow_add-at t c = omega (arith, words-there c.requires.0 c.type_place-at.ensures)
-
 pub build-plain_word-requires : goal.build-plain_word-requires
-build-plain_word-requires t c = atom-low c.requires.0 c.type_place-at.ensures c.word_at-head.ensures refl (expr-number _ c.in-Atom.ensures) c.word_at.ensures
+build-plain_word-requires t c = atom-low c.requires.0 c.type_place-at.ensures c.word_at-head.ensures refl (expr-number _ c.in-Atom.ensures) c.word_after.ensures
 
 pub build-returns-in-Atom : goal.build-returns-in-Atom
-build-returns-in-Atom t c = from-atom c.requires.0 c.type_place-at.ensures c.word_at-head.ensures refl (expr-number _ c.in-Atom.ensures) c.word_at.ensures c.plain_word.ensures
-
-pub build-overflow_add-at-in-Foreign : goal.build-overflow_add-at-in-Foreign
-build-overflow_add-at-in-Foreign t c = omega (arith, words-there c.requires.0 c.type_place-at.ensures)
+build-returns-in-Atom t c = from-atom c.requires.0 c.type_place-at.ensures c.word_at-head.ensures refl (expr-number _ c.in-Atom.ensures) c.word_after.ensures c.plain_word.ensures
 
 pub build-returns-in-Foreign : goal.build-returns-in-Foreign
 build-returns-in-Foreign t c =
-    from-foreign c.requires.0 c.type_place-at.ensures c.word_at-head.ensures refl (expr-number _ c.in-Foreign.ensures) c.word_at-in-Foreign.ensures c.foreign_word.ensures
+    from-foreign c.requires.0 c.type_place-at.ensures c.word_at-head.ensures refl (expr-number _ c.in-Foreign.ensures) c.word_after-in-Foreign.ensures c.foreign_word.ensures
 
-pub build-overflow_add-at-in-Record : goal.build-overflow_add-at-in-Record
-build-overflow_add-at-in-Record t c = omega (arith, words-there c.requires.0 c.type_place-at.ensures)
+pub build-overflow_add-at : goal.build-overflow_add-at
+build-overflow_add-at t c = omega (arith, words-there c.requires.0 c.type_place-at.ensures)
 
 pub build-fields_from_exprs-requires : goal.build-fields_from_exprs-requires
 build-fields_from_exprs-requires t c =
@@ -44,35 +38,29 @@ build-returns-in_ok-word-in-Record t c =
     let closed = record_closed c.requires.0 c.type_place-at.ensures c.word_at-head.ensures refl (expr-number _ c.in-Record.ensures) refl c.record_fields-fields.ensures in
     closed c.in_ok-word-in-Record.ensures c.close_record.ensures
 
-pub build-overflow_add-at-in-Option : goal.build-overflow_add-at-in-Option
-build-overflow_add-at-in-Option t c = omega (arith, words-there c.requires.0 c.type_place-at.ensures)
-
 pub build-build-requires : goal.build-build-requires
 build-build-requires t c =
-    let p = option-ready c.requires.0 c.type_place-at.ensures c.word_at-head.ensures refl (expr-number _ c.in-Option.ensures) c.word_at-in-Option.ensures in
-    let l = levels-option c.requires.0 c.type_place-at.ensures c.word_at-head.ensures refl c.word_at-in-Option.ensures (expr-number _ c.in-Option.ensures) in
+    let p = option-ready c.requires.0 c.type_place-at.ensures c.word_at-head.ensures refl (expr-number _ c.in-Option.ensures) c.word_after-in-Option.ensures in
+    let l = levels-option c.requires.0 c.type_place-at.ensures c.word_at-head.ensures refl c.word_after-in-Option.ensures (expr-number _ c.in-Option.ensures) in
     (omega (arith, c.decreases, l), (p.ready, omega (arith, c.requires.1, l)))
 
 pub build-returns-in_err-inner-in-Option : goal.build-returns-in_err-inner-in-Option
 build-returns-in_err-inner-in-Option t c =
     let p = err_from_is_err_and c.from_residual-in_err-inner-in-Option.result c.from_residual-in_err-inner-in-Option.ensures.1 in
-    let stop = option-stop c.requires.0 c.type_place-at.ensures c.word_at-head.ensures refl c.word_at-in-Option.ensures (expr-number _ c.in-Option.ensures) in
+    let stop = option-stop c.requires.0 c.type_place-at.ensures c.word_at-head.ensures refl c.word_after-in-Option.ensures (expr-number _ c.in-Option.ensures) in
     rw (p.1, p.2) (stop c.in_err-inner-in-Option.ensures)
 
 pub build-returns-in_ok-inner-in-Option : goal.build-returns-in_ok-inner-in-Option
 build-returns-in_ok-inner-in-Option t c =
-    let put = option-put c.requires.0 c.type_place-at.ensures c.word_at-head.ensures refl c.word_at-in-Option.ensures (expr-number _ c.in-Option.ensures) in
+    let put = option-put c.requires.0 c.type_place-at.ensures c.word_at-head.ensures refl c.word_after-in-Option.ensures (expr-number _ c.in-Option.ensures) in
     put c.in_ok-inner-in-Option.ensures c.add_option.ensures.allocates
-
-pub build-overflow_add-at-in_default : goal.build-overflow_add-at-in_default
-build-overflow_add-at-in_default t c = omega (arith, words-there c.requires.0 c.type_place-at.ensures)
 
 pub build-build-requires-in_default : goal.build-build-requires-in_default
 build-build-requires-in_default t c =
     let q = kind-array c.requires.0 c.type_place-at.ensures c.word_at-head.ensures refl (expr-not _ c.of.ensures c.in_default.not-Atom) (expr-not _ c.of.ensures c.in_default.not-Foreign)
     (expr-not _ c.of.ensures c.in_default.not-Record) (expr-not _ c.of.ensures c.in_default.not-Option) in
-    let p = array-ready c.requires.0 c.type_place-at.ensures c.word_at-head.ensures refl q c.word_at-in_default.ensures in
-    let l = levels-array c.requires.0 c.type_place-at.ensures c.word_at-head.ensures refl c.word_at-in_default.ensures q in
+    let p = array-ready c.requires.0 c.type_place-at.ensures c.word_at-head.ensures refl q c.word_after-in_default.ensures in
+    let l = levels-array c.requires.0 c.type_place-at.ensures c.word_at-head.ensures refl c.word_after-in_default.ensures q in
     (omega (arith, c.decreases, l), (p.ready, omega (arith, c.requires.1, l)))
 
 pub build-returns-in_err-inner-in_default : goal.build-returns-in_err-inner-in_default
@@ -80,13 +68,13 @@ build-returns-in_err-inner-in_default t c =
     let q = kind-array c.requires.0 c.type_place-at.ensures c.word_at-head.ensures refl (expr-not _ c.of.ensures c.in_default.not-Atom) (expr-not _ c.of.ensures c.in_default.not-Foreign)
     (expr-not _ c.of.ensures c.in_default.not-Record) (expr-not _ c.of.ensures c.in_default.not-Option) in
     let p = err_from_is_err_and c.from_residual-in_err-inner-in_default.result c.from_residual-in_err-inner-in_default.ensures.1 in
-    rw (p.1, p.2) (array-stop c.requires.0 c.type_place-at.ensures c.word_at-head.ensures refl c.word_at-in_default.ensures q c.in_err-inner-in_default.ensures)
+    rw (p.1, p.2) (array-stop c.requires.0 c.type_place-at.ensures c.word_at-head.ensures refl c.word_after-in_default.ensures q c.in_err-inner-in_default.ensures)
 
 pub build-returns-in_ok-inner-in_default : goal.build-returns-in_ok-inner-in_default
 build-returns-in_ok-inner-in_default t c =
     let q = kind-array c.requires.0 c.type_place-at.ensures c.word_at-head.ensures refl (expr-not _ c.of.ensures c.in_default.not-Atom) (expr-not _ c.of.ensures c.in_default.not-Foreign)
     (expr-not _ c.of.ensures c.in_default.not-Record) (expr-not _ c.of.ensures c.in_default.not-Option) in
-    let put = array-put c.requires.0 c.type_place-at.ensures c.word_at-head.ensures refl c.word_at-in_default.ensures q in
+    let put = array-put c.requires.0 c.type_place-at.ensures c.word_at-head.ensures refl c.word_after-in_default.ensures q in
     put c.in_ok-inner-in_default.ensures c.add_array.ensures.allocates
 
 pub fields_from_exprs-loop-i-init : goal.fields_from_exprs-loop-i-init
@@ -95,16 +83,16 @@ fields_from_exprs-loop-i-init t c = building_all _ (omega arith) (omega arith) c
 pub fields_from_exprs-build-requires : goal.fields_from_exprs-build-requires
 fields_from_exprs-build-requires t c =
     let v = c.loop-i.invariant in
-    let l = building_levels v (λ z. omega arith) c.word_at.ensures in
-    (omega (arith, c.decreases, l), ((building_part v (λ z. omega arith) c.word_at.ensures).ready, omega (arith, c.requires.1, l)))
+    let l = building_levels v (λ z. omega arith) c.word_after.ensures in
+    (omega (arith, c.decreases, l), ((building_part v (λ z. omega arith) c.word_after.ensures).ready, omega (arith, c.requires.1, l)))
 
 pub fields_from_exprs-returns-in_err-build : goal.fields_from_exprs-returns-in_err-build
 fields_from_exprs-returns-in_err-build t c =
     let p = err_from_is_err_and c.from_residual.result c.from_residual.ensures.1 in
-    rw (p.1, p.2) (building_stop c.loop-i.invariant (λ z. omega arith) c.word_at.ensures c.in_err-build.ensures)
+    rw (p.1, p.2) (building_stop c.loop-i.invariant (λ z. omega arith) c.word_after.ensures c.in_err-build.ensures)
 
 pub fields_from_exprs-loop-i-preserved : goal.fields_from_exprs-loop-i-preserved
-fields_from_exprs-loop-i-preserved t c = building_next c.loop-i.invariant (λ z. omega arith) c.word_at.ensures (omega arith) (omega arith) c.in_ok-build.ensures
+fields_from_exprs-loop-i-preserved t c = building_next c.loop-i.invariant (λ z. omega arith) c.word_after.ensures (omega arith) (omega arith) c.in_ok-build.ensures
 
 pub fields_from_exprs-returns-in_err-word : goal.fields_from_exprs-returns-in_err-word
 fields_from_exprs-returns-in_err-word t c =

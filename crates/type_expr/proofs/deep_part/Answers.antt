@@ -19,9 +19,6 @@ pub returns-in-Record : goal.returns-in-Record
 returns-in-Record c =
     part_record c.requires.0 c.type_place-at.ensures c.word_at-head.ensures refl _ c.requires.1 (expr-number _ c.in-Record.ensures) refl c.record_fields-fields.ensures c.deep_field.ensures
 
-pub overflow_add-at-in_default : goal.overflow_add-at-in_default
-overflow_add-at-in_default c = omega (arith, words-there c.requires.0 c.type_place-at.ensures)
-
 pub returns-in_default : goal.returns-in_default
 returns-in_default c =
-    part-inner c.requires.0 c.type_place-at.ensures c.word_at-head.ensures refl _ c.requires.1 (expr-not _ c.of.ensures c.in_default.not-Record) c.word_at.ensures
+    part-inner c.requires.0 c.type_place-at.ensures c.word_at-head.ensures refl _ c.requires.1 (expr-not _ c.of.ensures c.in_default.not-Record) c.word_after.ensures

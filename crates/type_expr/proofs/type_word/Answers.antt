@@ -6,21 +6,15 @@ use Rattle.type_expr.specs.TypesAt.{words-there, atom-low}
 use Rattle.type_expr.proofs.Returns.{size_record, size-option, size-inner, word-atom, word-foreign, word_record, word-option, word-array}
 use Rattle.type_expr.proofs.type_word.Goals as goal
 
-pub overflow_add-at : goal.overflow_add-at
-overflow_add-at c = omega (arith, words-there c.requires.0 c.type_place-at.ensures)
-
 pub plain_word-requires : goal.plain_word-requires
-plain_word-requires c = atom-low c.requires.0 c.type_place-at.ensures c.word_at-head.ensures refl (expr-number _ c.in-Atom.ensures) c.word_at.ensures
+plain_word-requires c = atom-low c.requires.0 c.type_place-at.ensures c.word_at-head.ensures refl (expr-number _ c.in-Atom.ensures) c.word_after.ensures
 
 pub returns-in-Atom : goal.returns-in-Atom
-returns-in-Atom c = word-atom c.requires.0 c.type_place-at.ensures c.word_at-head.ensures refl _ (expr-number _ c.in-Atom.ensures) c.word_at.ensures c.plain_word.ensures
-
-pub overflow_add-at-in-Foreign : goal.overflow_add-at-in-Foreign
-overflow_add-at-in-Foreign c = omega (arith, words-there c.requires.0 c.type_place-at.ensures)
+returns-in-Atom c = word-atom c.requires.0 c.type_place-at.ensures c.word_at-head.ensures refl _ (expr-number _ c.in-Atom.ensures) c.word_after.ensures c.plain_word.ensures
 
 pub returns-in-Foreign : goal.returns-in-Foreign
 returns-in-Foreign c =
-    word-foreign c.requires.0 c.type_place-at.ensures c.word_at-head.ensures refl _ (expr-number _ c.in-Foreign.ensures) c.word_at-in-Foreign.ensures c.foreign_word.ensures
+    word-foreign c.requires.0 c.type_place-at.ensures c.word_at-head.ensures refl _ (expr-number _ c.in-Foreign.ensures) c.word_after-in-Foreign.ensures c.foreign_word.ensures
 
 pub overflow_sub-end : goal.overflow_sub-end
 overflow_sub-end c = omega (arith, c.requires.1, size_record c.requires.0 c.type_place-at.ensures c.word_at-head.ensures refl (expr-number _ c.in-Record.ensures) refl c.record_fields-fields.ensures)

@@ -58,28 +58,25 @@ node-returns-in-Atom t c = c.leaf.ensures _ no_more
 -- ── Node::Bin ──
 
 pub bin-part-requires : goal.bin-part-requires
-bin-part-requires t c = (omega (arith, c.decreases, Bin.left-under c.requires c.node_place-at.ensures c.word_at.ensures), Bin.left-visit c.requires c.node_place-at.ensures c.word_at.ensures)
+bin-part-requires t c = (omega (arith, c.decreases, Bin.left-under c.requires c.node_place-at.ensures c.word_after.ensures), Bin.left-visit c.requires c.node_place-at.ensures c.word_after.ensures)
 
 pub bin-returns-in_err-l : goal.bin-returns-in_err-l
-bin-returns-in_err-l t c = passed_on c.from_residual.ensures.1 (Bin.left-stops c.requires c.node_place-at.ensures c.word_at.ensures c.in_err-l.ensures)
+bin-returns-in_err-l t c = passed_on c.from_residual.ensures.1 (Bin.left-stops c.requires c.node_place-at.ensures c.word_after.ensures c.in_err-l.ensures)
 
 pub bin-part-requires-2 : goal.bin-part-requires-2
 bin-part-requires-2 t c = (
-  omega (arith, c.decreases, Bin.right-under c.requires c.node_place-at.ensures c.word_at-2.ensures),
-  Bin.right-visit c.requires c.node_place-at.ensures c.word_at.ensures c.in_ok-l.ensures c.word_at-2.ensures,
+  omega (arith, c.decreases, Bin.right-under c.requires c.node_place-at.ensures c.word_after-2.ensures),
+  Bin.right-visit c.requires c.node_place-at.ensures c.word_after.ensures c.in_ok-l.ensures c.word_after-2.ensures,
 )
 
 pub bin-returns-in_err-r : goal.bin-returns-in_err-r
 bin-returns-in_err-r t c =
-    passed_on c.from_residual-in_err-r.ensures.1 (Bin.right-stops c.requires c.node_place-at.ensures c.word_at.ensures c.in_ok-l.ensures c.word_at-2.ensures c.in_err-r.ensures)
+    passed_on c.from_residual-in_err-r.ensures.1 (Bin.right-stops c.requires c.node_place-at.ensures c.word_after.ensures c.in_ok-l.ensures c.word_after-2.ensures c.in_err-r.ensures)
 
 pub bin-returns : goal.bin-returns
-bin-returns t c = Bin.bin-ends c.requires c.node_place-at.ensures c.word_at.ensures c.in_ok-l.ensures c.word_at-2.ensures c.in_ok-r.ensures (c.bin_end.ensures _ _ _ _ _ no_more)
+bin-returns t c = Bin.bin-ends c.requires c.node_place-at.ensures c.word_after.ensures c.in_ok-l.ensures c.word_after-2.ensures c.in_ok-r.ensures (c.bin_end.ensures _ _ _ _ _ no_more)
 
 -- ── Node::Unary, Node::Let, Node::Field ──
-
-pub one-operand_of-value-requires : goal.one-operand_of-value-requires
-one-operand_of-value-requires t c = One.one-low c.requires c.node_place-at.ensures
 
 pub one-part-requires : goal.one-part-requires
 one-part-requires t c = (
@@ -106,34 +103,34 @@ cast-returns-in_err-to t c = passed_on c.from_residual.ensures.1 (Cast.type-stop
 
 pub cast-part-requires : goal.cast-part-requires
 cast-part-requires t c = (
-  omega (arith, c.decreases, Cast.operand-under c.requires c.node_place-at.ensures c.word_at.ensures),
-  Cast.operand-visit c.requires c.node_place-at.ensures (c.in_ok-to.ensures _ _ _ _ _ _ _ _ _ no_more) c.word_at.ensures,
+  omega (arith, c.decreases, Cast.operand-under c.requires c.node_place-at.ensures c.word_after.ensures),
+  Cast.operand-visit c.requires c.node_place-at.ensures (c.in_ok-to.ensures _ _ _ _ _ _ _ _ _ no_more) c.word_after.ensures,
 )
 
 pub cast-returns-in_err-a : goal.cast-returns-in_err-a
 cast-returns-in_err-a t c =
-    passed_on c.from_residual-in_err-a.ensures.1 (Cast.operand-stops c.requires c.node_place-at.ensures (c.in_ok-to.ensures _ _ _ _ _ _ _ _ _ no_more) c.word_at.ensures c.in_err-a.ensures)
+    passed_on c.from_residual-in_err-a.ensures.1 (Cast.operand-stops c.requires c.node_place-at.ensures (c.in_ok-to.ensures _ _ _ _ _ _ _ _ _ no_more) c.word_after.ensures c.in_err-a.ensures)
 
 pub cast-returns : goal.cast-returns
 cast-returns t c =
-    Cast.cast_ends c.requires c.node_place-at.ensures (c.in_ok-to.ensures _ _ _ _ _ _ _ _ _ no_more) c.word_at.ensures c.in_ok-a.ensures (c.cast_end.ensures _ _ _ _ _ no_more)
+    Cast.cast_ends c.requires c.node_place-at.ensures (c.in_ok-to.ensures _ _ _ _ _ _ _ _ _ no_more) c.word_after.ensures c.in_ok-a.ensures (c.cast_end.ensures _ _ _ _ _ no_more)
 
 -- ── Nodes one after the other ──
 
 pub block-loop-place-init : goal.block-loop-place-init
-block-loop-place-init t c = rw List.whole-left (List.turn-begin c.requires c.word_at.ensures)
+block-loop-place-init t c = rw List.whole-left (List.turn-begin c.requires c.slot_count.ensures)
 
 pub block-part-requires : goal.block-part-requires
 block-part-requires t c = (
-  omega (arith, c.decreases, List.part-under c.loop-place.invariant (omega arith) c.word_at-in-loop-place.ensures),
-  List.turn-visit c.loop-place.invariant (omega arith) c.word_at-in-loop-place.ensures,
+  omega (arith, c.decreases, List.part-under c.loop-place.invariant (omega arith) c.word_at.ensures),
+  List.turn-visit c.loop-place.invariant (omega arith) c.word_at.ensures,
 )
 
 pub block-returns-in_err-a : goal.block-returns-in_err-a
-block-returns-in_err-a t c = passed_on c.from_residual.ensures.1 (List.turn-stops c.loop-place.invariant (omega arith) c.word_at-in-loop-place.ensures c.in_err-a.ensures)
+block-returns-in_err-a t c = passed_on c.from_residual.ensures.1 (List.turn-stops c.loop-place.invariant (omega arith) c.word_at.ensures c.in_err-a.ensures)
 
 pub block-loop-place-preserved : goal.block-loop-place-preserved
-block-loop-place-preserved t c = rw List.one-less (List.turn-next c.loop-place.invariant (omega arith) c.word_at-in-loop-place.ensures c.in_ok-a.ensures)
+block-loop-place-preserved t c = rw List.one-less (List.turn-next c.loop-place.invariant (omega arith) c.word_at.ensures c.in_ok-a.ensures)
 
 pub block-returns : goal.block-returns
 block-returns t c = List.turn_end c.loop-place.invariant (omega arith)
@@ -150,18 +147,18 @@ pub func-returns-in_default : goal.func-returns-in_default
 func-returns-in_default t c = Body.fn-ends c.requires c.node_place-at.ensures (c.in_ok-begun.ensures _ _ _ no_more) c.in_default.is
 
 pub func-overflow_sub-long : goal.func-overflow_sub-long
-func-overflow_sub-long t c = Body.body-inside c.requires c.node_place-at.ensures (c.payload-long.ensures ∙ ap payload_of c.word_at.ensures) c.word_at-count.ensures
+func-overflow_sub-long t c = Body.body-inside c.requires c.node_place-at.ensures (c.payload-long.ensures ∙ ap payload_of c.word_at.ensures) c.word_after-count.ensures
 
 pub func-block-requires : goal.func-block-requires
 func-block-requires t c = (
   omega (arith, c.decreases),
-  Body.body-visit c.requires c.node_place-at.ensures (c.in_ok-begun.ensures _ _ _ no_more) c.in-Some.is c.word_at-count.ensures (c.payload-long.ensures ∙ ap payload_of c.word_at.ensures),
+  Body.body-visit c.requires c.node_place-at.ensures (c.in_ok-begun.ensures _ _ _ no_more) c.in-Some.is c.word_after-count.ensures (c.payload-long.ensures ∙ ap payload_of c.word_at.ensures),
 )
 
 pub func-returns-in_err-computed : goal.func-returns-in_err-computed
 func-returns-in_err-computed t c =
     passed_on c.from_residual-in_err-computed.ensures.1
-    (Body.fn-stops c.requires c.node_place-at.ensures (c.in_ok-begun.ensures _ _ _ no_more) c.in-Some.is c.word_at-count.ensures
+    (Body.fn-stops c.requires c.node_place-at.ensures (c.in_ok-begun.ensures _ _ _ no_more) c.in-Some.is c.word_after-count.ensures
     (c.payload-long.ensures ∙ ap payload_of c.word_at.ensures) c.in_err-computed.ensures)
 
 pub func-end-requires : goal.func-end-requires
@@ -169,49 +166,49 @@ func-end-requires t c = Body.end-ready c.requires c.node_place-at.ensures
 
 pub func-returns : goal.func-returns
 func-returns t c =
-    Body.fn-done c.requires c.node_place-at.ensures (c.in_ok-begun.ensures _ _ _ no_more) c.in-Some.is c.word_at-count.ensures (c.payload-long.ensures ∙ ap payload_of c.word_at.ensures)
+    Body.fn-done c.requires c.node_place-at.ensures (c.in_ok-begun.ensures _ _ _ no_more) c.in-Some.is c.word_after-count.ensures (c.payload-long.ensures ∙ ap payload_of c.word_at.ensures)
     c.in_ok-computed.ensures (c.end.ensures _ _ _ _ _ no_more)
 
 -- ── A case of a Match ──
 
 pub case-part-requires : goal.case-part-requires
-case-part-requires t c = (omega (arith, c.decreases, Case.test-under c.requires c.word_at.ensures), Case.test-visit c.requires c.word_at.ensures)
+case-part-requires t c = (omega (arith, c.decreases, Case.test-under c.requires c.word_after.ensures), Case.test-visit c.requires c.word_after.ensures)
 
 pub case-returns-in_err-a : goal.case-returns-in_err-a
-case-returns-in_err-a t c = passed_on c.from_residual.ensures.1 (Case.test-stops c.requires c.word_at.ensures c.in_err-a.ensures)
+case-returns-in_err-a t c = passed_on c.from_residual.ensures.1 (Case.test-stops c.requires c.word_after.ensures c.in_err-a.ensures)
 
 pub case-returns-in_err-begun : goal.case-returns-in_err-begun
-case-returns-in_err-begun t c = passed_on c.from_residual-in_err-begun.ensures.1 (Case.condition-stops c.requires c.word_at.ensures c.in_ok-a.ensures (c.in_err-begun.ensures _ _ _ _ _ no_more))
+case-returns-in_err-begun t c = passed_on c.from_residual-in_err-begun.ensures.1 (Case.condition-stops c.requires c.word_after.ensures c.in_ok-a.ensures (c.in_err-begun.ensures _ _ _ _ _ no_more))
 
 pub case-loop-place-init : goal.case-loop-place-init
 case-loop-place-init t c =
     rw List.whole-left
-    (List.turn-begin (Case.body-visit c.requires c.word_at.ensures c.in_ok-a.ensures (c.in_ok-begun.ensures _ _ _ _ _ no_more) c.word_at-left.ensures) c.word_at-2.ensures)
+    (List.turn-begin (Case.body-visit c.requires c.word_after.ensures c.in_ok-a.ensures (c.in_ok-begun.ensures _ _ _ _ _ no_more) c.word_after-left.ensures) c.slot_count.ensures)
 
 pub case-part-requires-in-loop-place : goal.case-part-requires-in-loop-place
 case-part-requires-in-loop-place t c = (
-  omega (arith, c.decreases, List.part-under c.loop-place.invariant (omega arith) c.word_at-in-loop-place.ensures),
-  List.turn-visit c.loop-place.invariant (omega arith) c.word_at-in-loop-place.ensures,
+  omega (arith, c.decreases, List.part-under c.loop-place.invariant (omega arith) c.word_at.ensures),
+  List.turn-visit c.loop-place.invariant (omega arith) c.word_at.ensures,
 )
 
 pub case-returns-in_err-a-2 : goal.case-returns-in_err-a-2
 case-returns-in_err-a-2 t c =
     passed_on c.from_residual-in_err-a-2.ensures.1
-    (Case.body-stops c.requires c.word_at.ensures c.in_ok-a.ensures (c.in_ok-begun.ensures _ _ _ _ _ no_more) c.word_at-left.ensures
-    (List.turn-stops c.loop-place.invariant (omega arith) c.word_at-in-loop-place.ensures c.in_err-a-2.ensures))
+    (Case.body-stops c.requires c.word_after.ensures c.in_ok-a.ensures (c.in_ok-begun.ensures _ _ _ _ _ no_more) c.word_after-left.ensures
+    (List.turn-stops c.loop-place.invariant (omega arith) c.word_at.ensures c.in_err-a-2.ensures))
 
 pub case-loop-place-preserved : goal.case-loop-place-preserved
-case-loop-place-preserved t c = rw List.one-less (List.turn-next c.loop-place.invariant (omega arith) c.word_at-in-loop-place.ensures c.in_ok-a-2.ensures)
+case-loop-place-preserved t c = rw List.one-less (List.turn-next c.loop-place.invariant (omega arith) c.word_at.ensures c.in_ok-a-2.ensures)
 
 pub case-returns : goal.case-returns
 case-returns t c =
-    Case.case-ends c.requires c.word_at.ensures c.in_ok-a.ensures (c.in_ok-begun.ensures _ _ _ _ _ no_more) c.word_at-left.ensures
+    Case.case-ends c.requires c.word_after.ensures c.in_ok-a.ensures (c.in_ok-begun.ensures _ _ _ _ _ no_more) c.word_after-left.ensures
     (List.turn_end c.loop-place.invariant (omega arith)) c.left.ensures
 
 -- ── Node::Match ──
 
 pub cases-loop-init : goal.cases-loop-init
-cases-loop-init t c = Cases.turn-begin c.requires c.node_place-at.ensures c.word_at-count.ensures
+cases-loop-init t c = Cases.turn-begin c.requires c.node_place-at.ensures c.word_after-count.ensures
 
 pub cases-case-requires : goal.cases-case-requires
 cases-case-requires t c = (omega (arith, c.decreases), Cases.turn-case c.loop.invariant (omega arith))
@@ -239,26 +236,26 @@ cases-loop-i-init t c =
     rw (e, f)
     (List.turn-begin
     (Cases.default_visit c.loop.invariant (omega arith) (ap (λ x. c.node_place-at.result + x - (c.loop.place + 1)) (c.payload.ensures ∙ ap payload_of c.word_at.ensures)))
-    c.word_at-2.ensures)
+    c.slot_count.ensures)
 
 pub cases-part-requires : goal.cases-part-requires
 cases-part-requires t c = (
-  omega (arith, c.decreases, List.part-under c.loop-i.invariant (omega arith) c.word_at-in-loop-i.ensures),
-  List.turn-visit c.loop-i.invariant (omega arith) c.word_at-in-loop-i.ensures,
+  omega (arith, c.decreases, List.part-under c.loop-i.invariant (omega arith) c.word_after.ensures),
+  List.turn-visit c.loop-i.invariant (omega arith) c.word_after.ensures,
 )
 
 pub cases-returns-in_err-a : goal.cases-returns-in_err-a
 cases-returns-in_err-a t c =
     passed_on c.from_residual-in_err-a.ensures.1
     (Cases.default_stops c.loop.invariant (omega arith) (ap (λ x. c.node_place-at.result + x - (c.loop.place + 1)) (c.payload.ensures ∙ ap payload_of c.word_at.ensures))
-    (List.turn-stops c.loop-i.invariant (omega arith) c.word_at-in-loop-i.ensures c.in_err-a.ensures))
+    (List.turn-stops c.loop-i.invariant (omega arith) c.word_after.ensures c.in_err-a.ensures))
 
 pub cases-loop-i-preserved : goal.cases-loop-i-preserved
 cases-loop-i-preserved t c =
     let left : ℕ = c.node_place-at.result + c.payload.result - (c.loop.place + 1) in
     let e : c.loop.place + 1 + (c.loop-i.i + 1) ≡ c.loop.place + 1 + c.loop-i.i + 1 = omega arith in
     let f : left - (c.loop-i.i + 1) ≡ left - c.loop-i.i - 1 = omega arith in
-    rw (e, f) (List.turn-next c.loop-i.invariant (omega arith) c.word_at-in-loop-i.ensures c.in_ok-a.ensures)
+    rw (e, f) (List.turn-next c.loop-i.invariant (omega arith) c.word_after.ensures c.in_ok-a.ensures)
 
 pub cases-end-requires : goal.cases-end-requires
 cases-end-requires t c = Cases.end-cases c.loop.invariant (omega arith)
@@ -278,11 +275,11 @@ call-overflow_sub-count t c = Call.call_length c.requires c.node_place-at.ensure
 
 pub call-part-requires : goal.call-part-requires
 call-part-requires t c = (
-  omega (arith, c.decreases, Call.argument-under c.requires c.node_place-at.ensures c.word_at.ensures c.payload-count.ensures (omega arith) c.word_at-in-loop-i.ensures),
+  omega (arith, c.decreases, Call.argument-under c.requires c.node_place-at.ensures c.word_at.ensures c.payload-count.ensures (omega arith) c.word_after.ensures),
   Call.argument-visit
       (c.loop-i.invariant.on _ _ (Call.arguing_first c.requires c.node_place-at.ensures c.word_at.ensures c.payload-count.ensures (sym c.through_field.ensures ∙ c.if-through_field.false)))
-      (Call.some_left (omega arith)) c.word_at-in-loop-i.ensures
-      (Call.argument-below c.requires c.node_place-at.ensures c.word_at.ensures c.payload-count.ensures (omega arith) c.word_at-in-loop-i.ensures),
+      (Call.some_left (omega arith)) c.word_after.ensures
+      (Call.argument-below c.requires c.node_place-at.ensures c.word_at.ensures c.payload-count.ensures (omega arith) c.word_after.ensures),
 )
 
 pub call-returns-in_err-a : goal.call-returns-in_err-a
@@ -290,12 +287,12 @@ call-returns-in_err-a t c =
     passed_on c.from_residual.ensures.1
     (Call.argument-stopped
     (c.loop-i.invariant.on _ _ (Call.arguing_first c.requires c.node_place-at.ensures c.word_at.ensures c.payload-count.ensures (sym c.through_field.ensures ∙ c.if-through_field.false)))
-    (Call.some_left (omega arith)) c.word_at-in-loop-i.ensures c.in_err-a.ensures)
+    (Call.some_left (omega arith)) c.word_after.ensures c.in_err-a.ensures)
 
 pub call-loop-i-preserved : goal.call-loop-i-preserved
 call-loop-i-preserved t c =
-    Call.argued-next c.loop-i.invariant (omega arith) c.word_at-in-loop-i.ensures
-    (Call.argument-below c.requires c.node_place-at.ensures c.word_at.ensures c.payload-count.ensures (omega arith) c.word_at-in-loop-i.ensures) c.in_ok-a.ensures c.or_poison-poisoned.ensures
+    Call.argued-next c.loop-i.invariant (omega arith) c.word_after.ensures
+    (Call.argument-below c.requires c.node_place-at.ensures c.word_at.ensures c.payload-count.ensures (omega arith) c.word_after.ensures) c.in_ok-a.ensures c.or_poison-poisoned.ensures
 
 pub call-resolve-requires : goal.call-resolve-requires
 call-resolve-requires t c =
@@ -320,15 +317,15 @@ record_node-loop-i-init t c = Record.turn-begin c.requires c.node_place-at.ensur
 
 pub record_node-part-requires : goal.record_node-part-requires
 record_node-part-requires t c = (
-  omega (arith, c.decreases, Record.value-under c.loop-i.invariant (omega arith) c.word_at-in-loop-i.ensures),
-  Record.value-visit c.loop-i.invariant (omega arith) c.word_at-in-loop-i.ensures,
+  omega (arith, c.decreases, Record.value-under c.loop-i.invariant (omega arith) c.word_after.ensures),
+  Record.value-visit c.loop-i.invariant (omega arith) c.word_after.ensures,
 )
 
 pub record_node-returns-in_err-next : goal.record_node-returns-in_err-next
-record_node-returns-in_err-next t c = passed_on c.from_residual.ensures.1 (Record.turn-stops c.loop-i.invariant (omega arith) c.word_at-in-loop-i.ensures c.in_err-next.ensures)
+record_node-returns-in_err-next t c = passed_on c.from_residual.ensures.1 (Record.turn-stops c.loop-i.invariant (omega arith) c.word_after.ensures c.in_err-next.ensures)
 
 pub record_node-loop-i-preserved : goal.record_node-loop-i-preserved
-record_node-loop-i-preserved t c = Record.turn-next c.loop-i.invariant (omega arith) c.word_at-in-loop-i.ensures c.in_ok-next.ensures
+record_node-loop-i-preserved t c = Record.turn-next c.loop-i.invariant (omega arith) c.word_after.ensures c.in_ok-next.ensures
 
 pub record_node-returns : goal.record_node-returns
 record_node-returns t c = Record.record_made c.loop-i.invariant (omega arith) (c.make.ensures c.args.texts.now _ _ _ _ _ no_more)
@@ -343,59 +340,59 @@ array-returns-then-count-eq0 t c = Array.array-empty c.requires c.node_place-at.
 
 pub array-part-requires : goal.array-part-requires
 array-part-requires t c = (
-  omega (arith, c.decreases, Array.first_under c.requires c.node_place-at.ensures c.word_at.ensures c.payload-count.ensures c.if-count-eq0.false c.word_at-2.ensures),
-  Array.first-visit c.requires c.node_place-at.ensures c.word_at.ensures c.payload-count.ensures c.if-count-eq0.false c.word_at-2.ensures,
+  omega (arith, c.decreases, Array.first_under c.requires c.node_place-at.ensures c.word_at.ensures c.payload-count.ensures c.if-count-eq0.false c.word_after.ensures),
+  Array.first-visit c.requires c.node_place-at.ensures c.word_at.ensures c.payload-count.ensures c.if-count-eq0.false c.word_after.ensures,
 )
 
 pub array-returns-in_err-first : goal.array-returns-in_err-first
 array-returns-in_err-first t c =
     passed_on c.from_residual.ensures.1
-    (Array.first-stopped c.requires c.node_place-at.ensures c.word_at.ensures c.payload-count.ensures c.if-count-eq0.false c.word_at-2.ensures c.in_err-first.ensures)
+    (Array.first-stopped c.requires c.node_place-at.ensures c.word_at.ensures c.payload-count.ensures c.if-count-eq0.false c.word_after.ensures c.in_err-first.ensures)
 
 pub array-part-requires-in-loop-i : goal.array-part-requires-in-loop-i
 array-part-requires-in-loop-i t c = (
-  omega (arith, c.decreases, Array.member-under c.requires c.node_place-at.ensures c.word_at.ensures c.payload-count.ensures (omega arith) c.word_at-member.ensures),
+  omega (arith, c.decreases, Array.member-under c.requires c.node_place-at.ensures c.word_at.ensures c.payload-count.ensures (omega arith) c.word_after-member.ensures),
   Array.member-visit
-      (c.loop-i.invariant.on _ _ (Array.first-passed c.requires c.node_place-at.ensures c.word_at.ensures c.payload-count.ensures c.if-count-eq0.false c.word_at-2.ensures c.in_ok-first.ensures))
-      (Array.some_left (omega arith)) c.word_at-member.ensures
-      (Array.member_below c.requires c.node_place-at.ensures c.word_at.ensures c.payload-count.ensures (omega arith) c.word_at-member.ensures),
+      (c.loop-i.invariant.on _ _ (Array.first-passed c.requires c.node_place-at.ensures c.word_at.ensures c.payload-count.ensures c.if-count-eq0.false c.word_after.ensures c.in_ok-first.ensures))
+      (Array.some_left (omega arith)) c.word_after-member.ensures
+      (Array.member_below c.requires c.node_place-at.ensures c.word_at.ensures c.payload-count.ensures (omega arith) c.word_after-member.ensures),
 )
 
 pub array-returns-in_err-a : goal.array-returns-in_err-a
 array-returns-in_err-a t c =
     passed_on c.from_residual-in_err-a.ensures.1
     (Array.member-stopped
-    (c.loop-i.invariant.on _ _ (Array.first-passed c.requires c.node_place-at.ensures c.word_at.ensures c.payload-count.ensures c.if-count-eq0.false c.word_at-2.ensures c.in_ok-first.ensures))
-    (Array.some_left (omega arith)) c.word_at-member.ensures c.in_err-a.ensures)
+    (c.loop-i.invariant.on _ _ (Array.first-passed c.requires c.node_place-at.ensures c.word_at.ensures c.payload-count.ensures c.if-count-eq0.false c.word_after.ensures c.in_ok-first.ensures))
+    (Array.some_left (omega arith)) c.word_after-member.ensures c.in_err-a.ensures)
 
 pub array-member-requires : goal.array-member-requires
-array-member-requires t c = Array.member-there c.requires c.node_place-at.ensures c.word_at.ensures c.payload-count.ensures (omega arith) c.word_at-member.ensures
+array-member-requires t c = Array.member-there c.requires c.node_place-at.ensures c.word_at.ensures c.payload-count.ensures (omega arith) c.word_after-member.ensures
 
 pub array-returns-in_err-turn : goal.array-returns-in_err-turn
 array-returns-in_err-turn t c =
     passed_on c.from_residual-in_err-turn.ensures.1
     (Array.turn-stopped
-    (c.loop-i.invariant.on _ _ (Array.first-passed c.requires c.node_place-at.ensures c.word_at.ensures c.payload-count.ensures c.if-count-eq0.false c.word_at-2.ensures c.in_ok-first.ensures))
-    (Array.some_left (omega arith)) c.word_at-member.ensures
-    (Array.member_below c.requires c.node_place-at.ensures c.word_at.ensures c.payload-count.ensures (omega arith) c.word_at-member.ensures) c.in_ok-a.ensures
+    (c.loop-i.invariant.on _ _ (Array.first-passed c.requires c.node_place-at.ensures c.word_at.ensures c.payload-count.ensures c.if-count-eq0.false c.word_after.ensures c.in_ok-first.ensures))
+    (Array.some_left (omega arith)) c.word_after-member.ensures
+    (Array.member_below c.requires c.node_place-at.ensures c.word_at.ensures c.payload-count.ensures (omega arith) c.word_after-member.ensures) c.in_ok-a.ensures
     (c.in_err-turn.ensures _ _ _ _ _ no_more))
 
 pub array-returns-in_default : goal.array-returns-in_default
 array-returns-in_default t c =
     Array.member-differs
-    (c.loop-i.invariant.on _ _ (Array.first-passed c.requires c.node_place-at.ensures c.word_at.ensures c.payload-count.ensures c.if-count-eq0.false c.word_at-2.ensures c.in_ok-first.ensures))
-    (Array.some_left (omega arith)) c.word_at-member.ensures
-    (Array.member_below c.requires c.node_place-at.ensures c.word_at.ensures c.payload-count.ensures (omega arith) c.word_at-member.ensures) c.in_ok-a.ensures
+    (c.loop-i.invariant.on _ _ (Array.first-passed c.requires c.node_place-at.ensures c.word_at.ensures c.payload-count.ensures c.if-count-eq0.false c.word_after.ensures c.in_ok-first.ensures))
+    (Array.some_left (omega arith)) c.word_after-member.ensures
+    (Array.member_below c.requires c.node_place-at.ensures c.word_at.ensures c.payload-count.ensures (omega arith) c.word_after-member.ensures) c.in_ok-a.ensures
     (c.in_ok-turn.ensures _ _ _ _ _ no_more) c.in_default.is
 
 pub array-loop-i-preserved : goal.array-loop-i-preserved
 array-loop-i-preserved t c =
-    Array.turned-next c.loop-i.invariant (omega arith) c.word_at-member.ensures
-    (Array.member_below c.requires c.node_place-at.ensures c.word_at.ensures c.payload-count.ensures (omega arith) c.word_at-member.ensures) c.in_ok-a.ensures
+    Array.turned-next c.loop-i.invariant (omega arith) c.word_after-member.ensures
+    (Array.member_below c.requires c.node_place-at.ensures c.word_at.ensures c.payload-count.ensures (omega arith) c.word_after-member.ensures) c.in_ok-a.ensures
     (c.in_ok-turn.ensures _ _ _ _ _ no_more) c.in-Some.is
 
 pub array-returns : goal.array-returns
 array-returns t c =
     Array.array-ended
-    (c.loop-i.invariant.on _ _ (Array.first-passed c.requires c.node_place-at.ensures c.word_at.ensures c.payload-count.ensures c.if-count-eq0.false c.word_at-2.ensures c.in_ok-first.ensures))
+    (c.loop-i.invariant.on _ _ (Array.first-passed c.requires c.node_place-at.ensures c.word_at.ensures c.payload-count.ensures c.if-count-eq0.false c.word_after.ensures c.in_ok-first.ensures))
     (Array.none_left_lem (omega arith)) (c.end.ensures c.args.texts.now _ _ _ _ _ _ _ no_more)
