@@ -5,10 +5,11 @@ ghost use Rattle.std.specs.Prelude.{◌≡◌};
 ghost use Rattle.call_args.specs.Given.{given_from};
 ghost use Rattle.own_call.specs.OwnCalls.{OwnReady, OwnCalls};
 
-use call_args::{Call, Signature};
+use call_args::Call;
 use err::CallName;
 use places::Image;
 use rules::Answer;
+use signatures::Signature;
 use state::{Step, Used};
 use tok::Texts;
 
@@ -45,6 +46,7 @@ pub fn resolve_call(
             &Signature {
                 words: functions,
                 at,
+                slotted: false,
             },
         ),
         None => {
