@@ -1,5 +1,6 @@
 -- Selection as the code has it, one law for each way out. Assumes nothing.
-use Rattle.std.specs.Prelude.{Ok}
+use Rattle.std.specs.Prelude.{Ok, Some, None, Option as Found}
+use Rattle.std.specs.Option.{option_map}
 use Prim.Native.Nat.{ℕ, suc, ◌+◌, ◌≤◌, ◌<◌}
 use mathlib.Core.Path.{◌≡◌, refl, sym, ap, ◌∙◌}
 use mathlib.Core.Bool.{Bool, true, false, ◌&&◌}
@@ -64,6 +65,12 @@ module _ (U : ℕ → Ty) (ps : List Param) (provided : List ℕ) where
     alike_all l =
         let k : length ps ≤ i = omega (arith, a.long) in
         sym (a.so ∙ rw (drop_of_length-le ps {i = i} k, drop_of_length-le provided {i = i} l) refl)
+
+-- ── What is found ──
+
+pub as_found : (r : Found Signature) → r ≡ option_map (λ f. f) r
+as_found (Some f) = refl
+as_found None = refl
 
 -- ── The common return type ──
 
