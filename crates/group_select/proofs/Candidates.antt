@@ -72,4 +72,4 @@ module _ (texts : Texts) (types : List ℕ) (fs : List Signature) where
       listing-turn = rw e (joined-turn count (text " | ") (sig (param_types (ty_of texts types) f.params)) (listed others))
 
       pub listing-more : {v : Writer} → Owes w₀ (joined (text " | ") (listed fs)) v (joined_after (count + 1) (text " | ") (listed others)) → Listing w₀ v others 1
-      listing-more p = record { owes = (p.0, p.1 ∙ joined-later count (text " | ") (listed others)) }
+      listing-more p = record { owes = (p.0, p.1 ∙ rw (joined-later count (text " | ") (listed others)) refl) }
