@@ -1,4 +1,4 @@
-use Rattle.std.proofs.Common.{◌≡◌, ◌∙◌}
+use Rattle.std.proofs.Common.{◌∙◌}
 use Rattle.tok.specs.Text.{text}
 use Rattle.display.specs.WritingLaws.{writing}
 use Rattle.group_select.proofs.Candidates.{candidate_is, listing-begin, listing-over, listing-turn, listing-more}
