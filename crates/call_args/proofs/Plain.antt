@@ -12,7 +12,7 @@ use Rattle.ptype.specs.Slots.{Binding}
 use Rattle.ast.specs.Node.{nodes_from, tree_of, slot_of}
 use Rattle.ast.specs.Span.{span_of}
 use Rattle.err.specs.Message.{argument_count}
-use Rattle.library.specs.Package.{Param, param, Package}
+use Rattle.library.specs.Package.{Param, param, Signature, Package}
 use Rattle.rules.specs.declared.Answer.{Answer}
 use Rattle.rules.specs.World.{Ctx, World}
 use Rattle.rules.specs.Steps.{Done, report, set_known}
@@ -20,11 +20,11 @@ use Rattle.rules.specs.Calls.{provided_of, argument, arguments, returned, check_
 use Rattle.state.specs.declared.Used.{Used}
 use Rattle.state.specs.declared.Refusal.{Refusal}
 use Rattle.state.specs.Context.{ctx}
-use Rattle.state.specs.Signatures.{signature_at}
 use Rattle.state.specs.World.{Rest, world, Step, stepped, with_answer, Steps}
 use Rattle.state.specs.Reporting.{passed, on-ok, on-err}
 use Rattle.arguments.specs.Argument.{given, Leaves}
 use Rattle.arguments.specs.declared.Argument.{Argument}
+use Rattle.signatures.specs.Groups.{as_plain}
 use Rattle.call_args.specs.Given.{given_from, argument_in}
 
 -- ── Each argument ──
@@ -93,30 +93,30 @@ unfolding nodes_from provided_of
 length-given image zero at = refl
 length-given image (suc k) at = ap suc (length-given image k (at + 1))
 
-module _ (texts : Texts) (n slot token : ℕ) (call_name words : List ℕ) (at : ℕ) (image : List ℕ) (args count : ℕ) (s t d m : List ℕ) (u : Used) where
+module _ (texts : Texts) (n slot token : ℕ) (call_name : List ℕ) (fun : Signature) (image : List ℕ) (args count : ℕ) (s t d m : List ℕ) (u : Used) where
   -- the check of the call
   abbrev Checked : (s' d' m' : List ℕ) → Step Answer → Type 0
   Checked s' d' m' q = (library : List Package) (void : ℕ)
-      → Steps (check_call_args (ctx texts library void) n slot token call_name (signature_at words at false) (given_from image args count)) s t d m u s' t d' m' q
+      → Steps (check_call_args (ctx texts library void) n slot token call_name (as_plain fun) (given_from image args count)) s t d m u s' t d' m' q
 
-  module _ {required ret : ℕ} (en : (f : Bool) → required ≡ length (signature_at words at f).params) (er : (f : Bool) → ret ≡ (signature_at words at f).ret) {d' m' : List ℕ} {r : Step Done} where
+  module _ {required ret : ℕ} (en : required ≡ length fun.params) (er : ret ≡ fun.ret) {d' m' : List ℕ} {r : Step Done} where
     -- another number of arguments
     module _ (differ : count ≡ required → ⊥) (p : Steps (report n (argument_count token call_name required count)) s t d m u s t d' m' r) where
       pub miscounted : {v : Used} {s' : List ℕ} {q : Step Answer} → r ≡ Ok (tt, v) → ((t d m : List ℕ) → Steps (set_known slot ret) s t d m v s' t d m q) → Checked s' d' m' q
-      unfolding check_call_args signature_at when
-      miscounted {v} o k = λ library void. rw (length-given image count args, ← en false, ne_eqb count required differ, ← er false) (on-ok (λ _. set_known slot ret) p o (k t d' m'))
+      unfolding check_call_args when
+      miscounted {v} o k = λ library void. rw (length-given image count args, ← en, ne_eqb count required differ, ← er) (on-ok (λ _. set_known slot ret) p o (k t d' m'))
 
       pub miscounted-full : {e : Refusal} {q : Step Answer} → r ≡ Err e → IsErrAnd q (λ y. y ≡ e) → Checked s d' m' q
-      unfolding check_call_args signature_at when
-      miscounted-full o k = λ library void. rw (length-given image count args, ← en false, ne_eqb count required differ, ← er false) (on-err (λ _. set_known slot ret) p o k)
+      unfolding check_call_args when
+      miscounted-full o k = λ library void. rw (length-given image count args, ← en, ne_eqb count required differ, ← er) (on-err (λ _. set_known slot ret) p o k)
 
     -- each argument, and then the return type
-    module _ (same : count ≡ required) (a : Leaves texts (λ c. arguments c n call_name false (signature_at words at false).params (given_from image args count)) s t d m u d' m' r) where
+    module _ (same : count ≡ required) (a : Leaves texts (λ c. arguments c n call_name false fun.params (given_from image args count)) s t d m u d' m' r) where
       pub counted : {v : Used} {s' : List ℕ} {q : Step Answer} → r ≡ Ok (tt, v) → ((t d m : List ℕ) → Steps (set_known slot ret) s t d m v s' t d m q) → Checked s' d' m' q
-      unfolding check_call_args signature_at returned when with_answer
+      unfolding check_call_args returned when with_answer
       counted {v} o k = λ library void.
-          rw (length-given image count args, ← en false, eq-eqb count required same, ← er false) (on-ok _ (a.step library void []) {a = []} {u₁ = v} (rw o refl) (k t d' m'))
+          rw (length-given image count args, ← en, eq-eqb count required same, ← er) (on-ok _ (a.step library void []) {a = []} {u₁ = v} (rw o refl) (k t d' m'))
 
       pub counted-stops : {e : Refusal} {q : Step Answer} → r ≡ Err e → IsErrAnd q (λ y. y ≡ e) → Checked s d' m' q
-      unfolding check_call_args signature_at when with_answer
-      counted-stops {e} o k = λ library void. rw (length-given image count args, ← en false, eq-eqb count required same) (on-err _ (a.step library void []) {e = e} (rw o refl) k)
+      unfolding check_call_args when with_answer
+      counted-stops {e} o k = λ library void. rw (length-given image count args, ← en, eq-eqb count required same) (on-err _ (a.step library void []) {e = e} (rw o refl) k)

@@ -1,11 +1,10 @@
 -- The arguments that a call provides, by their place in the image, and what the steps of the call take for granted. Definitions.
-use Rattle.std.specs.Prelude.{ℕ, ◌+◌, ◌≡◌, Bool, List, length, get_or}
+use Rattle.std.specs.Prelude.{ℕ, ◌+◌, ◌≡◌, List, length, get_or}
 use Rattle.ast.specs.Node.{Node, nodes_from, tree_of, slot_of}
 use Rattle.ast.specs.Span.{span_of}
 use Rattle.library.specs.Package.{Param, param}
 use Rattle.arguments.specs.declared.Argument.{Argument}
 use Rattle.rules.specs.Calls.{Provided, provided_of}
-use Rattle.state.specs.Signatures.{signature_at}
 use Rattle.spans.specs.Ready.{NodesReady}
 
 -- k arguments, whose node numbers stand from word `at` of the image on
@@ -20,6 +19,6 @@ argument_in image args ps i =
     record { name = p.name; expected = p.type; slot = slot_of node; span = span_of node }
 
 -- the arguments are nodes of an accepted image, and as many as the signature asks for
-pub record CallReady (image places : List ℕ) (n args count : ℕ) (words : List ℕ) (at : ℕ) : Type 0 where
+pub record CallReady (image places : List ℕ) (n args count : ℕ) (ps : List Param) : Type 0 where
   pub nodes : NodesReady image places n args count
-  pub counts : (f : Bool) → count ≡ length (signature_at words at f).params
+  pub counts : count ≡ length ps

@@ -1,3 +1,2 @@
 -- What the contracts of the crate cite.
 pub mod Given
-pub mod SignatureAt

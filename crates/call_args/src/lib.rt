@@ -2,27 +2,26 @@
 // The buffers are lent in one order: slots, types, diagnostics, messages; then the texts, the image.
 #![tactic(auto)]
 
-ghost use Rattle.std.specs.Prelude.{◌≡◌, ◌<◌, Bool, false, List, ℕ, length, get_or};
+ghost use Rattle.std.specs.Prelude.{◌≡◌, ◌<◌, false, List, ℕ};
 ghost use Rattle.ast.specs.Node.{tree_of, slot_of};
 ghost use Rattle.err.specs.Message.{argument_count, call_name};
-ghost use Rattle.library.specs.Package.{Package, Param, param};
+ghost use Rattle.library.specs.Package.{Package};
 ghost use Rattle.rules.specs.Steps.{report};
 ghost use Rattle.rules.specs.Calls.{Provided, arguments, check_call_args};
+ghost use Rattle.signatures.specs.Groups.{as_plain};
 ghost use Rattle.state.specs.Context.{ctx};
-ghost use Rattle.state.specs.Signatures.{signature_at};
 ghost use Rattle.state.specs.World.{Steps};
 ghost use Rattle.arguments.specs.Argument.{Leaves};
 ghost use Rattle.places.specs.NodesAt.{NodeReady};
 ghost use Rattle.spans.specs.Ready.{NodesReady};
 ghost use Rattle.call_args.specs.Given.{given_from, argument_in, CallReady};
-ghost use Rattle.call_args.specs.SignatureAt.{SignatureAt, signature_by};
 
 use arguments::Argument;
 use err::CallName;
 use places::Image;
 use rules::Answer;
+use signatures::Signature;
 use state::{Step, Used};
-use std::marker::Model;
 use tok::Texts;
 
 // A call: its node, the slot of its answer, and its arguments, whose node numbers stand from word `args` of the image on.
@@ -34,47 +33,13 @@ pub struct Call {
     pub count: usize,
 }
 
-// A signature, by the place of its argument count.
-#[derive(Drop)]
-pub struct Signature<'a> {
-    pub words: &'a [u32],
-    pub at: usize,
-}
-
-impl<'a> Model for Signature<'a> {
-    ghost Value = { SignatureAt };
-
-    ghost view = { λ s. signature_by s.words.now s.at };
-}
-
-impl<'a> Signature<'a> {
-    // How many arguments it takes.
-    pub fn argument_count(&self) -> usize
-        ensures { (f : Bool) → result ≡ length (signature_at self.now.words self.now.at f).params }
-    {
-        signatures::argument_count(self.words, self.at)
-    }
-
-    // The name of argument number i.
-    pub fn argument_name(&self, i: usize) -> u32
-        ensures { (f : Bool) → result ≡ (get_or (signature_at self.now.words self.now.at f).params i (param 0 0)).name }
-    {
-        signatures::argument_name(self.words, self.at, i)
-    }
-
-    // Its type.
-    pub fn argument_type(&self, i: usize) -> u32
-        ensures { (f : Bool) → result ≡ (get_or (signature_at self.now.words self.now.at f).params i (param 0 0)).type }
-    {
-        signatures::argument_type(self.words, self.at, i)
-    }
-
-    // What it returns.
-    pub fn return_type(&self) -> u32
-        ensures { (f : Bool) → result ≡ (signature_at self.now.words self.now.at f).ret }
-    {
-        signatures::return_type(self.words, self.at)
-    }
+// A call of a package's function: the names of the package and of the function, and whether an argument is poisoned.
+#[derive(Clone, Copy)]
+pub struct PackageCall {
+    pub site: Call,
+    pub pkg: u32,
+    pub name: u32,
+    pub poisoned: bool,
 }
 
 // The slot of a node.
@@ -89,7 +54,7 @@ pub fn slot_of(image: &Image, n: u32) -> u32
 pub fn argument_of(image: &Image, call: Call, signature: &Signature, i: usize) -> Argument
     requires given { NodesReady image.now.words image.now.places call.n call.args call.count }
     requires within { i < call.count }
-    ensures { (f : Bool) → result ≡ argument_in image.now.words call.args (signature_at signature.now.words signature.now.at f).params i }
+    ensures { result ≡ argument_in image.now.words call.args signature.now.params i }
 {
     let number = image.word_at(call.args + i);
     Argument {
@@ -140,9 +105,9 @@ fn plain_arguments(
     callee: CallName,
     signature: &Signature,
 ) -> Step<()>
-    requires { CallReady image.now.words image.now.places call.n call.args call.count signature.now.words signature.now.at }
-    ensures { let ps : List Param = (signature_at signature.now.words signature.now.at false).params in
-        Leaves texts.now (λ c. arguments c call.n (call_name texts.now callee) false ps (given_from image.now.words call.args call.count)) slots.now types.now
+    requires { CallReady image.now.words image.now.places call.n call.args call.count signature.now.params }
+    ensures { let given : List Provided = given_from image.now.words call.args call.count in
+        Leaves texts.now (λ c. arguments c call.n (call_name texts.now callee) false signature.now.params given) slots.now types.now
         diagnostics.old messages.old used diagnostics.new messages.new result }
 {
     let mut used = used;
@@ -182,8 +147,8 @@ pub fn check_plain(
     ensures { ((ls : List Package) (v : ℕ) →
         let given : List Provided = given_from image.now.words call.args call.count in
         let name : List ℕ = call_name texts.now callee in
-        Steps (check_call_args (ctx texts.now ls v) call.n call.slot token name (signature_at signature.now.words signature.now.at false) given) slots.old
-        types.now diagnostics.old messages.old used slots.new types.now diagnostics.new messages.new result) }
+        Steps (check_call_args (ctx texts.now ls v) call.n call.slot token name (as_plain signature.now) given) slots.old types.now
+        diagnostics.old messages.old used slots.new types.now diagnostics.new messages.new result) }
 {
     let required = signature.argument_count();
     let ret = signature.return_type();

@@ -18,8 +18,7 @@ ghost use Rattle.calls.specs.Callees.{callee_at, target_callee, is_through_field
 ghost use Rattle.calls.specs.CallVisits.{Resolvable};
 
 use ast::NodeKind;
-use call_args::Call;
-use pkg_group::PackageCall;
+use call_args::{Call, PackageCall};
 use places::Image;
 use rules::Answer;
 use scope::Own;

@@ -1,5 +1,4 @@
 -- The text of candidates: of one by its place, of all turn by turn. Assumes nothing.
-use Rattle.std.specs.Prelude.{Option, Some, None}
 use Prim.Native.Nat.{ℕ, zero, suc, ◌+◌}
 use mathlib.Core.Path.{◌≡◌, refl, ap, ap₂, ◌∙◌}
 use mathlib.Core.Bool.{Bool}
@@ -18,12 +17,8 @@ use Rattle.display.specs.Signature.{arg_types}
 use Rattle.display.specs.WritingLaws.{Owes}
 use Rattle.err_calls.specs.Candidates.{candidate_at}
 use Rattle.library.specs.Package.{Signature, params_from}
-use Rattle.state.specs.Signatures.{signature_at}
-use Rattle.library.specs.declared.Entry.{Entry}
-use Rattle.library.specs.EntryList.{Entries, entries}
-use Rattle.library.specs.Entries.{flag_words, Finds}
-use Rattle.selection.specs.Candidates.{group, param_types}
-use Rattle.selection.proofs.Ways.{found_of}
+use Rattle.library.specs.Signatures.{signature_at}
+use Rattle.selection.specs.Candidates.{param_types}
 use Rattle.group_select.specs.Selects.{candidate_types}
 
 -- ── One candidate ──
@@ -37,12 +32,12 @@ module _ (texts : Texts) (types words : List ℕ) where
       ap₂ (λ (t : Ty) (ts : List Ty). t ∷ ts) (ap (ty_of texts types) (get_or-drop start words (i + 1) 0 ∙ ap (λ a. get_or words a 0) p)) (fields-params k start (i + 2) (j + 2) (omega arith))
 
   -- the types of its arguments, as they are written
-  pub candidate_is : (at : ℕ) (f : Bool) → candidate_at texts types words at ≡ param_types (ty_of texts types) (signature_at words at f).params
+  pub candidate_is : (at : ℕ) (slotted : Bool) {f : Signature} → signature_at words at slotted ≡ f → candidate_at texts types words at ≡ param_types (ty_of texts types) f.params
   unfolding candidate_at signature_at
-  candidate_is at f =
+  candidate_is at slotted e =
       let p : at + 0 ≡ at = omega arith in
       let q : get_or (drop at words) 0 0 ≡ get_or words at 0 = get_or-drop at words 0 0 ∙ ap (λ a. get_or words a 0) p in
-      rw q (fields-params (get_or words at 0) at 1 (at + 1) refl)
+      rw q (fields-params (get_or words at 0) at 1 (at + 1) refl) ∙ ap (λ g. param_types (ty_of texts types) g.params) e
 
 -- ── All of them: some are written, the others are owed; `count` is 0 while none is written ──
 
@@ -51,39 +46,28 @@ joined-later : (n : ℕ) (sep : List ℕ) (ps : List (List ℕ)) → joined_afte
 unfolding joined_after
 joined-later n sep ps = rw add-one refl
 
-module _ (texts : Texts) (types name : List ℕ) (es : Entries) where
+module _ (texts : Texts) (types : List ℕ) (fs : List Signature) where
   -- the text of candidates
   abbrev pub listed : List Signature → List (List ℕ)
-  listed fs = map sig (candidate_types (ty_of texts types) fs)
+  listed gs = map sig (candidate_types (ty_of texts types) gs)
 
-  -- those of all entries, and those after one
-  abbrev pub all_of : List Signature
-  all_of = group texts name es.words (flag_words es.flagged) es.from es.count
+  -- those that are left are owed
+  pub record Listing (w₀ w : Writer) (left : List Signature) (count : ℕ) : Type 0 where
+    pub owes : Owes w₀ (joined (text " | ") (listed fs)) w (joined_after count (text " | ") (listed left))
 
-  abbrev pub others_of : Entry → List Signature
-  others_of x = group texts name es.words (flag_words es.flagged) x.next x.left
+  pub listing-begin : (w : Writer) {left : List Signature} → left ≡ fs → Listing w w left 0
+  listing-begin w e = record { owes = (refl, rw (e, joined-start (text " | ") (listed fs))) }
 
-  pub record Listing (w₀ w : Writer) (found : Option Entry) (count : ℕ) : Type 0 where
-    pub owes : Owes w₀ (joined (text " | ") (listed all_of)) w (joined_after count (text " | ") (listed (found_of texts name es found)))
-
-  pub listing-begin : (w : Writer) {found : Option Entry} → Finds texts name es.words (flag_words es.flagged) es.from es.count found → Listing w w found 0
-  listing-begin w {found} h = record { owes = (refl, rw (joined-start (text " | ") (listed (found_of texts name es found)), ← h.is)) }
-
-  module _ {w₀ w : Writer} {found : Option Entry} {count : ℕ} (l : Listing w₀ w found count) where
+  module _ {w₀ w : Writer} {left : List Signature} {count : ℕ} (l : Listing w₀ w left count) where
     -- none are left
-    pub listing-over : found ≡ None → Owes w₀ (joined (text " | ") (listed all_of)) w []
+    pub listing-over : left ≡ [] → Owes w₀ (joined (text " | ") (listed fs)) w []
     listing-over e = (l.owes.0, l.owes.1 ∙ rw (e, joined_end count (text " | ")))
 
-    module _ {x : Entry} (e : found ≡ Some x) where
-      -- one is found: it is owed after the separator, and then the others
-      pub listing-turn : joined_after count (text " | ") (listed (found_of texts name es found))
-          ≡ separated count (text " | ") ++ sig (param_types (ty_of texts types) (signature_at es.words x.at x.slotted).params)
-          ++ joined_after (count + 1) (text " | ") (listed (others_of x))
-      listing-turn = rw e (joined-turn count (text " | ") (sig (param_types (ty_of texts types) (signature_at es.words x.at x.slotted).params)) (listed (others_of x)))
+    module _ {f : Signature} {others : List Signature} (e : left ≡ f ∷ others) where
+      -- one is taken: it is owed after the separator, and then the others
+      pub listing-turn : joined_after count (text " | ") (listed left)
+          ≡ separated count (text " | ") ++ sig (param_types (ty_of texts types) f.params) ++ joined_after (count + 1) (text " | ") (listed others)
+      listing-turn = rw e (joined-turn count (text " | ") (sig (param_types (ty_of texts types) f.params)) (listed others))
 
-      pub listing-more : {later : Entries} {r : Option Entry} {v : Writer} → later ≡ entries es.words es.flagged x.next x.left
-          → Finds texts name later.words (flag_words later.flagged) later.from later.count r
-          → Owes w₀ (joined (text " | ") (listed all_of)) v (joined_after (count + 1) (text " | ") (listed (others_of x))) → Listing w₀ v r 1
-      listing-more {r = r} el h p =
-          let i = rw el at h.is in
-          record { owes = (p.0, p.1 ∙ rw (i, joined-later count (text " | ") (listed (found_of texts name es r)))) }
+      pub listing-more : {v : Writer} → Owes w₀ (joined (text " | ") (listed fs)) v (joined_after (count + 1) (text " | ") (listed others)) → Listing w₀ v others 1
+      listing-more p = record { owes = (p.0, p.1 ∙ rw (joined-later count (text " | ") (listed others)) refl) }

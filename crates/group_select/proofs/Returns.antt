@@ -6,19 +6,18 @@ use mathlib.Core.Bool.{Bool, true, false}
 use mathlib.Core.List.{List, ◌∷◌, map, map-map}
 use lib.ListN.{get_or}
 use Rattle.tok.specs.Text.{Texts}
-use Rattle.tok.specs.Step.{when}
+use Rattle.tok.specs.Step.{ok, when}
 use Rattle.ptype.specs.Words.{ty_of}
-use Rattle.library.specs.Package.{Signature}
+use Rattle.library.specs.Package.{Signature, Package}
 use Rattle.rules.specs.declared.Answer.{Answer}
 use Rattle.rules.specs.Steps.{set_known, on_option}
-use Rattle.rules.specs.Calls.{Provided, select}
+use Rattle.rules.specs.World.{World}
+use Rattle.rules.specs.Calls.{Provided, position, select}
 use Rattle.state.specs.declared.Used.{Used}
 use Rattle.state.specs.Context.{ctx}
-use Rattle.state.specs.Signatures.{signature_at}
-use Rattle.state.specs.World.{world, Step, Steps}
-use Rattle.library.specs.declared.Entry.{Entry}
-use Rattle.selection.specs.Candidates.{position_of, position_in, CommonReturn}
-use Rattle.selection.proofs.Read.{provided-are, candidates-are, position-is}
+use Rattle.state.specs.World.{Rest, world, Step, Steps}
+use Rattle.selection.specs.Candidates.{position_of, CommonReturn}
+use Rattle.selection.proofs.Read.{answered, provided-are, candidates-are, position-is}
 use Rattle.group_select.specs.Selects.{NoneFits, Selects}
 
 -- ── Selecting ──
@@ -32,14 +31,24 @@ module _ (texts : Texts) (n slot token : ℕ) (call_name provided : List ℕ) {p
   unfolding select when
   select-poisoned y c = record { of = λ f others q given e library void. record { step = λ w. rw y ((c.of f others q library void d m).step w) } }
 
-  module _ (no : poisoned ≡ false) (words : List ℕ) {taken : Found Entry} (p : position_of (ty_of texts t) (map (ty_of texts t) provided) fs ≡ position_in words taken) where
-    pub select-taken : {x : Entry} {ret : ℕ} {s' : List ℕ} {r : Step Answer} → taken ≡ Some x → ((f : Bool) → ret ≡ (signature_at words x.at f).ret)
+  module _ (no : poisoned ≡ false) {taken : Found Signature} (p : taken ≡ position_of (ty_of texts t) (map (ty_of texts t) provided) fs) where
+    -- the rule looks among the same candidates
+    position-taken : (f : Signature) (others : List Signature) → fs ≡ f ∷ others → (library : List Package) (void : ℕ) (w : Rest)
+        → position (ctx texts library void) (map (ty_of texts t) provided) (f ∷ others) (world w s t d m u) ≡ ok (answered taken) (world w s t d m u)
+    position-taken f others q library void w =
+        let U = ty_of texts t in
+        let here : World = world w s t d m u in
+        position-is (ctx texts library void) here (map U provided) (f ∷ others)
+        ∙ ap (λ gs. ok (answered (position_of U (map U provided) gs)) here) (sym q)
+        ∙ ap (λ r. ok (answered r) here) (sym p)
+
+    pub select-taken : {x : Signature} {ret : ℕ} {s' : List ℕ} {r : Step Answer} → taken ≡ Some x → ret ≡ x.ret
         → ((t d m : List ℕ) → Steps (set_known slot ret) s t d m u s' t d m r) → Selects texts n slot token call_name provided poisoned fs s t d m u s' d m r
     unfolding select when on_option
     select-taken {x} o er k = record {
       of = λ f others q given e library void. record {
         step = λ w.
-            rw (no, provided-are (ctx texts library void) (world w s t d m u) given, provided-is texts s t provided given e, position-is (ctx texts library void) (world w s t d m u) (map (ty_of texts t) provided) (f ∷ others), ← q, p, o, ← er x.slotted)
+            rw (no, provided-are (ctx texts library void) (world w s t d m u) given, provided-is texts s t provided given e, position-taken f others q library void w, o, ← er)
             ((k t d m).step w);
       };
     }
@@ -50,7 +59,7 @@ module _ (texts : Texts) (n slot token : ℕ) (call_name provided : List ℕ) {p
     select-none o k = record {
       of = λ f others q given e library void. record {
         step = λ w.
-            rw (no, provided-are (ctx texts library void) (world w s t d m u) given, provided-is texts s t provided given e, position-is (ctx texts library void) (world w s t d m u) (map (ty_of texts t) provided) (f ∷ others), ← q, p, o, candidates-are (ctx texts library void) (world w s t d m u) fs)
+            rw (no, provided-are (ctx texts library void) (world w s t d m u) given, provided-is texts s t provided given e, position-taken f others q library void w, o, ← q, candidates-are (ctx texts library void) (world w s t d m u) fs)
             ((k.of f others q library void).step w);
       };
     }

@@ -3,44 +3,32 @@
 // are asked for, so that no place of theirs is kept.
 #![tactic(auto)]
 
-ghost use Rattle.std.specs.Prelude.{Bool, List, map, ℕ};
-ghost use Rattle.tok.specs.Text.{text};
-ghost use Rattle.ptype.specs.Ty.{Ty};
+ghost use Rattle.std.specs.Prelude.{List, map, ℕ};
+ghost use Rattle.tok.specs.Text.{text, name_bytes};
 ghost use Rattle.ptype.specs.Words.{ty_of};
 ghost use Rattle.display.specs.Writing.{Writes};
 ghost use Rattle.display.specs.Joined.{joined, sig};
-ghost use Rattle.library.specs.Package.{Signature};
-ghost use Rattle.err.specs.Message.{call_name};
-ghost use Rattle.library.specs.Entries.{flag_words};
-ghost use Rattle.selection.specs.Candidates.{group, param_types};
+ghost use Rattle.err.specs.Message.{pkg_name};
 ghost use Rattle.group_select.specs.Selects.{candidate_types, NoneFits, Selects};
 
+use call_args::PackageCall;
 use display::{Full, Sink, Writer};
 use err::CallName;
 use rules::Answer;
-use signatures::Entries;
+use signatures::Group;
 use state::{Step, Used};
 use tok::Texts;
 
 // Writes the candidates, joined by ` | `.
-fn put_candidates(
-    out: &mut Writer,
-    types: &[u32],
-    texts: &Texts,
-    entries: &Entries,
-    name: &[u8],
-) -> Result<(), Full>
-    ensures { let fs : List Signature = group texts.now name.now entries.now.words (flag_words entries.now.flagged) entries.now.from entries.now.count in
-        Writes out.old out.new result (joined (text " | ") (map sig (candidate_types (ty_of texts.now types.now) fs))) }
+fn put_candidates(out: &mut Writer, types: &[u32], texts: &Texts, group: &Group) -> Result<(), Full>
+    ensures { Writes out.old out.new result (joined (text " | ") (map sig (candidate_types (ty_of texts.now types.now) group.now))) }
 {
     // 1 once a candidate is written
     let mut before = 0;
-    let mut found = entries.find(texts, name);
-    while let Some(entry) = found {
+    for candidate in group.iter() {
         out.put_separator(before, b" | ")?;
-        err_calls::put_candidate(out, types, texts, entries.words, entry.at)?;
+        err_calls::put_candidate(out, types, texts, candidate.words, candidate.at)?;
         before = 1;
-        found = entries.after(entry).find(texts, name);
     }
     out.put(b"")
 }
@@ -51,19 +39,15 @@ fn none_fits(
     types: &[u32],
     diagnostics: &mut [u32],
     messages: &mut [u8],
+    provided: &[u32],
     texts: &Texts,
     used: Used,
-    n: u32,
-    slot: u32,
-    token: u32,
-    callee: CallName,
-    provided: &[u32],
-    entries: &Entries,
-    name: &[u8],
+    call: PackageCall,
+    group: &Group,
 ) -> Step<Answer>
-    ensures { NoneFits texts.now n slot token (call_name texts.now callee) (map (ty_of texts.now types.now) provided.now)
-        (group texts.now name.now entries.now.words (flag_words entries.now.flagged) entries.now.from entries.now.count) slots.old types.now diagnostics.old messages.old used
-        slots.new diagnostics.new messages.new result }
+    ensures { let name : List ℕ = pkg_name (name_bytes texts.now call.pkg) (name_bytes texts.now call.name) in
+        NoneFits texts.now call.site.n call.site.slot call.name name (map (ty_of texts.now types.now) provided.now) group.now
+        slots.old types.now diagnostics.old messages.old used slots.new diagnostics.new messages.new result }
 {
     let r = err_calls::no_specialisation(
         diagnostics,
@@ -71,13 +55,13 @@ fn none_fits(
         used.told,
         types,
         texts,
-        token,
-        callee,
+        call.name,
+        CallName::OfPackage(call.pkg, call.name),
         provided,
-        |out: &mut Writer| put_candidates(out, types, texts, entries, name),
+        |out: &mut Writer| put_candidates(out, types, texts, group),
     );
-    let (_, used) = state::told(n, used, r, ())?;
-    selection::common_return(slots, types, texts, used, slot, entries, name)
+    let (_, used) = state::told(call.site.n, used, r, ())?;
+    selection::common_return(slots, types, texts, used, call.site.slot, group)
 }
 
 // A group of several: the first that fits; where an argument is poisoned, or none fits, what all return.
@@ -86,40 +70,33 @@ pub fn select(
     types: &[u32],
     diagnostics: &mut [u32],
     messages: &mut [u8],
+    provided: &[u32],
     texts: &Texts,
     used: Used,
-    n: u32,
-    slot: u32,
-    token: u32,
-    callee: CallName,
-    provided: &[u32],
-    entries: &Entries,
-    name: &[u8],
-    poisoned: bool,
+    call: PackageCall,
+    group: &Group,
 ) -> Step<Answer>
-    ensures { let fs : List Signature = group texts.now name.now entries.now.words (flag_words entries.now.flagged) entries.now.from entries.now.count in
-        Selects texts.now n slot token (call_name texts.now callee) provided.now poisoned fs slots.old types.now diagnostics.old messages.old used slots.new diagnostics.new messages.new result }
+    ensures { let name : List ℕ = pkg_name (name_bytes texts.now call.pkg) (name_bytes texts.now call.name) in
+        Selects texts.now call.site.n call.site.slot call.name name provided.now call.poisoned group.now
+        slots.old types.now diagnostics.old messages.old used slots.new diagnostics.new messages.new result }
 {
-    if poisoned {
-        return selection::common_return(slots, types, texts, used, slot, entries, name);
+    let slot = call.site.slot;
+    if call.poisoned {
+        return selection::common_return(slots, types, texts, used, slot, group);
     }
-    let Some(entry) = selection::position(types, texts, entries, name, provided) else {
+    let Some(candidate) = selection::position(types, texts, group, provided) else {
         return none_fits(
             slots,
             types,
             diagnostics,
             messages,
+            provided,
             texts,
             used,
-            n,
-            slot,
-            token,
-            callee,
-            provided,
-            entries,
-            name,
+            call,
+            group,
         );
     };
-    let ret = signatures::return_type(entries.words, entry.at);
+    let ret = candidate.return_type();
     operators::set_known(slots, used, slot, ret)
 }

@@ -6,11 +6,12 @@ ghost use Rattle.call_args.specs.Given.{given_from};
 ghost use Rattle.own_call.specs.OwnCalls.{OwnCalls};
 ghost use Rattle.spans.specs.Ready.{NodesReady};
 
-use call_args::{Call, Signature};
+use call_args::Call;
 use err::CallName;
 use places::Image;
 use rules::Answer;
 use scope::Own;
+use signatures::Signature;
 use state::{Step, Used};
 use tok::Texts;
 
@@ -46,6 +47,7 @@ pub fn resolve_call(
             &Signature {
                 words: own.words,
                 at,
+                slotted: false,
             },
         ),
         None => {

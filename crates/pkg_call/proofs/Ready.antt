@@ -18,10 +18,10 @@ use Rattle.state.specs.Store.{held_from, held_end, extern_at}
 use Rattle.scope.specs.declared.Held as F
 use Rattle.scope.specs.declared.Held.TheVariants as H
 use Rattle.scope.specs.Found.{held_of}
-use Rattle.library.specs.EntryList.{Entries, entries}
+use Rattle.library.specs.EntryList.{entries}
 use Rattle.library.specs.Entries.{flag_words}
 use Rattle.library.specs.EntryLaws.{entries-library}
-use Rattle.selection.specs.Candidates.{group}
+use Rattle.signatures.specs.Groups.{group, as_slotted}
 use Rattle.slotted_call.specs.Bindable.{SlottedReady}
 use Rattle.visit.specs.StoreLaws.{reach-end}
 use Rattle.pkg_group.specs.declared.Candidates.{Candidates}
@@ -29,6 +29,7 @@ use Rattle.pkg_group.specs.declared.Candidates.TheVariants as C
 use Rattle.pkg_group.specs.GroupSize.{group_size, size_found}
 use Rattle.pkg_group.specs.GroupSizeLaws.{size-one}
 use Rattle.pkg_group.specs.Groups.{GroupReady}
+use Rattle.pkg_call.specs.Found.{candidates_at}
 use Rattle.pkg_call.specs.Ready.{SlotsReady, MayBind, PackageBinds, GatheredReady, LibraryReady, HeldReady}
 
 -- ── Among many ──
@@ -71,21 +72,17 @@ entries-begin words flags at = elim (dec_le at (length words)) [
       rw z refl
 ]
 
--- those entries
-abbrev pub functions_of : List ℕ → (flagged : Bool) → (at : ℕ) → Entries
-functions_of words flagged at = entries words flagged (min at (length words) + 2) (get_or words (at + 1) 0)
+module _ (texts : Texts) (name words : List ℕ) (at : ℕ) where
+  -- as the code makes them
+  pub candidates-are : (flagged : Bool) → group texts name (entries words flagged (min at (length words) + 2) (get_or words (at + 1) 0)) ≡ candidates_at texts name words flagged at
+  candidates-are flagged = ap (group_of texts name) (entries-begin words (flag_words flagged) at)
 
--- the candidates of a name among entries
-abbrev pub of_name : Texts → (name : List ℕ) → Entries → List Signature
-of_name texts name es = group texts name es.words (flag_words es.flagged) es.from es.count
+  pub library-group : candidates_at texts name words true at ≡ group_of texts name (package_at words at).functions
+  library-group = ap (group_of texts name) (entries-library words (get_or words (at + 1) 0) (at + 2))
 
-module _ (texts : Texts) (name words : List ℕ) (at : ℕ) {es : Entries} where
-  pub library-group : es ≡ functions_of words true at → of_name texts name es ≡ group_of texts name (package_at words at).functions
-  library-group e = rw e (ap (group_of texts name) (entries-begin words 1 at ∙ entries-library words (get_or words (at + 1) 0) (at + 2)))
-
-  pub extern-group : es ≡ functions_of words false at → of_name texts name es ≡ group_of texts name (extern_at words at).functions
+  pub extern-group : candidates_at texts name words false at ≡ group_of texts name (extern_at words at).functions
   unfolding extern_at
-  extern-group e = rw e (ap (group_of texts name) (entries-begin words 0 at))
+  extern-group = refl
 
 -- ── Functions without slots ──
 
@@ -95,24 +92,22 @@ unfolding Every entries_from entry_at signature_at
 plain-entries words zero at = tt
 plain-entries words (suc k) at = (refl, plain-entries words k (entry_end words 0 at))
 
-module _ (texts : Texts) (name words : List ℕ) (from k : ℕ) {es : Entries} (ee : es ≡ entries words false from k)
-    {found : Candidates} (a : group_size (of_name texts name es) ≡ size_found es.words found) where
-  pub extern-plain : (at : ℕ) → found ≡ C.Slotted at → ⊥
-  unfolding Every signature_at
-  extern-plain at o =
-      let b : group_size (group texts name words 0 from k) ≡ size_found words found = rw ee at a in
-      let e : group texts name words 0 from k ≡ signature_at words at true ∷ [] = size-one _ (b ∙ ap (size_found words) o) in
-      let plain = group-every _ texts name (entries_from words 0 from k) (plain-entries words k from) in
-      let all : Every (λ (f : Signature). f.with_slots ≡ false) (group texts name words 0 from k) = plain in
-      let one : Every (λ (f : Signature). f.with_slots ≡ false) (signature_at words at true ∷ []) = rw e at all in
+module _ (texts : Texts) (name words : List ℕ) (at : ℕ) {found : Candidates} (a : group_size (candidates_at texts name words false at) ≡ size_found found) where
+  pub extern-plain : (f : Signature) → found ≡ C.Slotted f → ⊥
+  unfolding Every
+  extern-plain f o =
+      let e : candidates_at texts name words false at ≡ as_slotted f ∷ [] = size-one _ (a ∙ ap size_found o) in
+      let plain = group-every _ texts name _ (plain-entries words (get_or words (at + 1) 0) (at + 2)) in
+      let all : Every (λ (g : Signature). g.with_slots ≡ false) (candidates_at texts name words false at) = plain in
+      let one : Every (λ (g : Signature). g.with_slots ≡ false) (as_slotted f ∷ []) = rw e at all in
       true≢false one.0
 
 -- ── From what is gathered to the group ──
 
 module _ {texts : Texts} {image places scratch : List ℕ} {top n args count : ℕ} {slots types : List ℕ} {used : ℕ}
     (h : GatheredReady texts image places scratch top n args count slots types used) {end : ℕ} (ee : end ≡ top + count) where
-  pub group-ready : {words : List ℕ} {fs : List Signature} {found : Candidates} → group_size fs ≡ size_found words found → ((at : ℕ) → found ≡ C.Slotted at → ⊥)
-      → GroupReady image places n args count slots (take (end - top) (drop top scratch)) words fs found
+  pub group-ready : {fs : List Signature} {found : Candidates} → group_size fs ≡ size_found found → ((f : Signature) → found ≡ C.Slotted f → ⊥)
+      → GroupReady image places n args count slots (take (end - top) (drop top scratch)) fs found
   group-ready a o =
       let z : end - top ≡ count = omega arith in
       record { nodes = h.given.nodes; gathered = rw z h.gathered; among = a; other = o }
@@ -126,17 +121,14 @@ tail_long e = length-take-le (length e - 8192) (drop 8192 e) (rw length-drop (om
 module _ {texts : Texts} {image places words scratch : List ℕ} {top n at args count : ℕ} {slots types : List ℕ} {used : ℕ}
     (h : LibraryReady texts image places words scratch top n at args count slots types used) where
   -- the words from 8,192 on are room for 4,096 pairs
-  pub slotted-ready : (name : List ℕ) {place : ℕ} {found : Candidates} {es : Entries} → es ≡ functions_of words true at
-      → group_size (of_name texts name es) ≡ size_found es.words found → found ≡ C.Slotted place
-      → SlottedReady texts image places n args count slots types used words place (take (length scratch - 8192) (drop 8192 scratch))
-  unfolding Every signature_at
-  slotted-ready name {place} {es = es} ee a o =
-      let v : es.words ≡ words = ap (λ e. e.words) ee in
-      let e : of_name texts name es ≡ signature_at es.words place true ∷ [] = size-one _ (a ∙ ap (size_found es.words) o) in
-      let g = sym (library-group texts name words at ee) ∙ e ∙ ap (λ l. signature_at l place true ∷ []) v in
-      let m : Every (MayBind texts types used) (signature_at words place true ∷ []) =
-      subst (Every (MayBind texts types used)) g (group-every _ texts name (package_at words at).functions h.bind) in
-      let b : SlotsReady texts types used (signature_at words place true) = m.0 refl in
+  pub slotted-ready : (name : List ℕ) {f : Signature} {found : Candidates} → group_size (candidates_at texts name words true at) ≡ size_found found → found ≡ C.Slotted f
+      → SlottedReady texts image places n args count slots types used f (take (length scratch - 8192) (drop 8192 scratch))
+  unfolding Every
+  slotted-ready name {f} a o =
+      let e : candidates_at texts name words true at ≡ as_slotted f ∷ [] = size-one _ (a ∙ ap size_found o) in
+      let m : Every (MayBind texts types used) (as_slotted f ∷ []) =
+      subst (Every (MayBind texts types used)) (sym (library-group texts name words at) ∙ e) (group-every _ texts name (package_at words at).functions h.bind) in
+      let b : SlotsReady texts types used (as_slotted f) = m.0 refl in
       record {
         nodes = h.ready.given.nodes;
         params = b.params;

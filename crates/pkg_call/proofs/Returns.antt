@@ -11,7 +11,7 @@ use Rattle.tok.specs.Text.{Texts, name_bytes}
 use Rattle.err.specs.declared.CallName.TheVariants.{OfPackage}
 use Rattle.err.specs.Message.{call_name, missing_package}
 use Rattle.err.specs.Report.{Reports}
-use Rattle.library.specs.Package.{Package, find_package, group_of}
+use Rattle.library.specs.Package.{Signature, Package, find_package, group_of}
 use Rattle.library.specs.PackagesRead.{package_at}
 use Rattle.rules.specs.declared.Answer.{Answer}
 use Rattle.rules.specs.declared.Answer.TheVariants.{Poison}
@@ -20,20 +20,20 @@ use Rattle.rules.specs.Calls.{Provided, check_call_args, in_group, resolve_pkg_c
 use Rattle.state.specs.declared.Used.{Used}
 use Rattle.state.specs.Context.{ctx}
 use Rattle.state.specs.Reporting.{told_of, poisons-step}
-use Rattle.state.specs.Signatures.{signature_at}
+use Rattle.signatures.specs.Groups.{as_slotted}
 use Rattle.state.specs.Store.{held_from, extern_at}
 use Rattle.state.specs.World.{Step, Steps}
 use Rattle.scope.specs.declared.Held as F
 use Rattle.scope.specs.declared.Held.TheVariants as H
 use Rattle.scope.specs.Found.{held_of}
-use Rattle.library.specs.EntryList.{Entries}
 use Rattle.pkg_group.specs.declared.Candidates.{Candidates}
 use Rattle.pkg_group.specs.declared.Candidates.TheVariants as C
 use Rattle.pkg_group.specs.GroupSize.{group_size, size_found}
 use Rattle.pkg_group.specs.GroupSizeLaws.{size-one}
 use Rattle.pkg_group.specs.Groups.{InGroup}
 use Rattle.pkg_call.specs.Calls.{Low, LibraryCalls, HeldCalls}
-use Rattle.pkg_call.proofs.Ready.{functions_of, of_name, library-group, extern-group}
+use Rattle.pkg_call.specs.Found.{candidates_at}
+use Rattle.pkg_call.proofs.Ready.{library-group, extern-group}
 use Rattle.err.specs.declared.Counts.{Counts}
 
 -- a tail of scratch that was lent and came back leaves what is before it
@@ -42,33 +42,31 @@ front-stays e rest l = record { same = take_at (take 8192 e) rest 8192 (length-t
 
 -- ── Into one package ──
 
-module _ {texts : Texts} {n slot pkg name : ℕ} {given : List Provided} {poisoned : Bool} {words : List ℕ} (at : ℕ) {es : Entries}
+module _ {texts : Texts} {n slot pkg name : ℕ} {given : List Provided} {poisoned : Bool} {words : List ℕ} (at : ℕ)
     {s t d m : List ℕ} {u : Used} {s' t' d' m' : List ℕ} {r : Step Answer} where
-  pub library-calls : es ≡ functions_of words true at → (e : List ℕ)
-      → InGroup texts n slot pkg name given poisoned (of_name texts (name_bytes texts name) es) s t d m u s' t' d' m' r
+  pub library-calls : (e : List ℕ)
+      → InGroup texts n slot pkg name given poisoned (candidates_at texts (name_bytes texts name) words true at) s t d m u s' t' d' m' r
       → LibraryCalls texts n slot pkg name given poisoned (package_at words at) e s t d m u e s' t' d' m' r
-  library-calls ee e c =
-      let g = library-group texts (name_bytes texts name) words at ee in
+  library-calls e c =
+      let g = library-group texts (name_bytes texts name) words at in
       record { call = subst (λ fs. InGroup texts n slot pkg name given poisoned fs s t d m u s' t' d' m' r) g c; low = record { same = refl } }
 
   -- of one function, with slots
-  pub slotted-calls : es ≡ functions_of words true at → {found : Candidates} {place : ℕ} {e e' : List ℕ}
-      → group_size (of_name texts (name_bytes texts name) es) ≡ size_found es.words found → found ≡ C.Slotted place
+  pub slotted-calls : {found : Candidates} {f : Signature} {e e' : List ℕ}
+      → group_size (candidates_at texts (name_bytes texts name) words true at) ≡ size_found found → found ≡ C.Slotted f
       → ((library : List Package) (void : ℕ)
-      → Steps (check_call_args (ctx texts library void) n slot name (call_name texts (OfPackage pkg name)) (signature_at words place true) given) s t d m u s' t' d' m' r)
+      → Steps (check_call_args (ctx texts library void) n slot name (call_name texts (OfPackage pkg name)) (as_slotted f) given) s t d m u s' t' d' m' r)
       → Low e e' → LibraryCalls texts n slot pkg name given poisoned (package_at words at) e s t d m u e' s' t' d' m' r
   unfolding in_group call_name
-  slotted-calls ee {place = place} a o c l =
-      let v : es.words ≡ words = ap (λ e. e.words) ee in
-      let f : of_name texts (name_bytes texts name) es ≡ signature_at es.words place true ∷ [] = size-one _ (a ∙ ap (size_found es.words) o) in
-      let i = sym (library-group texts (name_bytes texts name) words at ee) ∙ f ∙ ap (λ w. signature_at w place true ∷ []) v in
-      let g : group_of texts (name_bytes texts name) (package_at words at).functions ≡ signature_at words place true ∷ [] = i in
+  slotted-calls {f = f} a o c l =
+      let i : candidates_at texts (name_bytes texts name) words true at ≡ as_slotted f ∷ [] = size-one _ (a ∙ ap size_found o) in
+      let g : group_of texts (name_bytes texts name) (package_at words at).functions ≡ as_slotted f ∷ [] = sym (library-group texts (name_bytes texts name) words at) ∙ i in
       record { call = record { of = λ library void. record { step = λ rest. rw g ((c library void).step rest) } }; low = l }
 
-  pub extern-calls : es ≡ functions_of words false at → InGroup texts n slot pkg name given poisoned (of_name texts (name_bytes texts name) es) s t d m u s' t' d' m' r
+  pub extern-calls : InGroup texts n slot pkg name given poisoned (candidates_at texts (name_bytes texts name) words false at) s t d m u s' t' d' m' r
       → InGroup texts n slot pkg name given poisoned (group_of texts (name_bytes texts name) (extern_at words at).functions) s t d m u s' t' d' m' r
-  extern-calls ee c =
-      let g = extern-group texts (name_bytes texts name) words at ee in
+  extern-calls c =
+      let g = extern-group texts (name_bytes texts name) words at in
       subst (λ fs. InGroup texts n slot pkg name given poisoned fs s t d m u s' t' d' m' r) g c
 
 -- ── Into the packages held ──

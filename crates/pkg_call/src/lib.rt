@@ -3,7 +3,7 @@
 // library.
 #![tactic(auto)]
 
-ghost use Rattle.std.specs.Prelude.{◌≡◌, List, ℕ, ◌+◌, min, length, get_or};
+ghost use Rattle.std.specs.Prelude.{◌≡◌, List, ℕ};
 ghost use Rattle.tok.specs.Text.{name_bytes};
 ghost use Rattle.library.specs.Package.{Package, group_of};
 ghost use Rattle.library.specs.PackagesRead.{package_at};
@@ -15,33 +15,43 @@ ghost use Rattle.state.specs.Store.{extern_at};
 ghost use Rattle.call_args.specs.Given.{given_from};
 ghost use Rattle.places.specs.Image.{Image};
 ghost use Rattle.state.specs.World.{More};
-ghost use Rattle.library.specs.EntryList.{entries};
 ghost use Rattle.visit.specs.Whole.{Lent, lent};
 ghost use Rattle.visit.specs.Within.{Visits};
 ghost use Rattle.pkg_group.specs.Groups.{InGroup};
+ghost use Rattle.pkg_call.specs.Found.{candidates_at};
 ghost use Rattle.pkg_call.specs.Ready.{GatheredReady, LibraryReady, HeldReady, PkgReady};
 ghost use Rattle.pkg_call.specs.Calls.{LibraryCalls, HeldCalls};
 
-use call_args::Signature;
+use call_args::PackageCall;
 use err::CallName;
-use pkg_group::{Candidates, PackageCall, in_group};
+use pkg_group::{Candidates, in_group};
 use places::Image;
 use rules::Answer;
 use scope::Held;
-use signatures::Entries;
+use signatures::{Entries, Group};
 use state::{Step, Used};
 use tok::Texts;
 use visit::{State, Visit};
 
-// The functions of the package at a word, which stand after its name and their count; past the end of the words there are none.
-fn functions_at<'a>(words: &'a [u32], flagged: bool, at: usize) -> Entries<'a>
-    ensures { result ≡ entries words.now flagged (min at (length words.now) + 2) (get_or words.now (at + 1) 0) }
+// The functions of a name in the package at a word, which stand after its own name and their count; past the end of the words there are none.
+fn candidates_at<'a>(
+    texts: &'a Texts<'a>,
+    words: &'a [u32],
+    flagged: bool,
+    at: usize,
+    name: u32,
+) -> Group<'a>
+    ensures { result ≡ candidates_at texts.now (name_bytes texts.now name) words.now flagged at }
 {
-    Entries {
-        words,
-        flagged,
-        from: at.min(words.len()) + 2,
-        count: library::function_count(words, at),
+    Group {
+        texts,
+        name: tok::name_bytes(texts, name),
+        entries: Entries {
+            words,
+            flagged,
+            from: at.min(words.len()) + 2,
+            count: library::function_count(words, at),
+        },
     }
 }
 
@@ -69,9 +79,9 @@ fn in_library(
         scratch.old slots.old types.old diagnostics.old messages.old used
         scratch.new slots.new types.new diagnostics.new messages.new result }
 {
-    let entries = functions_at(library, true, at);
-    let found = pkg_group::find_candidates(texts, &entries, call.name);
-    let Candidates::Slotted(place) = found else {
+    let group = candidates_at(texts, library, true, at, call.name);
+    let found = pkg_group::find_candidates(&group);
+    let Candidates::Slotted(signature) = found else {
         let end = top + call.site.count;
         return in_group(
             slots,
@@ -83,7 +93,7 @@ fn in_library(
             image,
             used,
             call,
-            &entries,
+            &group,
             found,
         );
     };
@@ -99,10 +109,7 @@ fn in_library(
         call.site,
         call.name,
         CallName::OfPackage(call.pkg, call.name),
-        &Signature {
-            words: library,
-            at: place,
-        },
+        &signature,
     )
 }
 
@@ -127,8 +134,8 @@ fn in_extern(
         (group_of texts.now (name_bytes texts.now call.name) (extern_at scratch.now at).functions) slots.old types.now diagnostics.old messages.old used
         slots.new types.now diagnostics.new messages.new result }
 {
-    let entries = functions_at(scratch, false, at);
-    let found = pkg_group::find_candidates(texts, &entries, call.name);
+    let group = candidates_at(texts, scratch, false, at, call.name);
+    let found = pkg_group::find_candidates(&group);
     let end = top + call.site.count;
     in_group(
         slots,
@@ -140,7 +147,7 @@ fn in_extern(
         image,
         used,
         call,
-        &entries,
+        &group,
         found,
     )
 }

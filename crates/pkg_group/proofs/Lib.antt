@@ -1,3 +1,2 @@
 -- Laws that the proofs of the functions share.
-pub mod Found
 pub mod Returns

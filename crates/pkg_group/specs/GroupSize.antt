@@ -1,8 +1,8 @@
 -- How many candidates a call's group has: none, the one, or several ("A package group of several takes the first candidate whose every argument
 -- type is equal"). Definitions.
-use Rattle.std.specs.Prelude.{ℕ, ◌≡◌, true, false, List, [], ◌∷◌}
+use Rattle.std.specs.Prelude.{◌≡◌, List, [], ◌∷◌}
 use Rattle.library.specs.Package.{Signature}
-use Rattle.state.specs.Signatures.{signature_at}
+use Rattle.signatures.specs.Groups.{as_plain, as_slotted}
 use Rattle.pkg_group.specs.declared.Candidates.{Candidates}
 use Rattle.pkg_group.specs.declared.Candidates.TheVariants.{Nothing, Plain, Slotted, Several}
 
@@ -18,11 +18,11 @@ group_size (f ∷ []) = one_candidate f
 group_size (f ∷ g ∷ fs) = several_candidates
 
 -- of the answer: Plain and Slotted are the two flags of one candidate
-abbrev pub size_found : (words : List ℕ) → Candidates → GroupSize
-size_found words Nothing = no_candidate
-size_found words (Plain at) = one_candidate (signature_at words at false)
-size_found words (Slotted at) = one_candidate (signature_at words at true)
-size_found words Several = several_candidates
+abbrev pub size_found : Candidates → GroupSize
+size_found Nothing = no_candidate
+size_found (Plain f) = one_candidate (as_plain f)
+size_found (Slotted f) = one_candidate (as_slotted f)
+size_found Several = several_candidates
 
 -- a group of two signatures and more
 pub record OfSeveral (fs : List Signature) : Type 0 where

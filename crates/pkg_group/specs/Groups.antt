@@ -17,11 +17,11 @@ use Rattle.pkg_group.specs.GroupSize.{group_size, size_found}
 
 -- The arguments are nodes of an accepted image, and the words of their types are gathered; the candidates are found, and are not one with
 -- slots.
-pub record GroupReady (image places : List ℕ) (n args count : ℕ) (slots provided words : List ℕ) (fs : List Signature) (found : Candidates) : Type 0 where
+pub record GroupReady (image places : List ℕ) (n args count : ℕ) (slots provided : List ℕ) (fs : List Signature) (found : Candidates) : Type 0 where
   pub nodes : NodesReady image places n args count
   pub gathered : words_in slots (given_from image args count) ≡ provided
-  pub among : group_size fs ≡ size_found words found
-  pub other : (at : ℕ) → found ≡ Slotted at → ⊥
+  pub among : group_size fs ≡ size_found found
+  pub other : (f : Signature) → found ≡ Slotted f → ⊥
 
 -- `in_group`, of these candidates
 pub record InGroup (texts : Texts) (n slot pkg name : ℕ) (given : List Provided) (poisoned : Bool) (fs : List Signature)

@@ -1,66 +1,47 @@
 // A package group of several (typecheck/lib.rs, `resolve_pkg_call`; err.rs, `common_return`): the first candidate whose every argument type is
-// equal, else diagnostic 18 and what all candidates return. The candidates are those of some entries that have a name.
+// equal, else diagnostic 18 and what all candidates return.
 #![tactic(auto)]
 
 ghost use Rattle.std.specs.Prelude.{◌≡◌, map, ℕ};
 ghost use Rattle.ptype.specs.Ty.{Ty};
 ghost use Rattle.ptype.specs.Words.{ty_of};
-ghost use Rattle.library.specs.Entries.{flag_words};
-ghost use Rattle.selection.specs.Candidates.{group, position_of, all_return_of, position_in, CommonReturn};
+ghost use Rattle.rules.specs.Calls.{overload_matches};
+ghost use Rattle.selection.specs.Candidates.{param_types, position_of, all_return_of, CommonReturn};
 
 use rules::Answer;
-use signatures::{Entries, Entry};
+use signatures::{Group, Signature};
 use state::{Step, Used};
 use tok::Texts;
 
-// The first candidate whose every argument type is equal to the provided one, counts alike.
-pub fn position(
-    types: &[u32],
-    texts: &Texts,
-    entries: &Entries,
-    name: &[u8],
-    provided: &[u32],
-) -> Option<Entry>
+// Whether the type of every argument is equal to the provided one, counts alike.
+fn fits(types: &[u32], texts: &Texts, candidate: &Signature, provided: &[u32]) -> bool
     ensures { let U : ℕ → Ty = ty_of texts.now types.now in
-        position_of U (map U provided.now) (group texts.now name.now entries.now.words (flag_words entries.now.flagged) entries.now.from entries.now.count)
-        ≡ position_in entries.now.words result }
+        result ≡ overload_matches (param_types U candidate.now.params) (map U provided.now) }
 {
-    let mut left = Entries {
-        words: entries.words,
-        flagged: entries.flagged,
-        from: entries.from,
-        count: entries.count,
-    };
-    'candidates: while let Some(entry) = left.find(texts, name) {
-        left = left.after(entry);
-        if signatures::argument_count(entries.words, entry.at) != provided.len() {
-            continue 'candidates;
-        }
-        for i in 0..provided.len() {
-            let expected = signatures::argument_type(entries.words, entry.at, i);
-            if !ptype::same_type(types, texts, expected, tok::word_at(provided, i)) {
-                continue 'candidates;
-            }
-        }
-        return Some(entry);
+    if candidate.argument_count() != provided.len() {
+        return false;
     }
-    None
-}
-
-// Whether all candidates return a type equal to that of `ret`.
-fn all_return(types: &[u32], texts: &Texts, entries: &Entries, name: &[u8], ret: u32) -> bool
-    ensures { let U : ℕ → Ty = ty_of texts.now types.now in
-        result ≡ all_return_of U (U ret) (group texts.now name.now entries.now.words (flag_words entries.now.flagged) entries.now.from entries.now.count) }
-{
-    let mut found = entries.find(texts, name);
-    while let Some(entry) = found {
-        let other = signatures::return_type(entries.words, entry.at);
-        if !ptype::same_type(types, texts, other, ret) {
+    for i in 0..provided.len() {
+        let expected = candidate.argument_type(i);
+        if !ptype::same_type(types, texts, expected, tok::word_at(provided, i)) {
             return false;
         }
-        found = entries.after(entry).find(texts, name);
     }
     true
+}
+
+// The first candidate whose every argument type is equal to the provided one, counts alike.
+pub fn position<'a>(
+    types: &[u32],
+    texts: &Texts,
+    group: &Group<'a>,
+    provided: &[u32],
+) -> Option<Signature<'a>>
+    ensures { let U : ℕ → Ty = ty_of texts.now types.now in result ≡ position_of U (map U provided.now) group.now }
+{
+    group
+        .iter()
+        .find(|candidate| fits(types, texts, candidate, provided))
 }
 
 // What all candidates return, else Poison.
@@ -70,17 +51,16 @@ pub fn common_return(
     texts: &Texts,
     used: Used,
     slot: u32,
-    entries: &Entries,
-    name: &[u8],
+    group: &Group,
 ) -> Step<Answer>
-    ensures { CommonReturn texts.now slot (group texts.now name.now entries.now.words (flag_words entries.now.flagged) entries.now.from entries.now.count)
-        slots.old types.now used slots.new result }
+    ensures { CommonReturn texts.now slot group.now slots.old types.now used slots.new result }
 {
-    let Some(entry) = entries.find(texts, name) else {
+    let mut others = group.iter();
+    let Some(first) = others.next() else {
         return Ok((Answer::Poison, used));
     };
-    let ret = signatures::return_type(entries.words, entry.at);
-    if all_return(types, texts, &entries.after(entry), name, ret) {
+    let ret = first.return_type();
+    if others.all(|candidate| ptype::same_type(types, texts, candidate.return_type(), ret)) {
         return operators::set_known(slots, used, slot, ret);
     }
     Ok((Answer::Poison, used))

@@ -23,7 +23,7 @@ use Rattle.apply.specs.Apply.{apply_word}
 use Rattle.ast.specs.Node.{nodes_from, tree_of, slot_of}
 use Rattle.ast.specs.Span.{span_of}
 use Rattle.err.specs.Message.{argument_count}
-use Rattle.library.specs.Package.{Param, param, Package}
+use Rattle.library.specs.Package.{Param, param, Signature, Package}
 use Rattle.rules.specs.declared.Answer.{Answer}
 use Rattle.rules.specs.declared.Answer.TheVariants.{Poison}
 use Rattle.rules.specs.World.{Ctx, World}
@@ -34,7 +34,6 @@ use Rattle.laws.specs.Grow.{Grow, Walked, grow_kept, Below}
 use Rattle.state.specs.declared.Used.{Used}
 use Rattle.state.specs.declared.Refusal.{Refusal}
 use Rattle.state.specs.Context.{ctx}
-use Rattle.state.specs.Signatures.{signature_at}
 use Rattle.state.specs.World.{Rest, world, Step, stepped, with_answer, Steps, no_more}
 use Rattle.state.specs.Reporting.{passed, on-ok, on-err}
 use Rattle.state.specs.Adding.{added_of}
@@ -43,6 +42,7 @@ use Rattle.slotted.specs.Argues.{Argues}
 use Rattle.slotted.specs.Meant.{Meant, ArgumentMeant}
 use Rattle.slotted.proofs.Returns.{applying}
 use Rattle.arguments.specs.declared.Argument.{Argument}
+use Rattle.signatures.specs.Groups.{as_slotted}
 use Rattle.call_args.specs.Given.{given_from, argument_in}
 use Rattle.call_args.proofs.Plain.{arguments-none, length-given}
 use Rattle.slotted_call.specs.Bindable.{Bindable, none, more, Arguments, known_return}
@@ -227,38 +227,38 @@ module _ (texts : Texts) (n slot ret : ℕ) (bs : List Binding) (s t d m : List 
 
 -- ── The call ──
 
-module _ (texts : Texts) (n slot token : ℕ) (call_name words : List ℕ) (at : ℕ) (image : List ℕ) (args count : ℕ) (s t d m : List ℕ) (u : Used) where
+module _ (texts : Texts) (n slot token : ℕ) (call_name : List ℕ) (fun : Signature) (image : List ℕ) (args count : ℕ) (s t d m : List ℕ) (u : Used) where
   -- the check of the call
   abbrev Checked : (s' t' d' m' : List ℕ) → Step Answer → Type 0
   Checked s' t' d' m' q = (library : List Package) (void : ℕ)
-      → Steps (check_call_args (ctx texts library void) n slot token call_name (signature_at words at true) (given_from image args count)) s t d m u s' t' d' m' q
+      → Steps (check_call_args (ctx texts library void) n slot token call_name (as_slotted fun) (given_from image args count)) s t d m u s' t' d' m' q
 
-  module _ {required : ℕ} (en : (f : Bool) → required ≡ length (signature_at words at f).params) where
+  module _ {required : ℕ} (en : required ≡ length fun.params) where
     -- another number of arguments
     module _ (differ : count ≡ required → ⊥) {d' m' : List ℕ} {r : Step ⊤} (p : Steps (report n (argument_count token call_name required count)) s t d m u s t d' m' r) where
       pub miscounted : {done : ⊤} {v : Used} → r ≡ Ok (done, v) → Checked s t d' m' (Ok (Poison, v))
-      unfolding check_call_args signature_at when stepped
+      unfolding check_call_args when stepped
       miscounted {v = v} o = λ library void.
-          rw (length-given image count args, ← en true, ne_eqb count required differ) (on-ok (λ _. return Poison) p {u₁ = v} o (record { step = λ rest. refl }))
+          rw (length-given image count args, ← en, ne_eqb count required differ) (on-ok (λ _. return Poison) p {u₁ = v} o (record { step = λ rest. refl }))
 
       pub miscounted-full : {f : Refusal} {q : Step Answer} → r ≡ Err f → IsErrAnd q (λ y. y ≡ f) → Checked s t d' m' q
-      unfolding check_call_args signature_at when
-      miscounted-full o k = λ library void. rw (length-given image count args, ← en true, ne_eqb count required differ) (on-err (λ _. return Poison) p o k)
+      unfolding check_call_args when
+      miscounted-full o k = λ library void. rw (length-given image count args, ← en, ne_eqb count required differ) (on-err (λ _. return Poison) p o k)
 
     -- each argument, and then the return type
     module _ (e : count ≡ required) {b b' : Bindings} {t' d' m' : List ℕ} {r : Step ⊤}
-        (a : Arguments texts n call_name (signature_at words at true).params image args count s t d m u b t' d' m' b' r) where
+        (a : Arguments texts n call_name fun.params image args count s t d m u b t' d' m' b' r) where
       pub call-refused : {f : Refusal} {q : Step Answer} → r ≡ Err f → IsErrAnd q (λ y. y ≡ f) → Checked s t' d' m' q
-      unfolding check_call_args signature_at when with_answer
-      call-refused {f} o k = λ library void. rw (length-given image count args, ← en true, eq-eqb count required e) (on-err _ (a.step library void) {e = f} (rw o refl) k)
+      unfolding check_call_args when with_answer
+      call-refused {f} o k = λ library void. rw (length-given image count args, ← en, eq-eqb count required e) (on-err _ (a.step library void) {e = f} (rw o refl) k)
 
-      module _ {done : ⊤} {ret : ℕ} {v : Used} (o : r ≡ Ok (done, v)) (er : (f : Bool) → ret ≡ (signature_at words at f).ret) where
-        pub return-meant : Meant texts t u.types (signature_at words at true).ret → Meant texts t' v.types ret
-        return-meant h = rw (er true) (meant-grown (rw o at a.grown) h)
+      module _ {done : ⊤} {ret : ℕ} {v : Used} (o : r ≡ Ok (done, v)) (er : ret ≡ fun.ret) where
+        pub return-meant : Meant texts t u.types fun.ret → Meant texts t' v.types ret
+        return-meant h = rw er (meant-grown (rw o at a.grown) h)
 
         pub call-returned : {s' t'' : List ℕ} {q : Step Answer} → ((d m : List ℕ) → Steps (known_return texts n slot ret (bindings_of texts b') t') s t' d m v s' t'' d m q)
             → Checked s' t'' d' m' q
-        unfolding check_call_args returned signature_at tree when with_answer
+        unfolding check_call_args returned tree when with_answer
         call-returned k = λ library void.
-            rw (length-given image count args, ← en true, eq-eqb count required e, ← er true)
+            rw (length-given image count args, ← en, eq-eqb count required e, ← er)
             (on-ok _ (a.step library void) {a = bindings_of texts b'} {u₁ = v} (rw o refl) (record { step = λ rest. (k d' m').step rest }))

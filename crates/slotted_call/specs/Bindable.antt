@@ -1,5 +1,5 @@
 -- What a call of a function with slots takes for granted, and the contract of its arguments. Definitions.
-use Rattle.std.specs.Prelude.{ℕ, ◌+◌, ◌≤◌, ◌<◌, ◌≡◌, Bool, true, List, [], length, get_or, ⊤}
+use Rattle.std.specs.Prelude.{ℕ, ◌+◌, ◌≤◌, ◌<◌, ◌≡◌, true, List, [], length, get_or, ⊤}
 use Rattle.std.specs.Result.{IfOk}
 use Rattle.tok.specs.Text.{Texts}
 use Rattle.tok.specs.Step.{◌>>=◌}
@@ -10,14 +10,13 @@ use Rattle.add.specs.Means.{Grown}
 use Rattle.slots.specs.declared.Bindings.{Bindings}
 use Rattle.slots.specs.Bindings.{pair_room, bindings_of, bindings_after}
 use Rattle.ast.specs.Node.{tree_of, slot_of}
-use Rattle.library.specs.Package.{Param, param, Package}
+use Rattle.library.specs.Package.{Param, param, Signature, Package}
 use Rattle.rules.specs.declared.Answer.{Answer}
 use Rattle.rules.specs.World.{Walk}
 use Rattle.rules.specs.Steps.{set_known, on_types}
 use Rattle.rules.specs.Calls.{arguments}
 use Rattle.state.specs.declared.Used.{Used}
 use Rattle.state.specs.Context.{ctx}
-use Rattle.state.specs.Signatures.{signature_at}
 use Rattle.state.specs.World.{Step, with_answer, Steps}
 use Rattle.spans.specs.Ready.{NodesReady}
 use Rattle.slotted.specs.Meant.{Meant}
@@ -30,17 +29,17 @@ pub data Bindable (texts : Texts) (types : List ℕ) (ps : List Param) : List Bi
       → bs' ≡ bindings_after (bind_slots texts types' (ty_of texts types (get_or ps i (param 0 0)).type) w bs) → Bindable texts types ps bs'
 
 -- The arguments are nodes of an accepted image; their types and those of the signature mean types; all bindings have room in the lent part.
-pub record SlottedReady (texts : Texts) (image places : List ℕ) (n args count : ℕ) (slots types : List ℕ) (used : ℕ) (words : List ℕ) (at : ℕ) (pairs : List ℕ) : Type 0 where
+pub record SlottedReady (texts : Texts) (image places : List ℕ) (n args count : ℕ) (slots types : List ℕ) (used : ℕ) (f : Signature) (pairs : List ℕ) : Type 0 where
   pub nodes : NodesReady image places n args count
-  pub params : (i : ℕ) → i < length (signature_at words at true).params → Meant texts types used (get_or (signature_at words at true).params i (param 0 0)).type
+  pub params : (i : ℕ) → i < length f.params → Meant texts types used (get_or f.params i (param 0 0)).type
   pub given : (i : ℕ) → i < count → Meant texts types used (get_or slots (slot_of (tree_of image (get_or image (args + i) 0))) 0)
-  pub ret : Meant texts types used (signature_at words at true).ret
-  pub room : (bs : List Binding) → Bindable texts types (signature_at words at true).params bs → length bs ≤ pair_room pairs
+  pub ret : Meant texts types used f.ret
+  pub room : (bs : List Binding) → Bindable texts types f.params bs → length bs ≤ pair_room pairs
 
 -- and there are as many as the signature asks for, and no bindings yet
-pub record Counted (texts : Texts) (image places : List ℕ) (n args count : ℕ) (slots types : List ℕ) (used : ℕ) (words : List ℕ) (at : ℕ) (b : Bindings) : Type 0 where
-  pub ready : SlottedReady texts image places n args count slots types used words at b.pairs.now
-  pub counts : (f : Bool) → count ≡ length (signature_at words at f).params
+pub record Counted (texts : Texts) (image places : List ℕ) (n args count : ℕ) (slots types : List ℕ) (used : ℕ) (f : Signature) (b : Bindings) : Type 0 where
+  pub ready : SlottedReady texts image places n args count slots types used f b.pairs.now
+  pub counts : count ≡ length f.params
   pub fresh : b.count ≡ 0
 
 -- All arguments, from no bindings on, which then are b', in the lent part that b had; the types buffer has grown.

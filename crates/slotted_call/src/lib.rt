@@ -3,22 +3,23 @@
 // texts and the image.
 #![tactic(auto)]
 
-ghost use Rattle.std.specs.Prelude.{true, List, ℕ};
+ghost use Rattle.std.specs.Prelude.{List, ℕ};
 ghost use Rattle.err.specs.Message.{call_name};
-ghost use Rattle.library.specs.Package.{Package, Param};
+ghost use Rattle.library.specs.Package.{Package};
 ghost use Rattle.rules.specs.Calls.{Provided, check_call_args};
+ghost use Rattle.signatures.specs.Groups.{as_slotted};
 ghost use Rattle.state.specs.Context.{ctx};
-ghost use Rattle.state.specs.Signatures.{signature_at};
 ghost use Rattle.state.specs.World.{Steps};
 ghost use Rattle.slots.specs.Bindings.{bindings_of};
 ghost use Rattle.slotted.specs.Meant.{Meant};
 ghost use Rattle.call_args.specs.Given.{given_from};
 ghost use Rattle.slotted_call.specs.Bindable.{SlottedReady, Counted, Arguments, known_return};
 
-use call_args::{Call, Signature};
+use call_args::Call;
 use err::CallName;
 use places::Image;
 use rules::Answer;
+use signatures::Signature;
 use slots::Bindings;
 use state::{Step, Used};
 use tok::Texts;
@@ -37,10 +38,8 @@ fn slotted_arguments(
     callee: CallName,
     signature: &Signature,
 ) -> Step<()>
-    requires { Counted texts.now image.now.words image.now.places call.n call.args call.count slots.now types.old used.types signature.now.words signature.now.at
-        bindings.old }
-    ensures { let ps : List Param = (signature_at signature.now.words signature.now.at true).params in
-        Arguments texts.now call.n (call_name texts.now callee) ps image.now.words call.args call.count slots.now types.old
+    requires { Counted texts.now image.now.words image.now.places call.n call.args call.count slots.now types.old used.types signature.now bindings.old }
+    ensures { Arguments texts.now call.n (call_name texts.now callee) signature.now.params image.now.words call.args call.count slots.now types.old
         diagnostics.old messages.old used bindings.old types.new diagnostics.new messages.new bindings.new result }
 {
     let mut used = used;
@@ -97,13 +96,13 @@ pub fn check_slotted(
     callee: CallName,
     signature: &Signature,
 ) -> Step<Answer>
-    requires { SlottedReady texts.now image.now.words image.now.places call.n call.args call.count slots.old types.old used.types signature.now.words
-        signature.now.at pairs.old }
+    requires { SlottedReady texts.now image.now.words image.now.places call.n call.args call.count slots.old types.old used.types signature.now
+        pairs.old }
     ensures { ((ls : List Package) (v : ℕ) →
         let given : List Provided = given_from image.now.words call.args call.count in
         let name : List ℕ = call_name texts.now callee in
-        Steps (check_call_args (ctx texts.now ls v) call.n call.slot token name (signature_at signature.now.words signature.now.at true) given) slots.old
-        types.old diagnostics.old messages.old used slots.new types.new diagnostics.new messages.new result) }
+        Steps (check_call_args (ctx texts.now ls v) call.n call.slot token name (as_slotted signature.now) given) slots.old types.old
+        diagnostics.old messages.old used slots.new types.new diagnostics.new messages.new result) }
 {
     let required = signature.argument_count();
     if call.count != required {

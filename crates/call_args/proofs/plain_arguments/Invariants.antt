@@ -1,10 +1,8 @@
 -- `call_args::plain_arguments` meets its contract. The loop's invariant: i arguments are done, the others follow; the measure is how many do.
 -- Assumes nothing.
 use mathlib.Core.Path.{◌≡◌}
-use mathlib.Core.Bool.{false}
 use lib.ListN.{length}
 use Rattle.call_args.proofs.Plain.{SoFar}
-use Rattle.state.specs.Signatures.{signature_at}
 use Rattle.err.specs.Message.{call_name}
 use Rattle.call_args.proofs.plain_arguments.Given as goal
 
@@ -12,7 +10,6 @@ abbrev pub invariant-loop-i : goal.invariant-loop-i
 invariant-loop-i l =
     let first = l.initial in
     let name = call_name l.texts l.callee in
-    let params = (signature_at l.signature.words l.signature.at false).params in
-    SoFar l.texts l.call.n name params l.image.words l.call.args l.call.count l.slots l.types first.diagnostics first.messages first.used
+    SoFar l.texts l.call.n name l.signature.params l.image.words l.call.args l.call.count l.slots l.types first.diagnostics first.messages first.used
     l.i l.diagnostics l.messages l.used
     × (length l.diagnostics ≡ length first.diagnostics) × (length l.messages ≡ length first.messages)

@@ -1,9 +1,10 @@
 -- `pkg_call::in_library` meets its contract: one function with slots, whose bindings stand in the lent tail of scratch, or a group.
 -- Assumes nothing.
-use mathlib.Core.Path.{refl}
+use mathlib.Core.Path.{◌≡◌, refl, sym, ap, ◌∙◌}
 use native.Mathlib.Omega.{arith}
 use Rattle.pkg_call.proofs.Ready.{group-ready, slotted-ready}
 use Rattle.pkg_call.proofs.Returns.{front-stays, library-calls, slotted-calls}
+use Rattle.pkg_group.specs.GroupSize.{group_size}
 use Rattle.pkg_call.proofs.in_library.Goals as goal
 
 pub in_group-requires : goal.in_group-requires
@@ -11,14 +12,13 @@ in_group-requires c =
     group-ready c.requires.ready refl c.find_candidates-found.ensures c.in_default.not-Slotted
 
 pub returns-in_default : goal.returns-in_default
-returns-in_default c =
-    library-calls _ c.functions_at-entries.ensures _ c.in_group.ensures
+returns-in_default c = library-calls _ _ (rw c.candidates_at-group.ensures at c.in_group.ensures)
 
 pub check_slotted-requires : goal.check_slotted-requires
 check_slotted-requires c =
-    slotted-ready c.requires _ c.functions_at-entries.ensures c.find_candidates-found.ensures c.in-Slotted.is
+    slotted-ready c.requires _ (sym (ap group_size c.candidates_at-group.ensures) ∙ c.find_candidates-found.ensures) c.in-Slotted.is
 
 pub returns : goal.returns
 returns c =
     let l = front-stays _ _ (omega (arith, c.requires.ready.long)) in
-    slotted-calls _ c.functions_at-entries.ensures c.find_candidates-found.ensures c.in-Slotted.is c.check_slotted.ensures l
+    slotted-calls _ (sym (ap group_size c.candidates_at-group.ensures) ∙ c.find_candidates-found.ensures) c.in-Slotted.is c.check_slotted.ensures l

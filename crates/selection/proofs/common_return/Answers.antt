@@ -1,17 +1,24 @@
--- `selection::common_return` meets its contract: no candidate, all return the first's type, or not. Assumes nothing.
-use Rattle.std.proofs.Common.{rules}
-use Rattle.selection.proofs.Ways.{over-is, one-is, common_none, common_known, common_poison}
+-- `selection::common_return` meets its contract: all return the first's type, or not. Assumes nothing.
+use Rattle.std.proofs.Common.{rules, refl, sym, ◌∙◌}
+use Rattle.std.proofs.lemmas.Iterator.Consumers.{YieldsList-from_first}
+use Rattle.std.proofs.lemmas.Iterator.Search.{all_from_yields_List}
+use borrow.Author.Tests.{tests}
+use Rattle.ptype.specs.Ty.{same_ty}
+use Rattle.ptype.specs.Words.{ty_of}
+use Rattle.selection.proofs.Ways.{common_known, common_poison}
 use Rattle.selection.proofs.common_return.Goals as goal
 
-pub returns-in_default : goal.returns-in_default
-returns-in_default c = common_none _ _ _ _ _ (over-is _ _ _ _ c.find.ensures c.in_default.is)
-
-pub returns-then-all_return : goal.returns-then-all_return
-returns-then-all_return c =
-    let a = rw c.after.ensures at c.all_return.ensures in
-    common_known _ _ _ _ _ _ _ _ (one-is _ _ _ _ c.find.ensures c.in-Some.is) (search rules) a c.if-all_return.true c.set_known.ensures
+pub returns-then-all : goal.returns-then-all
+returns-then-all c =
+    let U = ty_of c.args.texts.now c.args.types.now in
+    let a = all_from_yields_List (λ f. same_ty (U f.ret) (U c.return_type-ret.result)) _ _ c.all.result c.all.ensures.ran
+    (YieldsList-from_first (λ f. f) (λ fs. fs) c.next.new.self refl) (λ x b q k. search (rules, tests)) in
+    common_known _ _ _ _ _ (sym c.iter-others.ensures ∙ c.in-Some.ensures.steps) (rw c.return_type-ret.ensures at a) c.if-all.true
+    (rw c.return_type-ret.ensures at c.set_known.ensures)
 
 pub returns : goal.returns
 returns c =
-    let a = rw c.after.ensures at c.all_return.ensures in
-    common_poison _ _ _ _ _ _ _ _ (one-is _ _ _ _ c.find.ensures c.in-Some.is) (search rules) a c.if-all_return.false
+    let U = ty_of c.args.texts.now c.args.types.now in
+    let a = all_from_yields_List (λ f. same_ty (U f.ret) (U c.return_type-ret.result)) _ _ c.all.result c.all.ensures.ran
+    (YieldsList-from_first (λ f. f) (λ fs. fs) c.next.new.self refl) (λ x b q k. search (rules, tests)) in
+    common_poison _ _ _ _ _ (sym c.iter-others.ensures ∙ c.in-Some.ensures.steps) (rw c.return_type-ret.ensures at a) c.if-all.false

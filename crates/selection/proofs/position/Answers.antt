@@ -1,24 +1,16 @@
-use Rattle.std.proofs.Common.{ap}
-use Rattle.selection.proofs.Ways.{count-differs, type-differs, alike_next, all_alike, position-goes, position-past, position-none}
+-- `selection::position` meets its contract: the first of the group that fits. Assumes nothing.
+use Rattle.std.proofs.Common.{rules, map, ◌∙◌}
+use Rattle.std.proofs.lemmas.Iterator.Consumers.{YieldsList-from_first}
+use Rattle.std.proofs.lemmas.Iterator.Search.{find_from_yields_List}
+use borrow.Author.Tests.{tests}
+use Rattle.ptype.specs.Words.{ty_of}
+use Rattle.rules.specs.Calls.{overload_matches}
+use Rattle.selection.specs.Candidates.{param_types}
+use Rattle.selection.proofs.Ways.{as_found}
 use Rattle.selection.proofs.position.Goals as goal
 
-pub candidates-preserved-then-argument_count-provided : goal.candidates-preserved-then-argument_count-provided
-candidates-preserved-then-argument_count-provided c =
-    let differs = count-differs _ _ _ _ c.argument_count.ensures c.if-argument_count-provided.true in
-    position-past _ _ _ _ _ _ c.candidates.invariant c.find.ensures c.in-Some.is (ap (λ e. e.words) c.entries.view_is) c.after-left.ensures differs
-
-pub candidates-preserved : goal.candidates-preserved
-candidates-preserved c =
-    let differs = type-differs _ _ _ _ c.loop-i.invariant c.loop-i-test.true c.argument_type-expected.ensures c.word_at.ensures c.same_type.ensures c.if-not-same_type.true in
-    position-past _ _ _ _ _ _ c.candidates.invariant c.find.ensures c.in-Some.is (ap (λ e. e.words) c.entries.view_is) c.after-left.ensures differs
-
-pub loop-i-preserved : goal.loop-i-preserved
-loop-i-preserved c = alike_next _ _ _ _ c.loop-i.invariant c.loop-i-test.true c.argument_type-expected.ensures c.word_at.ensures c.same_type.ensures c.if-not-same_type.false
-
-pub returns-in-Some : goal.returns-in-Some
-returns-in-Some c =
-    let fits = all_alike _ _ _ _ c.loop-i.invariant c.loop-i-test.false in
-    position-goes _ _ _ _ _ _ c.candidates.invariant c.find.ensures c.in-Some.is (ap (λ e. e.words) c.entries.view_is) fits
-
 pub returns : goal.returns
-returns c = position-none _ _ _ _ _ _ c.candidates.invariant c.find.ensures c.in_default.is
+returns c =
+    let U = ty_of c.args.texts.now c.args.types.now in
+    as_found _ ∙ find_from_yields_List (λ f. overload_matches (param_types U f.params) (map U c.args.provided.now)) _ _ c.find.result c.find.ensures.ran
+    (YieldsList-from_first (λ f. f) (λ fs. fs) _ c.iter.ensures) (λ x b q k. search (rules, tests))

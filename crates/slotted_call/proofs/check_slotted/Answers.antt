@@ -6,29 +6,29 @@ use Rattle.slotted_call.proofs.check_slotted.Goals as goal
 
 pub returns-in_err-used : goal.returns-in_err-used
 returns-in_err-used c =
-    miscounted-full _ _ _ _ _ _ _ _ _ _ _ _ _ _ _ c.argument_count-required.ensures c.if-call-required.true (c.report_count.ensures _ _) c.in_err-used.was c.from_residual.ensures.1
+    miscounted-full _ _ _ _ _ c.args.signature.now _ _ _ _ _ _ _ _ c.argument_count-required.ensures c.if-call-required.true (c.report_count.ensures _ _) c.in_err-used.was c.from_residual.ensures.1
 
 pub returns-then-call-required : goal.returns-then-call-required
 returns-then-call-required c =
-    miscounted _ _ _ _ _ _ _ _ _ _ _ _ _ _ _ c.argument_count-required.ensures c.if-call-required.true (c.report_count.ensures _ _) c.in_ok-used.was
+    miscounted _ _ _ _ _ c.args.signature.now _ _ _ _ _ _ _ _ c.argument_count-required.ensures c.if-call-required.true (c.report_count.ensures _ _) c.in_ok-used.was
 
 pub slotted_arguments-requires : goal.slotted_arguments-requires
 slotted_arguments-requires c = record {
   ready = rw c.new-bindings.ensures.none_yet.0 c.requires;
-  counts = λ f. c.if-call-required.false ∙ c.argument_count-required.ensures f;
+  counts = c.if-call-required.false ∙ c.argument_count-required.ensures;
   fresh = c.new-bindings.ensures.none_yet.1;
 }
 
 pub returns-in_err-used-2 : goal.returns-in_err-used-2
 returns-in_err-used-2 c =
-    call-refused _ _ _ _ _ _ _ _ _ _ _ _ _ _ _ c.argument_count-required.ensures c.if-call-required.false c.slotted_arguments.ensures c.in_err-used-2.was c.from_residual-in_err-used-2.ensures.1
+    call-refused _ _ _ _ _ c.args.signature.now _ _ _ _ _ _ _ _ c.argument_count-required.ensures c.if-call-required.false c.slotted_arguments.ensures c.in_err-used-2.was c.from_residual-in_err-used-2.ensures.1
 
 pub returned-requires : goal.returned-requires
 returned-requires c =
-    return-meant _ _ c.args.call.slot c.args.token _ _ _ _ _ _ _ _ _ _ _ c.argument_count-required.ensures c.if-call-required.false c.slotted_arguments.ensures c.in_ok-used-2.was
+    return-meant _ _ c.args.call.slot c.args.token _ c.args.signature.now _ _ _ _ _ _ _ _ c.argument_count-required.ensures c.if-call-required.false c.slotted_arguments.ensures c.in_ok-used-2.was
     c.return_type-ret.ensures c.requires.ret
 
 pub returns : goal.returns
 returns c =
-    call-returned _ _ _ _ _ _ _ _ _ _ _ _ _ _ _ c.argument_count-required.ensures c.if-call-required.false c.slotted_arguments.ensures c.in_ok-used-2.was
+    call-returned _ _ _ _ _ c.args.signature.now _ _ _ _ _ _ _ _ c.argument_count-required.ensures c.if-call-required.false c.slotted_arguments.ensures c.in_ok-used-2.was
     c.return_type-ret.ensures c.returned.ensures

@@ -1,0 +1,7 @@
+-- `selection::fits` meets its contract. The loop's invariant: the types so far are equal. Assumes nothing.
+use Rattle.ptype.specs.Words.{ty_of}
+use Rattle.selection.proofs.Ways.{Alike}
+use Rattle.selection.proofs.fits.Given as goal
+
+abbrev pub invariant-loop-i : goal.invariant-loop-i
+invariant-loop-i l = Alike (ty_of l.texts l.types) l.candidate.params l.provided l.i
