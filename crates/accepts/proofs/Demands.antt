@@ -1,5 +1,6 @@
 -- The mission's demands as theorems: a value of each promise's type (rules: `Promises`). They assume nothing.
-use Rattle.rules.specs.Promises.{Demand1, NamesWellFormed, AnsweredLonger, Larger, LargerWithoutStatements, NothingAdded, PackagesAlone, StatementsAlone, EachVisitedOnce, FunctionsVisited, ImagePlaceCertain, LibraryPlaceCertain}
+use Rattle.rules.specs.Promises.{Demand1, NamesWellFormed, AnsweredLonger, Larger, LargerWithoutStatements, NothingAdded, PackagesAlone}
+use Rattle.rules.specs.Promises.{StatementsAlone, EachVisitedOnce, FunctionsVisited, ImagePlaceCertain, LibraryPlaceCertain}
 use Rattle.tworuns.specs.Longer as L
 use Rattle.tworuns.proofs.Larger as M
 use Rattle.accepts.proofs.Once as O

@@ -1,11 +1,11 @@
 -- Slots of nodes that are still to be visited: each is owned by one of them and has no type yet. A visit leaves all other slots alone, so this
 -- holds of what is left; and a node's own slot then tells whether it was poisoned. Definitions and laws. Assumes nothing.
-use Rattle.std.specs.Prelude.{ℕ, zero, suc, ◌+◌, ◌≤◌, ◌<◌, ◌≡◌, refl, List, [], ◌∷◌, ◌++◌, length, get_or}
-use Rattle.std.proofs.Common.{arith, sym, ap, ◌∙◌}
+use Rattle.std.specs.Prelude.{ℕ, zero, suc, ◌+◌, ◌≤◌, ◌≡◌, List, [], ◌∷◌, ◌++◌, length, get_or}
+use Rattle.std.proofs.Common.{arith, ◌∙◌}
 use Rattle.std.proofs.Math.Decide.{ℕ_discrete}
 use Rattle.tok.specs.declared.Span.{Span}
-use Rattle.tok.specs.Step.{Result, ok, Refusal, next, return}
-use Rattle.ast.specs.TypeExpr.{TypeExpr, Arg}
+use Rattle.tok.specs.Step.{ok, next, return}
+use Rattle.ast.specs.TypeExpr.{TypeExpr}
 use Rattle.ast.specs.Node.{Node, Nodes, Atom, Ident, Bin, Unary, Let, Fn, Match, Call, Field, Cast, Import, Extern, Record, Array, Absent, done, then, slot_of}
 use Rattle.ast.specs.Claims.{count_from}
 use Rattle.rules.specs.declared.Answer.{Answer}
@@ -13,13 +13,14 @@ use Rattle.rules.specs.World.{Ctx, World, Walk}
 use Rattle.rules.specs.Steps.{Done, type_from_expr}
 use Rattle.rules.specs.declared.Member.{Member}
 use Rattle.rules.specs.Rules.{member, condition, node, block, last}
-use Rattle.rules.specs.Visited.{visited_below, visited_among, visited_in_cases, visited_in_values, slots_of}
-use Rattle.laws.specs.SlotsOf.{SlotsOf, SlotsOfAll, PartsOf, last_node, LastOf}
-use Rattle.laws.specs.Keeps.{Keeps, kept, in_next, in_return, in_condition, in_member, in_type_from, in_node, in_block, in_last}
+use Rattle.rules.specs.Visited.{visited_below, visited_among, visited_in_cases, slots_of}
+use Rattle.laws.specs.SlotsOf.{PartsOf, last_node, LastOf}
+use Rattle.laws.specs.Keeps.{Keeps}
+use Rattle.laws.specs.RulesKeep.{in_next, in_return, in_condition, in_member, in_type_from, in_node, in_block, in_last}
 use Rattle.laws.specs.Grow.{kept-ok}
 use Rattle.laws.specs.Still.{Still, Any, Other, still_kept, still-enters}
 use Rattle.laws.specs.Told.{Reads, Tells, told-node, told-block}
-use Rattle.accepts.specs.Count.{total, total-append, one, one_same, one-other, count}
+use Rattle.accepts.specs.Count.{total, total-append, one_same, one-other, count}
 use Rattle.accepts.proofs.Once.{own-slot}
 use Rattle.accepts.proofs.OtherSlots as O
 use Rattle.accepts.proofs.OtherSlots.{owned}
@@ -71,25 +72,25 @@ module _ {A : Type 0} {m : Walk A} {xs : List Node} (h : (a : ℕ) → owned a x
   rule-apart s e = record { same = λ a z. (kept-ok (h a z s) e).still }
 
 pub node-apart : (c : Ctx) (x : Node) (s : World) {u : World} {v : Answer} → node c x s ≡ ok v u → Apart (visited_from x) s.slots u.slots
-node-apart c x s e = rule-apart (λ a z. in_node (Still a) Any (Other a) (still_kept a) (still-enters a) c x (O.slots-hold (Other a) x (none_is a (visited_from x) z))) s e
+node-apart c x s e = rule-apart (λ a z. in_node (still_kept a) (still-enters a) c x (O.slots-hold (Other a) x (none_is a (visited_from x) z))) s e
 
 pub block_apart : (c : Ctx) (xs : Nodes) (s : World) {u : World} {v : Answer} → block c xs s ≡ ok v u → Apart (visited_among xs) s.slots u.slots
-block_apart c xs s e = rule-apart (λ a z. in_block (Still a) Any (Other a) (still_kept a) (still-enters a) c xs (O.among-hold (Other a) xs (none_is a (visited_among xs) z))) s e
+block_apart c xs s e = rule-apart (λ a z. in_block (still_kept a) (still-enters a) c xs (O.among-hold (Other a) xs (none_is a (visited_among xs) z))) s e
 
 pub last_apart : (c : Ctx) (b : Answer) (xs : Nodes) (s : World) {u : World} {v : Answer} → last c b xs s ≡ ok v u → Apart (visited_among xs) s.slots u.slots
-last_apart c b xs s e = rule-apart (λ a z. in_last (Still a) Any (Other a) (still_kept a) (still-enters a) c b xs (O.among-hold (Other a) xs (none_is a (visited_among xs) z))) s e
+last_apart c b xs s e = rule-apart (λ a z. in_last (still_kept a) (still-enters a) c b xs (O.among-hold (Other a) xs (none_is a (visited_among xs) z))) s e
 
 -- what touches no slot: a condition's test, a member compared with the first, a type expression's type
 pub condition-apart : (c : Ctx) (n token : ℕ) (a : Answer) (s : World) {u : World} {v : Done} → condition c n token a s ≡ ok v u → Apart [] s.slots u.slots
-condition-apart c n token b s e = rule-apart (λ a z. in_condition (Still a) Any (Other a) (still_kept a) c n token b) s e
+condition-apart c n token b s e = rule-apart (λ a z. in_condition (still_kept a) c n token b) s e
 
 pub member_apart : {A : Type 0} (c : Ctx) (n : ℕ) (span : Span) (first second : Answer) (f : Member → A) (s : World) {u : World} {v : A}
     → next (member c n span first second s) (λ m. return (f m)) ≡ ok v u → Apart [] s.slots u.slots
 member_apart c n span first second f s e =
-    rule-apart (λ a z. in_next (Still a) Any (Other a) (still_kept a) _ (in_member (Still a) Any (Other a) (still_kept a) c n span first second) λ m. in_return (Still a) Any (Other a) (still_kept a) (f m)) s e
+    rule-apart (λ a z. in_next (still_kept a) _ (in_member (still_kept a) c n span first second) λ m. in_return (still_kept a) (f m)) s e
 
 pub type-from-apart : (c : Ctx) (n : ℕ) (e : TypeExpr) (s : World) {u : World} {v : ℕ} → type_from_expr c n e s ≡ ok v u → Apart [] s.slots u.slots
-type-from-apart c n x s e = rule-apart (λ a z. in_type_from (Still a) Any (Other a) (still_kept a) c n x) s e
+type-from-apart c n x s e = rule-apart (λ a z. in_type_from (still_kept a) c n x) s e
 
 -- ── A node's own slot tells ──
 
@@ -106,7 +107,10 @@ parts-other : (x : Node) → O.Holds (Other (slot_of x)) (visited_below x) → P
 unfolding PartsOf slot_of visited_below
 parts-other (Atom n slot token k) h = tt
 parts-other (Ident n slot name) h = tt
-parts-other (Bin n slot token op l r) h = (O.slots-hold (Other slot) l (O.left (Other slot) (visited_from l) (visited_from r) h), O.slots-hold (Other slot) r (O.right (Other slot) (visited_from l) (visited_from r) h))
+parts-other (Bin n slot token op l r) h = (
+  O.slots-hold (Other slot) l (O.left (Other slot) (visited_from l) (visited_from r) h),
+  O.slots-hold (Other slot) r (O.right (Other slot) (visited_from l) (visited_from r) h),
+)
 parts-other (Unary n slot token op r) h = O.slots-hold (Other slot) r h
 parts-other (Let n slot name r) h = O.slots-hold (Other slot) r h
 parts-other (Fn n slot name ret args body) h =

@@ -17,7 +17,7 @@ use Rattle.accepts.specs.VisitedOf.{visited-every}
 use Rattle.accepts.proofs.OtherSlots.{owned, among-hold}
 
 -- a number that is counted among n from the first on
-counted-low : (s n first : ℕ) → 1 ≤ count s (count_from first n) → s < first + n
+pub counted-low : (s n first : ℕ) → 1 ≤ count s (count_from first n) → s < first + n
 unfolding total count_from
 counted-low s zero first h = absurd (omega arith)
 counted-low s (suc n) first h = elim (ℕ_discrete s first) [

@@ -7,6 +7,10 @@ use Rattle.std.specs.Prelude.{◌≡◌, Bool, true, false, cond, length, get_or
 use Rattle.std.proofs.Math.Path.{refl, sym, ap}
 use Rattle.std.proofs.Common.{◌∙◌}
 use mathlib.Core.List.{List, ◌∷◌, ◌++◌, append_assoc}
+use Rattle.ast.specs.declared.NodeKind.{NodeKind}
+use Rattle.ast.specs.declared.NodeKind.TheVariants as kind
+use Rattle.ast.specs.Kinds.{kind_of_node}
+use Rattle.ast.specs.KindLaws.{NodeNumber, node-number}
 use Rattle.ast.specs.Image.{word_at, node_count, node_place, record_kind, record_length}
 use Rattle.ast.specs.TypeExpr.{args_from}
 use Rattle.ast.specs.Node.{Node, nodes_from, cases_from, cases_end, values_from, read_absent, readers, tree_within, tree_of, slot_of}
@@ -58,7 +62,10 @@ module _ (image : List ℕ) where
       let e : at + 2 + 1 ≡ at + 1 + 2 = omega arith in
       rw (tree-number image (word_at image (at + 1))) (ap (λ (l : List ℕ). word_at image (at + 1) ∷ l) (values-numbers k (at + 2) ∙ ap (λ (p : ℕ). parts_from image 2 p k) e))
 
-  cases-numbers : (end k at : ℕ) → case_numbers (cases_from (tree_of image) image at k) ++ numbers_of (nodes_from (tree_of image) image (cases_end image at k + 1) (end - (cases_end image at k + 1))) ≡ case_parts image end at k
+  cases-numbers : (end k at : ℕ)
+      → case_numbers (cases_from (tree_of image) image at k)
+      ++ numbers_of (nodes_from (tree_of image) image (cases_end image at k + 1) (end - (cases_end image at k + 1)))
+      ≡ case_parts image end at k
   unfolding case_numbers cases_from cases_end case_parts
   cases-numbers end zero at = nodes-numbers (end - (at + 1)) (at + 1)
   cases-numbers end (suc k) at =
@@ -108,20 +115,20 @@ module _ {text image : List ℕ} (a : Accepted text image) (n : ℕ) (l : n < no
         entry = rw (o.number, e) (o.entry ∙ sym (entry-kind (eqb k 5) (word_at image (at + 4)) 0));
       })
 
-  by_kind : (k : ℕ) → record_kind image at ≡ k → OfImage image (tree_of image n)
+  by_kind : (x : NodeKind) → NodeNumber x (record_kind image at) → OfImage image (tree_of image n)
   unfolding number_of slot_of arguments_of entry_length visited_parts parts_by_kind total
-  by_kind zero e = outlined 0 _ e (tree-atom a n l e) (record { number = refl; slot = refl; arguments = refl; entry = refl; parts = λ m. omega arith })
-  by_kind (suc zero) e = outlined 1 _ e (tree-ident a n l e) (record { number = refl; slot = refl; arguments = refl; entry = refl; parts = λ m. omega arith })
-  by_kind (suc (suc zero)) e =
+  by_kind kind.Atom e = outlined 0 _ e (tree-atom a n l e) (record { number = refl; slot = refl; arguments = refl; entry = refl; parts = λ m. omega arith })
+  by_kind kind.Ident e = outlined 1 _ e (tree-ident a n l e) (record { number = refl; slot = refl; arguments = refl; entry = refl; parts = λ m. omega arith })
+  by_kind kind.Bin e =
       outlined 2 _ e (tree-bin a n l e)
       (record { number = refl; slot = refl; arguments = refl; entry = refl; parts = λ m. rw (tree-number image (word_at image (at + 4)), tree-number image (word_at image (at + 5))) (omega arith) })
-  by_kind (suc (suc (suc zero))) e =
+  by_kind kind.Unary e =
       outlined 3 _ e (tree-unary a n l e)
       (record { number = refl; slot = refl; arguments = refl; entry = refl; parts = λ m. rw (tree-number image (word_at image (at + 4))) (omega arith) })
-  by_kind (suc (suc (suc (suc zero)))) e =
+  by_kind kind.Let e =
       outlined 4 _ e (tree_let a n l e)
       (record { number = refl; slot = refl; arguments = refl; entry = refl; parts = λ m. rw (tree-number image (word_at image (at + 3))) (omega arith) })
-  by_kind (suc (suc (suc (suc (suc zero))))) e =
+  by_kind kind.Fn e =
       let k : ℕ = word_at image (at + 4) in
       outlined 5 _ e (tree-fn a n l e)
       (record {
@@ -131,7 +138,7 @@ module _ {text image : List ℕ} (a : Accepted text image) (n : ℕ) (l : n < no
         entry = ap (λ (x : ℕ). 3 + 2 * x) (args-length image k (at + 5));
         parts = λ m. le_of_eq (ap (count m) (nodes-numbers image (record_length image at - (5 + 2 * k)) (at + 5 + 2 * k)));
       })
-  by_kind (suc (suc (suc (suc (suc (suc zero)))))) e =
+  by_kind kind.Match e =
       outlined 6 _ e (tree-match a n l e)
       (record {
         number = refl;
@@ -140,7 +147,7 @@ module _ {text image : List ℕ} (a : Accepted text image) (n : ℕ) (l : n < no
         entry = refl;
         parts = λ m. le_of_eq (ap (count m) (cases-numbers image (at + record_length image at) (word_at image (at + 2)) (at + 3)));
       })
-  by_kind (suc (suc (suc (suc (suc (suc (suc zero))))))) e =
+  by_kind kind.Call e =
       outlined 7 _ e (tree-call a n l e)
       (record {
         number = refl;
@@ -149,15 +156,17 @@ module _ {text image : List ℕ} (a : Accepted text image) (n : ℕ) (l : n < no
         entry = refl;
         parts = λ m. omega (arith, ap (count m) (nodes-numbers image (record_length image at - 3) (at + 3)));
       })
-  by_kind (suc (suc (suc (suc (suc (suc (suc (suc zero)))))))) e =
+  by_kind kind.Field e =
       outlined 8 _ e (tree-field a n l e)
       (record { number = refl; slot = refl; arguments = refl; entry = refl; parts = λ m. rw (tree-number image (word_at image (at + 2))) (omega arith) })
-  by_kind (suc (suc (suc (suc (suc (suc (suc (suc (suc zero))))))))) e =
+  by_kind kind.Cast e =
       outlined 9 _ e (tree-cast a n l e)
       (record { number = refl; slot = refl; arguments = refl; entry = refl; parts = λ m. rw (tree-number image (word_at image (at + 3))) (omega arith) })
-  by_kind (suc (suc (suc (suc (suc (suc (suc (suc (suc (suc zero)))))))))) e = outlined 10 _ e (tree_import a n l e) (record { number = refl; slot = refl; arguments = refl; entry = refl; parts = λ m. omega arith })
-  by_kind (suc (suc (suc (suc (suc (suc (suc (suc (suc (suc (suc zero))))))))))) e = outlined 11 _ e (tree-extern a n l e) (record { number = refl; slot = refl; arguments = refl; entry = refl; parts = λ m. omega arith })
-  by_kind (suc (suc (suc (suc (suc (suc (suc (suc (suc (suc (suc (suc zero)))))))))))) e =
+  by_kind kind.Import e =
+      outlined 10 _ e (tree_import a n l e) (record { number = refl; slot = refl; arguments = refl; entry = refl; parts = λ m. omega arith })
+  by_kind kind.Extern e =
+      outlined 11 _ e (tree-extern a n l e) (record { number = refl; slot = refl; arguments = refl; entry = refl; parts = λ m. omega arith })
+  by_kind kind.Record e =
       let p : at + 3 + 1 ≡ at + 4 = omega arith in
       outlined 12 _ e (tree_record a n l e)
       (record {
@@ -167,7 +176,7 @@ module _ {text image : List ℕ} (a : Accepted text image) (n : ℕ) (l : n < no
         entry = refl;
         parts = λ m. le_of_eq (ap (count m) (values-numbers image ((record_length image at - 3) / 2) (at + 3) ∙ ap (λ (x : ℕ). parts_from image 2 x ((record_length image at - 3) / 2)) p));
       })
-  by_kind (suc (suc (suc (suc (suc (suc (suc (suc (suc (suc (suc (suc (suc zero))))))))))))) e =
+  by_kind kind.Array e =
       outlined 13 _ e (tree-array a n l e)
       (record {
         number = refl;
@@ -176,7 +185,7 @@ module _ {text image : List ℕ} (a : Accepted text image) (n : ℕ) (l : n < no
         entry = refl;
         parts = λ m. le_of_eq (ap (count m) (nodes-numbers image (record_length image at - 3) (at + 3)));
       })
-  by_kind (suc (suc (suc (suc (suc (suc (suc (suc (suc (suc (suc (suc (suc (suc k)))))))))))))) e = absurd (let h = (a.node n l).words.kind in omega arith)
+  by_kind kind.None e = absurd (let h = (a.node n l).words.kind in omega arith)
 
   pub of_image : OfImage image (tree_of image n)
-  of_image = by_kind (record_kind image at) refl
+  of_image = by_kind (kind_of_node (record_kind image at)) (node-number (record_kind image at) refl)

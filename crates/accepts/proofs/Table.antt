@@ -23,7 +23,8 @@ use Rattle.rules.specs.Walk.{empty_slots, start_of, copy_pool, walk, walk_of}
 use Rattle.rules.specs.Check.{end_of, unless_refused, check_of}
 use Rattle.rules.specs.Promises.{StaysPast, AnswerHolds, TableHolds}
 use Rattle.laws.specs.SlotsOf.{all_among_lem}
-use Rattle.laws.specs.Keeps.{Keeps, kept, stopped, at-when, at-walk}
+use Rattle.laws.specs.Keeps.{Keeps, kept, stopped}
+use Rattle.laws.specs.RulesKeep.{at-when, at-walk}
 use Rattle.laws.specs.Writes.{length-write, past-write}
 use Rattle.laws.specs.Grow.{Grew, Grow, Walked, full, deep, told, walk_grows}
 use Rattle.laws.specs.Limits.{Within, Stays, limits_kept, limits_enters}
@@ -59,8 +60,8 @@ Any k = Unit {0}
 walk_limits : (i : Inputs) (b : Buffers) → Keeps Stays Any (start_of i b) (walk_of i b)
 unfolding walk_of walk copy_pool
 walk_limits i b =
-    at-walk Stays Any Any limits_kept limits_enters i (root_count i.image) (start_of i b) (all_among_lem (λ _. tt) _)
-    (at-when Stays Any Any limits_kept _ _ _ (start_of i b)
+    at-walk limits_kept limits_enters i (root_count i.image) (start_of i b) (all_among_lem (λ _. tt) _)
+    (at-when limits_kept _ _ _ (start_of i b)
     (λ e. kept {u = with_types (start_of i b) (buffer (write (start_of i b).types.words 0 (pool_of i.library)) (length (pool_of i.library)))} (λ h. record {
       types = rw (length-write (start_of i b).types.words 0 (pool_of i.library)) (leb-true (length (pool_of i.library)) (type_room (start_of i b).types) e);
       diagnostics = h.diagnostics;

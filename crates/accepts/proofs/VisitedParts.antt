@@ -1,12 +1,12 @@
 -- The numbers of a node's visited parts, and the words of the functions buffer that are its own. What is visited below some nodes
 -- are these nodes' visited parts and those of what is visited below them. By induction on trees. Assumes nothing.
-use Rattle.std.specs.Prelude.{ℕ, ◌+◌, ◌*◌, ◌≡◌, List, [], ◌∷◌, ◌++◌, length}
+use Rattle.std.specs.Prelude.{ℕ, ◌+◌, ◌≡◌, List, ◌∷◌, ◌++◌}
 use Rattle.std.proofs.Common.{arith}
 use Rattle.std.proofs.Math.Path.{refl}
 use Rattle.ast.specs.Node.{Node, Nodes, Cases, Values, Atom, Ident, Bin, Unary, Let, Fn, Match, Call, Field, Cast, Import, Extern, Record, Array, Absent, done, then, no_case, case, no_value, value}
 use Rattle.rules.specs.Visited.{visited_below, visited_among, visited_in_cases, visited_in_values, number_of}
 use Rattle.accepts.specs.Count.{total, total-append, one, count}
-use Rattle.accepts.specs.VisitedParts.{numbers_of, case_numbers, value_numbers, visited_parts, entry_length}
+use Rattle.accepts.specs.VisitedParts.{numbers_of, case_numbers, value_numbers, visited_parts}
 
 -- ── What is visited ──
 
@@ -54,7 +54,9 @@ module _ (m : ℕ) where
     below_sum (Let n slot name r) = omega (arith, below_sum r)
     below_sum (Fn n slot name ret args body) = among_sum body
     below_sum (Match n slot cs token d) =
-        omega (arith, cases_sum cs, among_sum d, nodes-after (visited_in_cases cs) (visited_among d), parts-after (visited_in_cases cs) (visited_among d), total-append (one m) (case_numbers cs) (numbers_of d))
+        let nodes = nodes-after (visited_in_cases cs) (visited_among d) in
+        let parts = parts-after (visited_in_cases cs) (visited_among d) in
+        omega (arith, cases_sum cs, among_sum d, nodes, parts, total-append (one m) (case_numbers cs) (numbers_of d))
     below_sum (Call n slot target args) = among_sum args
     below_sum (Field n slot target name) = omega (arith, below_sum target)
     below_sum (Cast n slot token l t) = omega (arith, below_sum l)

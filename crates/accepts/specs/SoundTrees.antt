@@ -11,15 +11,23 @@ use Rattle.tok.proofs.NameLaws.{good_name-payload}
 use Rattle.ptype.specs.Kinds.{Plain, one_of}
 use Rattle.ptype.specs.Inside.{Lies}
 use Rattle.ptype.proofs.GrowLaws.{accepted-lies}
+use Rattle.ast.specs.declared.NodeKind.{NodeKind}
+use Rattle.ast.specs.declared.NodeKind.TheVariants as kind
+use Rattle.ast.specs.declared.ExprKind.{ExprKind}
+use Rattle.ast.specs.declared.ExprKind.TheVariants as expr
+use Rattle.ast.specs.Kinds.{kind_of_node, kind_of_expr}
+use Rattle.ast.specs.KindLaws.{NodeNumber, node-number, ExprNumber, expr-number}
 use Rattle.ast.specs.Image.{word_at, node_count, type_count, root_count, slot_count, node_place, type_place, record_kind}
 use Rattle.ast.specs.TypeExpr.{type_fields_from, type_of, args_from}
-use Rattle.ast.specs.Node.{Node, Atom, Ident, Bin, Unary, Let, Fn, Match, Call, Field, Cast, Import, Extern, Record, Array, Absent, nodes_from, cases_from, values_from, words_from, externs_from, tree_of, first_roots, roots_of}
+use Rattle.ast.specs.Node.{Node, nodes_from, cases_from, values_from, words_from, externs_from, tree_of, first_roots, roots_of}
+use Rattle.ast.specs.Node.{Atom, Ident, Bin, Unary, Let, Fn, Match, Call, Field, Cast, Import, Extern, Record, Array, Absent}
 use Rattle.ast.specs.Outline.{Counts}
 use Rattle.ast.specs.NodeRecords.{callable}
 use Rattle.image_laws.specs.OutlineAt.{outline_at}
 use Rattle.image_laws.specs.Many.{Each}
 use Rattle.image_laws.specs.RecordWords.{Named, Under, Pair, CasesWords, default_words, case_words, FunctionsWords, no_functions, function_words}
-use Rattle.image_laws.proofs.NodesRead.{NodeRead, atom-words, ident-words, bin-words, unary-words, let_words, fn-words, match-words, call-words, field-words, cast-words, import_words, extern-words, record_words, array-words}
+use Rattle.image_laws.proofs.NodesRead.{NodeRead, atom-words, ident-words, bin-words, unary-words, let_words, fn-words, match-words}
+use Rattle.image_laws.proofs.NodesRead.{call-words, field-words, cast-words, import_words, extern-words, record_words, array-words}
 use Rattle.image_laws.proofs.TypeLaws.{type-atom-words, type-foreign-words, type-option-words, type-array-words, type_record_words}
 use Rattle.image_laws.proofs.Accepted.{Accepted, counts_in}
 use Rattle.trees.specs.SameWords.{each_first, each-rest, cases_default}
@@ -82,25 +90,29 @@ module _ (t : Texts) {image : List ℕ} (a : Accepted t.script image) where
 
   -- ── Types ──
 
-  fields_sound : (bound : ℕ) → ((p : ℕ) → p < bound → SoundType Low In (type_of image p)) → (k at : ℕ) → Each (Pair t.script bound image) 2 at k → SoundTypes Low In (type_fields_from (type_of image) image at k)
+  fields_sound : (bound : ℕ) → ((p : ℕ) → p < bound → SoundType Low In (type_of image p)) → (k at : ℕ)
+      → Each (Pair t.script bound image) 2 at k → SoundTypes Low In (type_fields_from (type_of image) image at k)
   unfolding SoundType type_fields_from
   fields_sound bound go zero at e = tt
   fields_sound bound go (suc k) at e =
       let p = each_first (Pair t.script bound image) e in
       (lies p.name, go (word_at image (at + 1)) p.value.under, fields_sound bound go k (at + 2) (each-rest (Pair t.script bound image) e))
 
-  type-by : (n : ℕ) (l : n < type_count image) → ((p : ℕ) → p < n → SoundType Low In (type_of image p)) → (k : ℕ) → record_kind image (type_place image n) ≡ k → SoundType Low In (type_of image n)
+  type-by : (n : ℕ) (l : n < type_count image) → ((p : ℕ) → p < n → SoundType Low In (type_of image p))
+      → (x : ExprKind) → ExprNumber x (record_kind image (type_place image n)) → SoundType Low In (type_of image n)
   unfolding SoundType
-  type-by n l go zero e = rw (tree-type-atom a n l e) (plain-low _ (type-atom-words (a.type n l) e).most)
-  type-by n l go (suc zero) e = rw (tree-type-foreign a n l e) (lies (type-foreign-words (a.type n l) e).token)
-  type-by n l go (suc (suc zero)) e = rw (tree-type-option a n l e) (go _ (type-option-words (a.type n l) e).inner.under)
-  type-by n l go (suc (suc (suc zero))) e = rw (tree-type-array a n l e) (go _ (type-array-words (a.type n l) e).inner.under)
-  type-by n l go (suc (suc (suc (suc zero)))) e = rw (tree-type_record a n l e) (fields_sound n go _ _ (type_record_words (a.type n l) e).fields)
-  type-by n l go (suc (suc (suc (suc (suc k))))) e = absurd (let h = (a.type n l).words.kind in omega arith)
+  type-by n l go expr.Atom e = rw (tree-type-atom a n l e) (plain-low _ (type-atom-words (a.type n l) e).most)
+  type-by n l go expr.Foreign e = rw (tree-type-foreign a n l e) (lies (type-foreign-words (a.type n l) e).token)
+  type-by n l go expr.Option e = rw (tree-type-option a n l e) (go _ (type-option-words (a.type n l) e).inner.under)
+  type-by n l go expr.Array e = rw (tree-type-array a n l e) (go _ (type-array-words (a.type n l) e).inner.under)
+  type-by n l go expr.Record e = rw (tree-type_record a n l e) (fields_sound n go _ _ (type_record_words (a.type n l) e).fields)
+  type-by n l go expr.None e = absurd (let h = (a.type n l).words.kind in omega arith)
 
   type-deep : (f n : ℕ) → n < f → n < type_count image → SoundType Low In (type_of image n)
   type-deep zero n h l = absurd (omega arith)
-  type-deep (suc f) n h l = type-by n l (λ p q. type-deep f p (omega arith) (omega arith)) (record_kind image (type_place image n)) refl
+  type-deep (suc f) n h l =
+      let k : ℕ = record_kind image (type_place image n) in
+      type-by n l (λ p q. type-deep f p (omega arith) (omega arith)) (kind_of_expr k) (expr-number k refl)
 
   pub type_sound : (n : ℕ) → n < type_count image → SoundType Low In (type_of image n)
   type_sound n l = type-deep (type_count image) n l l
@@ -164,33 +176,41 @@ module _ (t : Texts) {image : List ℕ} (a : Accepted t.script image) where
       own : Low (word_at image (node_place image n + 1))
       own = r.words.slot.under
 
-      by_kind : (k : ℕ) → record_kind image (node_place image n) ≡ k → Sound Low In (tree_of image n)
+      by_kind : (x : NodeKind) → NodeNumber x (record_kind image (node_place image n)) → Sound Low In (tree_of image n)
       unfolding Sound
-      by_kind zero e = rw (tree-atom a n l e) (own, plain-low _ (atom-words r e).most)
-      by_kind (suc zero) e = rw (tree-ident a n l e) (own, lies (ident-words r e).name)
-      by_kind (suc (suc zero)) e = let w = bin-words r e in rw (tree-bin a n l e) (own, go _ w.left.under, go _ w.right.under)
-      by_kind (suc (suc (suc zero))) e = rw (tree-unary a n l e) (own, go _ (unary-words r e).right.under)
-      by_kind (suc (suc (suc (suc zero)))) e = let w = let_words r e in rw (tree_let a n l e) (own, lies w.name, go _ w.right.under)
-      by_kind (suc (suc (suc (suc (suc zero))))) e =
+      by_kind kind.Atom e = rw (tree-atom a n l e) (own, plain-low _ (atom-words r e).most)
+      by_kind kind.Ident e = rw (tree-ident a n l e) (own, lies (ident-words r e).name)
+      by_kind kind.Bin e = let w = bin-words r e in rw (tree-bin a n l e) (own, go _ w.left.under, go _ w.right.under)
+      by_kind kind.Unary e = rw (tree-unary a n l e) (own, go _ (unary-words r e).right.under)
+      by_kind kind.Let e = let w = let_words r e in rw (tree_let a n l e) (own, lies w.name, go _ w.right.under)
+      by_kind kind.Fn e =
           let w = fn-words r e in
           let s = w.slots in
-          rw (tree-fn a n l e)
-          (own, lies w.name, type_sound _ w.ret.under, args_sound _ _ w.args, args_low (word_at image (node_place image n + 4)) (node_place image n + 5) (word_at image (node_place image n + 1) + 1) (omega arith), nodes_sound _ _ w.body)
-      by_kind (suc (suc (suc (suc (suc (suc zero)))))) e = let w = match-words r e in rw (tree-match a n l e) (own, cases_sound w.cases, nodes_sound _ _ (cases_default w.cases))
-      by_kind (suc (suc (suc (suc (suc (suc (suc zero))))))) e =
+          rw (tree-fn a n l e) (
+            own,
+            lies w.name,
+            type_sound _ w.ret.under,
+            args_sound _ _ w.args,
+            args_low (word_at image (node_place image n + 4)) (node_place image n + 5) (word_at image (node_place image n + 1) + 1) (omega arith),
+            nodes_sound _ _ w.body,
+          )
+      by_kind kind.Match e = let w = match-words r e in rw (tree-match a n l e) (own, cases_sound w.cases, nodes_sound _ _ (cases_default w.cases))
+      by_kind kind.Call e =
           let w = call-words r e in
           rw (tree-call a n l e) (own, callee_sound l w.target.under w.callable, nodes_sound _ _ w.args)
-      by_kind (suc (suc (suc (suc (suc (suc (suc (suc zero)))))))) e = let w = field-words r e in rw (tree-field a n l e) (own, go _ w.target.under, lies w.name)
-      by_kind (suc (suc (suc (suc (suc (suc (suc (suc (suc zero))))))))) e = let w = cast-words r e in rw (tree-cast a n l e) (own, go _ w.left.under, type_sound _ w.type.under)
-      by_kind (suc (suc (suc (suc (suc (suc (suc (suc (suc (suc zero)))))))))) e = rw (tree_import a n l e) (own, names_sound _ _ (import_words r e).paths)
-      by_kind (suc (suc (suc (suc (suc (suc (suc (suc (suc (suc (suc zero))))))))))) e = let w = extern-words r e in rw (tree-extern a n l e) (own, lies w.name, externs_sound w.functions)
-      by_kind (suc (suc (suc (suc (suc (suc (suc (suc (suc (suc (suc (suc zero)))))))))))) e = rw (tree_record a n l e) (own, values_sound _ _ (record_words r e).values)
-      by_kind (suc (suc (suc (suc (suc (suc (suc (suc (suc (suc (suc (suc (suc zero))))))))))))) e = rw (tree-array a n l e) (own, nodes_sound _ _ (array-words r e).members)
-      by_kind (suc (suc (suc (suc (suc (suc (suc (suc (suc (suc (suc (suc (suc (suc k)))))))))))))) e = absurd (let h = r.words.kind in omega arith)
+      by_kind kind.Field e = let w = field-words r e in rw (tree-field a n l e) (own, go _ w.target.under, lies w.name)
+      by_kind kind.Cast e = let w = cast-words r e in rw (tree-cast a n l e) (own, go _ w.left.under, type_sound _ w.type.under)
+      by_kind kind.Import e = rw (tree_import a n l e) (own, names_sound _ _ (import_words r e).paths)
+      by_kind kind.Extern e = let w = extern-words r e in rw (tree-extern a n l e) (own, lies w.name, externs_sound w.functions)
+      by_kind kind.Record e = rw (tree_record a n l e) (own, values_sound _ _ (record_words r e).values)
+      by_kind kind.Array e = rw (tree-array a n l e) (own, nodes_sound _ _ (array-words r e).members)
+      by_kind kind.None e = absurd (let h = r.words.kind in omega arith)
 
   deep : (f n : ℕ) → n < f → n < node_count image → Sound Low In (tree_of image n)
   deep zero n h l = absurd (omega arith)
-  deep (suc f) n h l = by_kind n (λ p q. deep f p (omega arith) (omega arith)) l (record_kind image (node_place image n)) refl
+  deep (suc f) n h l =
+      let k : ℕ = record_kind image (node_place image n) in
+      by_kind n (λ p q. deep f p (omega arith) (omega arith)) l (kind_of_node k) (node-number k refl)
 
   -- THE LAW
   pub roots_sound : SoundAll (λ slot. slot < slot_count image) (Lies t) (roots_of image)

@@ -10,7 +10,8 @@ use Rattle.tok.specs.Text.{Texts}
 use Rattle.tok.specs.Step.{◌>>=◌}
 use Rattle.tok.specs.Reader.{Read, word, many, start, most_words, most_bytes}
 use Rattle.ast.specs.Outline.{Outline, Counts, Here, typed_name, typed_names}
-use Rattle.ast.specs.NodeRecords.{atom, ident, bin, unary, binding, good_arguments, fn, cases, match, call, field, cast, imports, good_extern_count, extern_functions, good_function_count, extern, named_part, record_node, array}
+use Rattle.ast.specs.NodeRecords.{atom, ident, bin, unary, binding, good_arguments, fn, cases, match, call, field, cast, imports}
+use Rattle.ast.specs.NodeRecords.{good_extern_count, extern_functions, good_function_count, extern, named_part, record_node, array}
 use Rattle.ast.specs.Nodes.{Kind, node_kinds, node_kind, good_node_head, node, nodes}
 use Rattle.ast.specs.TypeRecords.{TypeKind, TypeRule, type_atom, type_foreign, type_inner, type_field, type_record, type_kinds, type_kind, good_type_head, type_expression, type_expressions}
 use Rattle.ast.specs.ImageFault.{image, image_read, image_fault}

@@ -1,24 +1,23 @@
 -- Refusal 2: a library that agrees with a refused one up to and including the offending word is refused at the same word. A pool word's rule
 -- asks only pool words before it; the rules of packages are asked where the pool stands whole before them. Assumes nothing.
 use Prim.Native.Nat.{ℕ, zero, suc, ◌+◌, ◌*◌, ◌≤◌, ◌<◌}
-use Rattle.std.specs.Prelude.{cond, ◌≡◌, List, [], ◌∷◌, ◌++◌, length, get_or, take, drop, leb, ltb, eqb}
+use Rattle.std.specs.Prelude.{cond, ◌≡◌, List, [], ◌∷◌, ◌++◌, length, take, leb, ltb, eqb}
 use Rattle.std.proofs.Math.Path.{refl, ap}
-use Rattle.std.proofs.Common.{sym, ◌∙◌, arith, zero-add, suc-add, length-take, get_or-take, get_or-drop, length-take-le, take-take, lt-ltb, le-ltb}
+use Rattle.std.proofs.Common.{sym, arith, length-take-le, take-take, lt-ltb, le-ltb}
 use Rattle.std.proofs.Math.Option.{none, some}
 use Rattle.std.proofs.Math.Decide.{dec_lt}
-use Rattle.std.proofs.Math.ListN.{get_or-eq_default}
-use Rattle.std.proofs.Math.Seq.{take-nil}
 use Rattle.tok.specs.Word.{kind_of, payload_of}
 use Rattle.tok.specs.Text.{Texts}
 use Rattle.tok.specs.Step.{next, ◌>>=◌, return}
 use Rattle.tok.specs.Reader.{Read, many, start, ends, most_bytes}
 use Rattle.reader.specs.Reading.{standing}
-use Rattle.library.specs.Pool.{Pool, pool_word, good_wrapped, good_record, good_named, good_type, fields, good_pool_word, pairs_after, pool_from}
+use Rattle.library.specs.Pool.{Pool, good_named, good_type, fields, good_pool_word, pairs_after, pool_from}
 use Rattle.library.specs.Package.{Function, Package}
 use Rattle.library.specs.PackageRecords.{argument, function_record, function_records, package_record}
 use Rattle.library.specs.LibraryFault.{pool_read, library, library_read, library_fault}
-use Rattle.certain.specs.Forward.{Onward, onward-return, onward_then, onward-word, Agree, same_word, Alike, both, ForwardTo, Forward, alike_then, alike-map, alike-word, forward-return, forward-then, forward-many, forward-word, forward-ends, PlaceIn, place_in, alike-fault, alike-after, long-fault, long-place, long_after}
-use Rattle.certain.specs.LibraryCertain.{pool-same, wrapped_same, record_same, drop-take}
+use Rattle.certain.specs.Forward.{Onward, onward-return, onward_then, onward-word, Agree, Alike, both, ForwardTo, Forward, alike_then, alike-map, alike-word, forward-return}
+use Rattle.certain.specs.Forward.{forward-then, forward-many, forward-word, forward-ends, PlaceIn, place_in, alike-fault, alike-after, long-fault, long-place, long_after}
+use Rattle.certain.specs.LibraryCertain.{pool-same, wrapped_same, record_same}
 
 -- ── Packages: one pool for both ──
 

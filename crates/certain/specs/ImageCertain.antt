@@ -14,7 +14,8 @@ use Rattle.ast.specs.Nodes.{Kind, node_kinds, node_kind, node, nodes}
 use Rattle.ast.specs.TypeRecords.{TypeKind, type_atom, type_foreign, type_inner, type_field, type_record, type_kinds, type_kind, type_expression, type_expressions}
 use Rattle.ast.specs.ImageFault.{image, image_read, image_fault}
 use Rattle.library.specs.Each.{Each}
-use Rattle.certain.specs.Forward.{Agree, ForwardTo, Forward, forward-return, forward-then, forward-many, forward-word, forward-ends, PlaceIn, place_in, alike-fault, alike-after, long-fault, long-place, long_after}
+use Rattle.certain.specs.Forward.{Agree, ForwardTo, Forward, forward-return, forward-then, forward-many, forward-word, forward-ends}
+use Rattle.certain.specs.Forward.{PlaceIn, place_in, alike-fault, alike-after, long-fault, long-place, long_after}
 
 -- what holds of each of a list, and of what stands for those past its end
 pub each_of : {A : Type 0} (P : A → Type 0) (l : List A) (d : A) → Each P l → P d → (i : ℕ) → P (get_or l i d)

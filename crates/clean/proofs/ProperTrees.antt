@@ -6,15 +6,23 @@ use Rattle.std.specs.Prelude.{◌≡◌, refl, true, List}
 use Rattle.std.proofs.Math.Logic.{inl, inr}
 use Rattle.tok.specs.Text.{Texts}
 use Rattle.ptype.specs.Kinds.{one_of}
+use Rattle.ast.specs.declared.NodeKind.{NodeKind}
+use Rattle.ast.specs.declared.NodeKind.TheVariants as kind
+use Rattle.ast.specs.declared.ExprKind.{ExprKind}
+use Rattle.ast.specs.declared.ExprKind.TheVariants as expr
+use Rattle.ast.specs.Kinds.{kind_of_node, kind_of_expr}
+use Rattle.ast.specs.KindLaws.{NodeNumber, node-number, ExprNumber, expr-number}
 use Rattle.ast.specs.Image.{word_at, node_count, type_count, root_count, slot_count, node_place, type_place, record_kind}
 use Rattle.ast.specs.TypeExpr.{type_fields_from, type_of, args_from}
-use Rattle.ast.specs.Node.{Node, Atom, Ident, Bin, Unary, Let, Fn, Match, Call, Field, Cast, Import, Extern, Record, Array, Absent, nodes_from, cases_from, values_from, words_from, externs_from, tree_of, first_roots, roots_of}
+use Rattle.ast.specs.Node.{Node, nodes_from, cases_from, values_from, words_from, externs_from, tree_of, first_roots, roots_of}
+use Rattle.ast.specs.Node.{Atom, Ident, Bin, Unary, Let, Fn, Match, Call, Field, Cast, Import, Extern, Record, Array, Absent}
 use Rattle.ast.specs.Outline.{Counts}
 use Rattle.ast.specs.NodeRecords.{callable}
 use Rattle.image_laws.specs.OutlineAt.{outline_at}
 use Rattle.image_laws.specs.Many.{Each}
 use Rattle.image_laws.specs.RecordWords.{Named, Under, Pair, CasesWords, default_words, case_words, FunctionsWords, no_functions, function_words}
-use Rattle.image_laws.proofs.NodesRead.{NodeRead, atom-words, ident-words, bin-words, unary-words, let_words, fn-words, match-words, call-words, field-words, cast-words, import_words, extern-words, record_words, array-words}
+use Rattle.image_laws.proofs.NodesRead.{NodeRead, atom-words, ident-words, bin-words, unary-words, let_words, fn-words, match-words}
+use Rattle.image_laws.proofs.NodesRead.{call-words, field-words, cast-words, import_words, extern-words, record_words, array-words}
 use Rattle.image_laws.proofs.TypeLaws.{type-atom-words, type-foreign-words, type-option-words, type-array-words, type_record_words}
 use Rattle.image_laws.proofs.Accepted.{Accepted, counts_in}
 use Rattle.trees.specs.SameWords.{each_first, each-rest, cases_default}
@@ -63,25 +71,29 @@ module _ (t : Texts) {image : List ℕ} (a : Accepted t.script image) (N : ℕ �
 
   -- ── Types ──
 
-  fields-proper : (bound : ℕ) → ((p : ℕ) → p < bound → ProperType (Low image) N (type_of image p)) → (k at : ℕ) → Each (Pair t.script bound image) 2 at k → ProperTypes (Low image) N (type_fields_from (type_of image) image at k)
+  fields-proper : (bound : ℕ) → ((p : ℕ) → p < bound → ProperType (Low image) N (type_of image p)) → (k at : ℕ)
+      → Each (Pair t.script bound image) 2 at k → ProperTypes (Low image) N (type_fields_from (type_of image) image at k)
   unfolding ProperType type_fields_from
   fields-proper bound go zero at e = tt
   fields-proper bound go (suc k) at e =
       let p = each_first (Pair t.script bound image) e in
       (name p.name, go (word_at image (at + 1)) p.value.under, fields-proper bound go k (at + 2) (each-rest (Pair t.script bound image) e))
 
-  type-by : (n : ℕ) (l : n < type_count image) → ((p : ℕ) → p < n → ProperType (Low image) N (type_of image p)) → (k : ℕ) → record_kind image (type_place image n) ≡ k → ProperType (Low image) N (type_of image n)
+  type-by : (n : ℕ) (l : n < type_count image) → ((p : ℕ) → p < n → ProperType (Low image) N (type_of image p))
+      → (x : ExprKind) → ExprNumber x (record_kind image (type_place image n)) → ProperType (Low image) N (type_of image n)
   unfolding ProperType
-  type-by n l go zero e = rw (tree-type-atom a n l e) (let w = type-atom-words (a.type n l) e in record { low = w.least; high = w.most })
-  type-by n l go (suc zero) e = rw (tree-type-foreign a n l e) (name (type-foreign-words (a.type n l) e).token)
-  type-by n l go (suc (suc zero)) e = rw (tree-type-option a n l e) (go _ (type-option-words (a.type n l) e).inner.under)
-  type-by n l go (suc (suc (suc zero))) e = rw (tree-type-array a n l e) (go _ (type-array-words (a.type n l) e).inner.under)
-  type-by n l go (suc (suc (suc (suc zero)))) e = rw (tree-type_record a n l e) (fields-proper n go _ _ (type_record_words (a.type n l) e).fields)
-  type-by n l go (suc (suc (suc (suc (suc k))))) e = absurd (let h = (a.type n l).words.kind in omega arith)
+  type-by n l go expr.Atom e = rw (tree-type-atom a n l e) (let w = type-atom-words (a.type n l) e in record { low = w.least; high = w.most })
+  type-by n l go expr.Foreign e = rw (tree-type-foreign a n l e) (name (type-foreign-words (a.type n l) e).token)
+  type-by n l go expr.Option e = rw (tree-type-option a n l e) (go _ (type-option-words (a.type n l) e).inner.under)
+  type-by n l go expr.Array e = rw (tree-type-array a n l e) (go _ (type-array-words (a.type n l) e).inner.under)
+  type-by n l go expr.Record e = rw (tree-type_record a n l e) (fields-proper n go _ _ (type_record_words (a.type n l) e).fields)
+  type-by n l go expr.None e = absurd (let h = (a.type n l).words.kind in omega arith)
 
   type-deep : (f n : ℕ) → n < f → n < type_count image → ProperType (Low image) N (type_of image n)
   type-deep zero n h l = absurd (omega arith)
-  type-deep (suc f) n h l = type-by n l (λ p q. type-deep f p (omega arith) (omega arith)) (record_kind image (type_place image n)) refl
+  type-deep (suc f) n h l =
+      let k : ℕ = record_kind image (type_place image n) in
+      type-by n l (λ p q. type-deep f p (omega arith) (omega arith)) (kind_of_expr k) (expr-number k refl)
 
   pub type-proper : (n : ℕ) → n < type_count image → ProperType (Low image) N (type_of image n)
   type-proper n l = type-deep (type_count image) n l l
@@ -145,33 +157,41 @@ module _ (t : Texts) {image : List ℕ} (a : Accepted t.script image) (N : ℕ �
       own : (Low image) (word_at image (node_place image n + 1))
       own = r.words.slot.under
 
-      by_kind : (k : ℕ) → record_kind image (node_place image n) ≡ k → Proper (Low image) N (tree_of image n)
+      by_kind : (x : NodeKind) → NodeNumber x (record_kind image (node_place image n)) → Proper (Low image) N (tree_of image n)
       unfolding Proper
-      by_kind zero e = let w = atom-words r e in let k = w.least in rw (tree-atom a n l e) (own, record { low = omega arith; high = w.most })
-      by_kind (suc zero) e = rw (tree-ident a n l e) (own, name (ident-words r e).name)
-      by_kind (suc (suc zero)) e = let w = bin-words r e in rw (tree-bin a n l e) (own, go _ w.left.under, go _ w.right.under)
-      by_kind (suc (suc (suc zero))) e = rw (tree-unary a n l e) (own, go _ (unary-words r e).right.under)
-      by_kind (suc (suc (suc (suc zero)))) e = let w = let_words r e in rw (tree_let a n l e) (own, name w.name, go _ w.right.under)
-      by_kind (suc (suc (suc (suc (suc zero))))) e =
+      by_kind kind.Atom e = let w = atom-words r e in let k = w.least in rw (tree-atom a n l e) (own, record { low = omega arith; high = w.most })
+      by_kind kind.Ident e = rw (tree-ident a n l e) (own, name (ident-words r e).name)
+      by_kind kind.Bin e = let w = bin-words r e in rw (tree-bin a n l e) (own, go _ w.left.under, go _ w.right.under)
+      by_kind kind.Unary e = rw (tree-unary a n l e) (own, go _ (unary-words r e).right.under)
+      by_kind kind.Let e = let w = let_words r e in rw (tree_let a n l e) (own, name w.name, go _ w.right.under)
+      by_kind kind.Fn e =
           let w = fn-words r e in
           let s = w.slots in
-          rw (tree-fn a n l e)
-          (own, name w.name, type-proper _ w.ret.under, args-proper _ _ w.args, args_low (word_at image (node_place image n + 4)) (node_place image n + 5) (word_at image (node_place image n + 1) + 1) (omega arith), nodes-proper _ _ w.body)
-      by_kind (suc (suc (suc (suc (suc (suc zero)))))) e = let w = match-words r e in rw (tree-match a n l e) (own, cases-proper w.cases, nodes-proper _ _ (cases_default w.cases))
-      by_kind (suc (suc (suc (suc (suc (suc (suc zero))))))) e =
+          rw (tree-fn a n l e) (
+            own,
+            name w.name,
+            type-proper _ w.ret.under,
+            args-proper _ _ w.args,
+            args_low (word_at image (node_place image n + 4)) (node_place image n + 5) (word_at image (node_place image n + 1) + 1) (omega arith),
+            nodes-proper _ _ w.body,
+          )
+      by_kind kind.Match e = let w = match-words r e in rw (tree-match a n l e) (own, cases-proper w.cases, nodes-proper _ _ (cases_default w.cases))
+      by_kind kind.Call e =
           let w = call-words r e in
           rw (tree-call a n l e) (own, callee_proper l w.target.under w.callable, nodes-proper _ _ w.args)
-      by_kind (suc (suc (suc (suc (suc (suc (suc (suc zero)))))))) e = let w = field-words r e in rw (tree-field a n l e) (own, go _ w.target.under, name w.name)
-      by_kind (suc (suc (suc (suc (suc (suc (suc (suc (suc zero))))))))) e = let w = cast-words r e in rw (tree-cast a n l e) (own, go _ w.left.under, type-proper _ w.type.under)
-      by_kind (suc (suc (suc (suc (suc (suc (suc (suc (suc (suc zero)))))))))) e = rw (tree_import a n l e) (own, names-proper _ _ (import_words r e).paths)
-      by_kind (suc (suc (suc (suc (suc (suc (suc (suc (suc (suc (suc zero))))))))))) e = let w = extern-words r e in rw (tree-extern a n l e) (own, name w.name, externs_proper w.functions)
-      by_kind (suc (suc (suc (suc (suc (suc (suc (suc (suc (suc (suc (suc zero)))))))))))) e = rw (tree_record a n l e) (own, values-proper _ _ (record_words r e).values)
-      by_kind (suc (suc (suc (suc (suc (suc (suc (suc (suc (suc (suc (suc (suc zero))))))))))))) e = rw (tree-array a n l e) (own, nodes-proper _ _ (array-words r e).members)
-      by_kind (suc (suc (suc (suc (suc (suc (suc (suc (suc (suc (suc (suc (suc (suc k)))))))))))))) e = absurd (let h = r.words.kind in omega arith)
+      by_kind kind.Field e = let w = field-words r e in rw (tree-field a n l e) (own, go _ w.target.under, name w.name)
+      by_kind kind.Cast e = let w = cast-words r e in rw (tree-cast a n l e) (own, go _ w.left.under, type-proper _ w.type.under)
+      by_kind kind.Import e = rw (tree_import a n l e) (own, names-proper _ _ (import_words r e).paths)
+      by_kind kind.Extern e = let w = extern-words r e in rw (tree-extern a n l e) (own, name w.name, externs_proper w.functions)
+      by_kind kind.Record e = rw (tree_record a n l e) (own, values-proper _ _ (record_words r e).values)
+      by_kind kind.Array e = rw (tree-array a n l e) (own, nodes-proper _ _ (array-words r e).members)
+      by_kind kind.None e = absurd (let h = r.words.kind in omega arith)
 
   deep : (f n : ℕ) → n < f → n < node_count image → Proper (Low image) N (tree_of image n)
   deep zero n h l = absurd (omega arith)
-  deep (suc f) n h l = by_kind n (λ p q. deep f p (omega arith) (omega arith)) l (record_kind image (node_place image n)) refl
+  deep (suc f) n h l =
+      let k : ℕ = record_kind image (node_place image n) in
+      by_kind n (λ p q. deep f p (omega arith) (omega arith)) l (kind_of_node k) (node-number k refl)
 
   -- THE LAW of a node
   pub tree-proper : (n : ℕ) → n < node_count image → Proper (λ slot. slot < slot_count image) N (tree_of image n)

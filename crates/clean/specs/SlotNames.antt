@@ -90,7 +90,8 @@ module _ (p : List ℕ → Bool) where
         among-both n (slot_names x) (slot_names_in fs) e (λ i. slots-names x k.0 n i) (λ i. fields-names fs k.1 n i)
 
   -- of the parameters of a signature
-  pub params-names : (t : Texts) (pool : List ℕ) (ps : List Param) → all_slots_are p (map (λ a. ty_of t pool a.type) ps) ≡ true → (n : List ℕ) → name_among n (slots_in t pool (param_types ps)) ≡ true → p n ≡ true
+  pub params-names : (t : Texts) (pool : List ℕ) (ps : List Param) → all_slots_are p (map (λ a. ty_of t pool a.type) ps) ≡ true
+      → (n : List ℕ) → name_among n (slots_in t pool (param_types ps)) ≡ true → p n ≡ true
   unfolding all_slots_are slots_in param_types name_among
   params-names t pool [] h n e = absurd (false≢true e)
   params-names t pool (a ∷ ps) h n e =

@@ -5,7 +5,8 @@ use Rattle.std.proofs.Common.{arith}
 use Rattle.tok.specs.declared.Span.{Span}
 use Rattle.tok.specs.Span.{token_span, least_start, greatest_end, cover_spans}
 use Rattle.ast.specs.TypeExpr.{Arg, type_token}
-use Rattle.ast.specs.Node.{Node, Nodes, Cases, Values, ExternFn, Atom, Ident, Bin, Unary, Let, Fn, Match, Call, Field, Cast, Import, Extern, Record, Array, Absent, done, then, no_case, case, no_value, value}
+use Rattle.ast.specs.Node.{Node, Nodes, Cases, Values, ExternFn}
+use Rattle.ast.specs.Node.{Atom, Ident, Bin, Unary, Let, Fn, Match, Call, Field, Cast, Import, Extern, Record, Array, Absent, done, then, no_case, case, no_value, value}
 use Rattle.ast.specs.Span.{token_spans, arg_spans, extern_spans, span_of, spans_of, case_spans, value_spans}
 use Rattle.err.specs.Report.{as_word}
 use Rattle.onerun.specs.Claim.{All, end, and}

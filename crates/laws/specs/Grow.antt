@@ -11,7 +11,8 @@ use Rattle.err.specs.Report.{six_words, bytes_of, one_more}
 use Rattle.rules.specs.Steps.{Done}
 use Rattle.rules.specs.Walk.{start_of, copy_pool, walk_first}
 use Rattle.laws.specs.SlotsOf.{SlotsOfAll}
-use Rattle.laws.specs.Keeps.{Keeps, kept, stopped, StepsKeep, at-when, at-walk, Enters}
+use Rattle.laws.specs.Keeps.{Keeps, kept, stopped, StepsKeep, Enters}
+use Rattle.laws.specs.RulesKeep.{at-when, at-walk}
 use Rattle.laws.specs.Writes.{length-write, front-write, past-write}
 
 -- b became d: more is used, of as many words; what was used stays, and what lies past the used part. m words to each.
@@ -144,7 +145,7 @@ module _ (v : ℕ) where
   pool_grows : (n : ℕ) (pool : List ℕ) (i : Inputs) (b : Buffers) → Keeps (Grow v) Walked (start_of i b) (copy_pool n pool (start_of i b))
   unfolding copy_pool start_of
   pool_grows n pool i b =
-      at-when (Grow v) Walked Below grow_kept _ _ _ (start_of i b)
+      at-when grow_kept _ _ _ (start_of i b)
       (λ _. kept (record {
         slots_long = refl;
         slots_past = refl;
@@ -157,7 +158,7 @@ module _ (v : ℕ) where
 
   -- the walk of the first k roots: where their slots are below V + 1, every buffer grew, or it is refused with 7, 8 or 9
   pub walk_grows : (i : Inputs) (b : Buffers) (k : ℕ) → SlotsOfAll Below (first_roots i.image k) → Keeps (Grow v) Walked (start_of i b) (walk_first i k (start_of i b))
-  walk_grows i b k h = at-walk (Grow v) Walked Below grow_kept grow_enters i k (start_of i b) h (pool_grows _ _ i b)
+  walk_grows i b k h = at-walk grow_kept grow_enters i k (start_of i b) h (pool_grows _ _ i b)
 
 pub kept-ok : {R : World → World → Type 0} {Q : ℕ → Type 0} {A : Type 0} {s u : World} {a : A} {r : Result World Refusal A} → Keeps R Q s r → r ≡ ok a u → R s u
 kept-ok {R} {Q} {A} {s} {u} {a} h e = go (rw e at h)

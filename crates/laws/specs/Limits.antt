@@ -1,7 +1,7 @@
 -- The limits hold at every point of the walk: an instance of `Keeps` for a predicate of worlds. Assumes nothing.
-use Rattle.std.specs.Prelude.{ℕ, suc, ◌+◌, ◌*◌, ◌/◌, ◌≤◌, min, Bool, true, false, ◌&&◌, ◌≡◌, refl, List, [], ◌∷◌, length, leb, ltb}
-use Rattle.std.proofs.Common.{arith, sym, ap, ◌∙◌, leb-true, ltb-true}
-use Rattle.ptype.specs.Add.{Buffer, buffer, write, append, type_room}
+use Rattle.std.specs.Prelude.{ℕ, suc, ◌+◌, ◌*◌, ◌/◌, ◌≤◌, min, Bool, true, false, ◌&&◌, ◌≡◌, refl, List, length, ltb}
+use Rattle.std.proofs.Common.{arith, leb-true, ltb-true}
+use Rattle.ptype.specs.Add.{Buffer, append, type_room}
 use Rattle.ast.specs.Node.{Node}
 use Rattle.err.specs.Message.{Diagnostic}
 use Rattle.rules.specs.World.{Ctx, World, with_told}
@@ -9,7 +9,8 @@ use Rattle.err.specs.Report.{has_room, one_more, six_words, bytes_of}
 use Rattle.rules.specs.Steps.{output_of}
 use Rattle.rules.specs.Rules.{node}
 use Rattle.laws.specs.SlotsOf.{all_slots}
-use Rattle.laws.specs.Keeps.{Keeps, StepsKeep, in_node, Enters}
+use Rattle.laws.specs.Keeps.{Keeps, StepsKeep, Enters}
+use Rattle.laws.specs.RulesKeep.{in_node}
 use Rattle.laws.specs.Writes.{length-write}
 
 -- "At most 8,192 words of the types buffer, 256 diagnostics and 65,536 message bytes are used", and no more than are lent
@@ -44,7 +45,8 @@ told-room : (d : Diagnostic) (s : World) → has_room (output_of s) d ≡ true �
 told-room d s e h = record {
   types = h.types;
   diagnostics = one-room s.diagnostics _ (ltb-true s.diagnostics.used (min (length s.diagnostics.words / 6) 256) (and_left _ _ e));
-  messages = append-room s.messages (bytes_of d) 65536 (leb-true (s.messages.used + length (bytes_of d)) (min (length s.messages.words) 65536) (and_right (ltb s.diagnostics.used (min (length s.diagnostics.words / 6) 256)) _ e));
+  messages = append-room s.messages (bytes_of d) 65536 (leb-true (s.messages.used + length (bytes_of d)) (min (length s.messages.words) 65536)
+      (and_right (ltb s.diagnostics.used (min (length s.diagnostics.words / 6) 256)) _ e));
 }
 
 pub limits_kept : StepsKeep Stays Any Any
@@ -70,4 +72,4 @@ pub limits_enters : Enters Stays
 limits_enters = record { enters = λ name ps ret s h. record { types = h.types; diagnostics = h.diagnostics; messages = h.messages } }
 
 pub node_limits : (c : Ctx) (t : Node) (s : World) → Keeps Stays Any s (node c t s)
-node_limits c t s = in_node Stays Any Any limits_kept limits_enters c t (all_slots (λ _. tt) t) s
+node_limits c t s = in_node limits_kept limits_enters c t (all_slots (λ _. tt) t) s

@@ -16,10 +16,12 @@ use Rattle.rules.specs.declared.Answer.TheVariants.{Known, Poison}
 use Rattle.rules.specs.World.{Ctx, Local, World, Walk, with_env}
 use Rattle.rules.specs.Steps.{known, on_option, ty, tree, set_known, on_types, report, poison, env_insert, framed, apart, hold, enter, type_from_expr}
 use Rattle.rules.specs.Operators.{fuse, unary, cast}
-use Rattle.rules.specs.Calls.{Callee, own_function, package_function, through_field, no_callee, Provided, callee_of, provided_of, arguments, returned, param_trees, provided_trees, position, all_return, check_call_args, resolve_call, common_return, select, in_group, resolve_pkg_call, call}
+use Rattle.rules.specs.Calls.{Callee, own_function, package_function, through_field, no_callee, Provided, callee_of, provided_of, arguments, returned, param_trees}
+use Rattle.rules.specs.Calls.{provided_trees, position, all_return, check_call_args, resolve_call, common_return, select, in_group, resolve_pkg_call, call}
 use Rattle.rules.specs.declared.Member.{Member}
 use Rattle.rules.specs.declared.Member.TheVariants.{Alike as alike, Silent as silent, Differs as differs}
-use Rattle.rules.specs.Rules.{ident, let_binding, fn_arguments, check_return, fn, unless_defined, field_type, field, member, go_on, array_of, Branch, compare_branches, matched, import_all, extern_fn, node, block, last, cases, values, array, members}
+use Rattle.rules.specs.Rules.{ident, let_binding, fn_arguments, check_return, fn, unless_defined, field_type, field, member, go_on, array_of}
+use Rattle.rules.specs.Rules.{Branch, compare_branches, matched, import_all, extern_fn, node, block, last, cases, values, array, members}
 
 pub data Owns (slot : ℕ) : Result World Refusal Answer → Type 0 where
   knows : (s : World) → Owns slot (ok (Known slot) s)
@@ -81,7 +83,9 @@ module _ {slot : ℕ} where
 
   in_cast : (c : Ctx) (n token left to : ℕ) → In slot (cast c n slot token left to)
   unfolding cast
-  in_cast c n token left to = and_then (ty left) λ i. and_then (tree c i) λ it. and_then (tree c to) λ ot. either _ (set _) (either _ (and_then (report n (redundant_cast token it)) λ _. set _) (poisoned n _))
+  in_cast c n token left to =
+      and_then (ty left) λ i. and_then (tree c i) λ it. and_then (tree c to) λ ot.
+      either _ (set _) (either _ (and_then (report n (redundant_cast token it)) λ _. set _) (poisoned n _))
 
   in_ident : (c : Ctx) (n name : ℕ) → In slot (ident c n slot name)
   unfolding ident
@@ -125,7 +129,10 @@ module _ {slot : ℕ} where
 
   in_args : (c : Ctx) (n token : ℕ) (call_name : List ℕ) (f : Signature) (given : List Provided) → In slot (check_call_args c n slot token call_name f given)
   unfolding check_call_args
-  in_args c n token call_name f given = either _ (and_then (arguments c n call_name f.with_slots f.params given []) λ bs. and_then (returned c n f bs) λ ret. set ret) (and_then (report n (argument_count token call_name (length f.params) (length given))) λ _. either _ poisons (set _))
+  in_args c n token call_name f given =
+      either _
+      (and_then (arguments c n call_name f.with_slots f.params given []) λ bs. and_then (returned c n f bs) λ ret. set ret)
+      (and_then (report n (argument_count token call_name (length f.params) (length given))) λ _. either _ poisons (set _))
 
   in_common : (c : Ctx) (f : Signature) (others : List Signature) → In slot (common_return c slot f others)
   unfolding common_return
@@ -135,7 +142,9 @@ module _ {slot : ℕ} where
       → In slot (select c n slot name call_name f others given poisoned)
   unfolding select
   in_select c n name call_name f others given p =
-      either p (in_common c f others) (and_then (provided_trees c given) λ provided. and_then (position c provided (f ∷ others)) λ found. option found (and_then (for_each (λ g. param_trees c g.params) (f ∷ others)) λ cs. and_then (report n (no_specialisation name call_name provided cs)) λ _. in_common c f others) λ g. set _)
+      either p (in_common c f others)
+      (and_then (provided_trees c given) λ provided. and_then (position c provided (f ∷ others)) λ found. option found
+      (and_then (for_each (λ g. param_trees c g.params) (f ∷ others)) λ cs. and_then (report n (no_specialisation name call_name provided cs)) λ _. in_common c f others) λ g. set _)
 
   in_group_lem : (c : Ctx) (n name : ℕ) (call_name : List ℕ) (fs : List Signature) (given : List Provided) (poisoned : Bool) → In slot (in_group c n slot name call_name fs given poisoned)
   unfolding in_group

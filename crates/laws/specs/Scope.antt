@@ -6,7 +6,8 @@ use Rattle.library.specs.Package.{Function, Package}
 use Rattle.rules.specs.World.{Ctx, Local, World}
 use Rattle.rules.specs.Rules.{node}
 use Rattle.laws.specs.SlotsOf.{all_slots}
-use Rattle.laws.specs.Keeps.{Keeps, StepsKeep, in_node, Enters}
+use Rattle.laws.specs.Keeps.{Keeps, StepsKeep, Enters}
+use Rattle.laws.specs.RulesKeep.{in_node}
 
 pub record Front {A : Type 0} (old new : List A) : Type 0 where
   pub part : List A
@@ -56,4 +57,4 @@ pub scope_enters : Enters Scope
 scope_enters = record { enters = λ name ps ret s. record { env = (still s).env; packages = (still s).packages; own = front-one _ s.own } }
 
 pub node_scope : (c : Ctx) (t : Node) (s : World) → Keeps Scope Any s (node c t s)
-node_scope c t s = in_node Scope Any Any scope_kept scope_enters c t (all_slots (λ _. tt) t) s
+node_scope c t s = in_node scope_kept scope_enters c t (all_slots (λ _. tt) t) s

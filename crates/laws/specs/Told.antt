@@ -12,10 +12,10 @@ use mathlib.Core.List.{List, [], ◌∷◌}
 use Rattle.std.proofs.lemmas.Bool.{eqb-false}
 use Rattle.std.proofs.Math.ListN.{length, get_or, get_or-eq_default}
 use Rattle.tok.specs.Word.{kind_of}
-use Rattle.tok.specs.Step.{Result, ok, refused, Step, Refusal, next, ◌>>=◌, ◌>>◌, return, look, when, for_each}
+use Rattle.tok.specs.Step.{Result, ok, refused, Step, Refusal, next, ◌>>=◌, return, look, when}
 use Rattle.ast.specs.TypeExpr.{TypeExpr, Arg}
 use Rattle.ptype.specs.Words.{unknown_word}
-use Rattle.ptype.specs.Add.{Buffer, add_wrap, add_record}
+use Rattle.ptype.specs.Add.{Buffer}
 use Rattle.ast.specs.Span.{span_of}
 use Rattle.ast.specs.Node.{Node, Nodes, Atom, Ident, Bin, Unary, Let, Fn, Match, Call, Field, Cast, Import, Extern, Record, Array, Absent, done, then, slot_of}
 use Rattle.err.specs.Message.{Diagnostic, redundant_cast, argument_count, no_specialisation}
@@ -23,15 +23,16 @@ use Rattle.library.specs.Package.{Signature, pkg}
 use Rattle.rules.specs.declared.Answer.{Answer}
 use Rattle.rules.specs.declared.Answer.TheVariants.{Known, Poison}
 use Rattle.rules.specs.World.{Ctx, Local, Log, World, Walk, with_env}
-use Rattle.rules.specs.Steps.{known, on_option, ty, tree, set_known, on_types, on_log, report, poison, env_insert, framed, apart, hold, enter, type_from_expr}
+use Rattle.rules.specs.Steps.{known, on_option, ty, tree, set_known, on_types, on_log, report, poison, framed}
 use Rattle.rules.specs.Operators.{fuse, unary, cast}
-use Rattle.rules.specs.Calls.{Callee, own_function, package_function, through_field, no_callee, Provided, callee_of, provided_of, arguments, returned, param_trees, provided_trees, position, all_return, check_call_args, resolve_call, common_return, select, in_group, resolve_pkg_call, call}
+use Rattle.rules.specs.Calls.{Callee, own_function, package_function, through_field, no_callee, Provided, callee_of, provided_of}
+use Rattle.rules.specs.Calls.{check_call_args, resolve_call, common_return, select, in_group, resolve_pkg_call, call}
 use Rattle.rules.specs.declared.Member.{Member}
 use Rattle.rules.specs.declared.Member.TheVariants.{Alike as alike, Silent as silent, Differs as differs}
-use Rattle.rules.specs.Rules.{ident, let_binding, fn_arguments, check_return, fn, unless_defined, field_type, field, member, go_on, array_of, Branch, compare_branches, matched, import_all, extern_fn, node, block, last, visit_all, cases, values, array, members}
+use Rattle.rules.specs.Rules.{ident, fn, unless_defined, field_type, field, go_on, array_of, Branch, matched, node, block, last, array, members}
 use Rattle.laws.specs.SlotsOf.{ArgSlots, SlotsOf, SlotsOfAll, PartsOf, last_node, LastOf}
-use Rattle.laws.specs.Keeps as K
-use Rattle.laws.specs.Keeps.{Keeps, kept, stopped, logs-all}
+use Rattle.laws.specs.RulesKeep as K
+use Rattle.laws.specs.Keeps.{Keeps, kept, logs-all, InT, t_record, t_wrap}
 use Rattle.laws.specs.Still.{Still, Any, Other, still_kept, still-enters}
 
 -- a Field node reads fields
@@ -96,25 +97,25 @@ module _ (F : Type 0) (a w : ℕ) where
   if_known_lem Poison h = stays
 
   k_report : (n : ℕ) (d : Diagnostic) → Leaves (report n d)
-  k_report n d = K.in_report (Still a) Any (Other a) (still_kept a) n d
+  k_report n d = K.in_report (still_kept a) n d
 
   k_ty : (slot : ℕ) → Leaves (ty slot)
-  k_ty slot = K.in_ty (Still a) Any (Other a) (still_kept a) slot
+  k_ty slot = K.in_ty (still_kept a) slot
 
   k_tree : (c : Ctx) (x : ℕ) → Leaves (tree c x)
-  k_tree c x = K.in_tree (Still a) Any (Other a) (still_kept a) c x
+  k_tree c x = K.in_tree (still_kept a) c x
 
-  k_types : {A : Type 0} (m : Step Buffer Refusal A) → K.InT (Still a) Any (Other a) (still_kept a) m → Leaves (on_types m)
-  k_types m h = K.in_on_types (Still a) Any (Other a) (still_kept a) m h
+  k_types : {A : Type 0} (m : Step Buffer Refusal A) → InT (still_kept a) m → Leaves (on_types m)
+  k_types m h = K.in_on_types (still_kept a) m h
 
   k_log : {A : Type 0} (m : Step Log Refusal A) → Leaves (on_log m)
-  k_log m = K.in_on_log (Still a) Any (Other a) (still_kept a) m (λ l. logs-all (λ _. tt) (m l))
+  k_log m = K.in_on_log (still_kept a) m (λ l. logs-all (λ _. tt) (m l))
 
   k_next : {A B : Type 0} {m : Walk A} (f : A → Walk B) → Leaves m → ((x : A) → Leaves (f x)) → Leaves (◌>>=◌ m f)
-  k_next f h k = K.in_next (Still a) Any (Other a) (still_kept a) f h k
+  k_next f h k = K.in_next (still_kept a) f h k
 
   k_node : (c : Ctx) (x : Node) → SlotsOf (Other a) x → Leaves (node c x)
-  k_node c x h = K.in_node (Still a) Any (Other a) (still_kept a) (still-enters a) c x h
+  k_node c x h = K.in_node (still_kept a) (still-enters a) c x h
 
   poisoned : (n : ℕ) (d : Diagnostic) → In (poison n d)
   unfolding poison
@@ -155,7 +156,7 @@ module _ (F : Type 0) (a w : ℕ) where
 
     in_array : (c : Ctx) (n : ℕ) (first : Answer) (p : Bool) → In (array_of c n a first p)
     unfolding array_of
-    in_array c n first p = if_known_lem first λ f. either p stays (and_then (k_ty f) λ e. and_then (k_types _ (K.t_wrap (Still a) Any (Other a) (still_kept a) c.texts n 7 e)) λ x. puts x)
+    in_array c n first p = if_known_lem first λ f. either p stays (and_then (k_ty f) λ e. and_then (k_types _ (t_wrap (still_kept a) c.texts n 7 e)) λ x. puts x)
 
     in_go_on : (m : Member) (p : Bool) {rest : Bool → Walk Answer} → ((b : Bool) → In (rest b)) → In (go_on m p rest)
     unfolding go_on
@@ -165,7 +166,7 @@ module _ (F : Type 0) (a w : ℕ) where
 
     in_matched : (c : Ctx) (n : ℕ) (branches : List Branch) (default : Answer) → In (matched c n a branches default)
     unfolding matched
-    in_matched c n bs d = if_known_lem d λ i. and_then (K.in_branches (Still a) Any (Other a) (still_kept a) c n i bs) λ _. and_then (k_ty i) λ x. puts x
+    in_matched c n bs d = if_known_lem d λ i. and_then (K.in_branches (still_kept a) c n i bs) λ _. and_then (k_ty i) λ x. puts x
 
     in_defined : (c : Ctx) (n name : ℕ) {m : Walk Answer} → In m → In (unless_defined c n name m)
     unfolding unless_defined
@@ -175,20 +176,20 @@ module _ (F : Type 0) (a w : ℕ) where
     unfolding check_call_args
     in_args c n token call_name f given =
         either _
-        (and_then (K.in_arguments (Still a) Any (Other a) (still_kept a) c n call_name f.with_slots f.params given []) λ bs.
-        and_then (K.in_returned (Still a) Any (Other a) (still_kept a) c n f bs) λ ret. puts ret)
+        (and_then (K.in_arguments (still_kept a) c n call_name f.with_slots f.params given []) λ bs.
+        and_then (K.in_returned (still_kept a) c n f bs) λ ret. puts ret)
         (and_then (k_report n (argument_count token call_name (length f.params) (length given))) λ _. either _ stays (puts _))
 
     in_common : (c : Ctx) (f : Signature) (others : List Signature) → In (common_return c a f others)
     unfolding common_return
-    in_common c f others = and_then (k_tree c f.ret) λ t. and_then (K.in_all_return (Still a) Any (Other a) (still_kept a) c t others) λ all. either all (puts _) stays
+    in_common c f others = and_then (k_tree c f.ret) λ t. and_then (K.in_all_return (still_kept a) c t others) λ all. either all (puts _) stays
 
     in_select : (c : Ctx) (n name : ℕ) (call_name : List ℕ) (f : Signature) (others : List Signature) (given : List Provided) (p : Bool) → In (select c n a name call_name f others given p)
     unfolding select
     in_select c n name call_name f others given p =
         either p (in_common c f others)
-        (and_then (K.in_provided (Still a) Any (Other a) (still_kept a) c given) λ provided. and_then (K.in_position (Still a) Any (Other a) (still_kept a) c provided (f ∷ others)) λ found. option found
-        (and_then (K.in_each (Still a) Any (Other a) (still_kept a) _ (f ∷ others) λ g. K.in_params (Still a) Any (Other a) (still_kept a) c g.params) λ cs.
+        (and_then (K.in_provided (still_kept a) c given) λ provided. and_then (K.in_position (still_kept a) c provided (f ∷ others)) λ found. option found
+        (and_then (K.in_each (still_kept a) _ (f ∷ others) λ g. K.in_params (still_kept a) c g.params) λ cs.
         and_then (k_report n (no_specialisation name call_name provided cs)) λ _. in_common c f others) λ g. puts _)
 
     in_group_lem : (c : Ctx) (n name : ℕ) (call_name : List ℕ) (fs : List Signature) (given : List Provided) (p : Bool) → In (in_group c n a name call_name fs given p)
@@ -208,16 +209,16 @@ module _ (F : Type 0) (a w : ℕ) where
     unfolding fn
     in_fn c n name e args body h l =
         and_then
-        (K.in_apart (Still a) Any (Other a) (still_kept a) _
-        (k_next _ (K.in_fn_arguments (Still a) Any (Other a) (still_kept a) c n (a + 1) args h) λ ps. k_next _ (K.in_type_from (Still a) Any (Other a) (still_kept a) c n e) λ ret.
-        k_next _ (K.in_enter (Still a) Any (Other a) (still_kept a) (still-enters a) name ps ret) λ _. k_next _ l λ x. k_next _ (K.in_check_return (Still a) Any (Other a) (still_kept a) c n name e ret x) λ _.
-        K.in_return (Still a) Any (Other a) (still_kept a) ret))
+        (K.in_apart (still_kept a) _
+        (k_next _ (K.in_fn_arguments (still_kept a) c n (a + 1) args h) λ ps. k_next _ (K.in_type_from (still_kept a) c n e) λ ret.
+        k_next _ (K.in_enter (still_kept a) (still-enters a) name ps ret) λ _. k_next _ l λ x. k_next _ (K.in_check_return (still_kept a) c n name e ret x) λ _.
+        K.in_return (still_kept a) ret))
         λ ret. puts ret
 
     in_members : (c : Ctx) (n : ℕ) (first : Answer) (p : Bool) (xs : Nodes) → SlotsOfAll (Other a) xs → In (members c n a first p xs)
     unfolding members SlotsOf
     in_members c n first p done h = in_array c n first p
-    in_members c n first p (then x xs) h = and_then (k_node c x h.0) λ y. and_then (K.in_member (Still a) Any (Other a) (still_kept a) c n (span_of x) first y) λ m. in_go_on m p λ b. in_members c n first b xs h.1
+    in_members c n first p (then x xs) h = and_then (k_node c x h.0) λ y. and_then (K.in_member (still_kept a) c n (span_of x) first y) λ m. in_go_on m p λ b. in_members c n first b xs h.1
 
   -- ── A field is read ──
 
@@ -259,27 +260,28 @@ unfolding node slot_of array PartsOf SlotsOfAll Reads
 told-node c (Atom n slot token k) w h = puts ⊥ slot w (λ z. z) _
 told-node c (Ident n slot name) w h = in_ident ⊥ slot w (λ z. z) c n name
 told-node c (Bin n slot token op l r) w h =
-    and_then ⊥ slot w (k_node ⊥ slot w c l h.0) λ a. and_then ⊥ slot w (k_node ⊥ slot w c r h.1) λ b. if_known_lem ⊥ slot w a λ i. if_known_lem ⊥ slot w b λ j. in_fuse ⊥ slot w (λ z. z) c n token op i j
+    and_then ⊥ slot w (k_node ⊥ slot w c l h.0) λ a. and_then ⊥ slot w (k_node ⊥ slot w c r h.1) λ b.
+    if_known_lem ⊥ slot w a λ i. if_known_lem ⊥ slot w b λ j. in_fuse ⊥ slot w (λ z. z) c n token op i j
 told-node c (Unary n slot token op r) w h = and_then ⊥ slot w (k_node ⊥ slot w c r h) λ a. if_known_lem ⊥ slot w a λ i. in_unary ⊥ slot w (λ z. z) c n token op i
 told-node c (Let n slot name r) w h =
-    and_then ⊥ slot w (k_node ⊥ slot w c r h) λ a. and_then ⊥ slot w (K.in_let (Still slot) Any (Other slot) (still_kept slot) n name a) λ b.
-    and_then ⊥ slot w (K.in_insert (Still slot) Any (Other slot) (still_kept slot) name b) λ _. puts ⊥ slot w (λ z. z) _
+    and_then ⊥ slot w (k_node ⊥ slot w c r h) λ a. and_then ⊥ slot w (K.in_let (still_kept slot) n name a) λ b.
+    and_then ⊥ slot w (K.in_insert (still_kept slot) name b) λ _. puts ⊥ slot w (λ z. z) _
 told-node c (Fn n slot name ret args body) w h =
-    in_defined ⊥ slot w (λ z. z) c n name (in_fn ⊥ slot w (λ z. z) c n name ret args _ h.0 (K.in_block (Still slot) Any (Other slot) (still_kept slot) (still-enters slot) c body h.1))
+    in_defined ⊥ slot w (λ z. z) c n name (in_fn ⊥ slot w (λ z. z) c n name ret args _ h.0 (K.in_block (still_kept slot) (still-enters slot) c body h.1))
 told-node c (Match n slot cs token d) w h =
-    and_then ⊥ slot w (K.in_cases (Still slot) Any (Other slot) (still_kept slot) (still-enters slot) c n cs h.0) λ bs.
-    and_then ⊥ slot w (K.in_block (Still slot) Any (Other slot) (still_kept slot) (still-enters slot) c d h.1) λ a. in_matched ⊥ slot w (λ z. z) c n bs a
-told-node c (Call n slot target args) w h = in_call ⊥ slot w (λ z. z) c n (callee_of target) (provided_of args) _ (K.in_all (Still slot) Any (Other slot) (still_kept slot) (still-enters slot) c args h)
+    and_then ⊥ slot w (K.in_cases (still_kept slot) (still-enters slot) c n cs h.0) λ bs.
+    and_then ⊥ slot w (K.in_block (still_kept slot) (still-enters slot) c d h.1) λ a. in_matched ⊥ slot w (λ z. z) c n bs a
+told-node c (Call n slot target args) w h = in_call ⊥ slot w (λ z. z) c n (callee_of target) (provided_of args) _ (K.in_all (still_kept slot) (still-enters slot) c args h)
 told-node c (Field n slot target name) w h = and_then Unit slot w (k_node Unit slot w c target h) λ a. if_known_lem Unit slot w a λ i. in_field Unit slot w tt c n name i
 told-node c (Cast n slot token l t) w h =
-    and_then ⊥ slot w (K.in_type_from (Still slot) Any (Other slot) (still_kept slot) c n t) λ to. and_then ⊥ slot w (k_node ⊥ slot w c l h) λ a. if_known_lem ⊥ slot w a λ i. in_cast ⊥ slot w (λ z. z) c n token i to
-told-node c (Import n slot token paths) w h = and_then ⊥ slot w (K.in_imports (Still slot) Any (Other slot) (still_kept slot) c n token paths) λ _. puts ⊥ slot w (λ z. z) _
+    and_then ⊥ slot w (K.in_type_from (still_kept slot) c n t) λ to. and_then ⊥ slot w (k_node ⊥ slot w c l h) λ a. if_known_lem ⊥ slot w a λ i. in_cast ⊥ slot w (λ z. z) c n token i to
+told-node c (Import n slot token paths) w h = and_then ⊥ slot w (K.in_imports (still_kept slot) c n token paths) λ _. puts ⊥ slot w (λ z. z) _
 told-node c (Extern n slot token name fs) w h =
-    and_then ⊥ slot w (K.in_each (Still slot) Any (Other slot) (still_kept slot) _ fs λ f. K.in_extern (Still slot) Any (Other slot) (still_kept slot) c n f) λ gs.
-    and_then ⊥ slot w (K.in_hold (Still slot) Any (Other slot) (still_kept slot) _) λ _. puts ⊥ slot w (λ z. z) _
+    and_then ⊥ slot w (K.in_each (still_kept slot) _ fs λ f. K.in_extern (still_kept slot) c n f) λ gs.
+    and_then ⊥ slot w (K.in_hold (still_kept slot) _) λ _. puts ⊥ slot w (λ z. z) _
 told-node c (Record n slot token fs) w h =
-    and_then ⊥ slot w (K.in_values (Still slot) Any (Other slot) (still_kept slot) (still-enters slot) c fs h) λ ps.
-    and_then ⊥ slot w (k_types ⊥ slot w _ (K.t_record (Still slot) Any (Other slot) (still_kept slot) c.texts n ps)) λ x. puts ⊥ slot w (λ z. z) x
+    and_then ⊥ slot w (K.in_values (still_kept slot) (still-enters slot) c fs h) λ ps.
+    and_then ⊥ slot w (k_types ⊥ slot w _ (t_record (still_kept slot) c.texts n ps)) λ x. puts ⊥ slot w (λ z. z) x
 told-node c (Array n slot token done) w h = poisoned ⊥ slot w n _
 told-node c (Array n slot token (then x xs)) w h = and_then ⊥ slot w (k_node ⊥ slot w c x h.0) λ first. in_members ⊥ slot w (λ z. z) c n first false xs h.1
 told-node c (Absent n) w h = stays ⊥ _ w
@@ -292,7 +294,8 @@ same_answer (poisons e) = poisons e
 same_answer (unknown f e) = unknown f e
 same_answer refuses = refuses
 
-told-nodes : (c : Ctx) (x : Node) (xs : Nodes) (w : ℕ) → LastOf (Other (slot_of (last_node x xs))) x xs → In (Reads (last_node x xs)) (slot_of (last_node x xs)) w (λ s. next (node c x s) (λ a. last c a xs))
+told-nodes : (c : Ctx) (x : Node) (xs : Nodes) (w : ℕ) → LastOf (Other (slot_of (last_node x xs))) x xs
+    → In (Reads (last_node x xs)) (slot_of (last_node x xs)) w (λ s. next (node c x s) (λ a. last c a xs))
 unfolding last_node LastOf last
 told-nodes c x done w h = λ s e. same_answer (told-node c x w h s e)
 told-nodes c x (then y ys) w h =

@@ -127,7 +127,8 @@ unfolding without name_among
 without-length n [] e = absurd (false≢true e)
 without-length n (x ∷ xs) e = go (without-length n xs) (same_bytes n x) e
   where
-    go : (name_among n xs ≡ true → length xs ≡ suc (length (without n xs))) → (q : Bool) → (q || name_among n xs) ≡ true → suc (length xs) ≡ suc (length {A = List ℕ} (elim q [ true ↦ xs | false ↦ x ∷ without n xs ]))
+    go : (name_among n xs ≡ true → length xs ≡ suc (length (without n xs))) → (q : Bool) → (q || name_among n xs) ≡ true
+        → suc (length xs) ≡ suc (length {A = List ℕ} (elim q [ true ↦ xs | false ↦ x ∷ without n xs ]))
     go next true e = refl
     go next false e = ap suc (next e)
 
@@ -151,7 +152,8 @@ unfolding bound_to Every
 keep_all n names [] e h = tt
 keep_all n names (b ∷ bs) e h = go (λ d. keep_all n names bs d h.1) (same_bytes n b.slot) refl e
   where
-    go : (bound_to n bs ≡ none → Every (Of (without n names)) bs) → (q : Bool) → same_bytes n b.slot ≡ q → ◌≡◌ {A = Option ℕ} (elim q [ true ↦ some b.word | false ↦ bound_to n bs ]) none → (Of (without n names) b) × Every (Of (without n names)) bs
+    go : (bound_to n bs ≡ none → Every (Of (without n names)) bs) → (q : Bool) → same_bytes n b.slot ≡ q
+        → ◌≡◌ {A = Option ℕ} (elim q [ true ↦ some b.word | false ↦ bound_to n bs ]) none → (Of (without n names) b) × Every (Of (without n names)) bs
     go next true s e = let z : ◌≡◌ {A = ℕ} 0 1 = cc in absurd (omega arith)
     go next false s e = (without-keeps b.slot n names s h.0, next e)
 

@@ -1,15 +1,11 @@
 -- What holds of every word or name of a list, put together from what holds of each index or part. By induction on the list. Assumes nothing.
-use Rattle.std.specs.Prelude.{ℕ, suc, ◌<◌, ◌≡◌, refl, Bool, true, false, ◌&&◌, ◌||◌, cond, List, [], ◌∷◌, ◌++◌, length, get_or, leb, eqb}
+use Rattle.std.specs.Prelude.{ℕ, suc, ◌<◌, ◌≡◌, refl, Bool, true, false, ◌&&◌, ◌||◌, cond, List, [], ◌∷◌, length, get_or, leb, eqb}
 use Rattle.std.proofs.Common.{arith}
 use Rattle.tok.specs.Word.{kind_of}
 use Rattle.rules.specs.Promises.{Every}
 use Rattle.rules.specs.Names.{word_names}
 use Rattle.rules.specs.Walk.{pool_types}
-
-pub every_join : {A : Type 0} (P : A → Type 0) (xs ys : List A) → Every P xs → Every P ys → Every P (xs ++ ys)
-unfolding Every
-every_join P [] ys h k = k
-every_join P (x ∷ xs) ys h k = (h.0, every_join P xs ys h.1 k)
+use Rattle.tworuns.specs.Pool.{every_join}
 
 pub every-at : (P : ℕ → Type 0) (ws : List ℕ) → ((i : ℕ) → i < length ws → P (get_or ws i 0)) → Every P ws
 unfolding Every

@@ -104,7 +104,9 @@ module _ (t : Texts) (types : List ℕ) (n : List ℕ) where
   unfolding leaf_names name_among
   leaf-more zero g w l e = absurd (false≢true e)
   leaf-more (suc f) zero w l e = absurd (omega arith)
-  leaf-more (suc f) (suc g) w l e = by (leaf_names t types f (inner_word types w)) (leaf_names t types g (inner_word types w)) _ (wraps (kind_of w)) (leaf-more f g (inner_word types w) (omega arith)) e
+  leaf-more (suc f) (suc g) w l e =
+      let x : ℕ = inner_word types w in
+      by (leaf_names t types f x) (leaf_names t types g x) _ (wraps (kind_of w)) (leaf-more f g x (omega arith)) e
     where
       by : (xs ys zs : List (List ℕ)) (b : Bool) → (name_among n xs ≡ true → name_among n ys ≡ true) → name_among n (cond b xs zs) ≡ true → name_among n (cond b ys zs) ≡ true
       by xs ys zs true h e = h e
@@ -115,7 +117,8 @@ module _ (t : Texts) (types : List ℕ) (n : List ℕ) where
   unfolding leaves_after
   leaves_at prev [] i l k d e = absurd (omega arith)
   leaves_at prev (w ∷ ws) zero l k d e = rw (eq-eqb _ _ k, ne_eqb _ _ d) (among-left n (leaf_names t types 33 w) (leaves_after t types w ws) e)
-  leaves_at prev (w ∷ ws) (suc i) l k d e = among-right n (cond (eqb (kind_of prev) 12 && not (eqb (kind_of w) 12)) (leaf_names t types 33 w) []) (leaves_after t types w ws) (leaves_at w ws i (omega arith) k d e)
+  leaves_at prev (w ∷ ws) (suc i) l k d e =
+      among-right n (cond (eqb (kind_of prev) 12 && not (eqb (kind_of w) 12)) (leaf_names t types 33 w) []) (leaves_after t types w ws) (leaves_at w ws i (omega arith) k d e)
 
 -- a field of the pool at index j: its name, and its type behind it
 record FieldAt (p : Pool) (j : ℕ) : Type 0 where

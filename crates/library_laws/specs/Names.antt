@@ -1,6 +1,6 @@
 -- The names of an accepted library: each lies in the library text and is well formed by RFC 3629. By what reading has shown of each
 -- word. Assumes nothing.
-use Rattle.std.specs.Prelude.{ℕ, ◌≡◌, refl, Bool, true, false, ◌||◌, ◌⊎◌, eqb}
+use Rattle.std.specs.Prelude.{ℕ, ◌≡◌, refl, Bool, true, ◌||◌, ◌⊎◌, eqb}
 use Rattle.std.proofs.Common.{arith, sym, ◌∙◌, true≢false, inl, inr, eqb-true}
 use Rattle.std.proofs.Math.Option.{none}
 use mathlib.Core.List.{List, [], ◌∷◌, ◌++◌}
@@ -22,7 +22,8 @@ use Rattle.library.specs.Accepted.{library_pool, library-fine, pool-length}
 use Rattle.rules.specs.Names.{word_names, param_names, function_names, package_names}
 use Rattle.rules.specs.Promises.{Every, ReadsWell}
 use Rattle.tworuns.specs.Walk.{every_map}
-use Rattle.library_laws.specs.Every.{every_join, every-at, every-name, carries_name}
+use Rattle.tworuns.specs.Pool.{every_join}
+use Rattle.library_laws.specs.Every.{every-at, every-name, carries_name}
 
 -- a name that is accepted in the library text
 record AcceptedName (t : Texts) (w : ℕ) : Type 0 where

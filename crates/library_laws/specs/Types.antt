@@ -21,10 +21,10 @@ use Rattle.library.specs.PackagesRead.{ParamFine, FunctionFine, PackageFine}
 use Rattle.library.specs.Accepted.{library_pool, library-fine, pool-length}
 use Rattle.rules.specs.Walk.{pool_types, param_types, function_types, package_types}
 use Rattle.rules.specs.Promises.{Every}
-use Rattle.tworuns.specs.Pool.{TypeFine}
+use Rattle.tworuns.specs.Pool.{TypeFine, every_join}
 use Rattle.tworuns.specs.Walk.{every_map}
 use Rattle.tworuns.specs.Accepted.{TypeOf, library_types}
-use Rattle.library_laws.specs.Every.{every_join, every-at, every-type, is_type}
+use Rattle.library_laws.specs.Every.{every-at, every-type, is_type}
 
 module _ (p : Pool) (fine : PoolFine p) where
   type-fine : (deep w : ℕ) → TypeWord p p.size w → Throughout (TypeFine p.texts p.words p.size) p.words deep w
@@ -86,4 +86,6 @@ module _ (t : Texts) (words : List ℕ) (accepted : library_fault t words ≡ no
   -- THE LAW
   pub library-types : Every (TypeOf t (pool_of words)) (library_types words)
   unfolding TypeOf
-  library-types = every_map (TypeWord pool pool.size) _ (λ w h. subst (λ n. Throughout (TypeFine t (pool_of words) n) (pool_of words) 33 w) (sym (pool-length t words accepted)) (type-fine pool pool-fine 33 w h)) _ type-words
+  library-types =
+      every_map (TypeWord pool pool.size) _
+      (λ w h. subst (λ n. Throughout (TypeFine t (pool_of words) n) (pool_of words) 33 w) (sym (pool-length t words accepted)) (type-fine pool pool-fine 33 w h)) _ type-words

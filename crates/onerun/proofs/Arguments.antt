@@ -25,7 +25,7 @@ use Rattle.tworuns.specs.Means.{Grown}
 use Rattle.onerun.specs.Claim.{Run, All, end, and, Both, OfNames, Name, Good, BindingOk, ParamOk, Recorded, Holds, slots_are, all_slots_are}
 use Rattle.onerun.specs.Claim as C
 use Rattle.onerun.specs.Grows.{all_map, both-map, is_grow, binding_grow, param_grow, is-tree, fine_names, typed-names, typed-known, typed_free}
-use Rattle.onerun.specs.Logic.{Silent, before, After, Gives, g_next, g_return, g_when, g_map, g_on_types, GivesT}
+use Rattle.onerun.specs.Logic.{Claimed, Silent, before, After, Gives, g_next, g_return, g_when, g_map, g_on_types, GivesT}
 use Rattle.onerun.proofs.Report.{g_report}
 use Rattle.onerun.specs.Trees.{is_bound, free-slots, slots-more}
 use Rattle.onerun.specs.Bind.{More, more_same, BoundOk, all, clash, of_void, bind_ok}
@@ -82,14 +82,15 @@ module _ (r : Run) where
 
   module _ (n : ℕ) (name : List ℕ) (m : Name r name) (p : Param) (a : Provided) where
     -- the expected and the provided type are equal, or it was reported
-    g_compared : {s : World} (e t : Ty) → (Silent r s → Holds r s) → (Silent r s → ParamTyped s.types p) → (OfNames r → Silent r s → names_well_formed e ≡ true) → (OfNames r → Silent r s → names_well_formed t ≡ true)
+    g_compared : {s : World} (e t : Ty) → Claimed r s → (Silent r s → ParamTyped s.types p)
+        → (OfNames r → Silent r s → names_well_formed e ≡ true) → (OfNames r → Silent r s → names_well_formed t ≡ true)
         → Gives r (λ u _. r.clean → e ≡ t) s (compared r.ctx n name p a e t s)
     unfolding compared
     g_compared e t h k x y =
         g_when r _ _ (λ q. g_return r h (λ z _. same_ty-true e t q))
         (λ _. g_map r (λ u _ i f z q. absurd ((f z).value q)) (g_report r h n (λ l z. arg_mismatch-well a.span name _ e t (m l) ((k z).ok.name l) (x l z) (y l z))))
 
-    module _ {s : World} (h : Silent r s → Holds r s) (k : Silent r s → ParamTyped s.types p) where
+    module _ {s : World} (h : Claimed r s) (k : Silent r s → ParamTyped s.types p) where
       -- a plain argument
       g_plain : {w : ℕ} {bs : List Binding} → (Silent r s → Good r s.types w) → (Silent r s → All (BindingOk r s.types) bs)
           → Gives r (Passed false (p ∷ []) bs) s (plain_argument r.ctx n name p a (ty_of r.ctx.texts s.types.words w) bs s)
@@ -188,7 +189,8 @@ module _ (r : Run) where
 
           flagged : (slotted : Bool) → (Silent r s → Good r s.types (get_or s.slots a.slot 0))
               → Gives r (Passed slotted (p ∷ []) bs) s
-              (when slotted (slotted_argument r.ctx n name p a (get_or s.slots a.slot 0) (ty_of r.ctx.texts s.types.words (get_or s.slots a.slot 0)) bs) (plain_argument r.ctx n name p a (ty_of r.ctx.texts s.types.words (get_or s.slots a.slot 0)) bs) s)
+              (when slotted (slotted_argument r.ctx n name p a (get_or s.slots a.slot 0) (ty_of r.ctx.texts s.types.words (get_or s.slots a.slot 0)) bs)
+              (plain_argument r.ctx n name p a (ty_of r.ctx.texts s.types.words (get_or s.slots a.slot 0)) bs) s)
           flagged true g =
               g_when r {t = true} _ _
               (λ _. g_when r _ _ (λ e. g_return r h (λ z. stays z (λ q. false≢true (sym (typed_free r (g z) q) ∙ e))))

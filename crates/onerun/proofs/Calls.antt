@@ -15,7 +15,7 @@ use Rattle.rules.specs.Steps.{tree}
 use Rattle.rules.specs.Calls.{Provided, arguments, returned, check_call_args}
 use Rattle.onerun.specs.Claim.{Run, All, end, and, Name, Good, BindingOk, SignatureOk, Holds}
 use Rattle.onerun.specs.Grows.{all_map, signature_grow, is-tree, names-typed}
-use Rattle.onerun.specs.Logic.{Silent, before, After, Gives, g_next, g_return, g_when, g_map, g_on_types, g_set, Own, own-poison, t_map}
+use Rattle.onerun.specs.Logic.{Claimed, Silent, before, After, Gives, g_next, g_return, g_when, g_map, g_on_types, g_set, Own, own-poison, t_map}
 use Rattle.onerun.proofs.Report.{g_report}
 use Rattle.onerun.specs.Trees.{is_bound, never, never-free}
 use Rattle.onerun.specs.Bind.{more_same, more-trans}
@@ -41,7 +41,7 @@ module _ (r : Run) where
   signature-params h = record { trees = h.trees; each = h.params }
 
   module _ (n : ℕ) (name : List ℕ) (m : Name r name) where
-    g_arguments : (slotted : Bool) (ps : List Param) (given : List Provided) {bs : List Binding} → length given ≡ length ps → {s : World} → (Silent r s → Holds r s)
+    g_arguments : (slotted : Bool) (ps : List Param) (given : List Provided) {bs : List Binding} → length given ≡ length ps → {s : World} → Claimed r s
         → (Silent r s → ParamsOk r s.types ps) → (Silent r s → All (ProvidedOk r s) given) → (Silent r s → All (BindingOk r s.types) bs)
         → Gives r (Passed r slotted ps bs) s (arguments r.ctx n name slotted ps given bs s)
     unfolding arguments
@@ -59,7 +59,8 @@ module _ (r : Run) where
         rest_all : {s : World} → All (ProvidedOk r s) (a ∷ rest) → All (ProvidedOk r s) rest
         rest_all (and x xs) = xs
 
-        together : {s u v : World} (more cs : List Binding) → ParamsOk r s.types (p ∷ ps) → After r (Passed r slotted (p ∷ []) bs) s u more → After r (Passed r slotted ps more) u v cs → Passed r slotted (p ∷ ps) bs v cs
+        together : {s u v : World} (more cs : List Binding) → ParamsOk r s.types (p ∷ ps)
+            → After r (Passed r slotted (p ∷ []) bs) s u more → After r (Passed r slotted ps more) u v cs → Passed r slotted (p ∷ ps) bs v cs
         together {s} {u} {v} more cs k x y = record {
           bindings = y.value.bindings;
           more = more-trans x.value.more y.value.more;
@@ -71,7 +72,7 @@ module _ (r : Run) where
             only : {c : List ℕ → Bool} {b : Buffer} → All (SlotsOf r c b) (p ∷ []) → SlotsOf r c b p
             only (and x end) = x
 
-    g_returned : (f : Signature) {bs : List Binding} {s : World} → (Silent r s → Holds r s) → (Silent r s → SignatureOk r s.types f) → (Silent r s → All (BindingOk r s.types) bs)
+    g_returned : (f : Signature) {bs : List Binding} {s : World} → Claimed r s → (Silent r s → SignatureOk r s.types f) → (Silent r s → All (BindingOk r s.types) bs)
         → (Silent r s → r.clean → (p : List ℕ → Bool) → Covers r f.with_slots bs p → All (SlotsOf r p s.types) f.params)
         → Gives r (λ u w. Good r u.types w) s (returned r.ctx n f bs s)
     unfolding returned tree
@@ -92,7 +93,8 @@ module _ (r : Run) where
           no_slot = λ q. never-free g.ret (g.stands q never (all_slots r never g.params (c z q never (λ i. absurd (true≢false (sym i ∙ e))))));
         }))
 
-    pub g_check_call : (slot token : ℕ) → slot < r.ctx.void → (given : List Provided) (f : Signature) {s : World} → (Silent r s → Holds r s) → (Silent r s → All (ProvidedOk r s) given) → (Silent r s → SignatureOk r s.types f)
+    pub g_check_call : (slot token : ℕ) → slot < r.ctx.void → (given : List Provided) (f : Signature) {s : World}
+        → Claimed r s → (Silent r s → All (ProvidedOk r s) given) → (Silent r s → SignatureOk r s.types f)
         → Gives r (Own r slot) s (check_call_args r.ctx n slot token name f given s)
     unfolding check_call_args
     g_check_call slot token own given f h i k =

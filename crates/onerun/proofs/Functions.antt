@@ -17,7 +17,7 @@ use Rattle.laws.specs.SlotsOf.{ArgSlots}
 use Rattle.onerun.specs.Claim.{Run, All, end, and, NameAt, Good, bound, SignatureOk, FunctionOk, Holds, AnswerOk}
 use Rattle.onerun.specs.Claim as C
 use Rattle.onerun.specs.Grows.{typed_grow, param_grow, function_grow, typed-names}
-use Rattle.onerun.specs.Logic.{Silent, before, Gives, g_next, g_return, g_when, g_option, g_map, g_on_types, g_if_known, g_set}
+use Rattle.onerun.specs.Logic.{Claimed, Silent, before, Gives, g_next, g_return, g_when, g_option, g_map, g_on_types, g_if_known, g_set}
 use Rattle.onerun.proofs.Report.{g_report}
 use Rattle.onerun.proofs.Seen.{AllRecorded, slots-later, Seen, seen-later, NodeOk, g_keep-fn, node-poison}
 use Rattle.onerun.proofs.Scope.{Any, slots-env, seen-env, g_insert, g_enter, g_apart, alone, g_each}
@@ -31,7 +31,7 @@ module _ (r : Run) where
   abbrev pub Below : ℕ → Type 0
   Below slot = slot < r.ctx.void
 
-  pub g_type_from : (n : ℕ) (t : TypeExpr) → ProperType Below (NameAt r) t → {s : World} → (Silent r s → Holds r s) → Gives r (λ u w. Good r u.types w) s (type_from_expr r.ctx n t s)
+  pub g_type_from : (n : ℕ) (t : TypeExpr) → ProperType Below (NameAt r) t → {s : World} → Claimed r s → Gives r (λ u w. Good r u.types w) s (type_from_expr r.ctx n t s)
   unfolding type_from_expr
   g_type_from n t p {s} h = g_on_types r {Q = Good r} _ h (λ z. t_type_from r Below n t p s.types)
 
@@ -57,7 +57,7 @@ module _ (r : Run) where
     pub params : ParamsOk r u.types ps
     pub recorded : r.clean → AllRecorded r u slots
 
-  pub g_fn_arguments : (n slot : ℕ) (args : List Arg) → ProperArgs Below (NameAt r) args → ArgSlots Below slot args → {s : World} → (Silent r s → Holds r s)
+  pub g_fn_arguments : (n slot : ℕ) (args : List Arg) → ProperArgs Below (NameAt r) args → ArgSlots Below slot args → {s : World} → Claimed r s
       → Gives r (FnArgumentsOk (count_from slot (length args))) s (fn_arguments r.ctx n slot args s)
   unfolding fn_arguments ProperArgs ArgSlots count_from
   g_fn_arguments n slot [] p o {s} h = g_return r h (λ z. record { params = no-params s.types; recorded = λ q. end })
@@ -74,7 +74,7 @@ module _ (r : Run) where
         recorded = λ q. and ((x₃ z).recorded slot ((x₂ z₂).recorded slot ((x₁ z₁).value.own q))) ((x₃ z).value.recorded q);
       })))))
 
-  g_check_return : (n name : ℕ) → NameAt r name → (e : TypeExpr) {ret : ℕ} {a : Answer} {s : World} → (Silent r s → Holds r s) → (Silent r s → Good r s.types ret) → (Silent r s → AnswerOk r s a)
+  g_check_return : (n name : ℕ) → NameAt r name → (e : TypeExpr) {ret : ℕ} {a : Answer} {s : World} → Claimed r s → (Silent r s → Good r s.types ret) → (Silent r s → AnswerOk r s a)
       → Gives r (Any r) s (check_return r.ctx n name e ret a s)
   unfolding check_return ty_tree ty tree
   g_check_return n name m e h g k =
@@ -91,8 +91,9 @@ module _ (r : Run) where
     arguments : r.clean → AllRecorded r u slots
     seen : r.clean → Seen r u ys
 
-  pub g_fn : (n slot name : ℕ) (e : TypeExpr) (args : List Arg) (ys : List Node) (body : Walk Answer) → Below slot → NameAt r name → ProperType Below (NameAt r) e → ProperArgs Below (NameAt r) args → ArgSlots Below (slot + 1) args
-      → ((s : World) → (Silent r s → Holds r s) → Gives r (BlockOk ys) s (body s)) → {s : World} → (Silent r s → Holds r s)
+  pub g_fn : (n slot name : ℕ) (e : TypeExpr) (args : List Arg) (ys : List Node) (body : Walk Answer) → Below slot
+      → NameAt r name → ProperType Below (NameAt r) e → ProperArgs Below (NameAt r) args → ArgSlots Below (slot + 1) args
+      → ((s : World) → Claimed r s → Gives r (BlockOk ys) s (body s)) → {s : World} → Claimed r s
       → Gives r (NodeOk r slot (count_from (slot + 1) (length args)) ys) s (unless_defined r.ctx n name (fn r.ctx n slot name e args body) s)
   unfolding unless_defined fn S.poison
   g_fn n slot name e args ys body own m p pa o k {s} h =
@@ -128,8 +129,10 @@ module _ (r : Run) where
   args-all [] p = end
   args-all (a ∷ xs) p = and (record { name = p.0; type = p.1 }) (args-all xs p.2)
 
-  g_arg : (n : ℕ) (a : Arg) → ArgProper a → (s : World) → (Silent r s → Holds r s) → Gives r (λ u p. ParamTyped r u.types p) s (◌>>=◌ (type_from_expr r.ctx n a.type) (λ w. return (param a.name w)) s)
-  g_arg n a p s h = g_next r _ (g_type_from n a.type p.type h) (λ w u t x. g_return r (λ z. (x z).holds) (λ z. record { tree = (x z).value.tree; ok = record { name = p.name; type = (x z).value.is } }))
+  g_arg : (n : ℕ) (a : Arg) → ArgProper a → (s : World) → Claimed r s → Gives r (λ u p. ParamTyped r u.types p) s (◌>>=◌ (type_from_expr r.ctx n a.type) (λ w. return (param a.name w)) s)
+  g_arg n a p s h =
+      g_next r _ (g_type_from n a.type p.type h) (λ w u t x.
+      g_return r (λ z. (x z).holds) (λ z. record { tree = (x z).value.tree; ok = record { name = p.name; type = (x z).value.is } }))
 
   params-all : {b : Buffer} {ps : List Param} → All (ParamTyped r b) ps → ParamsOk r b ps
   params-all {b} end = no-params b
@@ -144,7 +147,7 @@ module _ (r : Run) where
   externs_all [] p = end
   externs_all (f ∷ fs) p = and (record { args = p.1; ret = p.2 }) (externs_all fs p.3)
 
-  g_extern : (n : ℕ) (f : ExternFn) → ExternProper f → (s : World) → (Silent r s → Holds r s) → Gives r (λ u g. FunctionOk r u.types g) s (extern_fn r.ctx n f s)
+  g_extern : (n : ℕ) (f : ExternFn) → ExternProper f → (s : World) → Claimed r s → Gives r (λ u g. FunctionOk r u.types g) s (extern_fn r.ctx n f s)
   unfolding extern_fn
   g_extern n f p s h =
       g_next r _
@@ -152,6 +155,6 @@ module _ (r : Run) where
       (λ ps u t x. g_next r _ (g_type_from n f.ret p.ret (λ z. (x z).holds)) (λ ret v t₁ y.
       g_return r (λ z. (y z).holds) (λ z. record { sig = signature-ok (params_grow r (y z).grown (params-all (x (before r t₁ z)).value)) (y z).value })))
 
-  pub g_externs : (n : ℕ) (fs : List ExternFn) → ProperExterns Below (NameAt r) fs → {s : World} → (Silent r s → Holds r s)
+  pub g_externs : (n : ℕ) (fs : List ExternFn) → ProperExterns Below (NameAt r) fs → {s : World} → Claimed r s
       → Gives r (λ u gs. All (FunctionOk r u.types) gs) s (for_each (λ f. extern_fn r.ctx n f) fs s)
   g_externs n fs p h = g_each r ExternProper (FunctionOk r) (λ b d g x y. function_grow r g x y) _ (λ f i s k. g_extern n f i s k) (externs_all fs p) h

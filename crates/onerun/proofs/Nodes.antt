@@ -5,7 +5,8 @@ use Rattle.std.proofs.Common.{arith, add-one}
 use Rattle.std.proofs.Math.Bool.{true}
 use Rattle.std.proofs.lemmas.Bool.{false≢true}
 use Rattle.tok.specs.Step.{Result, Refusal}
-use Rattle.ast.specs.Node.{Node, Nodes, Cases, Values, Atom, Ident, Bin, Unary, Let, Fn, Match, Call, Field, Cast, Import, Extern, Record, Array, Absent, done, then, no_case, case, no_value, value, slot_of}
+use Rattle.ast.specs.Node.{Node, Nodes, Cases, Values, slot_of}
+use Rattle.ast.specs.Node.{Atom, Ident, Bin, Unary, Let, Fn, Match, Call, Field, Cast, Import, Extern, Record, Array, Absent, done, then, no_case, case, no_value, value}
 use Rattle.ast.specs.Claims.{count_from}
 use Rattle.ast.specs.Span.{span_of}
 use Rattle.err.proofs.WellFormedLaws.{empty_array-well}
@@ -21,7 +22,7 @@ use Rattle.rules.specs.Visited.{visited_below, visited_among, visited_in_cases, 
 use Rattle.onerun.specs.Claim.{Run, All, end, and, OfNames, NameAt, Good, Holds, AnswerOk, poison}
 use Rattle.onerun.specs.Claim as C
 use Rattle.onerun.specs.Grows.{all_map, typed_grow}
-use Rattle.onerun.specs.Logic.{Silent, before, Gives, g_next, g_return, g_map, g_on_types, g_known, g_set, own-poison, answer-later}
+use Rattle.onerun.specs.Logic.{Claimed, Silent, before, Gives, g_next, g_return, g_map, g_on_types, g_known, g_set, own-poison, answer-later}
 use Rattle.onerun.proofs.Report.{g_report}
 use Rattle.onerun.proofs.Seen.{AllRecorded, Seen, seen-later, seen-both, NodeOk, g_keep, names-node, node-poison}
 use Rattle.onerun.proofs.Scope.{answer-env, seen-env, g_insert, g_hold, g_framed}
@@ -72,7 +73,7 @@ module _ (r : Run) where
   more-block : {xs ys : List Node} {s : World} {x : Result World Refusal Answer} → (Silent r s → r.clean → Seen r s xs) → Gives r (BlockOk r ys) s x → Gives r (BlockOk r (xs ++ ys)) s x
   more-block h g = g_map r (λ u a t f z. record { answer = (f z).value.answer; seen = λ q. seen-both r (seen-later r (f z) (h (before r t z) q)) ((f z).value.seen q) }) g
 
-  g_go_on : {slot : ℕ} {ys : List Node} (m : Member) (b : Bool) (f : Bool → Walk Answer) {s : World} → (Silent r s → Holds r s) → (Silent r s → MemberOk r m) → (Silent r s → b ≡ true → OfNames r)
+  g_go_on : {slot : ℕ} {ys : List Node} (m : Member) (b : Bool) (f : Bool → Walk Answer) {s : World} → Claimed r s → (Silent r s → MemberOk r m) → (Silent r s → b ≡ true → OfNames r)
       → ((b : Bool) → (Silent r s → b ≡ true → OfNames r) → Gives r (NodeOk r slot [] ys) s (f b s)) → Gives r (NodeOk r slot [] ys) s (go_on m b f s)
   unfolding go_on
   g_go_on alike b f h k l g = g b l
@@ -107,7 +108,7 @@ module _ (r : Run) where
   mutual
     unfolding node Proper visited_below slot_of arguments_of count_from provided_of S.poison
 
-    pub g_node : (x : Node) → Proper (Below r) (NameAt r) x → {s : World} → (Silent r s → Holds r s) → Gives r (Visited x) s (node r.ctx x s)
+    pub g_node : (x : Node) → Proper (Below r) (NameAt r) x → {s : World} → Claimed r s → Gives r (Visited x) s (node r.ctx x s)
     g_node (Atom n slot token k) p {s} h = g_keep r (λ z q. end) (g_set r slot p.0 h (λ z. low-good r s.types k p.1.low p.1.high))
     g_node (Ident n slot name) p h = g_keep r (λ z q. end) (g_ident r n slot name p.0 p.1 h)
     g_node (Bin n slot token op l x) p h =
@@ -150,18 +151,19 @@ module _ (r : Run) where
     g_node (Array n slot token ms) p h = g_array n slot token ms p.0 p.1 h
     g_node (Absent n) p h = absurd p
 
-    pub g_block : (xs : Nodes) → ProperAll (Below r) (NameAt r) xs → {s : World} → (Silent r s → Holds r s) → Gives r (BlockOk r (visited_among xs)) s (block r.ctx xs s)
+    pub g_block : (xs : Nodes) → ProperAll (Below r) (NameAt r) xs → {s : World} → Claimed r s → Gives r (BlockOk r (visited_among xs)) s (block r.ctx xs s)
     g_block done p h = g_return r h (λ z. record { answer = C.known (h z).voids; seen = λ q. end })
     g_block (then x xs) p h =
         g_framed r {Q = BlockOk r (visited_among (then x xs))} (λ u e a k. record { answer = answer-env r k.answer; seen = λ q. seen-env r (k.seen q) }) _ h
         (g_next r _ (g_node x p.0 h) (λ a u t f. more-block (λ z q. whole x (f z).value q) (g_last xs p.1 (λ z. (f z).holds) (λ z. (f z).value.own.answer))))
 
-    pub g_last : (xs : Nodes) {a : Answer} → ProperAll (Below r) (NameAt r) xs → {s : World} → (Silent r s → Holds r s) → (Silent r s → AnswerOk r s a) → Gives r (BlockOk r (visited_among xs)) s (last r.ctx a xs s)
+    pub g_last : (xs : Nodes) {a : Answer} → ProperAll (Below r) (NameAt r) xs → {s : World} → Claimed r s
+        → (Silent r s → AnswerOk r s a) → Gives r (BlockOk r (visited_among xs)) s (last r.ctx a xs s)
     g_last done p h k = g_return r h (λ z. record { answer = k z; seen = λ q. end })
     g_last (then x xs) p h k =
         g_next r _ (g_node x p.0 h) (λ b u t f. more-block (λ z q. whole x (f z).value q) (g_last xs p.1 (λ z. (f z).holds) (λ z. (f z).value.own.answer)))
 
-    pub g_all : (xs : Nodes) → ProperAll (Below r) (NameAt r) xs → {s : World} → (Silent r s → Holds r s) → Gives r (ArgumentsOk xs) s (visit_all r.ctx xs s)
+    pub g_all : (xs : Nodes) → ProperAll (Below r) (NameAt r) xs → {s : World} → Claimed r s → Gives r (ArgumentsOk xs) s (visit_all r.ctx xs s)
     g_all done p h = g_return r h (λ z. record { provided = end; of_names = λ e. absurd (false≢true e); seen = λ q. end })
     g_all (then x xs) p h =
         g_next r _ (g_node x p.0 h) (λ a u t f. g_next r _ (g_all xs p.1 (λ z. (f z).holds)) (λ b v t₁ g.
@@ -171,7 +173,7 @@ module _ (r : Run) where
           seen = λ q. seen-both r (seen-later r (g z) (whole x y q)) ((g z).value.seen q);
         })))
 
-    pub g_cases : (n : ℕ) (cs : Cases) → ProperCases (Below r) (NameAt r) cs → {s : World} → (Silent r s → Holds r s) → Gives r (CasesOk (visited_in_cases cs)) s (cases r.ctx n cs s)
+    pub g_cases : (n : ℕ) (cs : Cases) → ProperCases (Below r) (NameAt r) cs → {s : World} → Claimed r s → Gives r (CasesOk (visited_in_cases cs)) s (cases r.ctx n cs s)
     g_cases n no_case p h = g_return r h (λ z. record { branches = end; seen = λ q. end })
     g_cases n (case token x body cs) p h =
         g_next r _ (g_node x p.0 h) (λ a u t f. g_next r _ (g_condition r (λ z. (f z).holds) n token (λ z. (f z).value.own.answer)) (λ _ u₁ t₁ f₁.
@@ -187,7 +189,7 @@ module _ (r : Run) where
               ((f₃ z).value.seen q);
         })))))
 
-    pub g_values : (vs : Values) → ProperValues (Below r) (NameAt r) vs → {s : World} → (Silent r s → Holds r s) → Gives r (ValuesOk (visited_in_values vs)) s (values r.ctx vs s)
+    pub g_values : (vs : Values) → ProperValues (Below r) (NameAt r) vs → {s : World} → Claimed r s → Gives r (ValuesOk (visited_in_values vs)) s (values r.ctx vs s)
     g_values no_value p {s} h = g_return r h (λ z. record { pairs = no-typed r s.types; seen = λ q. end })
     g_values (value name x vs) p h =
         g_next r _ (g_node x p.1 h) (λ a u t f. g_next r _ (g_value r (λ z. (f z).holds) (λ z. (f z).value.own.answer)) (λ w u₁ t₁ f₁.
@@ -199,14 +201,15 @@ module _ (r : Run) where
           seen = λ q. seen-both r (seen-later r (f₂ z) (seen-later r (f₁ z₁) (whole x (f (before r t₁ z₁)).value q))) ((f₂ z).value.seen q);
         }))))
 
-    g_array : (n slot token : ℕ) (xs : Nodes) → slot < r.ctx.void → ProperAll (Below r) (NameAt r) xs → {s : World} → (Silent r s → Holds r s)
+    g_array : (n slot token : ℕ) (xs : Nodes) → slot < r.ctx.void → ProperAll (Below r) (NameAt r) xs → {s : World} → Claimed r s
         → Gives r (NodeOk r slot [] (visited_among xs)) s (array r.ctx n slot token xs s)
     g_array n slot token done o p h = node-poison r (g_report r h n (λ l z. empty_array-well token))
     g_array n slot token (then x xs) o p h =
         g_next r _ (g_node x p.0 h) (λ a u t f. more-node (λ z q. whole x (f z).value q)
         (g_members n slot xs false o p.1 (λ z. (f z).holds) (λ z. (f z).value.own.answer) (λ z e. absurd (false≢true e))))
 
-    g_members : (n slot : ℕ) (xs : Nodes) (b : Bool) {a : Answer} → slot < r.ctx.void → ProperAll (Below r) (NameAt r) xs → {s : World} → (Silent r s → Holds r s) → (Silent r s → AnswerOk r s a) → (Silent r s → b ≡ true → OfNames r)
+    g_members : (n slot : ℕ) (xs : Nodes) (b : Bool) {a : Answer} → slot < r.ctx.void → ProperAll (Below r) (NameAt r) xs
+        → {s : World} → Claimed r s → (Silent r s → AnswerOk r s a) → (Silent r s → b ≡ true → OfNames r)
         → Gives r (NodeOk r slot [] (visited_among xs)) s (members r.ctx n slot a b xs s)
     g_members n slot done b o p h k l = g_keep r (λ z q. end) (g_array_of r h n slot o k b l)
     g_members n slot (then x xs) b o p h k l =

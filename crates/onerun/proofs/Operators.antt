@@ -13,7 +13,7 @@ use Rattle.rules.specs.Operators.{result_kind, fuse, unary, cast}
 use Rattle.tworuns.specs.Operators.{result_low}
 use Rattle.onerun.specs.Claim.{Run, Good, Recorded, Holds}
 use Rattle.onerun.specs.Grows.{typed-names, typed_grow}
-use Rattle.onerun.specs.Logic.{Silent, Gives, g_next, g_when, g_set, Own, before}
+use Rattle.onerun.specs.Logic.{Claimed, Silent, Gives, g_next, g_when, g_set, Own, before}
 use Rattle.onerun.proofs.Report.{g_report, g_poison}
 use Rattle.onerun.proofs.Types.{low-good}
 
@@ -21,7 +21,7 @@ number-good : (r : Run) (b : Buffer) (t : Bool) (k : ℕ) → (t && (eqb k 3 || 
 number-good r b t k h =
     elim (one_of 3 4 k ((and-eq-true_iff t (eqb k 3 || eqb k 4)).0 h).1) [ inl e ↦ low-good r b k (omega arith) (omega arith) | inr e ↦ low-good r b k (omega arith) (omega arith) ]
 
-module _ (r : Run) {s : World} (h : Silent r s → Holds r s) where
+module _ (r : Run) {s : World} (h : Claimed r s) where
   -- the type in a slot that has one
   pub slot-good : {a : ℕ} → (Silent r s → Recorded r s a) → Silent r s → Good r s.types (get_or s.slots a 0)
   slot-good {a} e z = (h z).slots a (e z)

@@ -1,11 +1,11 @@
 -- One diagnostic raised: its message and primary message are well formed where it is, and those of the diagnostics before it stay. Where
 -- silence is claimed, nothing is claimed after it. Assumes nothing.
-use Rattle.std.specs.Prelude.{ℕ, zero, suc, ◌+◌, ◌*◌, ◌/◌, ◌≤◌, ◌<◌, min, ◌≡◌, Bool, List, [], ◌∷◌, ◌++◌, leb, ltb, get_or, take, drop}
-use Rattle.std.proofs.Common.{zero-add, suc-add, sym, ap, ◌∙◌, take-take, drop-drop, drop_at, length-take-le, leb-true, ltb-true}
+use Rattle.std.specs.Prelude.{ℕ, zero, suc, ◌+◌, ◌*◌, ◌≤◌, ◌<◌, ◌≡◌, Bool, List, [], ◌∷◌, ◌++◌, get_or, take, drop}
+use Rattle.std.proofs.Common.{zero-add, suc-add, sym, ap, ◌∙◌, take-take, drop-drop, drop_at, length-take-le}
 use native.Mathlib.Omega.{arith}
 use Rattle.std.proofs.Math.Decide.{ℕ_discrete}
 use Rattle.std.proofs.Math.Path.{refl}
-use Rattle.std.proofs.Math.Bool.{true, false, and-eq-true_iff}
+use Rattle.std.proofs.Math.Bool.{true, false}
 use Rattle.std.proofs.Math.ListN.{length, length-append}
 use Rattle.std.proofs.Math.Seq.{take-append_seam, drop-append_seam}
 use Rattle.tok.specs.Step.{refusal, give, refuse, when}
@@ -19,8 +19,9 @@ use Rattle.rules.specs.Steps.{Done, raised_told, report, output_of}
 use Rattle.rules.specs.Steps as S
 use Rattle.tworuns.specs.Means.{grown-same}
 use Rattle.tworuns.specs.Written.{get_d_before, take-written, get_d_written}
-use Rattle.onerun.specs.Claim.{Run, OfNames, ToldWell, Holds}
-use Rattle.onerun.specs.Logic.{Silent, After, Gives, gives, stopped, g_next, g_return, Own, own-poison}
+use Rattle.tworuns.specs.Primitive.{Room, room-true}
+use Rattle.onerun.specs.Claim.{Run, OfNames, ToldWell}
+use Rattle.onerun.specs.Logic.{Claimed, Silent, After, Gives, gives, stopped, g_next, g_return, Own, own-poison}
 
 -- ── Parts of a list ──
 
@@ -57,18 +58,6 @@ module _ (l : List ℕ) (at : ℕ) (m p : List ℕ) (fits : at + length (m ++ p)
       ∙ (ap (λ (k : ℕ). drop (length m) (take k (drop at (write l at (m ++ p))))) (sym long) ∙ (ap (drop (length m)) written ∙ drop-append_seam m p)))
 
 -- ── The diagnostics ──
-
-record Room (s : World) (d : Diagnostic) : Type 0 where
-  told : s.diagnostics.used < min (length s.diagnostics.words / 6) 256
-  bytes : s.messages.used + length (bytes_of d) ≤ min (length s.messages.words) 65536
-
-room-true : (s : World) (d : Diagnostic) → has_room (output_of s) d ≡ true → Room s d
-room-true s d e =
-    let h = (and-eq-true_iff (ltb s.diagnostics.used (min (length s.diagnostics.words / 6) 256)) (leb (s.messages.used + length (bytes_of d)) (min (length s.messages.words) 65536))).0 e in
-    record {
-      told = ltb-true s.diagnostics.used (min (length s.diagnostics.words / 6) 256) h.0;
-      bytes = leb-true (s.messages.used + length (bytes_of d)) (min (length s.messages.words) 65536) h.1;
-    }
 
 module _ (s : World) (d : Diagnostic) (room : Room s d) where
   abbrev six : List ℕ
@@ -129,7 +118,7 @@ module _ (r : Run) where
   abbrev pub Raised : {A : Type 0} → World → A → Type 0
   Raised u a = OfNames r
 
-  module _ {s : World} (h : Silent r s → Holds r s) (n : ℕ) {d : Diagnostic} (w : OfNames r → Silent r s → WellFormed d) where
+  module _ {s : World} (h : Claimed r s) (n : ℕ) {d : Diagnostic} (w : OfNames r → Silent r s → WellFormed d) where
     abbrev u : World
     u = with_told s (one_more s.diagnostics (six_words d s.messages.used)) (append s.messages (bytes_of d))
 

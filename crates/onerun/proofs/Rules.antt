@@ -25,7 +25,7 @@ use Rattle.tworuns.specs.Means as M
 use Rattle.onerun.specs.Claim.{Run, All, end, and, OfNames, NameAt, Fine, flat, Good, Bound, poisoned, bound, Recorded, Holds, AnswerOk, poison}
 use Rattle.onerun.specs.Claim as C
 use Rattle.onerun.specs.Grows.{all_map, typed-names, typed-known}
-use Rattle.onerun.specs.Logic.{Silent, before, After, Gives, g_next, g_return, g_when, g_option, g_map, g_on_types, g_known, g_if_known, g_set, Own, own-poison, answer-later}
+use Rattle.onerun.specs.Logic.{Claimed, Silent, before, After, Gives, g_next, g_return, g_when, g_option, g_map, g_on_types, g_known, g_if_known, g_set, Own, own-poison, answer-later}
 use Rattle.onerun.proofs.Report.{g_report, g_poison}
 use Rattle.onerun.proofs.Scope.{Any, g_hold, g_each}
 use Rattle.onerun.proofs.Types.{t_wrap_good, unknown-good}
@@ -42,7 +42,7 @@ module _ (r : Run) where
   kind-known q (M.recorded e l m) f k = let i = sym e ∙ k in omega arith
   kind-known q (M.called e h n) f k = true≢false (sym h ∙ ap names (sym e ∙ k))
 
-  pub g_ident : (n slot name : ℕ) → slot < r.ctx.void → NameAt r name → {s : World} → (Silent r s → Holds r s) → Gives r (Own r slot) s (ident r.ctx n slot name s)
+  pub g_ident : (n slot name : ℕ) → slot < r.ctx.void → NameAt r name → {s : World} → Claimed r s → Gives r (Own r slot) s (ident r.ctx n slot name s)
   unfolding ident
   g_ident n slot name own m {s} h =
       g_option r _ _ (λ _. g_poison r h n (λ l z. no_binding-well name _ (m l)))
@@ -57,7 +57,7 @@ module _ (r : Run) where
       at : (o : Option ℕ) → (Silent r s → Bound r s.types o) → Gives r (Own r slot) s (on_option o (return Poison) (λ w. set_known slot w) s)
       at o k = g_option r _ _ (λ e. g_return r h (λ z. own-poison r (of_names (rw e at (k z))))) (λ w e. g_set r slot own h (λ z. good (rw e at (k z))))
 
-  pub g_let : (n name : ℕ) {a : Answer} {s : World} → (Silent r s → Holds r s) → (Silent r s → AnswerOk r s a) → Gives r (λ u o. Bound r u.types o) s (let_binding n name a s)
+  pub g_let : (n name : ℕ) {a : Answer} {s : World} → Claimed r s → (Silent r s → AnswerOk r s a) → Gives r (λ u o. Bound r u.types o) s (let_binding n name a s)
   unfolding let_binding ty
   g_let n name {a = Known a} {s = s} h k =
       g_when r _ _ (λ _. g_next r _ (g_report r h n (λ l z. let_void-well name)) (λ _ u t x. g_return r (λ z. (x z).holds) (λ z. poisoned (x z).value)))
@@ -70,7 +70,7 @@ module _ (r : Run) where
       of_names : {s : World} → AnswerOk r s Poison → Bound r s.types none
       of_names (poison l) = poisoned l
 
-  module _ {s : World} (h : Silent r s → Holds r s) where
+  module _ {s : World} (h : Claimed r s) where
     g_field_type : (slot : ℕ) {w : ℕ} → slot < r.ctx.void → (Silent r s → Good r s.types w) → Gives r (Own r slot) s (field_type slot w s)
     unfolding field_type
     g_field_type slot {w} own g =
@@ -106,7 +106,8 @@ module _ (r : Run) where
         g_if_known r _ h k (λ z. tt) (λ a e. g_when r _ _ (λ _. g_return r h (λ z. tt))
         (λ _. g_map r (λ u _ t x z. tt) (g_report r h n (λ o z. bad_condition-well token _ (typed-names r (slot-good r h e z) o)))))
 
-    pub g_array_of : (n slot : ℕ) → slot < r.ctx.void → {a : Answer} → (Silent r s → AnswerOk r s a) → (b : Bool) → (Silent r s → b ≡ true → OfNames r) → Gives r (Own r slot) s (array_of r.ctx n slot a b s)
+    pub g_array_of : (n slot : ℕ) → slot < r.ctx.void → {a : Answer} → (Silent r s → AnswerOk r s a)
+        → (b : Bool) → (Silent r s → b ≡ true → OfNames r) → Gives r (Own r slot) s (array_of r.ctx n slot a b s)
     unfolding array_of ty
     g_array_of n slot own k b l =
         g_known r _ h k (λ o. own-poison r o) (λ a ea. g_when r _ _ (λ e. g_return r h (λ z. own-poison r (l z e)))
@@ -120,15 +121,17 @@ module _ (r : Run) where
     is_silent : OfNames r → MemberOk silent
     is_different : OfNames r → MemberOk differs
 
-  g_members : (n : ℕ) (span : Span) (a b : ℕ) {s : World} → (Silent r s → Holds r s) → (Silent r s → Good r s.types (get_or s.slots a 0)) → (Silent r s → Good r s.types (get_or s.slots b 0))
+  g_members : (n : ℕ) (span : Span) (a b : ℕ) {s : World} → Claimed r s → (Silent r s → Good r s.types (get_or s.slots a 0)) → (Silent r s → Good r s.types (get_or s.slots b 0))
       → Gives r (λ _ m. MemberOk m) s (member_types r.ctx n span a b s)
   unfolding member_types ty_tree ty tree
   g_members n span a b h x y =
       g_when r _ _ (λ e. g_return r h (λ z. is_silent (λ q. false≢true (rw (typed-known r (y z) q, typed-known r (x z) q) at e))))
       (λ _. g_when r _ _ (λ _. g_return r h (λ z. is_alike))
-      (λ _. g_next r _ (g_report r h n (λ l z. members_differ-well span _ _ (typed-names r (x z) l) (typed-names r (y z) l))) (λ _ u t f. g_return r (λ z. (f z).holds) (λ z. is_different (f z).value))))
+      (λ _. g_next r _ (g_report r h n (λ l z. members_differ-well span _ _ (typed-names r (x z) l) (typed-names r (y z) l)))
+      (λ _ u t f. g_return r (λ z. (f z).holds) (λ z. is_different (f z).value))))
 
-  pub g_member : (n : ℕ) (span : Span) {a b : Answer} {s : World} → (Silent r s → Holds r s) → (Silent r s → AnswerOk r s a) → (Silent r s → AnswerOk r s b) → Gives r (λ _ m. MemberOk m) s (member r.ctx n span a b s)
+  pub g_member : (n : ℕ) (span : Span) {a b : Answer} {s : World} → Claimed r s
+      → (Silent r s → AnswerOk r s a) → (Silent r s → AnswerOk r s b) → Gives r (λ _ m. MemberOk m) s (member r.ctx n span a b s)
   unfolding member
   g_member n span {a = Known a} {b = Known b} {s = s} h k l = g_members n span a b h (λ z. good (h z) (k z)) (λ z. good (h z) (l z))
     where
@@ -151,7 +154,7 @@ module _ (r : Run) where
   pub branch-later : {A : Type 0} {Q : World → A → Type 0} {s u : World} {a : A} → After r Q s u a → (b : Branch) → BranchOk s b → BranchOk u b
   branch-later h b x = record { answer = answer-later r h x.answer }
 
-  g_branches : (n d : ℕ) (bs : List Branch) {s : World} → (Silent r s → Holds r s) → (Silent r s → Recorded r s d) → (Silent r s → All (BranchOk s) bs)
+  g_branches : (n d : ℕ) (bs : List Branch) {s : World} → Claimed r s → (Silent r s → Recorded r s d) → (Silent r s → All (BranchOk s) bs)
       → Gives r (Any r) s (compare_branches r.ctx n d bs s)
   unfolding compare_branches ty_tree ty tree
   g_branches n d [] h e k = g_return r h (λ z. tt)
@@ -167,7 +170,7 @@ module _ (r : Run) where
       rest : {s : World} → All (BranchOk s) (b ∷ bs) → All (BranchOk s) bs
       rest (and x xs) = xs
 
-  pub g_matched : (n slot : ℕ) → slot < r.ctx.void → (bs : List Branch) {a : Answer} {s : World} → (Silent r s → Holds r s) → (Silent r s → All (BranchOk s) bs) → (Silent r s → AnswerOk r s a)
+  pub g_matched : (n slot : ℕ) → slot < r.ctx.void → (bs : List Branch) {a : Answer} {s : World} → Claimed r s → (Silent r s → All (BranchOk s) bs) → (Silent r s → AnswerOk r s a)
       → Gives r (Own r slot) s (matched r.ctx n slot bs a s)
   unfolding matched ty
   g_matched n slot own bs h k i =
@@ -176,7 +179,7 @@ module _ (r : Run) where
 
   -- ── Imports ──
 
-  g_import : (n path : ℕ) → NameAt r path → (s : World) → (Silent r s → Holds r s) → Gives r (Any r) s (import_one r.ctx n path s)
+  g_import : (n path : ℕ) → NameAt r path → (s : World) → Claimed r s → Gives r (Any r) s (import_one r.ctx n path s)
   unfolding import_one
   g_import n path m s h =
       g_option r _ _
@@ -188,7 +191,7 @@ module _ (r : Run) where
   names-all P [] h = end
   names-all P (p ∷ ps) h = and h.0 (names-all P ps h.1)
 
-  pub g_imports : (P : ℕ → Type 0) (n token : ℕ) (ps : List ℕ) → ProperNames P (NameAt r) ps → {s : World} → (Silent r s → Holds r s) → Gives r (Any r) s (import_all r.ctx n token ps s)
+  pub g_imports : (P : ℕ → Type 0) (n token : ℕ) (ps : List ℕ) → ProperNames P (NameAt r) ps → {s : World} → Claimed r s → Gives r (Any r) s (import_all r.ctx n token ps s)
   unfolding import_all
   g_imports P n token [] m h = g_map r (λ u _ t x z. tt) (g_report r h n (λ l z. empty_import-well token))
   g_imports P n token (p ∷ ps) m h =

@@ -13,7 +13,7 @@ use Rattle.tworuns.specs.Means.{Grown, grown-same}
 use Rattle.onerun.specs.Claim.{Run, All, end, and, Bound, LocalOk, FunctionOk, PackageOk, Recorded, Holds, AnswerOk, poison}
 use Rattle.onerun.specs.Claim as C
 use Rattle.onerun.specs.Grows.{all_map, local_grow}
-use Rattle.onerun.specs.Logic.{Later, Silent, before, After, Gives, gives, stopped, g_next, g_return}
+use Rattle.onerun.specs.Logic.{Claimed, Later, Silent, before, After, Gives, gives, stopped, g_next, g_return}
 use Rattle.onerun.proofs.Seen.{AllRecorded, Seen}
 
 module _ (r : Run) where
@@ -48,7 +48,7 @@ module _ (r : Run) where
   abbrev pub Any : {A : Type 0} → World → A → Type 0
   Any u a = Unit {0}
 
-  pub g_insert : (name : ℕ) {o : Option ℕ} {s : World} → (Silent r s → Holds r s) → (Silent r s → Bound r s.types o) → Gives r Any s (env_insert name o s)
+  pub g_insert : (name : ℕ) {o : Option ℕ} {s : World} → Claimed r s → (Silent r s → Bound r s.types o) → Gives r Any s (env_insert name o s)
   unfolding env_insert
   g_insert name {o} {s} h k = gives {u = with_env s (record { name = name; type = o } ∷ s.env)} (record { more = omega arith }) (λ z.
       let z₀ : Silent r s = record { none = z.none } in
@@ -59,7 +59,7 @@ module _ (r : Run) where
         value = tt;
       })
 
-  pub g_hold : (p : Package) {s : World} → (Silent r s → Holds r s) → (Silent r s → PackageOk r s.types p) → Gives r Any s (hold p s)
+  pub g_hold : (p : Package) {s : World} → Claimed r s → (Silent r s → PackageOk r s.types p) → Gives r Any s (hold p s)
   unfolding hold
   g_hold p {s} h k = gives {u = with_packages s (p ∷ s.packages)} (record { more = omega arith }) (λ z. after (h (record { none = z.none })) (k (record { none = z.none })))
     where
@@ -81,7 +81,8 @@ module _ (r : Run) where
         value = tt;
       }
 
-  pub g_enter : (name : ℕ) (ps : List Param) (ret : ℕ) {s : World} → (Silent r s → Holds r s) → (Silent r s → FunctionOk r s.types (function name (signature ps ret false))) → Gives r Any s (enter name ps ret s)
+  pub g_enter : (name : ℕ) (ps : List Param) (ret : ℕ) {s : World} → Claimed r s
+      → (Silent r s → FunctionOk r s.types (function name (signature ps ret false))) → Gives r Any s (enter name ps ret s)
   unfolding enter
   g_enter name ps ret {s} h k = gives {u = u} (record { more = omega arith }) (λ z. after (h (record { none = z.none })) (k (record { none = z.none })))
     where
@@ -108,7 +109,7 @@ module _ (r : Run) where
 
   -- ── Frames ──
 
-  module _ {A : Type 0} {Q : World → A → Type 0} (stays : (u : World) (e : List Local) (a : A) → Q u a → Q (with_env u e) a) (m : Walk A) {s : World} (h : Silent r s → Holds r s) where
+  module _ {A : Type 0} {Q : World → A → Type 0} (stays : (u : World) (e : List Local) (a : A) → Q u a → Q (with_env u e) a) (m : Walk A) {s : World} (h : Claimed r s) where
     after_frame : {u : World} {a : A} → Later s u → (Silent r u → After r Q s u a) → Silent r (with_env u s.env) → After r Q s (with_env u s.env) a
     after_frame {u} {a} t p z =
         let z₁ : Silent r u = record { none = z.none } in
@@ -137,17 +138,18 @@ module _ (r : Run) where
         back : {x : Result World Refusal A} → Gives r Q (with_env s []) x → Gives r Q s (next x (λ a after. ok a (with_env after s.env)))
         back (gives {u = u} t p) =
             gives {u = with_env u s.env} (record { more = t.more })
-            (after_frame (record { more = t.more }) (λ z. let x = p z in record { grown = x.grown; recorded = λ b y. x.recorded b (record { other = y.other; low = y.low }); holds = x.holds; value = x.value }))
+            (after_frame (record { more = t.more }) (λ z. let x = p z in
+            record { grown = x.grown; recorded = λ b y. x.recorded b (record { other = y.other; low = y.low }); holds = x.holds; value = x.value }))
         back stopped = stopped
 
-  pub alone : {s : World} → (Silent r s → Holds r s) → Silent r (with_env s []) → Holds r (with_env s [])
+  pub alone : {s : World} → Claimed r s → Claimed r (with_env s [])
   alone h z = holds-env end (h (record { none = z.none }))
 
   -- ── A step for each of a list ──
 
   module _ {A B : Type 0} (P : A → Type 0) (R : Buffer → B → Type 0) (grow : (b d : Buffer) → Grown b d → (x : B) → R b x → R d x) (f : A → Walk B)
-      (each : (a : A) → P a → (s : World) → (Silent r s → Holds r s) → Gives r (λ u x. R u.types x) s (f a s)) where
-    pub g_each : {xs : List A} → All P xs → {s : World} → (Silent r s → Holds r s) → Gives r (λ u ys. All (R u.types) ys) s (for_each f xs s)
+      (each : (a : A) → P a → (s : World) → Claimed r s → Gives r (λ u x. R u.types x) s (f a s)) where
+    pub g_each : {xs : List A} → All P xs → {s : World} → Claimed r s → Gives r (λ u ys. All (R u.types) ys) s (for_each f xs s)
     unfolding for_each
     g_each end h = g_return r h (λ z. end)
     g_each (and {a = a} p ps) {s} h =

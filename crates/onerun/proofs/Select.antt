@@ -20,13 +20,14 @@ use Rattle.library.specs.Package.{Param, Signature}
 use Rattle.ast.specs.Node.{Node}
 use Rattle.rules.specs.World.{World, Walk, name_in}
 use Rattle.rules.specs.Steps.{ty, tree, ty_tree, poison}
-use Rattle.rules.specs.Calls.{Callee, own_function, package_function, through_field, no_callee, Provided, resolve_call, param_trees, provided_trees, overload_matches, position, all_return, common_return, select, in_group, resolve_pkg_call, call}
+use Rattle.rules.specs.Calls.{Callee, own_function, package_function, through_field, no_callee, Provided, resolve_call, param_trees, provided_trees}
+use Rattle.rules.specs.Calls.{overload_matches, position, all_return, common_return, select, in_group, resolve_pkg_call, call}
 use Rattle.tworuns.specs.Means.{Grown}
 use Rattle.tworuns.specs.Operators.{plain-low}
 use Rattle.onerun.specs.Claim.{Run, All, end, and, Both, OfNames, Name, NameAt, Good, ParamOk, SignatureOk, Holds}
 use Rattle.onerun.specs.Claim as C
 use Rattle.onerun.specs.Grows.{all_map, signature_grow, is-tree, fine_names, typed-names, typed_free, names-typed}
-use Rattle.onerun.specs.Logic.{Silent, before, Gives, g_next, g_return, g_when, g_option, g_set, Own, own-poison}
+use Rattle.onerun.specs.Logic.{Claimed, Silent, before, Gives, g_next, g_return, g_when, g_option, g_set, Own, own-poison}
 use Rattle.onerun.proofs.Report.{g_report, g_poison}
 use Rattle.onerun.proofs.Seen.{Seen, NodeOk, g_keep, node-poison}
 use Rattle.onerun.specs.Trees.{free-slots, never, never-free}
@@ -85,7 +86,7 @@ module _ (r : Run) where
     nothing : Found provided u none
     taken : {f : Signature} → Taken provided u f → Found provided u (some f)
 
-  g_position : (ts : List Ty) (fs : List Signature) {s : World} → (Silent r s → Holds r s) → (Silent r s → All (SignatureOk r s.types) fs) → Gives r (Found ts) s (position r.ctx ts fs s)
+  g_position : (ts : List Ty) (fs : List Signature) {s : World} → Claimed r s → (Silent r s → All (SignatureOk r s.types) fs) → Gives r (Found ts) s (position r.ctx ts fs s)
   unfolding position
   g_position ts [] h k = g_return r h (λ z. nothing)
   g_position ts (f ∷ fs) {s} h k =
@@ -99,7 +100,8 @@ module _ (r : Run) where
       rest (and x xs) = xs
 
   -- types without slots that are equal to the parameters'
-  matched-slots : (p : List ℕ → Bool) (u : World) (ps : List Param) (ts : List Ty) → overload_matches (map (λ p. tree_at r u p.type) ps) ts ≡ true → All (λ t. contains_slot t ≡ false) ts → All (SlotsOf r p u.types) ps
+  matched-slots : (p : List ℕ → Bool) (u : World) (ps : List Param) (ts : List Ty)
+      → overload_matches (map (λ p. tree_at r u p.type) ps) ts ≡ true → All (λ t. contains_slot t ≡ false) ts → All (SlotsOf r p u.types) ps
   unfolding overload_matches
   matched-slots p u [] ts e h = end
   matched-slots p u (a ∷ ps) [] e h = absurd (false≢true e)
@@ -120,12 +122,12 @@ module _ (r : Run) where
 
   -- ── What all return ──
 
-  g_all_return : (t : Ty) (fs : List Signature) {s : World} → (Silent r s → Holds r s) → Gives r (λ _ _. Unit {0}) s (all_return r.ctx t fs s)
+  g_all_return : (t : Ty) (fs : List Signature) {s : World} → Claimed r s → Gives r (λ _ _. Unit {0}) s (all_return r.ctx t fs s)
   unfolding all_return tree
   g_all_return t [] h = g_return r h (λ z. tt)
   g_all_return t (f ∷ fs) h = g_when r _ _ (λ _. g_all_return t fs h) (λ _. g_return r h (λ z. tt))
 
-  g_common : (slot : ℕ) → slot < r.ctx.void → (f : Signature) (others : List Signature) {s : World} → (Silent r s → Holds r s) → (Silent r s → OfNames r) → (Silent r s → SignatureOk r s.types f)
+  g_common : (slot : ℕ) → slot < r.ctx.void → (f : Signature) (others : List Signature) {s : World} → Claimed r s → (Silent r s → OfNames r) → (Silent r s → SignatureOk r s.types f)
       → Gives r (Own r slot) s (common_return r.ctx slot f others s)
   unfolding common_return tree
   g_common slot own f others h l k =
@@ -134,7 +136,8 @@ module _ (r : Run) where
       (λ _. g_return r (λ z. (x z).holds) (λ z. own-poison r (l (before r t z)))))
 
   module _ (n slot : ℕ) (own : slot < r.ctx.void) (given : List Provided) where
-    g_select : (token : ℕ) (name : List ℕ) → Name r name → (f : Signature) (others : List Signature) (poisoned : Bool) {s : World} → (Silent r s → Holds r s) → (Silent r s → All (ProvidedOk r s) given)
+    g_select : (token : ℕ) (name : List ℕ) → Name r name → (f : Signature) (others : List Signature) (poisoned : Bool) {s : World}
+        → Claimed r s → (Silent r s → All (ProvidedOk r s) given)
         → (Silent r s → All (SignatureOk r s.types) (f ∷ others)) → (Silent r s → poisoned ≡ true → OfNames r) → Gives r (Own r slot) s (select r.ctx n slot token name f others given poisoned s)
     unfolding select
     g_select token name m f others poisoned {s} h i k l =
@@ -163,7 +166,7 @@ module _ (r : Run) where
             by : Found provided u (some g) → Taken provided u g
             by (taken y) = y
 
-    g_group : (token : ℕ) (name : List ℕ) → Name r name → (fs : List Signature) (poisoned : Bool) {s : World} → (Silent r s → Holds r s) → (Silent r s → All (ProvidedOk r s) given)
+    g_group : (token : ℕ) (name : List ℕ) → Name r name → (fs : List Signature) (poisoned : Bool) {s : World} → Claimed r s → (Silent r s → All (ProvidedOk r s) given)
         → (Silent r s → All (SignatureOk r s.types) fs) → (Silent r s → poisoned ≡ true → OfNames r) → Gives r (Own r slot) s (in_group r.ctx n slot token name fs given poisoned s)
     unfolding in_group
     g_group token name m [] poisoned h i k l = g_poison r h n (λ o z. undefined_in_package-well token name (m o))
@@ -173,13 +176,14 @@ module _ (r : Run) where
         first (and x xs) = x
     g_group token name m (f ∷ g ∷ others) poisoned h i k l = g_select token name m f (g ∷ others) poisoned h i k l
 
-    g_resolve_call : (name : ℕ) → NameAt r name → {s : World} → (Silent r s → Holds r s) → (Silent r s → All (ProvidedOk r s) given) → Gives r (Own r slot) s (resolve_call r.ctx n slot name given s)
+    g_resolve_call : (name : ℕ) → NameAt r name → {s : World} → Claimed r s → (Silent r s → All (ProvidedOk r s) given) → Gives r (Own r slot) s (resolve_call r.ctx n slot name given s)
     unfolding resolve_call
     g_resolve_call name m h i =
         g_option r _ _ (λ _. g_poison r h n (λ l z. undefined_own-well name _ (m l)))
         (λ f e. g_check_call r n _ m slot name own given f h i (λ z. function-found r _ (h z).own e))
 
-    g_resolve_pkg : (pkg name : ℕ) → NameAt r pkg → NameAt r name → (poisoned : Bool) {s : World} → (Silent r s → Holds r s) → (Silent r s → All (ProvidedOk r s) given) → (Silent r s → poisoned ≡ true → OfNames r)
+    g_resolve_pkg : (pkg name : ℕ) → NameAt r pkg → NameAt r name → (poisoned : Bool) {s : World}
+        → Claimed r s → (Silent r s → All (ProvidedOk r s) given) → (Silent r s → poisoned ≡ true → OfNames r)
         → Gives r (Own r slot) s (resolve_pkg_call r.ctx n slot pkg name given poisoned s)
     unfolding resolve_pkg_call
     g_resolve_pkg pkg name k m poisoned h i l =
@@ -194,7 +198,7 @@ module _ (r : Run) where
       pub of_names : poisoned ≡ true → OfNames r
       pub seen : r.clean → Seen r u ys
 
-    pub g_call : (ys : List Node) (P : ℕ → Type 0) (f : Callee) → ProperCallee P (NameAt r) f → (visits : Walk Bool) {s : World} → (Silent r s → Holds r s) → Gives r (Visits ys) s (visits s)
+    pub g_call : (ys : List Node) (P : ℕ → Type 0) (f : Callee) → ProperCallee P (NameAt r) f → (visits : Walk Bool) {s : World} → Claimed r s → Gives r (Visits ys) s (visits s)
         → Gives r (NodeOk r slot [] ys) s (call r.ctx n slot f given visits s)
     unfolding call ProperCallee poison
     g_call ys P (own_function name) p visits h v =

@@ -46,7 +46,7 @@ pub data Ends (r : Run) (roots : Nodes) : Result World Refusal Done → Type 0 w
 ok-world : {s u : World} → ◌≡◌ {A = Result World Refusal Done} (ok tt s) (ok tt u) → s ≡ u
 ok-world e = cc e
 
-not-refused : {x : Refusal} {u : World} → ◌≡◌ {A = Result World Refusal Done} (refused x) (ok tt u) → ⊥
+pub not-refused : {x : Refusal} {u : World} → ◌≡◌ {A = Result World Refusal Done} (refused x) (ok tt u) → ⊥
 not-refused e = let z : ◌≡◌ {A = ℕ} 0 1 = cc e in omega arith
 
 module _ (r : Run) (pool : List ℕ) where

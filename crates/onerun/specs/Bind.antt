@@ -55,7 +55,8 @@ module _ (r : Run) {b : Buffer} where
   bound-more m (clash h n s e t) = clash h (more-trans m n) s e t
   bound-more m (of_void h n s) = of_void h (more-trans m n) s
 
-  then_ok : {bs : List Binding} {x : Bound} (f : List Binding → Bound) → BoundOk r b bs x → ((cs : List Binding) → All (BindingOk r b) cs → More bs cs → BoundOk r b bs (f cs)) → BoundOk r b bs (and_then x f)
+  then_ok : {bs : List Binding} {x : Bound} (f : List Binding → Bound) → BoundOk r b bs x
+      → ((cs : List Binding) → All (BindingOk r b) cs → More bs cs → BoundOk r b bs (f cs)) → BoundOk r b bs (and_then x f)
   unfolding and_then
   then_ok f (all {cs = cs} h m) k = k cs h m
   then_ok f (clash h m s e t) k = clash h m s e t
@@ -78,7 +79,9 @@ module _ (r : Run) {b : Buffer} where
       → BoundOk r b bs (bind_found r.ctx.texts b.words s w bs o)
   unfolding bind_found
   found_ok s {w} {bs} n h k none e = all (and (record { slot = n; type = h }) k) (more-one (binding s w) bs)
-  found_ok s {w} {bs} n h k (some x) e = pick (BoundOk r b bs) {t = same_ty (ty_of r.ctx.texts b.words x) (ty_of r.ctx.texts b.words w)} _ _ (λ _. all k (more_same bs)) (λ _. clash k (more_same bs) n (bound-good s k e) h)
+  found_ok s {w} {bs} n h k (some x) e =
+      pick (BoundOk r b bs) {t = same_ty (ty_of r.ctx.texts b.words x) (ty_of r.ctx.texts b.words w)} _ _
+      (λ _. all k (more_same bs)) (λ _. clash k (more_same bs) n (bound-good s k e) h)
 
   one_ok : (s : List ℕ) {w : ℕ} {bs : List Binding} → Name r s → Good r b w → All (BindingOk r b) bs → BoundOk r b bs (bind_one r.ctx.texts b.words s w bs)
   unfolding bind_one
@@ -96,7 +99,8 @@ module _ (r : Run) {b : Buffer} where
         pick (BoundOk r b bs) {t = eqb (kind_of w) 8} _ _ (λ q. bind-fields m f (fields-typed r h (eqb-true (kind_of w) 8 q)) k) (λ _. all k (more_same bs))
     bind_ok {bs = bs} (M.called {k = j} {n = n} e i q) (called y) h k = pick (BoundOk r b bs) {t = eqb j 10} _ _ (λ _. one_ok n y h k) (λ _. all k (more_same bs))
 
-    pub bind-fields : {t : Texts} {types : List ℕ} {used v j at left : ℕ} {fs : Fields} {bs : List Binding} → FieldsMean t types used v j fs → FineFields r fs → FieldsTyped r r.clean b at left → All (BindingOk r b) bs
+    pub bind-fields : {t : Texts} {types : List ℕ} {used v j at left : ℕ} {fs : Fields} {bs : List Binding}
+        → FieldsMean t types used v j fs → FineFields r fs → FieldsTyped r r.clean b at left → All (BindingOk r b) bs
         → BoundOk r b bs (bind_fields r.ctx.texts b.words fs at left bs)
     bind-fields {bs = bs} M.no_more no_more h k = all k (more_same bs)
     bind-fields {left = left} {bs = bs} (M.one_more q l m ms) (one_more y f fs) h k =

@@ -54,4 +54,5 @@ module _ (r : Run) {b : Buffer} (name : List ℕ) where
       let f = first-typed r h (eqb-suc-zero k) in
       let q : suc k - 1 ≡ k = omega arith in
       let rest : FieldsTyped r free b (at + 2) k = rw q at f.rest in
-      first_or (Typed r free b) (get_or b.words (at + 1) 0) (find_field r.ctx.texts b.words name (at + 2) k) (same_bytes name (name_bytes r.ctx.texts (get_or b.words at 0))) e f.type (λ q. field_found k (at + 2) rest q)
+      first_or (Typed r free b) (get_or b.words (at + 1) 0) (find_field r.ctx.texts b.words name (at + 2) k)
+      (same_bytes name (name_bytes r.ctx.texts (get_or b.words at 0))) e f.type (λ q. field_found k (at + 2) rest q)

@@ -13,7 +13,8 @@ use Rattle.library.specs.Package.{Param, Signature, Function, Package}
 use Rattle.rules.specs.World.{Local, World, with_types}
 use Rattle.tworuns.specs.Means.{Means, means-kind, means-ty_of, means_grow, Grown}
 use Rattle.tworuns.specs.Means as M
-use Rattle.onerun.specs.Claim.{Run, All, end, and, Both, OfNames, Fine, flat, wrapped, recorded, called, FineFields, no_more, one_more, Is, Typed, Good, Bound, poisoned, bound, LocalOk, BindingOk, ParamOk, SignatureOk, FunctionOk, PackageOk, Holds}
+use Rattle.onerun.specs.Claim.{Run, All, end, and, Both, OfNames, Fine, flat, wrapped, recorded, called, FineFields, no_more, one_more, Is}
+use Rattle.onerun.specs.Claim.{Typed, Good, Bound, poisoned, bound, LocalOk, BindingOk, ParamOk, SignatureOk, FunctionOk, PackageOk, Holds}
 use Rattle.onerun.specs.Claim as C
 
 pub all_map : {A : Type 0} {P Q : A → Type 0} {xs : List A} → ((a : A) → P a → Q a) → All P xs → All Q xs

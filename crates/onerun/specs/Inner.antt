@@ -1,6 +1,6 @@
 -- A word of a type, taken apart: of the words inside, and of the fields, the same is claimed. Assumes nothing.
 use Rattle.std.specs.Prelude.{ℕ, suc, ◌+◌, ◌-◌, ◌≤◌, ◌≡◌, true, List, get_or}
-use Rattle.std.proofs.Common.{arith, sym, ◌∙◌, inl, inr}
+use Rattle.std.proofs.Common.{arith, sym, ◌∙◌}
 use Rattle.std.proofs.Math.Path.{ap}
 use Rattle.std.proofs.Math.Bool.{false, true≢false}
 use Rattle.std.proofs.Math.Dec.{eqb, eqb-suc-zero}
@@ -10,16 +10,14 @@ use Rattle.tok.specs.Text.{name_bytes}
 use Rattle.ptype.specs.Ty.{Ty, Fields, wrap, rec, no_field, field, depth_of, deepest, contains_slot, any_slot}
 use Rattle.ptype.specs.Words.{inner_word, field_count}
 use Rattle.ptype.specs.Add.{Buffer}
-use Rattle.ptype.specs.Kinds.{wraps, names, one_of}
+use Rattle.ptype.specs.Kinds.{wraps, names}
 use Rattle.tworuns.specs.Means.{Means, FieldsMean, fields_grow, Grown}
 use Rattle.tworuns.specs.Means as M
+use Rattle.tworuns.specs.Inner.{no_name}
 use Rattle.onerun.specs.Claim.{Run, Name, Fine, flat, wrapped, recorded, called, FineFields, no_more, one_more, Is, Typed}
 
 less : (i : ℕ) → suc i - 1 ≡ i
 less i = omega arith
-
-pub no_name : (k : ℕ) → wraps k ≡ true → names k ≡ true → ⊥
-no_name k h i = elim (one_of 6 7 k h) [ inl e ↦ true≢false (sym (rw e at i)) | inr e ↦ true≢false (sym (rw e at i)) ]
 
 module _ (r : Run) where
   -- k fields from index `at` on

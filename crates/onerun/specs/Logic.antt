@@ -34,6 +34,10 @@ module _ (r : Run) where
   pub record Silent (s : World) : Type 0 where
     pub none : r.clean → s.diagnostics.used ≡ 0
 
+  -- what the run claims of a world: it holds where all is silent
+  abbrev pub Claimed : World → Type 0
+  Claimed s = Silent s → Holds r s
+
   pub before : {s u : World} → Later s u → Silent u → Silent s
   before t z = record { none = λ q. omega (arith, t.more, z.none q) }
 

@@ -10,7 +10,8 @@ use Rattle.rules.specs.Steps.{type_from_expr}
 use Rattle.rules.specs.Rules.{node, block, last}
 use Rattle.rules.specs.Visited.{visited_below, visited_among, visited_in_cases, visited_in_values}
 use Rattle.laws.specs.SlotsOf.{ArgSlots}
-use Rattle.laws.specs.Keeps.{Keeps, in_next, in_return, in_type_from, in_fn_arguments, in_enter}
+use Rattle.laws.specs.Keeps.{Keeps}
+use Rattle.laws.specs.RulesKeep.{in_next, in_return, in_type_from, in_fn_arguments, in_enter}
 use Rattle.laws.specs.Still.{Still, Any, Other, still_kept, still-enters}
 use Rattle.accepts.proofs.OtherSlots.{fn-args}
 use Rattle.accepts.proofs.Fresh.{visited_from, Fresh, Apart, fresh-below, none_is, rule-apart, type-from-apart, node-apart, block_apart, last_apart}
@@ -25,10 +26,10 @@ use Rattle.ready.specs.Parts.{nodes-turn, values-turn, cases-turn}
 fn_leaves : (a : ℕ) (c : Ctx) (n slot name : ℕ) (ret : TypeExpr) (args : List Arg) → ArgSlots (Other a) slot args → (s : World) → Keeps (Still a) Any s (fn_begin c n slot name ret args s)
 unfolding fn_begin
 fn_leaves a c n slot name ret args h =
-    in_next (Still a) Any (Other a) (still_kept a) _ (in_fn_arguments (Still a) Any (Other a) (still_kept a) c n slot args h) λ ps.
-    in_next (Still a) Any (Other a) (still_kept a) _ (in_type_from (Still a) Any (Other a) (still_kept a) c n ret) λ word.
-    in_next (Still a) Any (Other a) (still_kept a) _ (in_enter (Still a) Any (Other a) (still_kept a) (still-enters a) name ps word) λ _.
-    in_return (Still a) Any (Other a) (still_kept a) word
+    in_next (still_kept a) _ (in_fn_arguments (still_kept a) c n slot args h) λ ps.
+    in_next (still_kept a) _ (in_type_from (still_kept a) c n ret) λ word.
+    in_next (still_kept a) _ (in_enter (still_kept a) (still-enters a) name ps word) λ _.
+    in_return (still_kept a) word
 
 -- ── By kind ──
 

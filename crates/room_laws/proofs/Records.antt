@@ -3,6 +3,10 @@
 use Prim.Native.Nat.{ℕ, zero, suc, ◌+◌, ◌-◌, ◌≤◌, ◌<◌}
 use Rattle.std.proofs.Common.{arith, add-one, ap}
 use Rattle.std.specs.Prelude.{◌≡◌, refl, List, length}
+use Rattle.ast.specs.declared.NodeKind.{NodeKind}
+use Rattle.ast.specs.declared.NodeKind.TheVariants as kind
+use Rattle.ast.specs.Kinds.{kind_of_node}
+use Rattle.ast.specs.KindLaws.{NodeNumber, node-number}
 use Rattle.ast.specs.Image.{word_at, node_count, type_count, root_count, record_after, node_place, type_place, record_kind, record_length}
 use Rattle.ast.specs.TypeExpr.{args_from}
 use Rattle.ast.specs.Node.{Node, nodes_from, words_from, externs_from, tree_of}
@@ -44,29 +48,29 @@ module _ {text image : List ℕ} (a : Accepted text image) (n : ℕ) (l : n < no
   abbrev at : ℕ
   at = node_place image n
 
-  by_kind : (k : ℕ) → record_kind image at ≡ k → own_room (tree_of image n) ≤ record_length image at
+  by_kind : (x : NodeKind) → NodeNumber x (record_kind image at) → own_room (tree_of image n) ≤ record_length image at
   unfolding own_room
-  by_kind zero e = rw (tree-atom a n l e) (omega arith)
-  by_kind (suc zero) e = rw (tree-ident a n l e) (omega arith)
-  by_kind (suc (suc zero)) e = rw (tree-bin a n l e) (omega arith)
-  by_kind (suc (suc (suc zero))) e = rw (tree-unary a n l e) (omega arith)
-  by_kind (suc (suc (suc (suc zero)))) e = rw (tree_let a n l e) (omega (arith, (let_words (a.node n l) e).long))
-  by_kind (suc (suc (suc (suc (suc zero))))) e =
+  by_kind kind.Atom e = rw (tree-atom a n l e) (omega arith)
+  by_kind kind.Ident e = rw (tree-ident a n l e) (omega arith)
+  by_kind kind.Bin e = rw (tree-bin a n l e) (omega arith)
+  by_kind kind.Unary e = rw (tree-unary a n l e) (omega arith)
+  by_kind kind.Let e = rw (tree_let a n l e) (omega (arith, (let_words (a.node n l) e).long))
+  by_kind kind.Fn e =
       rw (tree-fn a n l e) (omega (arith, (fn-words (a.node n l) e).long, args-long image (word_at image (at + 4)) (at + 5)))
-  by_kind (suc (suc (suc (suc (suc (suc zero)))))) e = rw (tree-match a n l e) (omega arith)
-  by_kind (suc (suc (suc (suc (suc (suc (suc zero))))))) e = rw (tree-call a n l e) (omega (arith, call_long (tree_of image) image (record_length image at - 3) (at + 3)))
-  by_kind (suc (suc (suc (suc (suc (suc (suc (suc zero)))))))) e = rw (tree-field a n l e) (omega arith)
-  by_kind (suc (suc (suc (suc (suc (suc (suc (suc (suc zero))))))))) e = rw (tree-cast a n l e) (omega arith)
-  by_kind (suc (suc (suc (suc (suc (suc (suc (suc (suc (suc zero)))))))))) e = rw (tree_import a n l e) (omega (arith, words_long image (record_length image at - 3) (at + 3)))
-  by_kind (suc (suc (suc (suc (suc (suc (suc (suc (suc (suc (suc zero))))))))))) e =
+  by_kind kind.Match e = rw (tree-match a n l e) (omega arith)
+  by_kind kind.Call e = rw (tree-call a n l e) (omega (arith, call_long (tree_of image) image (record_length image at - 3) (at + 3)))
+  by_kind kind.Field e = rw (tree-field a n l e) (omega arith)
+  by_kind kind.Cast e = rw (tree-cast a n l e) (omega arith)
+  by_kind kind.Import e = rw (tree_import a n l e) (omega (arith, words_long image (record_length image at - 3) (at + 3)))
+  by_kind kind.Extern e =
       rw (tree-extern a n l e) (omega (arith, externs_long (extern-words (a.node n l) e).functions))
-  by_kind (suc (suc (suc (suc (suc (suc (suc (suc (suc (suc (suc (suc zero)))))))))))) e = rw (tree_record a n l e) (omega arith)
-  by_kind (suc (suc (suc (suc (suc (suc (suc (suc (suc (suc (suc (suc (suc zero))))))))))))) e = rw (tree-array a n l e) (omega arith)
-  by_kind (suc (suc (suc (suc (suc (suc (suc (suc (suc (suc (suc (suc (suc (suc k)))))))))))))) e = absurd (let h = (a.node n l).words.kind in omega arith)
+  by_kind kind.Record e = rw (tree_record a n l e) (omega arith)
+  by_kind kind.Array e = rw (tree-array a n l e) (omega arith)
+  by_kind kind.None e = absurd (let h = (a.node n l).words.kind in omega arith)
 
   -- THE LAW of one node
   pub own_room_lem : own_room (tree_of image n) ≤ record_length image (node_place image n)
-  own_room_lem = by_kind (record_kind image at) refl
+  own_room_lem = by_kind (kind_of_node (record_kind image at)) (node-number (record_kind image at) refl)
 
 -- ── One after the other ──
 

@@ -1,6 +1,7 @@
 -- How many words of scratch and of the functions buffer visiting a node takes at most. Definitions.
 use Rattle.std.specs.Prelude.{ℕ, ◌+◌, ◌*◌, List, [], ◌∷◌, length}
-use Rattle.ast.specs.Node.{Node, Nodes, Cases, Values, ExternFn, Atom, Ident, Bin, Unary, Let, Fn, Match, Call, Field, Cast, Import, Extern, Record, Array, Absent, done, then, no_case, case, no_value, value}
+use Rattle.ast.specs.Node.{Node, Nodes, Cases, Values, ExternFn}
+use Rattle.ast.specs.Node.{Atom, Ident, Bin, Unary, Let, Fn, Match, Call, Field, Cast, Import, Extern, Record, Array, Absent, done, then, no_case, case, no_value, value}
 
 -- the package of an Extern: its size, name and function count, and for each function name, argument count, pairs, return type
 unfoldable pub extern_words : List ExternFn → ℕ

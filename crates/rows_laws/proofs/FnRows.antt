@@ -1,66 +1,33 @@
 -- The rows of a functions buffer that holds entries of functions, in the order in which they were met: well formed where the functions'
 -- names and types are. By induction on the entries. Assumes nothing.
 use Prim.Native.Nat.{ℕ, zero, suc, ◌+◌, ◌*◌, ◌≤◌, ◌<◌}
-use Rattle.std.proofs.Common.{add-zero, sym, ap, ◌∙◌, append_assoc, append-nil, get_or-append-add, lt-ltb, le-ltb}
+use Rattle.std.proofs.Common.{append_assoc, append-nil, lt-ltb, le-ltb}
 use native.Mathlib.Omega.{arith}
-use Rattle.std.specs.Prelude.{◌≡◌, true, List, [], ◌∷◌, ◌++◌, get_or}
+use Rattle.std.specs.Prelude.{◌≡◌, List, [], ◌∷◌, ◌++◌, get_or}
 use Rattle.std.proofs.Math.Path.{refl}
-use Rattle.std.proofs.Math.ListN.{length, length-append, get_or-append}
-use Rattle.utf8.specs.Rfc3629.{well_formed, Octets, none}
+use Rattle.std.proofs.Math.ListN.{length, length-append}
+use Rattle.utf8.specs.Rfc3629.{Octets, none}
 use Rattle.utf8.proofs.Laws.{ascii_octets, octets_of, ◌then◌}
 use Rattle.tok.specs.Text.{Texts, text, name_bytes}
 use Rattle.ptype.specs.Words.{ty_of}
 use Rattle.ptype.specs.Show.{show}
 use Rattle.ptype.specs.Add.{write}
-use Rattle.display.specs.NamesWellFormed.{names_well_formed}
 use Rattle.display.specs.WellFormedLaws.{show_octets, Each, no_piece, piece, joined_octets}
 use Rattle.library.specs.Package.{Param, Function}
 use Rattle.rules.specs.Steps.{pairs_of, entry_of}
 use Rattle.rules.specs.Rows.{line, arg_rows, fn_row, fn_rows}
 use Rattle.tworuns.specs.Entries.{words_of}
 use Rattle.tworuns.specs.Written.{get_d_written}
+use Rattle.tworuns.specs.Signatures.{Stands, stands-head, stands-second, stands-rest, stands-front, stands-back, entry, length_pairs, length-entry, count-read}
 use Rattle.onerun.specs.Claim.{All, end, and}
-use Rattle.rows_laws.specs.FnRows.{NameWell, TypeWell, ParamWell, FunctionWell}
+use Rattle.rows_laws.specs.FnRows.{ParamWell, FunctionWell}
 
 -- "one blank between parts"
 pub line_octets : {ps : List (List ℕ)} → Each ps → Octets (line ps)
 unfolding line text
 line_octets ps = joined_octets (ascii_octets (text " ") refl) ps then ascii_octets (text "\n") refl
 
--- ── Words that stand in a buffer ──
-
-record Stands (words : List ℕ) (at : ℕ) (l : List ℕ) : Type 0 where
-  each : (i : ℕ) → i < length l → get_or words (at + i) 0 ≡ get_or l i 0
-
-module _ {words : List ℕ} {at : ℕ} where
-  first_word : {x : ℕ} {l : List ℕ} → Stands words at (x ∷ l) → get_or words at 0 ≡ x
-  first_word h = ap (λ (p : ℕ). get_or words p 0) (sym (add-zero at)) ∙ h.each 0 (omega arith)
-
-  second_word : {x y : ℕ} {l : List ℕ} → Stands words at (x ∷ y ∷ l) → get_or words (at + 1) 0 ≡ y
-  second_word h = h.each 1 (omega arith)
-
-  after_two : {x y : ℕ} {l : List ℕ} → Stands words at (x ∷ y ∷ l) → Stands words (at + 2) l
-  after_two h = record { each = λ i k. ap (λ (p : ℕ). get_or words p 0) (omega arith) ∙ h.each (suc (suc i)) (omega arith) }
-
-  front : (a b : List ℕ) → Stands words at (a ++ b) → Stands words at a
-  front a b h = record { each = λ i k. h.each i (omega (arith, length-append a b)) ∙ get_or-append a b 0 i k }
-
-  back : (a b : List ℕ) → Stands words at (a ++ b) → Stands words (at + length a) b
-  back a b h = record { each = λ i k. ap (λ (p : ℕ). get_or words p 0) (omega arith) ∙ (h.each (length a + i) (omega (arith, length-append a b)) ∙ get_or-append-add a b i 0) }
-
 -- ── Entries ──
-
-abbrev entry : Function → List ℕ
-entry f = entry_of f.name f.sig.params f.sig.ret
-
-pairs-length : (ps : List Param) → length (pairs_of ps) ≡ 2 * length ps
-unfolding pairs_of
-pairs-length [] = refl
-pairs-length (p ∷ ps) = let e = pairs-length ps in omega arith
-
-entry_length_lem : (f : Function) → length (entry f) ≡ 3 + 2 * length f.sig.params
-unfolding entry_of
-entry_length_lem f = omega (arith, pairs-length f.sig.params, length-append (f.name ∷ length f.sig.params ∷ pairs_of f.sig.params) (f.sig.ret ∷ []))
 
 module _ (t : Texts) (types : List ℕ) where
   -- words that are entries of such functions, one after the other
@@ -92,26 +59,22 @@ module _ (t : Texts) (types : List ℕ) where
     args_octets : {ps : List Param} → All (ParamWell t types) ps → (at : ℕ) → Stands words at (pairs_of ps) → Each (arg_rows t types words at (length ps))
     unfolding arg_rows pairs_of
     args_octets end at s = no_piece
-    args_octets (and {a = p} h hs) at s = piece (arg_octets p h (first_word s) (second_word s)) (args_octets hs (at + 2) (after_two s))
+    args_octets (and {a = p} h hs) at s = piece (arg_octets p h (stands-head s) (stands-second s)) (args_octets hs (at + 2) (stands-rest s))
 
     row_octets : (f : Function) → (FunctionWell t types) f → (at : ℕ) → Stands words at (entry f) → Octets (fn_row t types words at (length f.sig.params))
     unfolding fn_row entry_of text
     row_octets f h at s =
         let ps = f.sig.params in
-        let head = front (f.name ∷ length ps ∷ pairs_of ps) (f.sig.ret ∷ []) s in
-        let last = back (f.name ∷ length ps ∷ pairs_of ps) (f.sig.ret ∷ []) s in
-        let place : at + 2 + 2 * length ps ≡ at + length (f.name ∷ length ps ∷ pairs_of ps) = omega (arith, pairs-length ps) in
-        rw (first_word head, place, first_word last)
+        let head = stands-front (f.name ∷ length ps ∷ pairs_of ps) (f.sig.ret ∷ []) s in
+        let last = stands-back (f.name ∷ length ps ∷ pairs_of ps) (f.sig.ret ∷ []) s in
+        let place : at + 2 + 2 * length ps ≡ at + length (f.name ∷ length ps ∷ pairs_of ps) = omega (arith, length_pairs ps) in
+        rw (stands-head head, place, stands-head last)
         (line_octets
         (piece (ascii_octets (text "fn") refl)
         (piece (octets_of (name_bytes t f.name) h.name)
-        (piece (ascii_octets (text "(") refl then joined_octets (ascii_octets (text " ") refl) (args_octets h.params (at + 2) (after_two head)) then ascii_octets (text ")") refl)
+        (piece (ascii_octets (text "(") refl then joined_octets (ascii_octets (text " ") refl) (args_octets h.params (at + 2) (stands-rest head)) then ascii_octets (text ")") refl)
         (piece (ascii_octets (text "->") refl)
         (piece (show_octets (ty_of t types f.sig.ret) h.ret) no_piece))))))
-
-    count-read : (f : Function) (at : ℕ) → Stands words at (entry f) → get_or words (at + 1) 0 ≡ length f.sig.params
-    unfolding entry_of
-    count-read f at s = second_word (front (f.name ∷ length f.sig.params ∷ pairs_of f.sig.params) (f.sig.ret ∷ []) s)
 
     no_row : (used m at : ℕ) → used ≤ at → fn_rows t types words used (suc m) at ≡ []
     unfolding fn_rows
@@ -126,13 +89,13 @@ module _ (t : Texts) (types : List ℕ) where
     unfolding fn_rows
     rows_octets no_entry used zero at s e l = none
     rows_octets no_entry used (suc m) at s e l = rw (no_row used m at (omega arith)) none
-    rows_octets (one_more {f = f} {rest = rest} h hs) used zero at s e l = absurd (omega (arith, length-append (entry f) rest, entry_length_lem f))
+    rows_octets (one_more {f = f} {rest = rest} h hs) used zero at s e l = absurd (omega (arith, length-append (entry f) rest, length-entry f))
     rows_octets (one_more {f = f} {rest = rest} h hs) used (suc m) at s e l =
-        let n = entry_length_lem f in
+        let n = length-entry f in
         let k = length-append (entry f) rest in
-        let this = front (entry f) rest s in
+        let this = stands-front (entry f) rest s in
         let place : at + length (entry f) ≡ at + 3 + 2 * length f.sig.params = omega arith in
-        let next : Stands words (at + 3 + 2 * length f.sig.params) rest = rw place at (back (entry f) rest s) in
+        let next : Stands words (at + 3 + 2 * length f.sig.params) rest = rw place at (stands-back (entry f) rest s) in
         rw (one-row used m at (omega arith), count-read f at this)
         (row_octets f h at this then rows_octets hs used m (at + 3 + 2 * length f.sig.params) next (omega arith) (omega arith))
 

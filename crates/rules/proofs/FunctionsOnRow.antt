@@ -91,7 +91,7 @@ unfolding entries_run larger_end check_run larger buffers text expected added
 larger-entries = refl
 
 -- and those of the visited Fns
-functions-run : (i : Inputs) → old_functions i ≡ fn_entries (texts_in i) 0 (fns_among (visited_run i.image))
+pub functions-run : (i : Inputs) → old_functions i ≡ fn_entries (texts_in i) 0 (fns_among (visited_run i.image))
 unfolding old_functions fns_in visited_run
 functions-run i = refl
 

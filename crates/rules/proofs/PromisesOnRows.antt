@@ -1,7 +1,7 @@
 -- The promises, computed on row (a), on a larger case of it and on a function: they can be met, and say what they should. Assumes nothing.
 use Prim.Native.Nat.{ℕ, ◌*◌}
 use mathlib.Core.Path.{◌≡◌, refl, sym, ap, ◌∙◌}
-use mathlib.Core.List.{List, [], ◌∷◌, ◌++◌}
+use mathlib.Core.List.{List, [], ◌∷◌}
 use lib.ListN.{replicate, take, length}
 use native.Mathlib.Omega.{arith}
 use Rattle.tok.specs.Text.{text}
@@ -14,8 +14,9 @@ use Rattle.rules.specs.World.{World}
 use Rattle.rules.specs.Steps.{Done}
 use Rattle.rules.specs.Walk.{walk_first, walk_later, start_of}
 use Rattle.rules.specs.Visited.{visited_slots}
-use Rattle.rules.specs.Promises.{type_in, entries_of, Every, AnsweredClean, HasConcreteType, MorePackages, MoreStatements, Kept, OldRootsSilent, fn_entries, old_functions}
-use Rattle.rules.specs.Functions.{head_of, fns_among, fns_in}
+use Rattle.rules.specs.Promises.{type_in, entries_of, Every, AnsweredClean, HasConcreteType, MorePackages, MoreStatements, Kept, OldRootsSilent, fn_entries}
+use Rattle.rules.specs.Functions.{head_of, fns_among}
+use Rattle.rules.proofs.FunctionsOnRow.{functions-run}
 
 -- row (a), `let a = 1`, and buffers just as long as it needs
 small : Inputs
@@ -136,10 +137,6 @@ unfolding entries_run small_end large_end check_run small large buffers text
 same_entries = refl
 
 -- row (a) has no Fn
-functions-run : (i : Inputs) → old_functions i ≡ fn_entries (texts_in i) 0 (fns_among (visited_run i.image))
-unfolding old_functions fns_in visited_run
-functions-run i = refl
-
 old-entries : entries_run small small_end ≡ fn_entries (texts_in small) 0 (fns_among (visited_run small.image))
 unfolding entries_run visited_run fns_among head_of fn_entries small_end check_run small buffers text
 old-entries = refl

@@ -8,7 +8,8 @@ use Rattle.ptype.specs.Ty.{same_ty, bool_ty, contains_unknown}
 use Rattle.ptype.specs.Words.{void_word, unknown_word, field_count}
 use Rattle.ptype.specs.Add.{add_wrap, add_record}
 use Rattle.ast.specs.TypeExpr.{TypeExpr, Arg, type_token}
-use Rattle.ast.specs.Node.{Node, Nodes, Cases, Values, ExternFn, Atom, Ident, Bin, Unary, Let, Fn, Match, Call, Field, Cast, Import, Extern, Record, Array, Absent, done, then, no_case, case, no_value, value}
+use Rattle.ast.specs.Node.{Node, Nodes, Cases, Values, ExternFn}
+use Rattle.ast.specs.Node.{Atom, Ident, Bin, Unary, Let, Fn, Match, Call, Field, Cast, Import, Extern, Record, Array, Absent, done, then, no_case, case, no_value, value}
 use Rattle.tok.specs.declared.Span.{Span}
 use Rattle.ast.specs.Span.{span_of}
 use Rattle.err.specs.Message.{empty_array, members_differ, no_binding, let_void, defined_already, bad_return, no_record, no_field_of, bad_condition, match_cases, empty_import, no_import}
@@ -18,7 +19,8 @@ use Rattle.rules.specs.declared.Answer.{Answer}
 use Rattle.rules.specs.declared.Answer.TheVariants.{Known, Poison}
 use Rattle.library.specs.Package.{Param, param, signature, Function, function, pkg, find_package, find_function}
 use Rattle.rules.specs.World.{Ctx, name_in, Walk}
-use Rattle.rules.specs.Steps.{Done, skip, known, if_known, is_poison, on_option, ty, tree, ty_tree, set_known, on_types, report, poison, env_insert, env_get, framed, apart, hold, enter, type_from_expr}
+use Rattle.rules.specs.Steps.{Done, skip, known, if_known, is_poison, on_option, ty, tree, ty_tree, set_known, on_types}
+use Rattle.rules.specs.Steps.{report, poison, env_insert, env_get, framed, apart, hold, enter, type_from_expr}
 use Rattle.rules.specs.Operators.{fuse, unary, cast}
 use Rattle.rules.specs.Calls.{callee_of, provided_of, call}
 

@@ -1,7 +1,8 @@
 -- Which nodes are visited (document 01, "Added for demand 3"): "Visited here are the roots and each part of a visited node but a call's
 -- target." A static notion: it asks nothing of the walk. Definitions.
 use Rattle.std.specs.Prelude.{ℕ, ◌+◌, List, [], ◌∷◌, ◌++◌, length}
-use Rattle.ast.specs.Node.{Node, Nodes, Cases, Values, Atom, Ident, Bin, Unary, Let, Fn, Match, Call, Field, Cast, Import, Extern, Record, Array, Absent, done, then, no_case, case, no_value, value, slot_of, roots_of}
+use Rattle.ast.specs.Node.{Node, Nodes, Cases, Values, slot_of, roots_of}
+use Rattle.ast.specs.Node.{Atom, Ident, Bin, Unary, Let, Fn, Match, Call, Field, Cast, Import, Extern, Record, Array, Absent, done, then, no_case, case, no_value, value}
 use Rattle.ast.specs.Claims.{count_from}
 
 -- what is visited below a visited node, and a list of visited nodes with what is visited below each

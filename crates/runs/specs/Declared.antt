@@ -1,13 +1,14 @@
 -- Which declaration each call has: "functions and packages fixed by the declarations in force when the call was visited". Definitions.
 -- One pass over the nodes in the order of visits. A body is passed once, where its Fn stands, so that its calls are fixed there, however often
 -- and whenever it is run. Of the check's answer only the types in slots are asked, to choose among a group of several.
-use Rattle.std.specs.Prelude.{ℕ, zero, suc, ◌+◌, Bool, true, false, List, [], ◌∷◌, map, eqb}
+use Rattle.std.specs.Prelude.{ℕ, ◌+◌, true, false, List, [], ◌∷◌, map, eqb}
 use Rattle.std.proofs.Math.Option.{Option, none, some}
 use Rattle.tok.specs.Text.{Texts, name_bytes, same_bytes}
 use Rattle.ptype.specs.Ty.{Ty}
 use Rattle.ptype.specs.Words.{ty_of}
 use Rattle.ast.specs.TypeExpr.{TypeExpr, Arg}
-use Rattle.ast.specs.Node.{Node, Nodes, Cases, Values, ExternFn, Atom, Ident, Bin, Unary, Let, Fn, Match, Call, Field, Cast, Import, Extern, Record, Array, Absent, done, then, no_case, case, no_value, value, slot_of}
+use Rattle.ast.specs.Node.{Node, Nodes, Cases, Values, ExternFn, slot_of}
+use Rattle.ast.specs.Node.{Atom, Ident, Bin, Unary, Let, Fn, Match, Call, Field, Cast, Import, Extern, Record, Array, Absent, done, then, no_case, case, no_value, value}
 use Rattle.library.specs.Package.{Param, Signature, Function, Package}
 use Rattle.rules.specs.Functions.{type_meant}
 use Rattle.rules.specs.Calls.{Callee, own_function, package_function, through_field, no_callee, callee_of, overload_matches}

@@ -24,7 +24,7 @@ use Rattle.rules.specs.Calls.{Provided, arguments, returned, check_call_args, ov
 use Rattle.tworuns.specs.Means.{Grown}
 use Rattle.onerun.specs.Claim.{All, end, and, slots_are, all_slots_are, Is, Good, BindingOk, SignatureOk, Recorded, Holds}
 use Rattle.onerun.specs.Grows.{all_map, both-map, is_grow, is-tree, param_grow, signature_grow}
-use Rattle.onerun.specs.Logic.{Later, Silent, before, After, Gives, t_map, g_next, g_map, g_return, g_when}
+use Rattle.onerun.specs.Logic.{Claimed, Later, Silent, before, After, Gives, t_map, g_next, g_map, g_return, g_when}
 use Rattle.onerun.specs.Trees.{is_bound, never, never-free, free-slots}
 use Rattle.onerun.proofs.Apply.{t_apply}
 use Rattle.onerun.proofs.Arguments.{ParamsOk, first-param, rest-params, params_grow, Covers}
@@ -101,7 +101,7 @@ module _ (c : Ctx) (type : ℕ → Ty) where
     pub ret : type slot ≡ substitute filling r
 
   module _ (n : ℕ) (name : List ℕ) where
-    h_arguments : (slotted : Bool) (ps : List Param) (given : List Provided) {bs : List Binding} → length given ≡ length ps → {s : World} → (Silent (silent c) s → Holds (silent c) s)
+    h_arguments : (slotted : Bool) (ps : List Param) (given : List Provided) {bs : List Binding} → length given ≡ length ps → {s : World} → Claimed (silent c) s
         → (Silent (silent c) s → ParamsOk (silent c) s.types ps) → (Silent (silent c) s → Given s given) → (Silent (silent c) s → All (BindingOk (silent c) s.types) bs)
         → Gives (silent c) (Fitted c type slotted s ps given bs) s (arguments c n name slotted ps given bs s)
     unfolding arguments all_slots_are
@@ -140,7 +140,7 @@ module _ (c : Ctx) (type : ℕ → Ty) where
             }
 
     -- the return type, filled
-    h_returned : (f : Signature) {bs : List Binding} {s : World} → (Silent (silent c) s → Holds (silent c) s)
+    h_returned : (f : Signature) {bs : List Binding} {s : World} → Claimed (silent c) s
         → (Silent (silent c) s → SignatureOk (silent c) s.types f) → (Silent (silent c) s → All (BindingOk (silent c) s.types) bs)
         → (Silent (silent c) s → (p : List ℕ → Bool) → Covers (silent c) f.with_slots bs p → all_slots_are p (trees s f.params) ≡ true)
         → Gives (silent c) (Built c type (λ d w. Good (silent c) d w × Is (silent c) d w
@@ -172,7 +172,7 @@ module _ (c : Ctx) (type : ℕ → Ty) where
 
     -- a call of one signature
     pub h_check_call : (slot token : ℕ) → slot < c.void → (given : List Provided) (f : Signature) {s : World} → (Silent (silent c) s → get_or s.slots slot 0 ≡ 0)
-        → (Silent (silent c) s → Holds (silent c) s) → (Silent (silent c) s → Given s given)
+        → Claimed (silent c) s → (Silent (silent c) s → Given s given)
         → (Silent (silent c) s → SignatureOk (silent c) s.types f)
         → Tells c type (Rule c type slot s (CallFits slot (types given) (trees s f.params) (tree_in c s f.ret))) s (check_call_args c n slot token name f given s)
     unfolding check_call_args

@@ -6,11 +6,13 @@ use Rattle.std.proofs.Math.Option.{Option, none, some}
 use mathlib.Core.List.{List, [], ◌∷◌}
 use Rattle.tok.specs.Text.{Texts, name_bytes, same_bytes}
 use Rattle.ptype.specs.Ty.{Ty, void_ty}
-use Rattle.ast.specs.Node.{Node, Nodes, Cases, Values, Atom, Ident, Bin, Unary, Let, Fn, Match, Call, Field, Cast, Import, Extern, Record, Array, Absent, done, then, no_case, case, no_value, value, slot_of}
+use Rattle.ast.specs.Node.{Node, Nodes, Cases, Values, slot_of}
+use Rattle.ast.specs.Node.{Atom, Ident, Bin, Unary, Let, Fn, Match, Call, Field, Cast, Import, Extern, Record, Array, Absent, done, then, no_case, case, no_value, value}
 use Rattle.rules.specs.Calls.{Callee, own_function, package_function, through_field, no_callee, callee_of, overload_matches}
 use Rattle.onerun.specs.Claim.{All, end, and}
 use Rattle.rules.specs.Functions.{type_meant}
-use Rattle.runs.specs.Declared.{Sig, Held, Own, Target, own, external, Chosen, Scope, find_own, find_held, group_in, first_equal, from_group, of_own, of_held, target_of, choosing, import_found, unless_held, imported, given_types, declare, declare_all, declare_cases, declare_values, nothing_met, target_at}
+use Rattle.runs.specs.Declared.{Sig, Held, Own, Target, own, external, Chosen, Scope, find_own, find_held, group_in, first_equal, from_group, of_own, of_held, target_of}
+use Rattle.runs.specs.Declared.{choosing, import_found, unless_held, imported, given_types, declare, declare_all, declare_cases, declare_values, nothing_met, target_at}
 use Rattle.runs.specs.Stands.{Place, root, statement, operand}
 use Rattle.runs_laws.specs.Judged.{Known, args_known, after, Judged, JudgedBody, JudgedAll, JudgedCases, JudgedValues, JudgedRoots, Bodies}
 

@@ -32,7 +32,7 @@ use Rattle.accepts.proofs.OtherSlots.{owned}
 use Rattle.onerun.specs.Claim.{Run, NameAt, Is, Good, Recorded, Holds, AnswerOk, poison}
 use Rattle.onerun.specs.Claim as C
 use Rattle.onerun.specs.Grows.{is_grow, is-tree}
-use Rattle.onerun.specs.Logic.{Later, later, Silent, before, After, Gives, gives, stopped, GivesT, GivesL, g_next, g_map, g_on_types, g_on_log, g_set, Own}
+use Rattle.onerun.specs.Logic.{Claimed, Later, later, Silent, before, After, Gives, gives, stopped, GivesT, GivesL, g_next, g_map, g_on_types, g_on_log, g_set, Own}
 use Rattle.onerun.proofs.Report.{g_report}
 use Rattle.onerun.specs.Proper.{Proper, ProperAll}
 use Rattle.onerun.proofs.Functions.{Below}
@@ -150,21 +150,21 @@ module _ (c : Ctx) (type : ℕ → Ty) where
 
   -- a node visited
   pub h_visit : {B : Type 0} {P : World → Answer → Type 0} {Q : World → B → Type 0} (x : Node) (ys : List Node) {s : World} (f : Answer → Walk B)
-      → Proper (Below (silent c)) (NameAt (silent c)) x → (Silent (silent c) s → Holds (silent c) s) → Ready s ((x ∷ visited_below x) ++ ys) → Tells P s (node c x s)
+      → Proper (Below (silent c)) (NameAt (silent c)) x → Claimed (silent c) s → Ready s ((x ∷ visited_below x) ++ ys) → Tells P s (node c x s)
       → ((a : Answer) (u : World) → OwnAnswer (slot_of x) a → (Silent (silent c) u → Own (silent c) (slot_of x) u a) → Ready u ys → Later s u
       → (Silent (silent c) u → After (silent c) (Says P s) s u a) → Tells Q u (f a u)) → Tells Q s (next (node c x s) f)
   h_visit x ys {s} f pr h d g k = h_answer (x ∷ visited_below x) ys f d (own-node c x s) (node_leaves c ys x s d) (g_node (silent c) x pr h) g (λ a u o i. k a u o (λ z. (i z).own))
 
   -- a block
   pub h_visit-block : {B : Type 0} {P : World → Answer → Type 0} {Q : World → B → Type 0} (xs : Nodes) (ys : List Node) {s : World} (f : Answer → Walk B)
-      → ProperAll (Below (silent c)) (NameAt (silent c)) xs → (Silent (silent c) s → Holds (silent c) s) → Ready s (visited_among xs ++ ys) → Tells P s (block c xs s)
+      → ProperAll (Below (silent c)) (NameAt (silent c)) xs → Claimed (silent c) s → Ready s (visited_among xs ++ ys) → Tells P s (block c xs s)
       → ((a : Answer) (u : World) → OwnAnswer (end_slot c.void xs) a → (Silent (silent c) u → AnswerOk (silent c) u a) → Ready u ys → Later s u
       → (Silent (silent c) u → After (silent c) (Says P s) s u a) → Tells Q u (f a u)) → Tells Q s (next (block c xs s) f)
   h_visit-block xs ys {s} f pr h d g k = h_answer (visited_among xs) ys f d (own_block c xs s) (block_leaves c ys xs s d) (g_block (silent c) xs pr h) g
       (λ a u o i. k a u o (λ z. (i z).answer))
 
   -- "a Known answer yields its slot, otherwise Poison ends the rule": where all is silent it is known
-  pub h_known : {Q : World → Answer → Type 0} {i : ℕ} {a : Answer} (f : ℕ → Walk Answer) {s : World} → (Silent (silent c) s → Holds (silent c) s) → OwnAnswer i a
+  pub h_known : {Q : World → Answer → Type 0} {i : ℕ} {a : Answer} (f : ℕ → Walk Answer) {s : World} → Claimed (silent c) s → OwnAnswer i a
       → (Silent (silent c) s → AnswerOk (silent c) s a)
       → Tells Q s (f i s) → Tells Q s (known a f s)
   unfolding known
@@ -205,10 +205,10 @@ module _ (c : Ctx) (type : ℕ → Ty) where
       go (stopped e) g = stopped
 
   -- a diagnostic: nothing is claimed any more
-  pub h_report : {Q : World → Done → Type 0} {s : World} → (Silent (silent c) s → Holds (silent c) s) → (n : ℕ) (d : Diagnostic) → Gives (silent c) Q s (S.report n d s)
+  pub h_report : {Q : World → Done → Type 0} {s : World} → Claimed (silent c) s → (n : ℕ) (d : Diagnostic) → Gives (silent c) Q s (S.report n d s)
   h_report h n d = g_map (silent c) (λ u _ t x z. absurd ((x z).value tt)) (g_report (silent c) h n (λ l z. absurd (l tt)))
 
-  pub h_poison : {Q : World → Answer → Type 0} {s : World} → (Silent (silent c) s → Holds (silent c) s) → (n : ℕ) (d : Diagnostic) → Tells Q s (S.poison n d s)
+  pub h_poison : {Q : World → Answer → Type 0} {s : World} → Claimed (silent c) s → (n : ℕ) (d : Diagnostic) → Tells Q s (S.poison n d s)
   unfolding S.poison
   h_poison h n d = g_next (silent c) _ (h_report {Q = λ _ _. ⊥} h n d) (λ _ u t p. gives {u = u} (record { more = omega arith }) (λ z. absurd (p z).value))
 
@@ -222,7 +222,7 @@ module _ (c : Ctx) (type : ℕ → Ty) where
     pub slots : u.slots ≡ s.slots
     pub same : Same s u
 
-  pub h_on_types : {A : Type 0} {Q : Buffer → A → Type 0} (m : Step Buffer Refusal A) {s : World} → (Silent (silent c) s → Holds (silent c) s)
+  pub h_on_types : {A : Type 0} {Q : Buffer → A → Type 0} (m : Step Buffer Refusal A) {s : World} → Claimed (silent c) s
       → (Silent (silent c) s → GivesT (silent c) Q s.types (m s.types))
       → Gives (silent c) (Built Q s) s (on_types m s)
   unfolding on_types raised
@@ -234,7 +234,7 @@ module _ (c : Ctx) (type : ℕ → Ty) where
       up (refused r) g = stopped
 
   -- a step of the log: the rest is as it was
-  pub h_on_log : {A : Type 0} {Q : Buffer → A → Type 0} (m : Step Log Refusal A) {s : World} → (Silent (silent c) s → Holds (silent c) s)
+  pub h_on_log : {A : Type 0} {Q : Buffer → A → Type 0} (m : Step Log Refusal A) {s : World} → Claimed (silent c) s
       → (Silent (silent c) s → GivesL (silent c) Q s.types (m s.log))
       → Gives (silent c) (Built Q s) s (on_log m s)
   unfolding on_log raised_log
@@ -250,7 +250,7 @@ module _ (c : Ctx) (type : ℕ → Ty) where
     pub static : X
     pub told : Q u a
 
-  pub h_with : {A : Type 0} {X : Type 0} {Q : World → A → Type 0} {s : World} {x : Result World Refusal A} → (Silent (silent c) s → Holds (silent c) s)
+  pub h_with : {A : Type 0} {X : Type 0} {Q : World → A → Type 0} {s : World} {x : Result World Refusal A} → Claimed (silent c) s
       → (Silent (silent c) s → Fixed s → X) → Tells Q s x → Tells (With X Q) s x
   h_with h k g = g_map (silent c) (λ u a t p z. let z₀ = before (silent c) t z in
       record { keep = (p z).value.keep; fact = λ q. record { static = k z₀ (earlier (h z₀) (p z) q); told = (p z).value.fact q } }) g
@@ -274,7 +274,7 @@ module _ (c : Ctx) (type : ℕ → Ty) where
     pub is : type slot ≡ x
     pub same : Same s u
 
-  pub h_set : {s : World} (slot : ℕ) {w : ℕ} → slot < c.void → (Silent (silent c) s → get_or s.slots slot 0 ≡ 0) → (Silent (silent c) s → Holds (silent c) s)
+  pub h_set : {s : World} (slot : ℕ) {w : ℕ} → slot < c.void → (Silent (silent c) s → get_or s.slots slot 0 ≡ 0) → Claimed (silent c) s
       → (Silent (silent c) s → Good (silent c) s.types w)
       → Tells (Wrote slot (ty_of c.texts s.types.words w) s) s (set_known slot w s)
   unfolding set_known

@@ -24,7 +24,7 @@ use Rattle.tworuns.specs.Means.{Grown, grown-trans}
 use Rattle.onerun.specs.Claim.{All, end, and, Both, Is, Good, bound, NameAt, ParamOk, FunctionOk, Recorded, Holds, AnswerOk}
 use Rattle.onerun.specs.Claim as C
 use Rattle.onerun.specs.Grows.{both-map, is_grow, param_grow}
-use Rattle.onerun.specs.Logic.{Silent, before, After, Gives, gives, g_next, g_return, g_when, g_option, g_set}
+use Rattle.onerun.specs.Logic.{Claimed, Silent, before, After, Gives, gives, g_next, g_return, g_when, g_option, g_set}
 use Rattle.onerun.specs.Find.{package_found}
 use Rattle.onerun.specs.Trees.{free-slots}
 use Rattle.onerun.proofs.Scope.{g_hold, g_enter}
@@ -34,7 +34,8 @@ use Rattle.rules.specs.Functions.{type_meant}
 use Rattle.runs.specs.Declared.{Held, Scope, Chosen, extern_member, find_held, import_found, unless_held, imported}
 use Rattle.runs_laws.specs.Judged.{knows, args_known}
 use Rattle.runs_laws.specs.Judged as J
-use Rattle.runs_judged.specs.Claim.{silent, same-trans, same-world, Keep, keep_same, keep-trans, OwnAnswer, is_known, is_poison, no-poison, has-known, Fixed, h_report, Built, EnvRel, one_local, env_grow}
+use Rattle.runs_judged.specs.Claim.{silent, same-trans, same-world, Keep, keep_same, keep-trans, OwnAnswer, is_known, is_poison}
+use Rattle.runs_judged.specs.Claim.{no-poison, has-known, Fixed, h_report, Built, EnvRel, one_local, env_grow}
 use Rattle.runs_judged.specs.Rules.{h_type_from, h_insert}
 use Rattle.runs_judged.specs.InForce.{expr_sig, Finds, neither, each, SigRel, MemberRel, member_grow, HeldRel, held_found, Decl}
 use Rattle.runs_judged.specs.Exprs.{no-slot}
@@ -46,7 +47,7 @@ module _ (c : Ctx) where
   h_exact (gives t p) q = gives t (λ z. let x = p z in record { grown = x.grown; recorded = x.recorded; holds = x.holds; value = q z })
 
   -- if let Some(slot) = answer.known(): where all is silent it is known
-  pub h_if_known : {Q : World → Done → Type 0} {i : ℕ} {a : Answer} (f : ℕ → Walk Done) {s : World} → (Silent (silent c) s → Holds (silent c) s) → OwnAnswer i a
+  pub h_if_known : {Q : World → Done → Type 0} {i : ℕ} {a : Answer} (f : ℕ → Walk Done) {s : World} → Claimed (silent c) s → OwnAnswer i a
       → (Silent (silent c) s → AnswerOk (silent c) s a)
       → ((Silent (silent c) s → Recorded (silent c) s i) → Gives (silent c) Q s (f i s)) → Gives (silent c) Q s (if_known a f s)
   unfolding if_known
@@ -57,8 +58,8 @@ module _ (c : Ctx) where
 
   module _ (type : ℕ → Ty) {A B D : Type 0} (P : A → Type 0) (R : Buffer → B → D → Type 0) (grow : (b d : Buffer) → Grown b d → (x : B) (y : D) → R b x y → R d x y)
       (f : A → Walk B) (g : A → D)
-      (step : (a : A) → P a → (s : World) → (Silent (silent c) s → Holds (silent c) s) → Gives (silent c) (Built c type (λ d x. R d x (g a)) s) s (f a s)) where
-    h_each : {xs : List A} → All P xs → {s : World} → (Silent (silent c) s → Holds (silent c) s) → Gives (silent c) (Built c type (λ d ys. Both (R d) ys (map g xs)) s) s (for_each f xs s)
+      (step : (a : A) → P a → (s : World) → Claimed (silent c) s → Gives (silent c) (Built c type (λ d x. R d x (g a)) s) s (f a s)) where
+    h_each : {xs : List A} → All P xs → {s : World} → Claimed (silent c) s → Gives (silent c) (Built c type (λ d ys. Both (R d) ys (map g xs)) s) s (for_each f xs s)
     unfolding for_each
     h_each end h = g_return (silent c) h (λ z. record { is = C.end; slots = refl; same = same-world refl })
     h_each (and {a = a} p ps) {s} h =
@@ -73,7 +74,7 @@ module _ (c : Ctx) where
     args-all [] p = end
     args-all (a ∷ xs) p = and p.1 (args-all xs p.2)
 
-    h_arg : (n : ℕ) (a : Arg) → ProperType (Below (silent c)) (NameAt (silent c)) a.type → (s : World) → (Silent (silent c) s → Holds (silent c) s)
+    h_arg : (n : ℕ) (a : Arg) → ProperType (Below (silent c)) (NameAt (silent c)) a.type → (s : World) → Claimed (silent c) s
         → Gives (silent c) (Built c type (λ d p. ParamOk (silent c) d p (type_meant c.texts a.type)) s) s (◌>>=◌ (type_from_expr c n a.type) (λ w. return (param a.name w)) s)
     h_arg n a p s h = g_next (silent c) _ (h_type_from c type n a.type p h)
         (λ w u t x. g_return (silent c) (λ z. (x z).holds) (λ z.
@@ -94,7 +95,7 @@ module _ (c : Ctx) where
     externs_all [] p = end
     externs_all (f ∷ fs) p = and (record { args = p.1; ret = p.2 }) (externs_all fs p.3)
 
-    h_extern : (n : ℕ) (f : ExternFn) → ExternProper f → (s : World) → (Silent (silent c) s → Holds (silent c) s)
+    h_extern : (n : ℕ) (f : ExternFn) → ExternProper f → (s : World) → Claimed (silent c) s
         → Gives (silent c) (Built c type (λ d g. MemberRel c d g (extern_member c.texts f)) s) s (extern_fn c n f s)
     unfolding extern_fn extern_member
     h_extern n f p s h =
@@ -110,24 +111,24 @@ module _ (c : Ctx) where
           same = same-trans i.same j.same;
         })))
 
-    pub h_externs : (n : ℕ) (fs : List ExternFn) → ProperExterns (Below (silent c)) (NameAt (silent c)) fs → {s : World} → (Silent (silent c) s → Holds (silent c) s)
+    pub h_externs : (n : ℕ) (fs : List ExternFn) → ProperExterns (Below (silent c)) (NameAt (silent c)) fs → {s : World} → Claimed (silent c) s
         → Gives (silent c) (Built c type (λ d gs. Both (MemberRel c d) gs (map (extern_member c.texts) fs)) s) s (for_each (λ f. extern_fn c n f) fs s)
     h_externs n fs p h = h_each type ExternProper (MemberRel c) (λ b d g x y i. member_grow c g x y i) _ (extern_member c.texts) (λ f i s k. h_extern n f i s k) (externs_all fs p) h
 
-    pub h_hold : (p : Package) {s : World} → (Silent (silent c) s → Holds (silent c) s) → (Silent (silent c) s → C.PackageOk (silent c) s.types p)
+    pub h_hold : (p : Package) {s : World} → Claimed (silent c) s → (Silent (silent c) s → C.PackageOk (silent c) s.types p)
         → Gives (silent c) (λ u (_ : Done). u ≡ with_packages s (p ∷ s.packages)) s (hold p s)
     unfolding hold
     h_hold p h k = h_exact (g_hold (silent c) p h k) (λ z. refl)
 
     -- ── An Fn's signature ──
 
-    pub h_enter : (name : ℕ) (ps : List Param) (ret : ℕ) {s : World} → (Silent (silent c) s → Holds (silent c) s)
+    pub h_enter : (name : ℕ) (ps : List Param) (ret : ℕ) {s : World} → Claimed (silent c) s
         → (Silent (silent c) s → FunctionOk (silent c) s.types (function name (signature ps ret false)))
         → Gives (silent c) (λ u (_ : Done). u ≡ with_functions s (append s.functions (entry_of name ps ret)) (function name (signature ps ret false) ∷ s.own)) s (enter name ps ret s)
     unfolding enter
     h_enter name ps ret h k = h_exact (g_enter (silent c) name ps ret h k) (λ z. refl)
 
-    h_write : (slot : ℕ) {w : ℕ} {s : World} → slot < c.void → (Silent (silent c) s → Holds (silent c) s) → (Silent (silent c) s → Good (silent c) s.types w)
+    h_write : (slot : ℕ) {w : ℕ} {s : World} → slot < c.void → Claimed (silent c) s → (Silent (silent c) s → Good (silent c) s.types w)
         → Gives (silent c) (λ u (_ : Answer). u ≡ with_slots s (set s.slots slot w)) s (set_known slot w s)
     unfolding set_known
     h_write slot l h k = h_exact (g_set (silent c) slot l h k) (λ z. refl)
@@ -140,7 +141,7 @@ module _ (c : Ctx) where
       pub env : (ks : List J.Known) → EnvRel c type s.types s.env ks → EnvRel c type u.types u.env (args_known c.texts type table ks args)
 
     pub h_fn_arguments : (table : List Chosen) (n slot : ℕ) (args : List Arg) → ProperArgs (Below (silent c)) (NameAt (silent c)) args → ArgSlots (Below (silent c)) slot args → {s : World}
-        → ((q : ℕ) → slot ≤ q → q < slot + length args → Silent (silent c) s → get_or s.slots q 0 ≡ 0) → (Silent (silent c) s → Holds (silent c) s)
+        → ((q : ℕ) → slot ≤ q → q < slot + length args → Silent (silent c) s → get_or s.slots q 0 ≡ 0) → Claimed (silent c) s
         → Gives (silent c) (ArgsIn table s args) s (fn_arguments c n slot args s)
     unfolding fn_arguments ProperArgs ArgSlots args_known
     h_fn_arguments table n slot [] p o {s} e h = g_return (silent c) h (λ z. record { keep = keep_same s; packages = refl; own = refl; params = C.end; env = λ ks x. x })
@@ -188,7 +189,7 @@ module _ (c : Ctx) where
         word' : (u : World) {v : World} (q w : ℕ) → v ≡ with_slots u (set u.slots slot w) → (q ≡ slot → ⊥) → get_or v.slots q 0 ≡ get_or u.slots q 0
         word' u q w e m = ap (λ (v : World). get_or v.slots q 0) e ∙ get_or-set_other u.slots slot q w 0 m
 
-    pub h_check_return : (n name : ℕ) (e : TypeExpr) (ret : ℕ) {slot : ℕ} {a : Answer} {s : World} → (Silent (silent c) s → Holds (silent c) s) → OwnAnswer slot a
+    pub h_check_return : (n name : ℕ) (e : TypeExpr) (ret : ℕ) {slot : ℕ} {a : Answer} {s : World} → Claimed (silent c) s → OwnAnswer slot a
         → (Silent (silent c) s → AnswerOk (silent c) s a)
         → Gives (silent c) (λ u (_ : Done). (u ≡ s) × (Fixed c type s → type slot ≡ tree_in c s ret)) s (check_return c n name e ret a s)
     unfolding check_return ty_tree ty tree
@@ -225,7 +226,7 @@ module _ (c : Ctx) where
             by none x' = elim x' [ ]
             by (some h) (each x) = d
 
-      h_import : (n path : ℕ) {s : World} → (Silent (silent c) s → Holds (silent c) s)
+      h_import : (n path : ℕ) {s : World} → Claimed (silent c) s
           → Gives (silent c) (Brings s (λ sc. unless_held c.texts library type (find_held (name_bytes c.texts path) sc.held) (name_bytes c.texts path) sc)) s (import_one c n path s)
       unfolding import_one hold
       h_import n path {s} h =
@@ -234,7 +235,7 @@ module _ (c : Ctx) where
           (λ z. record { slots = refl; env = refl; decl = λ sc d. brought (name_bytes c.texts path) sc d p e q })))
           (λ p e. g_return (silent c) h (λ z. record { slots = refl; env = refl; decl = λ sc d. there (name_bytes c.texts path) sc d p e }))
 
-      each_import : (n : ℕ) (ps : List ℕ) {s : World} → (Silent (silent c) s → Holds (silent c) s)
+      each_import : (n : ℕ) (ps : List ℕ) {s : World} → Claimed (silent c) s
           → Gives (silent c) (Brings s (imported c.texts library type ps)) s (for_each (λ path. import_one c n path) ps s)
       unfolding for_each imported
       each_import n [] h = g_return (silent c) h (λ z. record { slots = refl; env = refl; decl = λ sc d. d })
@@ -243,7 +244,7 @@ module _ (c : Ctx) where
           let i = (x (before (silent c) t₁ z)).value in
           record { slots = (y z).value.slots ∙ i.slots; env = (y z).value.env ∙ i.env; decl = λ sc d. (y z).value.decl _ (i.decl sc d) })))
 
-      pub h_imports : (n token : ℕ) (ps : List ℕ) {s : World} → (Silent (silent c) s → Holds (silent c) s)
+      pub h_imports : (n token : ℕ) (ps : List ℕ) {s : World} → Claimed (silent c) s
           → Gives (silent c) (Brings s (imported c.texts library type ps)) s (import_all c n token ps s)
       unfolding import_all
       h_imports n token [] h = h_report c type h n _

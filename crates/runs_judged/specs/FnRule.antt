@@ -17,14 +17,14 @@ use Rattle.rules.specs.Rules.{fn_arguments, check_return, fn, unless_defined, bl
 use Rattle.rules.specs.Visited.{visited_among}
 use Rattle.laws.specs.SlotsOf.{ArgSlots}
 use Rattle.laws.specs.Keeps.{Keeps}
-use Rattle.laws.specs.Keeps as K
+use Rattle.laws.specs.RulesKeep as K
 use Rattle.laws.specs.Owns.{end_slot}
 use Rattle.accepts.proofs.OtherSlots.{among-hold}
 use Rattle.tworuns.specs.Means.{grown-trans}
 use Rattle.onerun.specs.Claim.{Is, NameAt}
 use Rattle.onerun.specs.Claim as C
 use Rattle.onerun.specs.Grows.{both-map, is_grow, is-tree, param_grow}
-use Rattle.onerun.specs.Logic.{Silent, before, Gives, g_next, g_return, g_when, g_option}
+use Rattle.onerun.specs.Logic.{Claimed, Silent, before, Gives, g_next, g_return, g_when, g_option}
 use Rattle.onerun.proofs.Scope.{alone, g_apart, g_enter}
 use Rattle.onerun.proofs.Arguments.{params_grow}
 use Rattle.onerun.specs.Proper.{ProperType, ProperArgs, ProperAll}
@@ -35,13 +35,14 @@ use Rattle.rules.specs.Functions.{type_meant}
 use Rattle.runs.specs.Declared.{Held, Own, Chosen, Scope, meeting, declare_all}
 use Rattle.runs_laws.specs.Judged.{args_known, JudgedBody}
 use Rattle.runs_laws.specs.Judged as J
-use Rattle.runs_judged.specs.Claim.{silent, same-slots, keep_same, Fixed, fixed_back, Tells, h_visit-block, h_step, h_after, With, h_with, g_both, h_report, h_poison, h_map, h_set, last-slot, own-last, last-unset, no_local}
+use Rattle.runs_judged.specs.Claim.{silent, same-slots, keep_same, Fixed, fixed_back, Tells, h_visit-block, h_step, h_after, With}
+use Rattle.runs_judged.specs.Claim.{h_with, g_both, h_report, h_poison, h_map, h_set, last-slot, own-last, last-unset, no_local}
 use Rattle.runs_judged.specs.Rules.{h_type_from}
 use Rattle.runs_judged.specs.InForce.{expr_sig, SigRel, sig_ok, Decl, Force, decl-same, env-same, force-same}
 use Rattle.runs_judged.specs.Exprs.{no-slot}
 use Rattle.runs_judged.specs.Declares.{h_enter, expr-sig, h_fn_arguments, h_check_return}
 use Rattle.runs_judged.specs.Parts.{free, h_apart}
-use Rattle.runs_judged.specs.Wholes.{args-above, args_at, args-unset, Ruled, Knows, Have, h_rule}
+use Rattle.runs_judged.specs.Wholes.{args-above, args_at, args-unset, Ruled, Knows, h_rule}
 
 module _ (c : Ctx) (type : ℕ → Ty) (library : List Held) (table : List Chosen) where
   -- what is told of a block
@@ -49,7 +50,7 @@ module _ (c : Ctx) (type : ℕ → Ty) (library : List Held) (table : List Chose
     pub judged : JudgedBody c.texts type table xs ks void_ty (type (end_slot c.void xs))
     pub force : Force c type library u ks (declare_all c.texts library type xs sc)
 
-  quiet_return : (n name : ℕ) (e : TypeExpr) (ret : ℕ) (a : Answer) {s : World} → Have c type library s → Gives (silent c) (λ _ (_ : Done). Unit {0}) s (check_return c n name e ret a s)
+  quiet_return : (n name : ℕ) (e : TypeExpr) (ret : ℕ) (a : Answer) {s : World} → Claimed (silent c) s → Gives (silent c) (λ _ (_ : Done). Unit {0}) s (check_return c n name e ret a s)
   unfolding check_return if_known ty_tree ty tree
   quiet_return n name e ret (Known x) h = g_when (silent c) _ _ (λ _. g_return (silent c) h (λ z. tt)) (λ _. h_report c type h n _)
   quiet_return n name e ret Poison h = g_return (silent c) h (λ z. tt)
@@ -72,7 +73,7 @@ module _ (c : Ctx) (type : ℕ → Ty) (library : List Held) (table : List Chose
         (λ w u. next (enter name params w u) (λ _ u. next (block c body u) (λ a u. next (check_return c n name ret w a u) (λ _ u. ok w u)))))
 
     -- the return type's word
-    ret-is : {s : World} → Have c type library s → Gives (silent c) (λ u w. Is (silent c) u.types w (type_meant c.texts ret)) s (inner s)
+    ret-is : {s : World} → Claimed (silent c) s → Gives (silent c) (λ u w. Is (silent c) u.types w (type_meant c.texts ret)) s (inner s)
     ret-is h =
         g_next (silent c) _ (g_fn_arguments (silent c) n (slot + 1) args pa ps h) (λ qs u₁ t₁ x₁.
         g_next (silent c) _ (h_type_from c type n ret pr (λ z. (x₁ z).holds)) (λ w u₂ t₂ x₂.
@@ -92,21 +93,21 @@ module _ (c : Ctx) (type : ℕ → Ty) (library : List Held) (table : List Chose
     ys = visited_among body ++ []
 
     abbrev BodyTold : Scope → Type 0
-    BodyTold sc = (v : World) → Ready v (visited_among body) → Have c type library v → Knows c type library v known (meeting self sc)
+    BodyTold sc = (v : World) → Ready v (visited_among body) → Claimed (silent c) v → Knows c type library v known (meeting self sc)
         → Tells c type (BlockTold body known (meeting self sc)) v (block c body v)
 
-    h_inner : {s : World} {sc : Scope} → BodyTold sc → Ready s (Fn n slot name ret args body ∷ ys) → Have c type library s → Knows c type library s [] sc
+    h_inner : {s : World} {sc : Scope} → BodyTold sc → Ready s (Fn n slot name ret args body ∷ ys) → Claimed (silent c) s → Knows c type library s [] sc
         → Tells c type (BodyTells sc) s (inner s)
     h_inner {s} {sc} told d h know =
         h_after c type ys _ (ready-below (Fn n slot name ret args body) ys d)
-        (K.in_fn_arguments (Leaves ys) Any (Free ys) (leaves_kept ys) c n (slot + 1) args (arguments-free n slot name ret args body ys d) s)
+        (K.in_fn_arguments (leaves_kept ys) c n (slot + 1) args (arguments-free n slot name ret args body ys d) s)
         (h_fn_arguments c type table n (slot + 1) args pa ps (λ q l m z. args_at (λ q. get_or s.slots q 0 ≡ 0) (slot + 1) args
         (args-unset n slot name ret args body ys d) q l m) h) (λ qs u x. x.keep) (λ qs u₁ d₁ t₁ x₁.
-        h_after c type ys _ d₁ (K.in_type_from (Leaves ys) Any (Free ys) (leaves_kept ys) c n ret u₁) (h_type_from c type n ret pr (λ z. (x₁ z).holds))
+        h_after c type ys _ d₁ (K.in_type_from (leaves_kept ys) c n ret u₁) (h_type_from c type n ret pr (λ z. (x₁ z).holds))
         (λ w u y. same-slots y.slots) (λ w u₂ d₂ t₂ x₂.
         let sig : Silent (silent c) u₂ → SigRel c u₂.types (signature qs w false) (expr_sig c.texts args ret) = λ z. expr-sig c type args ret
         (both-map (param_grow (silent c) (x₂ z).grown) (x₁ (before (silent c) t₂ z)).value.params) (x₂ z).value.is in
-        h_after c type ys _ d₂ (K.in_enter (Leaves ys) Any (Free ys) (leaves_kept ys) (leaves_enters ys) name qs w u₂)
+        h_after c type ys _ d₂ (K.in_enter (leaves_kept ys) (leaves_enters ys) name qs w u₂)
         (h_enter c type name qs w (λ z. (x₂ z).holds) (λ z. record { sig = sig_ok c (sig z) })) (λ _ u y. same-slots (ap (λ (w : World). w.slots) y)) (λ _ u₃ d₃ t₃ x₃.
         h_visit-block c type body [] _ pb (λ z. (x₃ z).holds) d₃ (told u₃ (ready-left (visited_among body) [] d₃) (λ z. (x₃ z).holds) (λ z fx.
         let z₂ = before (silent c) t₃ z in
@@ -141,7 +142,7 @@ module _ (c : Ctx) (type : ℕ → Ty) (library : List Held) (table : List Chose
         }))))))
 
     pub h_fn : {s : World} {ks : List J.Known} {sc : Scope} → BodyTold sc → Ready s (Fn n slot name ret args body ∷ visited_among body)
-        → Ready s (Fn n slot name ret args body ∷ ys) → Have c type library s → Knows c type library s ks sc
+        → Ready s (Fn n slot name ret args body ∷ ys) → Claimed (silent c) s → Knows c type library s ks sc
         → Tells c type (With c type (JudgedBody c.texts type table body known void_ty (type_meant c.texts ret))
         (Ruled c type library (Unit {0}) ks (declare_all c.texts library type body (meeting self sc)))) s (unless_defined c n name (fn c n slot name ret args (block c body)) s)
     unfolding unless_defined fn slot_of
@@ -163,20 +164,15 @@ module _ (c : Ctx) (type : ℕ → Ty) (library : List Held) (table : List Chose
       where
         leave : Ready s (visited_among body ++ last-slot slot) → Keeps (Leaves (last-slot slot)) Any s (apart (λ s. inner s) s)
         leave r =
-            K.in_apart (Leaves (last-slot slot)) Any (Free (last-slot slot)) (leaves_kept (last-slot slot)) (λ s. inner s)
-            (K.in_next (Leaves (last-slot slot)) Any (Free (last-slot slot)) (leaves_kept (last-slot slot)) _
-            (K.in_fn_arguments (Leaves (last-slot slot)) Any (Free (last-slot slot)) (leaves_kept (last-slot slot)) c n (slot + 1) args
-            (args-above slot (slot + 1) args (omega arith))) (λ qs.
-            K.in_next (Leaves (last-slot slot)) Any (Free (last-slot slot)) (leaves_kept (last-slot slot)) _
-            (K.in_type_from (Leaves (last-slot slot)) Any (Free (last-slot slot)) (leaves_kept (last-slot slot)) c n ret) (λ w.
-            K.in_next (Leaves (last-slot slot)) Any (Free (last-slot slot)) (leaves_kept (last-slot slot)) _
-            (K.in_enter (Leaves (last-slot slot)) Any (Free (last-slot slot)) (leaves_kept (last-slot slot)) (leaves_enters (last-slot slot)) name qs w) (λ _.
-            K.in_next (Leaves (last-slot slot)) Any (Free (last-slot slot)) (leaves_kept (last-slot slot)) _
-            (K.in_block (Leaves (last-slot slot)) Any (Free (last-slot slot)) (leaves_kept (last-slot slot)) (leaves_enters (last-slot slot)) c body
-            (among-hold (Free (last-slot slot)) body (free c (last-slot slot) (visited_among body) r))) (λ a.
-            K.in_next (Leaves (last-slot slot)) Any (Free (last-slot slot)) (leaves_kept (last-slot slot)) _
-            (K.in_check_return (Leaves (last-slot slot)) Any (Free (last-slot slot)) (leaves_kept (last-slot slot)) c n name ret w a) (λ _.
-            K.in_return (Leaves (last-slot slot)) Any (Free (last-slot slot)) (leaves_kept (last-slot slot)) w)))))) s
+            let law = leaves_kept (last-slot slot) in
+            let entering = leaves_enters (last-slot slot) in
+            K.in_apart law (λ s. inner s)
+            (K.in_next law _ (K.in_fn_arguments law c n (slot + 1) args (args-above slot (slot + 1) args (omega arith))) (λ qs.
+            K.in_next law _ (K.in_type_from law c n ret) (λ w.
+            K.in_next law _ (K.in_enter law entering name qs w) (λ _.
+            K.in_next law _ (K.in_block law entering c body (among-hold (Free (last-slot slot)) body (free c (last-slot slot) (visited_among body) r))) (λ a.
+            K.in_next law _ (K.in_check_return law c n name ret w a) (λ _.
+            K.in_return law w)))))) s
 
         alone-force : Silent (silent c) (with_env s []) → Fixed c type (with_env s []) → Force c type library (with_env s []) [] sc
         alone-force z f =

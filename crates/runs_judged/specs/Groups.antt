@@ -17,11 +17,12 @@ use Rattle.library.specs.Package.{Param, Signature, Package, group_of}
 use Rattle.rules.specs.declared.Answer.{Answer}
 use Rattle.rules.specs.World.{Ctx, name_in, World}
 use Rattle.rules.specs.Steps.{ty, tree, ty_tree}
-use Rattle.rules.specs.Calls.{Provided, resolve_call, param_trees, provided_trees, overload_matches, position, all_return, common_return, select, in_group, resolve_pkg_call, own_function, package_function}
+use Rattle.rules.specs.Calls.{Provided, resolve_call, param_trees, provided_trees, overload_matches, position, all_return}
+use Rattle.rules.specs.Calls.{common_return, select, in_group, resolve_pkg_call, own_function, package_function}
 use Rattle.onerun.specs.Claim.{All, end, and, Both, all_slots_are, SignatureOk, Holds}
 use Rattle.onerun.specs.Claim as C
 use Rattle.onerun.specs.Grows.{is-tree, typed_free}
-use Rattle.onerun.specs.Logic.{Silent, before, Gives, g_next, g_return, g_when, g_option}
+use Rattle.onerun.specs.Logic.{Claimed, Silent, before, Gives, g_next, g_return, g_when, g_option}
 use Rattle.onerun.specs.Trees.{never, never-free}
 use Rattle.onerun.specs.Find.{function-found, package_found}
 use Rattle.onerun.specs.Find as OF
@@ -126,13 +127,13 @@ module _ (c : Ctx) where
     given-types {s} f (and {a = a} {xs = xs} x rest) =
         ap (λ (y : Ty). y ∷ map (λ (a : Provided). tree_in c s (get_or s.slots a.slot 0)) xs) (sym (f.at a.slot x)) ∙ ap (λ (l : List Ty). type a.slot ∷ l) (given-types f rest)
 
-    g_all_return : (t : Ty) (fs : List Signature) {s : World} → (Silent (silent c) s → Holds (silent c) s) → Gives (silent c) (λ _ (_ : Bool). Unit {0}) s (all_return c t fs s)
+    g_all_return : (t : Ty) (fs : List Signature) {s : World} → Claimed (silent c) s → Gives (silent c) (λ _ (_ : Bool). Unit {0}) s (all_return c t fs s)
     unfolding all_return tree
     g_all_return t [] h = g_return (silent c) h (λ z. tt)
     g_all_return t (f ∷ fs) h = g_when (silent c) _ _ (λ _. g_all_return t fs h) (λ _. g_return (silent c) h (λ z. tt))
 
     -- after a diagnostic
-    told_common : {Q : World → Answer → Type 0} (slot : ℕ) (f : Signature) (fs : List Signature) {s : World} → (Silent (silent c) s → Holds (silent c) s)
+    told_common : {Q : World → Answer → Type 0} (slot : ℕ) (f : Signature) (fs : List Signature) {s : World} → Claimed (silent c) s
         → (Silent (silent c) s → ⊥) → Gives (silent c) Q s (common_return c slot f fs s)
     unfolding common_return tree
     told_common slot f fs h known =
@@ -140,7 +141,7 @@ module _ (c : Ctx) where
         (λ _. g_return (silent c) (λ z. (x z).holds) (λ z. absurd (known (before (silent c) t z)))))
 
     module _ (n slot : ℕ) (low : slot < c.void) (given : List Provided) {s : World} (unset : Silent (silent c) s → get_or s.slots slot 0 ≡ 0)
-        (h : Silent (silent c) s → Holds (silent c) s) (i : Silent (silent c) s → Given c type s given) where
+        (h : Claimed (silent c) s) (i : Silent (silent c) s → Given c type s given) where
       abbrev ts : List Ty
       ts = map (λ (a : Provided). tree_in c s (get_or s.slots a.slot 0)) given
 

@@ -1,5 +1,5 @@
 -- Match, Array and Record, but for the visits of parts; frames; and lists of parts leave the slots of others. One lemma for each. Assumes nothing.
-use Rattle.std.specs.Prelude.{ℕ, ◌+◌, ◌<◌, ◌≡◌, Bool}
+use Rattle.std.specs.Prelude.{ℕ, ◌<◌, ◌≡◌, Bool}
 use Rattle.std.proofs.Common.{arith, ◌∙◌}
 use Rattle.std.proofs.Math.Path.{refl, sym, ap, subst}
 use Rattle.std.proofs.Math.Bool.{true}
@@ -24,7 +24,7 @@ use Rattle.rules.specs.Rules.{value_type, member_types, member, go_on, array_of,
 use Rattle.rules.specs.Visited.{visited_below, visited_among, visited_in_cases, visited_in_values}
 use Rattle.laws.specs.SlotsOf.{SlotsOf, SlotsOfAll, SlotsOfCases, SlotsOfValues}
 use Rattle.laws.specs.Keeps.{Keeps}
-use Rattle.laws.specs.Keeps as K
+use Rattle.laws.specs.RulesKeep as K
 use Rattle.accepts.specs.Count.{total, total-append, count}
 use Rattle.rules.specs.Visited.{slots_of}
 use Rattle.accepts.proofs.OtherSlots.{among-hold}
@@ -32,13 +32,14 @@ use Rattle.accepts.proofs.OtherSlots as O
 use Rattle.onerun.specs.Claim.{All, end, and, Is, Good, Recorded, Holds, AnswerOk}
 use Rattle.onerun.specs.Claim as C
 use Rattle.onerun.specs.Grows.{all_map, is-tree, typed_free, typed-known}
-use Rattle.onerun.specs.Logic.{Silent, before, Gives, gives, stopped, GivesT, typed, stopped_t, g_next, g_map, g_return, g_when}
+use Rattle.onerun.specs.Logic.{Claimed, Silent, before, Gives, gives, stopped, GivesT, typed, stopped_t, g_next, g_map, g_return, g_when}
 use Rattle.onerun.proofs.Scope.{g_framed, g_apart}
 use Rattle.onerun.proofs.Rules.{BranchOk, branch-later}
 use Rattle.onerun.proofs.Types.{PairsAre, PairsTyped, t_wrap, t_record}
 use Rattle.stops.specs.Ready.{Ready, Free, Leaves, Any, leaves_kept, leaves_enters}
 use Rattle.runs_judged.specs.Claim as H
-use Rattle.runs_judged.specs.Claim.{same-trans, same-world, same-slots, Keep, OwnAnswer, is_known, is_poison, no-poison, has-known, Fixed, fixed_back, Says, Tells, earlier, h_known, h_step, h_map, h_report, Built, h_on_types, h_set}
+use Rattle.runs_judged.specs.Claim.{same-trans, same-world, same-slots, Keep, OwnAnswer, is_known, is_poison, no-poison, has-known, Fixed}
+use Rattle.runs_judged.specs.Claim.{fixed_back, Says, Tells, earlier, h_known, h_step, h_map, h_report, Built, h_on_types, h_set}
 use Rattle.runs_judged.specs.Rules.{Rule}
 use Rattle.runs_judged.specs.Arguments.{tree_in}
 use Rattle.runs_judged.specs.Declares.{h_if_known}
@@ -77,13 +78,13 @@ module _ (c : Ctx) (ys : List Node) where
   free xs h = record { holds = λ q l k. omega (arith, h.once q, total-append (λ x. count q (slots_of x)) xs ys) }
 
   pub all-leave : (xs : Nodes) (s : World) → Ready s (visited_among xs ++ ys) → Keeps (Leaves ys) Any s (visit_all c xs s)
-  all-leave xs s h = K.in_all (Leaves ys) Any (Free ys) (leaves_kept ys) (leaves_enters ys) c xs (among-hold (Free ys) xs (free (visited_among xs) h)) s
+  all-leave xs s h = K.in_all (leaves_kept ys) (leaves_enters ys) c xs (among-hold (Free ys) xs (free (visited_among xs) h)) s
 
   pub cases-leave : (n : ℕ) (cs : Cases) (s : World) → Ready s (visited_in_cases cs ++ ys) → Keeps (Leaves ys) Any s (cases c n cs s)
-  cases-leave n cs s h = K.in_cases (Leaves ys) Any (Free ys) (leaves_kept ys) (leaves_enters ys) c n cs (cases-hold (Free ys) cs (free (visited_in_cases cs) h)) s
+  cases-leave n cs s h = K.in_cases (leaves_kept ys) (leaves_enters ys) c n cs (cases-hold (Free ys) cs (free (visited_in_cases cs) h)) s
 
   pub values-leave : (vs : Values) (s : World) → Ready s (visited_in_values vs ++ ys) → Keeps (Leaves ys) Any s (values c vs s)
-  values-leave vs s h = K.in_values (Leaves ys) Any (Free ys) (leaves_kept ys) (leaves_enters ys) c vs (values-hold (Free ys) vs (free (visited_in_values vs) h)) s
+  values-leave vs s h = K.in_values (leaves_kept ys) (leaves_enters ys) c vs (values-hold (Free ys) vs (free (visited_in_values vs) h)) s
 
 module _ (c : Ctx) (type : ℕ → Ty) where
   abbrev R : C.Run
@@ -108,12 +109,12 @@ module _ (c : Ctx) (type : ℕ → Ty) where
       record { grown = i.grown; recorded = i.recorded; holds = i.holds; value = record { keep = i.value.keep; fact = λ q. (i.value.fact q, refl) } })
   env-back (refused r) g = stopped
 
-  pub h_framed : {A : Type 0} {P : World → A → Type 0} → NoEnv P → (m : Walk A) {s : World} → (Silent R s → Holds R s) → Tells c type P s (m s)
+  pub h_framed : {A : Type 0} {P : World → A → Type 0} → NoEnv P → (m : Walk A) {s : World} → Claimed R s → Tells c type P s (m s)
       → Tells c type (λ u a. P u a × (u.env ≡ s.env)) s (framed m s)
   unfolding framed
   h_framed {A} {P} n m {s} h g = env-back (m s) (g_framed R {Q = Says c type P s} (says_env n) m h g)
 
-  pub h_apart : {A : Type 0} {P : World → A → Type 0} → NoEnv P → (m : Walk A) {s : World} → (Silent R s → Holds R s) → Tells c type P (with_env s []) (m (with_env s []))
+  pub h_apart : {A : Type 0} {P : World → A → Type 0} → NoEnv P → (m : Walk A) {s : World} → Claimed R s → Tells c type P (with_env s []) (m (with_env s []))
       → Tells c type (λ u a. P u a × (u.env ≡ s.env)) s (apart m s)
   unfolding apart framed
   h_apart {A} {P} n m {s} h g =
@@ -122,7 +123,7 @@ module _ (c : Ctx) (type : ℕ → Ty) where
 
   -- ── Match ──
 
-  pub h_condition : (n token : ℕ) {i : ℕ} {a : Answer} {s : World} → (Silent R s → Holds R s) → OwnAnswer i a → (Silent R s → AnswerOk R s a)
+  pub h_condition : (n token : ℕ) {i : ℕ} {a : Answer} {s : World} → Claimed R s → OwnAnswer i a → (Silent R s → AnswerOk R s a)
       → Gives R (λ u (_ : Done). (u ≡ s) × (Fixed c type s → type i ≡ bool_ty)) s (condition c n token a s)
   unfolding condition ty_tree ty tree
   h_condition n token h o k = h_if_known c _ h o k (λ i. g_when R _ _ (λ q. g_return R h (λ z. (refl, λ f. f.at _ (i z) ∙ same_ty-true _ _ q))) (λ _. h_report c type h n _))
@@ -131,7 +132,7 @@ module _ (c : Ctx) (type : ℕ → Ty) where
   abbrev pub EndsIn : Ty → Branch → Type 0
   EndsIn t b = (q : ℕ) → OwnAnswer q b.answer → type q ≡ t
 
-  h_branches : (n d : ℕ) (bs : List Branch) {s : World} → (Silent R s → Holds R s) → (Silent R s → Recorded R s d) → (Silent R s → All (BranchOk R s) bs)
+  h_branches : (n d : ℕ) (bs : List Branch) {s : World} → Claimed R s → (Silent R s → Recorded R s d) → (Silent R s → All (BranchOk R s) bs)
       → Gives R (λ u (_ : Done). (u ≡ s) × (Fixed c type s → All (EndsIn (type d)) bs)) s (compare_branches c n d bs s)
   unfolding compare_branches ty_tree ty tree if_known
   h_branches n d [] h e k = g_return R h (λ z. (refl, λ f. end))
@@ -156,7 +157,7 @@ module _ (c : Ctx) (type : ℕ → Ty) where
       one Poison i = g_return R h (λ z. absurd (no-poison (i z)))
 
   pub h_matched : (n slot : ℕ) → slot < c.void → {d : ℕ} {a : Answer} (bs : List Branch) {s : World} → (Silent R s → get_or s.slots slot 0 ≡ 0)
-      → (Silent R s → Holds R s) → OwnAnswer d a → (Silent R s → AnswerOk R s a)
+      → Claimed R s → OwnAnswer d a → (Silent R s → AnswerOk R s a)
       → (Silent R s → Recorded R s d) → (Silent R s → All (BranchOk R s) bs) → Tells c type (Rule c type slot s ((type slot ≡ type d) × All (EndsIn (type d)) bs)) s (matched c n slot bs a s)
   unfolding matched ty
   h_matched n slot low {d} bs {s} unset h o k e ks =
@@ -181,7 +182,7 @@ module _ (c : Ctx) (type : ℕ → Ty) where
     pub is : m ≡ alike
     pub type' : Fixed c type s → type j ≡ type i
 
-  h_member_types : (n : ℕ) (span : Span) (i j : ℕ) {s : World} → (Silent R s → Holds R s) → (Silent R s → Recorded R s i) → (Silent R s → Recorded R s j)
+  h_member_types : (n : ℕ) (span : Span) (i j : ℕ) {s : World} → Claimed R s → (Silent R s → Recorded R s i) → (Silent R s → Recorded R s j)
       → Gives R (MemberOk s i j) s (member_types c n span i j s)
   unfolding member_types ty_tree ty tree
   h_member_types n span i j {s} h x y =
@@ -189,7 +190,7 @@ module _ (c : Ctx) (type : ℕ → Ty) where
       (λ _. g_when R _ _ (λ e. g_return R h (λ z. record { same = refl; is = refl; type' = λ f. f.at j (y z) ∙ (same_ty-true _ _ e ∙ sym (f.at i (x z))) }))
       (λ _. g_next R _ (h_report c type {Q = λ _ _. ⊥} h n _) (λ _ u t f. g_return R (λ z. (f z).holds) (λ z. absurd (f z).value))))
 
-  pub h_member : (n : ℕ) (span : Span) {i j : ℕ} {a b : Answer} {s : World} → (Silent R s → Holds R s) → OwnAnswer i a → OwnAnswer j b → (Silent R s → AnswerOk R s a)
+  pub h_member : (n : ℕ) (span : Span) {i j : ℕ} {a b : Answer} {s : World} → Claimed R s → OwnAnswer i a → OwnAnswer j b → (Silent R s → AnswerOk R s a)
       → (Silent R s → AnswerOk R s b) → Gives R (MemberOk s i j) s (member c n span a b s)
   unfolding member
   h_member n span {i} {j} {s = s} h is_known is_known k l = h_member_types n span i j h (λ z. has-known (k z)) (λ z. has-known (l z))
@@ -201,7 +202,7 @@ module _ (c : Ctx) (type : ℕ → Ty) where
   IsAlike silent = ⊥
   IsAlike differs = ⊥
 
-  pub h_go_on : {Q : World → Answer → Type 0} (m : Member) (b : Bool) (f : Bool → Walk Answer) {s : World} → (Silent R s → Holds R s) → (Silent R s → m ≡ alike) → (Silent R s → b ≡ true → ⊥)
+  pub h_go_on : {Q : World → Answer → Type 0} (m : Member) (b : Bool) (f : Bool → Walk Answer) {s : World} → Claimed R s → (Silent R s → m ≡ alike) → (Silent R s → b ≡ true → ⊥)
       → ((b : Bool) → (Silent R s → b ≡ true → ⊥) → Tells c type Q s (f b s)) → Tells c type Q s (go_on m b f s)
   unfolding go_on
   h_go_on alike b f h k l g = g b l
@@ -212,7 +213,7 @@ module _ (c : Ctx) (type : ℕ → Ty) where
   is_at : {b : Buffer} {w : ℕ} (x : Ty) → Good R b w → x ≡ ty_of c.texts b.words w → Is R b w x
   is_at {b} {w} x g e = subst (λ (y : Ty). Is R b w y) (sym (e ∙ is-tree R g.is)) g.is
 
-  pub h_array_of : (n slot : ℕ) → slot < c.void → {i : ℕ} {a : Answer} {s : World} → (Silent R s → get_or s.slots slot 0 ≡ 0) → (Silent R s → Holds R s) → OwnAnswer i a
+  pub h_array_of : (n slot : ℕ) → slot < c.void → {i : ℕ} {a : Answer} {s : World} → (Silent R s → get_or s.slots slot 0 ≡ 0) → Claimed R s → OwnAnswer i a
       → (Silent R s → AnswerOk R s a) → (Silent R s → Recorded R s i) → (b : Bool) → (Silent R s → b ≡ true → ⊥)
       → Tells c type (Rule c type slot s (type slot ≡ array_ty (type i))) s (array_of c n slot a b s)
   unfolding array_of ty contains_slot
@@ -232,7 +233,7 @@ module _ (c : Ctx) (type : ℕ → Ty) where
 
   -- ── Record ──
 
-  pub h_value : {i : ℕ} {a : Answer} {s : World} → (Silent R s → Holds R s) → OwnAnswer i a → (Silent R s → AnswerOk R s a)
+  pub h_value : {i : ℕ} {a : Answer} {s : World} → Claimed R s → OwnAnswer i a → (Silent R s → AnswerOk R s a)
       → Gives R (λ u (w : ℕ). (u ≡ s) × (w ≡ get_or s.slots i 0)) s (value_type a s)
   unfolding value_type ty
   h_value h is_known k = g_return R h (λ z. (refl, refl))
@@ -250,7 +251,7 @@ module _ (c : Ctx) (type : ℕ → Ty) where
       go (ok a d) k (typed g v) = typed g (λ y p. out (k y p))
       go (refused r) k g = stopped_t
 
-  pub h_record : (n : ℕ) (ps : List ℕ) {s : World} → (Silent R s → Holds R s) → (Silent R s → PairsTyped R s.types ps)
+  pub h_record : (n : ℕ) (ps : List ℕ) {s : World} → Claimed R s → (Silent R s → PairsTyped R s.types ps)
       → Gives R (Built c type (λ d w. (fs : Fields) → PairsAre R s.types ps fs → Is R d w (rec fs)) s) s (on_types (add_record c.texts n ps) s)
   h_record n ps {s} h k = h_on_types c type {Q = λ d w. (fs : Fields) → PairsAre R s.types ps fs → Is R d w (rec fs)} _ h
       (λ z. t_any (PairsAre R s.types ps) (λ fs d w. Is R d w (rec fs)) (λ fs p. t_record R n ps p) (k z).fields (k z).are)

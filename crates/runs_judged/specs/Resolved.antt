@@ -7,14 +7,16 @@ use Rattle.std.proofs.Math.Option.{Option, none, some}
 use mathlib.Core.List.{List, [], ◌∷◌, ◌++◌}
 use Rattle.tok.specs.Text.{Texts, name_bytes}
 use Rattle.ptype.specs.Ty.{Ty}
-use Rattle.ast.specs.Node.{Node, Nodes, Cases, Values, Atom, Ident, Bin, Unary, Let, Fn, Match, Call, Field, Cast, Import, Extern, Record, Array, Absent, done, then, no_case, case, no_value, value, slot_of}
+use Rattle.ast.specs.Node.{Node, Nodes, Cases, Values, slot_of}
+use Rattle.ast.specs.Node.{Atom, Ident, Bin, Unary, Let, Fn, Match, Call, Field, Cast, Import, Extern, Record, Array, Absent, done, then, no_case, case, no_value, value}
 use Rattle.rules.specs.Calls.{callee_of}
 use Rattle.rules.specs.Visited.{visited_below, visited_among, visited_in_cases, visited_in_values}
 use Rattle.accepts.specs.Count.{total, total-append, one_same, count}
 use Rattle.rules.specs.Visited.{slots_of}
 use Rattle.accepts.proofs.Once.{own-slot}
 use Rattle.accepts.proofs.OtherSlots.{owned}
-use Rattle.runs.specs.Declared.{Held, Target, Chosen, Scope, meeting, choosing, given_types, target_of, import_found, unless_held, imported, declare, declare_all, declare_cases, declare_values, target_at}
+use Rattle.runs.specs.Declared.{Held, Target, Chosen, Scope, meeting, choosing, given_types, target_of, import_found}
+use Rattle.runs.specs.Declared.{unless_held, imported, declare, declare_all, declare_cases, declare_values, target_at}
 
 -- how often the nodes of a list, and of two lists, own a slot
 both : (q : ℕ) (xs ys : List Node) → owned q (xs ++ ys) ≡ owned q xs + owned q ys

@@ -29,7 +29,7 @@ use Rattle.tworuns.specs.Operators.{plain-low, result_low}
 use Rattle.onerun.specs.Claim.{NameAt, Is, Good, Bound, poisoned, bound, Recorded, Holds, AnswerOk}
 use Rattle.onerun.specs.Claim as C
 use Rattle.onerun.specs.Grows.{is-tree}
-use Rattle.onerun.specs.Logic.{Silent, before, Gives, gives, g_next, g_return, g_when, g_option}
+use Rattle.onerun.specs.Logic.{Claimed, Silent, before, Gives, gives, g_next, g_return, g_when, g_option}
 use Rattle.onerun.proofs.Scope.{g_insert}
 use Rattle.onerun.proofs.Types.{low-good}
 use Rattle.onerun.specs.Find.{local_found, field_found}
@@ -42,7 +42,8 @@ use Rattle.onerun.specs.Proper.{ProperType}
 use Rattle.onerun.proofs.Functions.{Below}
 use Rattle.runs_judged.specs.Exprs.{t_expr}
 use Rattle.runs_laws.specs.Judged as J
-use Rattle.runs_judged.specs.Claim.{silent, Same, OwnAnswer, is_known, is_poison, Fixed, Tells, earlier, h_map, h_report, h_poison, told-set, no-poison, Built, h_on_types, h_set, EnvRel, no_local, one_local}
+use Rattle.runs_judged.specs.Claim.{silent, Same, OwnAnswer, is_known, is_poison, Fixed, Tells, earlier, h_map, h_report}
+use Rattle.runs_judged.specs.Claim.{h_poison, told-set, no-poison, Built, h_on_types, h_set, EnvRel, no_local, one_local}
 
 -- a word of nothing but a kind
 pub low-tree : (c : Ctx) (b : Buffer) (k : ℕ) → 1 ≤ k → k ≤ 5 → ty_of c.texts b.words (word_of k 0) ≡ plain k
@@ -65,7 +66,7 @@ module _ (c : Ctx) (type : ℕ → Ty) where
     pub ok : Ok
     pub same : Same s u
 
-  module _ {s : World} (h : Silent (silent c) s → Holds (silent c) s) (n slot token : ℕ) (own : slot < c.void) (unset : Silent (silent c) s → get_or s.slots slot 0 ≡ 0) where
+  module _ {s : World} (h : Claimed (silent c) s) (n slot token : ℕ) (own : slot < c.void) (unset : Silent (silent c) s → get_or s.slots slot 0 ≡ 0) where
     module _ (op : ℕ) {a : ℕ} (ea : Silent (silent c) s → Recorded (silent c) s a) where
       pub h_fuse : {b : ℕ} → (Silent (silent c) s → Recorded (silent c) s b) → Tells c type (Rule slot s (BinOk op (type a) (type b) (type slot))) s (fuse c n slot token op a b s)
       unfolding fuse ty tree
@@ -134,7 +135,7 @@ module _ (c : Ctx) (type : ℕ → Ty) where
       by go true d q = rw (← n, d) (ap some (sym (is-tree (silent c) i) ∙ ap (ty_of c.texts b.words) (word-is (sym t ∙ some_is q))))
       by go false d q = rw (← n, d) (go q)
 
-  module _ {s : World} (h : Silent (silent c) s → Holds (silent c) s) (n slot name : ℕ) (own : slot < c.void) (unset : Silent (silent c) s → get_or s.slots slot 0 ≡ 0) {ks : List J.Known}
+  module _ {s : World} (h : Claimed (silent c) s) (n slot name : ℕ) (own : slot < c.void) (unset : Silent (silent c) s → get_or s.slots slot 0 ≡ 0) {ks : List J.Known}
       (env : Silent (silent c) s → Fixed c type s → EnvRel c type s.types s.env ks) where
     pub h_ident : Tells c type (Rule slot s (type_found c.texts (name_bytes c.texts name) ks ≡ some (type slot))) s (ident c n slot name s)
     unfolding ident
@@ -160,7 +161,7 @@ module _ (c : Ctx) (type : ℕ → Ty) where
     pub same : u ≡ s
     pub is : o ≡ some (get_or s.slots i 0)
 
-  pub h_let : (n name : ℕ) {i : ℕ} {a : Answer} {s : World} → (Silent (silent c) s → Holds (silent c) s) → OwnAnswer i a → (Silent (silent c) s → AnswerOk (silent c) s a)
+  pub h_let : (n name : ℕ) {i : ℕ} {a : Answer} {s : World} → Claimed (silent c) s → OwnAnswer i a → (Silent (silent c) s → AnswerOk (silent c) s a)
       → Gives (silent c) (Binds s i) s (let_binding n name a s)
   unfolding let_binding ty
   h_let n name {i} {s = s} h is_known k =
@@ -168,7 +169,7 @@ module _ (c : Ctx) (type : ℕ → Ty) where
       (λ _. g_return (silent c) h (λ z. record { same = refl; is = refl }))
   h_let n name {s = s} h is_poison k = g_return (silent c) h (λ z. absurd (no-poison (k z)))
 
-  pub h_insert : (name : ℕ) {o : Option ℕ} {s : World} → (Silent (silent c) s → Holds (silent c) s) → (Silent (silent c) s → Bound (silent c) s.types o)
+  pub h_insert : (name : ℕ) {o : Option ℕ} {s : World} → Claimed (silent c) s → (Silent (silent c) s → Bound (silent c) s.types o)
       → Gives (silent c) (λ u (_ : Done). u ≡ with_env s (record { name = name; type = o } ∷ s.env)) s (env_insert name o s)
   unfolding env_insert
   h_insert name {o} {s} h k = up (g_insert (silent c) name h k)
@@ -180,7 +181,7 @@ module _ (c : Ctx) (type : ℕ → Ty) where
   -- ── Cast ──
 
   -- a type made of an expression
-  pub h_type_from : (n : ℕ) (e : TypeExpr) → ProperType (Below (silent c)) (NameAt (silent c)) e → {s : World} → (Silent (silent c) s → Holds (silent c) s)
+  pub h_type_from : (n : ℕ) (e : TypeExpr) → ProperType (Below (silent c)) (NameAt (silent c)) e → {s : World} → Claimed (silent c) s
       → Gives (silent c) (Built c type (λ d w. Is (silent c) d w (type_meant c.texts e)) s) s (type_from_expr c n e s)
   unfolding type_from_expr
   h_type_from n e p {s} h = h_on_types c type (type_from c.texts n e) h (λ z. t_expr (silent c) n e p s.types)
@@ -193,7 +194,7 @@ module _ (c : Ctx) (type : ℕ → Ty) where
   cast_ok (ArrayType t) p q h e = absurd (let i = castable-to _ _ h in omega (arith, i.1, q))
   cast_ok (RecordType token fs) p q h e = absurd (let i = castable-to _ _ h in omega (arith, i.1, q))
 
-  pub h_cast : {s : World} (h : Silent (silent c) s → Holds (silent c) s) (n slot token : ℕ) → slot < c.void → (Silent (silent c) s → get_or s.slots slot 0 ≡ 0)
+  pub h_cast : {s : World} (h : Claimed (silent c) s) (n slot token : ℕ) → slot < c.void → (Silent (silent c) s → get_or s.slots slot 0 ≡ 0)
       → (e : TypeExpr) {a to : ℕ} → (Silent (silent c) s → Recorded (silent c) s a)
       → (Silent (silent c) s → Is (silent c) s.types to (type_meant c.texts e)) → (Silent (silent c) s → Good (silent c) s.types to)
       → Tells c type (Rule slot s (CastOk (cast_kind e) (type a) (type slot))) s (cast c n slot token a to s)
@@ -256,7 +257,7 @@ module _ (c : Ctx) (type : ℕ → Ty) where
   known-kind (M.recorded e l m) f k = let j = sym e ∙ k in omega arith
   known-kind (M.called {k = j₀} e h n) f k = elim (one_of 9 10 j₀ h) [ inl i ↦ (let j = sym e ∙ k in omega arith) | inr i ↦ (let j = sym e ∙ k in omega arith) ]
 
-  pub h_field : {s : World} (h : Silent (silent c) s → Holds (silent c) s) (n slot name : ℕ) → slot < c.void → (Silent (silent c) s → get_or s.slots slot 0 ≡ 0)
+  pub h_field : {s : World} (h : Claimed (silent c) s) (n slot name : ℕ) → slot < c.void → (Silent (silent c) s → get_or s.slots slot 0 ≡ 0)
       → {a : ℕ} → (Silent (silent c) s → Recorded (silent c) s a)
       → Tells c type (Rule slot s (FieldOk (name_bytes c.texts name) (type a) (type slot))) s (field c n slot name a s)
   unfolding field field_type ty tree

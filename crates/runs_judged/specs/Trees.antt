@@ -1,6 +1,6 @@
 -- The theorem of trees: a node walked without diagnostic is judged, by the types that the walk's end has in slots; and what is in force after it
 -- is what the static pass says. By induction on the tree. Assumes nothing.
-use Rattle.std.specs.Prelude.{ℕ, ◌+◌, ◌<◌, ◌≡◌, refl, Bool, true, false, List, [], ◌∷◌, ◌++◌, get_or}
+use Rattle.std.specs.Prelude.{ℕ, ◌<◌, ◌≡◌, refl, Bool, true, false, List, [], ◌∷◌, ◌++◌, get_or}
 use Rattle.std.proofs.Common.{sym, ap, ◌∙◌}
 use Rattle.std.proofs.Math.Path.{subst}
 use Rattle.std.proofs.lemmas.Bool.{false≢true}
@@ -9,38 +9,40 @@ use Rattle.tok.specs.Step.{ok, next}
 use Rattle.ptype.specs.Ty.{Ty, rec, void_ty, bool_ty, array_ty, contains_slot}
 use Rattle.ptype.specs.Words.{void_word}
 use Rattle.ast.specs.Span.{span_of}
-use Rattle.ast.specs.Node.{Node, Nodes, Cases, Values, Atom, Ident, Bin, Unary, Let, Fn, Match, Call, Field, Cast, Import, Extern, Record, Array, Absent, done, then, no_case, case, no_value, value, slot_of}
+use Rattle.ast.specs.Node.{Node, Nodes, Cases, Values, slot_of}
+use Rattle.ast.specs.Node.{Atom, Ident, Bin, Unary, Let, Fn, Match, Call, Field, Cast, Import, Extern, Record, Array, Absent, done, then, no_case, case, no_value, value}
 use Rattle.rules.specs.declared.Answer.{Answer}
 use Rattle.rules.specs.World.{Ctx, World, with_env}
 use Rattle.rules.specs.Steps.{env_insert, set_known}
 use Rattle.rules.specs.Calls.{callee_of}
 use Rattle.rules.specs.Rules.{let_binding, Branch, node, block, last, cases, values, array, members, visit_all}
 use Rattle.rules.specs.Visited.{visited_below, visited_among, visited_in_cases, visited_in_values}
-use Rattle.laws.specs.Keeps as K
+use Rattle.laws.specs.RulesKeep as K
 use Rattle.laws.specs.Owns.{end_slot}
 use Rattle.onerun.specs.Claim.{All, end, and, Both, Is, Good, NameAt, bound, Recorded, Holds, AnswerOk}
 use Rattle.onerun.specs.Claim as C
 use Rattle.onerun.specs.Grows.{all_map, is_grow, is-tree}
-use Rattle.onerun.specs.Logic.{Later, Silent, before, After, g_return, answer-later}
+use Rattle.onerun.specs.Logic.{Claimed, Later, Silent, before, After, g_return, answer-later}
 use Rattle.onerun.proofs.Types.{PairsAre, no_pairs, more-pairs, low-good}
 use Rattle.onerun.specs.Proper.{Proper, ProperAll, ProperCases, ProperValues}
 use Rattle.onerun.proofs.Functions.{Below}
 use Rattle.onerun.proofs.Rules.{branch-later}
 use Rattle.onerun.proofs.Nodes.{g_cases, g_values}
-use Rattle.stops.specs.Ready.{Leaves, Free, Any, leaves_kept, Fits, Ready, ready-left, ready-then, ready_assoc, ready-own, ready-fits}
+use Rattle.stops.specs.Ready.{leaves_kept, Fits, Ready, ready-left, ready-then, ready_assoc, ready-own, ready-fits}
 use Rattle.rules.specs.Functions.{type_meant}
 use Rattle.runs.specs.Declared.{Held, Target, Chosen, Scope, choosing, declare, declare_all, declare_cases, declare_values}
 use Rattle.runs.specs.Stands.{Place, root, statement, operand, Stands, AllStand, CasesStand, ValuesStand}
 use Rattle.runs_laws.specs.Judged.{knows, after, record_ty, Judged, JudgedAll, JudgedBody, JudgedCases, JudgedValues, JudgedRoots}
 use Rattle.runs_laws.specs.Judged as J
 use Rattle.runs_laws.specs.Sound.{operand_same}
-use Rattle.runs_judged.specs.Claim.{silent, same-slots, keep_same, OwnAnswer, is_known, is_poison, no-poison, has-known, Fixed, fixed_back, Says, Tells, earlier, h_next, h_visit, h_visit-block, h_known, h_step, h_after, h_with, h_to, g_both, h_poison, h_map, h_set, last-slot, own-last, last-unset, one_local}
+use Rattle.runs_judged.specs.Claim.{silent, same-slots, keep_same, OwnAnswer, is_known, is_poison, no-poison, has-known, Fixed, fixed_back, Says, Tells, earlier, h_next, h_visit}
+use Rattle.runs_judged.specs.Claim.{h_visit-block, h_known, h_step, h_after, h_with, h_to, g_both, h_poison, h_map, h_set, last-slot, own-last, last-unset, one_local}
 use Rattle.runs_judged.specs.Rules.{low-tree, Binds, h_fuse, h_unary, h_ident, h_let, h_insert, h_type_from, h_cast, h_field}
 use Rattle.runs_judged.specs.InForce.{Decl, Force, force-same, env-same}
 use Rattle.runs_judged.specs.Exprs.{no-slot}
 use Rattle.runs_judged.specs.Resolved.{Resolves, ResolvesAll, ResolvesCases, ResolvesValues}
 use Rattle.runs_judged.specs.Parts.{cases-leave, values-leave, h_framed, h_condition, EndsIn, h_matched, h_member, h_go_on, h_array_of, h_value, h_record}
-use Rattle.runs_judged.specs.Wholes.{ready_nil, Ruled, Knows, Have, h_rule, h_void, ArgumentsTold, h_call, h_import, h_extern}
+use Rattle.runs_judged.specs.Wholes.{ready_nil, Ruled, Knows, h_rule, h_void, ArgumentsTold, h_call, h_import, h_extern}
 use Rattle.runs_judged.specs.FnRule.{BlockTold, h_fn}
 
 module _ (c : Ctx) (type : ℕ → Ty) (library : List Held) (table : List Chosen) where
@@ -60,7 +62,7 @@ module _ (c : Ctx) (type : ℕ → Ty) (library : List Held) (table : List Chose
   KnowsAt s ks sc = Knows c type library s ks sc
 
   abbrev HoldsAt : World → Type 0
-  HoldsAt s = Have c type library s
+  HoldsAt s = Claimed (silent c) s
 
   pub record NodeTold (x : Node) (p : Place) (ks : List J.Known) (sc : Scope) (u : World) (a : Answer) : Type 0 where
     pub judged : Judged c.texts type table x p ks
@@ -234,7 +236,7 @@ module _ (c : Ctx) (type : ℕ → Ty) (library : List Held) (table : List Chose
     h_node (Cast n slot token l x) p ks sc q pl rs {s} d h know =
         let ys : List Node = (l ∷ visited_below l) ++ last-slot slot in
         h_to c type (λ u a x. record { judged = (x.static, x.told.ok); force = x.told.force })
-        (h_after c type ys _ (own-last (Cast n slot token l x) _ d) (K.in_type_from (Leaves ys) Any (Free ys) (leaves_kept ys) c n x s) (h_type_from c type n x q.2 h)
+        (h_after c type ys _ (own-last (Cast n slot token l x) _ d) (K.in_type_from (leaves_kept ys) c n x s) (h_type_from c type n x q.2 h)
         (λ w u y. same-slots y.slots) (λ to u d₁ t f.
         h_visit c type l (last-slot slot) _ q.1 (λ z. (f z).holds) d₁ (h_node l operand ks sc q.1 pl rs (ready-left (l ∷ visited_below l) (last-slot slot) d₁) (λ z. (f z).holds) (λ z fu.
         let z₀ = before (silent c) t z in
@@ -309,7 +311,7 @@ module _ (c : Ctx) (type : ℕ → Ty) (library : List Held) (table : List Chose
         })
         (h_visit c type x ys _ q.0 h d₁ (h_node x operand ks sc q.0 pl.0 rs.0 (ready-left (x ∷ visited_below x) ys d₁) h know) (λ y u o₁ i₁ d₂ t f.
         h_with c type (λ z. (f z).holds) (λ z fu. ((f z).value.fact fu).judged)
-        (h_after c type ys _ d₂ (K.in_member (Leaves ys) Any (Free ys) (leaves_kept ys) c n (span_of x) a y u)
+        (h_after c type ys _ d₂ (K.in_member (leaves_kept ys) c n (span_of x) a y u)
         (h_member c type n (span_of x) (λ z. (f z).holds) o o₁ (λ z. answer-later (silent c) (f z) (k (before (silent c) t z))) (λ z. (i₁ z).answer))
         (λ m v g. same-slots (ap (λ (w : World). w.slots) g.same)) (λ m v d₃ t₁ g.
         h_with c type (λ z. (g z).holds) (λ z fv. (g z).value.type' (subst (Fixed c type) (g z).value.same fv))
@@ -342,7 +344,7 @@ module _ (c : Ctx) (type : ℕ → Ty) (library : List Held) (table : List Chose
         let ys : List Node = visited_among body ++ visited_in_cases cs in
         let d₁ = ready_assoc (x ∷ visited_below x) (visited_among body) (visited_in_cases cs) d in
         h_visit c type x ys _ q.0 h d₁ (h_node x operand ks sc q.0 pl.0 rs.0 (ready-left (x ∷ visited_below x) ys d₁) h know) (λ a u o i d₂ t f.
-        h_after c type ys _ d₂ (K.in_condition (Leaves ys) Any (Free ys) (leaves_kept ys) c n token a u)
+        h_after c type ys _ d₂ (K.in_condition (leaves_kept ys) c n token a u)
         (h_condition c type n token (λ z. (f z).holds) o (λ z. (i z).answer)) (λ _ v g. same-slots (ap (λ (w : World). w.slots) g.0)) (λ _ u₁ d₃ t₁ g.
         h_visit-block c type body (visited_in_cases cs) _ q.1 (λ z. (g z).holds) d₃
         (h_block body ks (Declares x sc) q.1 pl.1 rs.1 (ready-left (visited_among body) (visited_in_cases cs) d₃) (λ z. (g z).holds)
@@ -373,7 +375,7 @@ module _ (c : Ctx) (type : ℕ → Ty) (library : List Held) (table : List Chose
     h_values (value name x vs) ks sc q pl rs {s} d h know =
         let ys : List Node = visited_in_values vs in
         h_visit c type x ys _ q.1 h d (h_node x operand ks sc q.1 pl.0 rs.0 (ready-left (x ∷ visited_below x) ys d) h know) (λ a u o i d₁ t f.
-        h_after c type ys _ d₁ (K.in_value (Leaves ys) Any (Free ys) (leaves_kept ys) a u) (h_value c type (λ z. (f z).holds) o (λ z. (i z).answer))
+        h_after c type ys _ d₁ (K.in_value (leaves_kept ys) a u) (h_value c type (λ z. (f z).holds) o (λ z. (i z).answer))
         (λ _ v g. same-slots (ap (λ (w : World). w.slots) g.0)) (λ w u₁ d₂ t₁ g.
         h_next c type _ (h_values vs ks (Declares x sc) q.2 pl.1 rs.1 d₂ (λ z. (g z).holds)
         (λ z fv. subst (λ (w : World). Force c type library w ks (Declares x sc)) (sym (g z).value.0)
@@ -419,7 +421,11 @@ module _ (c : Ctx) (type : ℕ → Ty) (library : List Held) (table : List Chose
             decl = r.0.told.decl;
           };
         })
-        (h_framed c type (λ u e a y. record { static = y.static; told = record { judged = y.told.judged; decl = record { held = y.told.decl.held; own = y.told.decl.own; lib = y.told.decl.lib } } }) _ h
+        (h_framed c type
+        (λ u e a y. record {
+          static = y.static;
+          told = record { judged = y.told.judged; decl = record { held = y.told.decl.held; own = y.told.decl.own; lib = y.told.decl.lib } };
+        }) _ h
         (h_visit c type x (visited_among xs) _ q.0 h d (h_node x statement ks sc q.0 pl.0 rs.0 (ready-left (x ∷ visited_below x) (visited_among xs) d) h know) (λ b u o i d₁ t f.
         h_with c type (λ z. (f z).holds) (λ z fu. ((f z).value.fact fu).judged)
         (h_body (slot_of x) xs (after c.texts type table x ks) (Declares x sc) b q.1 pl.1 rs.1 d₁ (λ z. (f z).holds) (λ z fu. ((f z).value.fact fu).force)))))

@@ -27,7 +27,7 @@ use Rattle.onerun.proofs.Arguments.{ProvidedOk}
 use Rattle.onerun.specs.Claim.{All, end, and, Both, NameAt, FunctionOk, Holds}
 use Rattle.onerun.specs.Claim as C
 use Rattle.onerun.specs.Grows.{all_map}
-use Rattle.onerun.specs.Logic.{Silent, before}
+use Rattle.onerun.specs.Logic.{Claimed, Silent, before}
 use Rattle.onerun.proofs.Types.{void-good}
 use Rattle.onerun.specs.Proper.{ProperAll, ProperCallee, ProperExterns}
 use Rattle.onerun.proofs.Functions.{Below}
@@ -84,10 +84,7 @@ module _ (c : Ctx) (type : ℕ → Ty) (library : List Held) where
   abbrev pub Knows : World → List J.Known → Scope → Type 0
   Knows s ks sc = Silent (silent c) s → Fixed c type s → Force c type library s ks sc
 
-  abbrev pub Have : World → Type 0
-  Have s = Silent (silent c) s → Holds (silent c) s
-
-  pub h_rule : {Ok : Type 0} (slot : ℕ) {ks : List J.Known} {sc : Scope} {s : World} {x : Result World Refusal Answer} → Have s → Knows s ks sc
+  pub h_rule : {Ok : Type 0} (slot : ℕ) {ks : List J.Known} {sc : Scope} {s : World} {x : Result World Refusal Answer} → Claimed (silent c) s → Knows s ks sc
       → Tells c type (Rule c type slot s Ok) s x → Tells c type (Ruled Ok ks sc) s x
   h_rule slot h know g = h_map c type (λ u a t p z fx.
       let z₀ = before (silent c) t z in
@@ -104,13 +101,13 @@ module _ (c : Ctx) (type : ℕ → Ty) (library : List Held) where
   given-all h = all_map (λ a x. x.has tt) h
 
   module _ (table : List Chosen) (n slot : ℕ) (low : slot < c.void) (args : Nodes) (proper : ProperAll (Below (silent c)) (NameAt (silent c)) args) {ks : List J.Known}
-      {sc : Scope} {s : World} (ready : Ready s (visited_among args ++ last-slot slot)) (h : Have s)
+      {sc : Scope} {s : World} (ready : Ready s (visited_among args ++ last-slot slot)) (h : Claimed (silent c) s)
       (told : Tells c type (ArgumentsTold table args ks sc) s (visit_all c args s)) where
     abbrev Called : World → Answer → Type 0
     Called = With c type (JudgedAll c.texts type table args ks) (Ruled (CallOk c.texts type table n slot (given_types type args)) ks (declare_all c.texts library type args sc))
 
     visited : (f : Bool → Walk Answer)
-        → ((b : Bool) (u : World) → Ready u (last-slot slot) → Have u → (Silent (silent c) u → Given c type u (provided_of args)) → (Silent (silent c) u → b ≡ true → ⊥)
+        → ((b : Bool) (u : World) → Ready u (last-slot slot) → Claimed (silent c) u → (Silent (silent c) u → Given c type u (provided_of args)) → (Silent (silent c) u → b ≡ true → ⊥)
         → Knows u ks (declare_all c.texts library type args sc)
         → Tells c type (Rule c type slot u (CallOk c.texts type table n slot (types c type (provided_of args)))) u (f b u)) → Tells c type Called s (next (visit_all c args s) f)
     visited f k =
@@ -146,13 +143,13 @@ module _ (c : Ctx) (type : ℕ → Ty) (library : List Held) where
   members-ok (C.and x rest) = and (record { sig = sig_ok c x.sig }) (members-ok rest)
 
   -- the own slot is void
-  pub h_void : (slot : ℕ) {s : World} → slot < c.void → (Silent (silent c) s → get_or s.slots slot 0 ≡ 0) → Have s → {ks : List J.Known} {sc : Scope} → Knows s ks sc
+  pub h_void : (slot : ℕ) {s : World} → slot < c.void → (Silent (silent c) s → get_or s.slots slot 0 ≡ 0) → Claimed (silent c) s → {ks : List J.Known} {sc : Scope} → Knows s ks sc
       → Tells c type (Ruled (type slot ≡ void_ty) ks sc) s (set_known slot void_word s)
   h_void slot {s} low unset h know =
       h_rule slot h know (h_map c type (λ u a t p z fx. let w = (p z).value.fact fx in
       record { ok = w.is ∙ low-tree c s.types 1 (omega arith) (omega arith); same = w.same }) (h_set c type slot low unset h (λ z. void-good (silent c) s.types)))
 
-  module _ (n slot token : ℕ) (low : slot < c.void) {ks : List J.Known} {sc : Scope} {s : World} (unset : Silent (silent c) s → get_or s.slots slot 0 ≡ 0) (h : Have s)
+  module _ (n slot token : ℕ) (low : slot < c.void) {ks : List J.Known} {sc : Scope} {s : World} (unset : Silent (silent c) s → get_or s.slots slot 0 ≡ 0) (h : Claimed (silent c) s)
       (know : Knows s ks sc) where
     pub h_import : (paths : List ℕ) → Tells c type (Ruled (type slot ≡ void_ty) ks (imported c.texts library type paths sc)) s (node c (Import n slot token paths) s)
     unfolding node

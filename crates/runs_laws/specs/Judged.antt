@@ -1,14 +1,15 @@
 -- What is judged of a tree, given a type for each slot and a target for each call. A static notion: it asks nothing of the walk. Definitions.
-use Rattle.std.specs.Prelude.{ℕ, ◌+◌, ◌≤◌, ◌≡◌, Bool, true, false, ◌&&◌, ◌||◌, List, [], ◌∷◌, map, eqb, leb}
+use Rattle.std.specs.Prelude.{ℕ, ◌≤◌, ◌≡◌, true, false, ◌&&◌, ◌||◌, List, [], ◌∷◌, map, eqb, leb}
 use Rattle.std.proofs.Math.Option.{Option, none, some}
 use Rattle.tok.specs.Text.{Texts, name_bytes, same_bytes}
-use Rattle.ptype.specs.Ty.{Ty, Fields, plain, wrap, rec, no_field, field, void_ty, bool_ty, array_ty, kind_of_ty}
+use Rattle.ptype.specs.Ty.{Ty, Fields, plain, rec, no_field, field, void_ty, bool_ty, array_ty, kind_of_ty}
 use Rattle.slots.specs.Substitute.{Filling, substitute}
 use Rattle.ast.specs.TypeExpr.{Arg}
-use Rattle.ast.specs.Node.{Node, Nodes, Cases, Values, Atom, Ident, Bin, Unary, Let, Fn, Match, Call, Field, Cast, Import, Extern, Record, Array, Absent, done, then, no_case, case, no_value, value, slot_of}
+use Rattle.ast.specs.Node.{Node, Nodes, Cases, Values, slot_of}
+use Rattle.ast.specs.Node.{Atom, Ident, Bin, Unary, Let, Fn, Match, Call, Field, Cast, Import, Extern, Record, Array, Absent, done, then, no_case, case, no_value, value}
 use Rattle.rules.specs.Operators.{result_kind, castable}
 use Rattle.rules.specs.Functions.{type_meant}
-use Rattle.runs.specs.Declared.{Own, Sig, Target, own, external, Chosen, target_at, given_types}
+use Rattle.runs.specs.Declared.{Own, Sig, own, external, Chosen, target_at, given_types}
 use Rattle.runs.specs.Running.{cast_kind}
 use Rattle.runs.specs.Stands.{Place, root, statement, operand, LetMay, FnMay}
 

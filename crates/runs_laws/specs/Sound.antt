@@ -1,29 +1,30 @@
 -- A judged tree runs clean: no run of it is stuck, and every value fits its node's slot type. By induction on the tree, and on how deep calls
 -- are nested. Assumes nothing.
 use Prim.Native.Nat.{ℕ, zero, suc, ◌+◌}
-use Rattle.std.specs.Prelude.{◌≡◌, Bool, true, false, eqb}
+use Rattle.std.specs.Prelude.{◌≡◌, Bool}
 use Rattle.std.proofs.Math.Path.{refl}
 use Rattle.std.proofs.Common.{sym, ap, ◌∙◌, true≢false, eq-eqb}
-use Rattle.std.proofs.Math.Option.{Option, none, some}
-use mathlib.Core.List.{List, [], ◌∷◌, map}
+use Rattle.std.proofs.Math.Option.{Option, some}
+use mathlib.Core.List.{List, []}
 use Rattle.std.proofs.Math.ListN.{length, length-map}
 use Rattle.tok.specs.Text.{Texts, name_bytes}
-use Rattle.tok.specs.Step.{Result, ok, refused, next, when}
-use Rattle.ptype.specs.Ty.{Ty, rec, void_ty, bool_ty, array_ty}
-use Rattle.slots.specs.Substitute.{Filling, substitute}
-use Rattle.ast.specs.Node.{Node, Nodes, Cases, Values, Atom, Ident, Bin, Unary, Let, Fn, Match, Call, Field, Cast, Import, Extern, Record, Array, Absent, done, then, no_case, case, no_value, value, slot_of}
-use Rattle.runs.specs.Value.{Value, Members, Named, void, bool, array, object, Fits, is_void, is_bool, is_int, is_double, is_str, is_nothing, is_just, is_array, is_object, is_foreign, MembersFit, no_member, one_member, FieldsFit, no_field', one_field, Fit, none_left, one_more, count}
+use Rattle.tok.specs.Step.{Result, ok, next}
+use Rattle.ptype.specs.Ty.{Ty, rec, void_ty, bool_ty}
+use Rattle.slots.specs.Substitute.{substitute}
+use Rattle.ast.specs.Node.{Node, Nodes, Cases, Values, slot_of}
+use Rattle.ast.specs.Node.{Atom, Ident, Bin, Unary, Let, Fn, Match, Call, Field, Cast, Import, Extern, Record, Array, Absent, done, then, no_case, case, no_value, value}
+use Rattle.runs.specs.Value.{Value, Members, Named, Fits, is_void, is_bool, is_array, is_object, MembersFit, no_member, one_member, FieldsFit, no_field', one_field, Fit, none_left, one_more, count}
 use Rattle.rules.specs.Functions.{type_meant}
-use Rattle.runs.specs.Declared.{Own, Sig, own, external, Chosen, target_at, given_types}
-use Rattle.runs.specs.Machine.{Open, State, Stopped, Run, Done, with_env, unboundName, missingField, question, counted, truth, field_in, or_halted, bind, with_call}
+use Rattle.runs.specs.Declared.{Sig, external, Chosen, target_at, given_types}
+use Rattle.runs.specs.Machine.{Open, State, Stopped, Run, Done, unboundName, missingField, question, counted, truth, field_in, or_halted, with_call}
 use Rattle.runs.specs.Running.{cast_kind, call_own, apply, eval, block, rest, branch, eval_all, eval_values, body_within, root, roots, run_of}
 use Rattle.runs.specs.Stands.{Place, statement, operand, LetMay, FnMay}
 use Rattle.runs.specs.Stands as P
 use Rattle.rules.specs.Promises.{Every}
 use Rattle.runs.specs.Promise.{ValuesFit, NotStuck, Answers, halts, answers, HonestAt}
-use Rattle.runs_laws.specs.Judged.{Known, knows, CallOk, of_own, of_package, arg_types, args_known, record_ty, ArrayOk, after, Judged, JudgedBody, JudgedAll, JudgedCases, JudgedValues, JudgedRoots, Bodies}
+use Rattle.runs_laws.specs.Judged.{Known, CallOk, of_own, of_package, args_known, record_ty, after, Judged, JudgedBody, JudgedAll, JudgedCases, JudgedValues, JudgedRoots, Bodies}
 use Rattle.runs_laws.specs.Judged as J
-use Rattle.runs_laws.specs.Values.{Found, EnvFits, none_yet, value_found, field_found, arguments-fit, fit_count}
+use Rattle.runs_laws.specs.Values.{EnvFits, none_yet, value_found, field_found, arguments-fit, fit_count}
 use Rattle.runs_laws.specs.Logic.{Runs, went, out, r_next, r_map, r_when, Val, r_enter, r_gives, r_bind, r_found, r_scoped, r_within, r_literal, r_operate, r_unary, r_cast}
 
 -- how many nodes a list has

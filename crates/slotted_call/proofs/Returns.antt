@@ -29,7 +29,8 @@ use Rattle.rules.specs.declared.Answer.TheVariants.{Poison}
 use Rattle.rules.specs.World.{Ctx, World}
 use Rattle.rules.specs.Steps.{tree, ty, on_types, set_known, report}
 use Rattle.rules.specs.Calls.{Provided, provided_of, compared, after_binding, slotted_argument, argument, arguments, returned, check_call_args}
-use Rattle.laws.specs.Keeps.{Keeps, kept, in_argument}
+use Rattle.laws.specs.Keeps.{Keeps, kept}
+use Rattle.laws.specs.RulesKeep.{in_argument}
 use Rattle.laws.specs.Grow.{Grow, Walked, grow_kept, Below}
 use Rattle.state.specs.declared.Used.{Used}
 use Rattle.state.specs.declared.Refusal.{Refusal}
@@ -57,7 +58,7 @@ grown-of {w = w} (kept g) = record {
 
 argument_grows : (c : Ctx) (n : ℕ) (call_name : List ℕ) (f : Bool) (p : Param) (a : Provided) (bs : List Binding) {bs' : List Binding} (w : World) {w' : World}
     → argument c n call_name f p a bs w ≡ ok bs' w' → Grown w.types w'.types
-argument_grows c n call_name f p a bs w e = grown-of (rw e at (in_argument (Grow 0) Walked (Below 0) (grow_kept 0) c n call_name f p a bs w))
+argument_grows c n call_name f p a bs w e = grown-of (rw e at (in_argument (grow_kept 0) c n call_name f p a bs w))
 
 meant-grown : {texts : Texts} {t t' : List ℕ} {u u' w : ℕ} → Grown (buffer t u) (buffer t' u') → Meant texts t u w → Meant texts t' u' w
 meant-grown g m =

@@ -1,6 +1,6 @@
 -- "after refusals 1 to 6": the walk with every stop of the Rust in its place, `already_checked` and the frames of the environment does what the
 -- walk does, so that none of them is ever met. Assumes nothing.
-use Rattle.std.specs.Prelude.{ℕ, zero, suc, ◌+◌, ◌≤◌, ◌<◌, ◌≡◌}
+use Rattle.std.specs.Prelude.{ℕ, ◌+◌, ◌≤◌, ◌<◌, ◌≡◌}
 use Rattle.std.proofs.Common.{arith, sym, ◌∙◌}
 use Rattle.std.proofs.Math.Decide.{ℕ_discrete}
 use Rattle.std.proofs.Math.Path.{refl}
@@ -10,31 +10,32 @@ use Rattle.tok.specs.Step.{Result, ok, refused, Refusal, next}
 use Rattle.library.specs.Package.{pool_of}
 use Rattle.ast.specs.Image.{node_count, root_count, slot_count}
 use Rattle.ast.specs.Node.{Node, done, roots_of, tree_of}
-use Rattle.ast.specs.Claims.{count_from, slots_owned}
+use Rattle.ast.specs.Claims.{slots_owned}
 use Rattle.image_laws.specs.OutlineAt.{outline_at}
 use Rattle.image_laws.proofs.PartsBelow.{slots-below}
 use Rattle.image_laws.proofs.Accepted.{Accepted}
 use Rattle.refusals.specs.Inputs.{Inputs, Buffers, texts_in}
 use Rattle.refusals.specs.Refusals.{refusal_of}
+use Rattle.rules.specs.declared.Answer.{Answer}
 use Rattle.rules.specs.declared.Answer.TheVariants.{Known}
-use Rattle.rules.specs.World.{World}
+use Rattle.rules.specs.World.{World, Walk}
 use Rattle.rules.specs.Steps.{Done, skip}
 use Rattle.rules.specs.Rules.{last}
 use Rattle.rules.specs.Visited.{visited_in, slots_of}
 use Rattle.rules.specs.Walk.{ctx_of, start_of, copy_pool, measure, walk_first, walk, walk_of}
 use Rattle.rules.specs.Promises.{Every}
 use Rattle.laws.specs.Keeps.{Keeps, kept, stopped}
-use Rattle.laws.specs.Keeps as K
+use Rattle.laws.specs.RulesKeep as K
 use Rattle.laws.specs.Grow.{Walked, walk_grows}
 use Rattle.tworuns.specs.Walk.{over}
 use Rattle.tworuns.specs.Accepted.{TypeOf, library_types, fresh_start}
 use Rattle.library_laws.specs.Types.{library-types}
-use Rattle.accepts.specs.Count.{total, one-other, count}
+use Rattle.accepts.specs.Count.{total, count}
 use Rattle.accepts.proofs.OfImage.{of_image, tree-number}
 use Rattle.accepts.specs.VisitedOf.{visited-every}
 use Rattle.accepts.proofs.Once.{slots-once}
 use Rattle.accepts.proofs.OtherSlots.{owned}
-use Rattle.accepts.proofs.LowSlots.{low-slots}
+use Rattle.accepts.proofs.LowSlots.{low-slots, counted-low}
 use Rattle.accepts.specs.Passed.{Passed}
 use Rattle.accepts.proofs.Passed.{passed}
 use Rattle.onerun.specs.Claim.{NameAt}
@@ -44,20 +45,11 @@ use Rattle.clean.proofs.ProperTrees.{roots-proper}
 use Rattle.clean.proofs.LibraryTypes.{library-ok}
 use Rattle.clean.proofs.Walked.{script-name}
 use Rattle.stops.specs.Guarded.{last_or_stop, walk_or_stop}
-use Rattle.stops.specs.Ready.{Fits, fits, Ready, ready-then, Leaves, Free, Any, leaves_kept}
+use Rattle.stops.specs.Ready.{Fits, fits, Ready, ready-then, Leaves, Any, leaves_kept}
 use Rattle.stops.specs.Past.{run, quiet, next-same}
 use Rattle.stops.proofs.Same.{same-last}
 
 -- ── Before the walk no slot of the nodes to be visited has a type ──
-
--- a number that is counted among n from the first on
-counted-low : (s n first : ℕ) → 1 ≤ count s (count_from first n) → s < first + n
-unfolding total count_from
-counted-low s zero first h = absurd (omega arith)
-counted-low s (suc n) first h = elim (ℕ_discrete s first) [
-  | yes e ↦ omega arith
-  | no d ↦ let k = counted-low s n (first + 1) (omega (arith, one-other s first d)) in omega arith
-]
 
 record Low (v : ℕ) (x : Node) : Type 0 where
   low : (slot : ℕ) → 1 ≤ count slot (slots_of x) → slot < v
@@ -110,22 +102,40 @@ module _ (i : Inputs) (b : Buffers) (p : Passed i b) where
 
   pool_leaves : Keeps (Leaves ys) Any (start_of i b) (copy_pool (node_count i.image) (pool_of i.library) (start_of i b))
   unfolding copy_pool
-  pool_leaves = K.at-when (Leaves ys) Any (Free ys) (leaves_kept ys) _ _ _ (start_of i b) (λ _. kept (record { left = λ q l. refl })) (λ _. stopped tt)
+  pool_leaves = K.at-when (leaves_kept ys) _ _ _ (start_of i b) (λ _. kept (record { left = λ q l. refl })) (λ _. stopped tt)
+
+  -- what is walked once the pool is copied and measured: nothing, the roots, and the roots with the stops
+  abbrev void : Answer
+  void = Known (slot_count i.image)
+
+  abbrev nothing : Walk Answer
+  nothing = last (ctx_of i) void done
+
+  abbrev rooted : Walk Answer
+  rooted = last (ctx_of i) void (roots_of i.image)
+
+  abbrev guarded : Walk Answer
+  guarded = last_or_stop (ctx_of i) 1 void (roots_of i.image)
+
+  -- that walk, after a step of the world alone; and after the library's types are measured
+  abbrev walked : Walk Answer → Done → Walk Done
+  walked m _ u = next (m u) (λ _. skip)
+
+  abbrev measured : Walk Answer → Done → Walk Done
+  measured m _ t = next (measure (ctx_of i) (node_count i.image) (library_types i.library) t) (walked m)
 
   -- the roots, from the world that measuring left
-  from-measured : {t : World} → Ready t ys → (y : Result World Refusal Done) → Keeps (Leaves ys) Any t y → Ends (run (ctx_of i)) done (next y (λ _ u. next (last (ctx_of i) (Known (slot_count i.image)) done u) (λ _. skip)))
-      → next y (λ _ u. next (last_or_stop (ctx_of i) 1 (Known (slot_count i.image)) (roots_of i.image) u) (λ _. skip)) ≡ next y (λ _ u. next (last (ctx_of i) (Known (slot_count i.image)) (roots_of i.image) u) (λ _. skip))
+  from-measured : {t : World} → Ready t ys → (y : Result World Refusal Done) → Keeps (Leaves ys) Any t y
+      → Ends (run (ctx_of i)) done (next y (walked nothing)) → next y (walked guarded) ≡ next y (walked rooted)
   unfolding last visited_in ctx_of
-  from-measured d (ok a u) (kept l) (ends h) = next-same (ctx_of i) _ (same-last (ctx_of i) 0 (Known (slot_count i.image)) (roots_of i.image) roots (ready-then [] ys d l) (h (quiet (ctx_of i))).holds)
+  from-measured d (ok a u) (kept l) (ends h) = next-same (ctx_of i) _ (same-last (ctx_of i) 0 void (roots_of i.image) roots (ready-then [] ys d l) (h (quiet (ctx_of i))).holds)
   from-measured d (refused e) k h = refl
 
   from-copied : (y : Result World Refusal Done) → Keeps (Leaves ys) Any (start_of i b) y
-      → Ends (run (ctx_of i)) done (next y (λ _ t. next (measure (ctx_of i) (node_count i.image) (library_types i.library) t) (λ _ u. next (last (ctx_of i) (Known (slot_count i.image)) done u) (λ _. skip))))
-      → next y (λ _ t. next (measure (ctx_of i) (node_count i.image) (library_types i.library) t) (λ _ u. next (last_or_stop (ctx_of i) 1 (Known (slot_count i.image)) (roots_of i.image) u) (λ _. skip)))
-      ≡ next y (λ _ t. next (measure (ctx_of i) (node_count i.image) (library_types i.library) t) (λ _ u. next (last (ctx_of i) (Known (slot_count i.image)) (roots_of i.image) u) (λ _. skip)))
+      → Ends (run (ctx_of i)) done (next y (measured nothing)) → next y (measured guarded) ≡ next y (measured rooted)
   from-copied (ok a t) (kept l) h =
       from-measured (ready-then [] ys start-ready l) (measure (ctx_of i) (node_count i.image) (library_types i.library) t)
-      (K.in_measure (Leaves ys) Any (Free ys) (leaves_kept ys) (ctx_of i) (node_count i.image) (library_types i.library) t) h
+      (K.in_measure (leaves_kept ys) (ctx_of i) (node_count i.image) (library_types i.library) t) h
   from-copied (refused e) k h = refl
 
   walk_same : walk_or_stop i (start_of i b) ≡ walk_of i b

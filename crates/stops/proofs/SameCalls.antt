@@ -1,6 +1,6 @@
 -- Calls meet no stop: `bind_slots` is asked only for what contains no Slot, and then meets none; where no argument is poisoned, each has a type
 -- when a candidate is selected; the target is an Ident or a Field. Assumes nothing.
-use Prim.Native.Nat.{ℕ, ◌≤◌}
+use Prim.Native.Nat.{ℕ}
 use Rattle.std.proofs.Common.{arith, sym, ◌∙◌}
 use Rattle.std.specs.Prelude.{◌≡◌, Bool, ◌&&◌, ◌||◌, length}
 use Rattle.std.proofs.Math.Path.{refl, ap}
@@ -20,9 +20,10 @@ use Rattle.ptype.specs.Slots.{Binding}
 use Rattle.library.specs.Package.{Param, Signature}
 use Rattle.rules.specs.World.{Ctx, World, Walk}
 use Rattle.rules.specs.Steps.{skip, ty, tree}
-use Rattle.rules.specs.Calls.{Callee, own_function, package_function, through_field, no_callee, Provided, slotted_argument, argument, arguments, check_call_args, resolve_call, in_group, resolve_pkg_call, call}
+use Rattle.rules.specs.Calls.{Callee, own_function, package_function, through_field, no_callee, Provided, slotted_argument}
+use Rattle.rules.specs.Calls.{argument, arguments, check_call_args, resolve_call, in_group, resolve_pkg_call, call}
 use Rattle.laws.specs.Keeps.{Keeps, kept, stopped, StepsKeep}
-use Rattle.laws.specs.Keeps as K
+use Rattle.laws.specs.RulesKeep as K
 use Rattle.tworuns.specs.Means.{Means, Grown, grown-same, grown-trans}
 use Rattle.tworuns.specs.Means as M
 use Rattle.tworuns.specs.Written.{grown-append}
@@ -86,7 +87,8 @@ module _ (c : Ctx) where
   same-slotted n name p a w bs s g = when-same c (contains_slot (ty_of c.texts s.types.words w)) _ _ _ _ (λ _. refl)
       (λ e. past-unless 13 143 (ap not (meets-none (ty_of c.texts s.types.words p.type) (record { tree = g.tree; is = g.is; no_slot = λ _. rw (is-tree (run c) g.is) at e }))) _ refl)
 
-  same-argument : (n : ℕ) (name : List ℕ) (slotted : Bool) (p : Param) (a : Provided) (bs : List Binding) {s : World} → ArgumentOk s a → argument_or_stop c n name slotted p a bs s ≡ argument c n name slotted p a bs s
+  same-argument : (n : ℕ) (name : List ℕ) (slotted : Bool) (p : Param) (a : Provided) (bs : List Binding) {s : World}
+      → ArgumentOk s a → argument_or_stop c n name slotted p a bs s ≡ argument c n name slotted p a bs s
   unfolding argument_or_stop argument ty tree
   same-argument n name slotted p a bs {s} g =
       let w : ℕ = get_or s.slots a.slot 0 in
@@ -135,10 +137,11 @@ module _ (c : Ctx) where
   same-arguments n name slotted [] xs bs h = refl
   same-arguments n name slotted (p ∷ ps) [] bs h = refl
   same-arguments n name slotted (p ∷ ps) (a ∷ xs) bs {s} (and h hs) =
-      then-stays _ _ (same-argument n name slotted p a bs h) (K.in_argument Stays Any None stays-kept c n name slotted p a bs s) (λ more u k.
+      then-stays _ _ (same-argument n name slotted p a bs h) (K.in_argument stays-kept c n name slotted p a bs s) (λ more u k.
       same-arguments n name slotted ps xs more (all_map (argument-later k) hs))
 
-  same_check : (n slot token : ℕ) (name : List ℕ) (f : Signature) (xs : List Provided) {s : World} → All (ArgumentOk s) xs → check_or_stop c n slot token name f xs s ≡ check_call_args c n slot token name f xs s
+  same_check : (n slot token : ℕ) (name : List ℕ) (f : Signature) (xs : List Provided) {s : World}
+      → All (ArgumentOk s) xs → check_or_stop c n slot token name f xs s ≡ check_call_args c n slot token name f xs s
   unfolding check_or_stop check_call_args
   same_check n slot token name f xs h =
       when-same c (eqb (length xs) (length f.params)) _ _ _ _ (λ _. next-same c _ (same-arguments n name f.with_slots f.params xs [] h)) (λ _. refl)
@@ -150,7 +153,8 @@ module _ (c : Ctx) where
   all-recorded line [] end = refl
   all-recorded line (a ∷ xs) (and h hs) = past-expect c line h (expect_all line xs) (all-recorded line xs hs)
 
-  past_all : {A : Type 0} (line : ℕ) (xs : List Provided) (b : Bool) {s : World} → AllTyped c xs s b → (m : Walk A) {y : Result World Refusal A} → m s ≡ y → ◌>>◌ (when b skip (expect_all line xs)) m s ≡ y
+  past_all : {A : Type 0} (line : ℕ) (xs : List Provided) (b : Bool) {s : World} → AllTyped c xs s b
+      → (m : Walk A) {y : Result World Refusal A} → m s ≡ y → ◌>>◌ (when b skip (expect_all line xs)) m s ≡ y
   unfolding when
   past_all line xs true h m e = e
   past_all line xs false h m e = rw (all-recorded line xs (h.typed refl)) e

@@ -6,7 +6,8 @@ use Rattle.tok.specs.Step.{◌>>=◌, ◌>>◌, return, for_each}
 use Rattle.ptype.specs.Words.{void_word}
 use Rattle.ptype.specs.Add.{add_record}
 use Rattle.ast.specs.Image.{node_count, root_count, slot_count}
-use Rattle.ast.specs.Node.{Node, Nodes, Cases, Values, Atom, Ident, Bin, Unary, Let, Fn, Match, Call, Field, Cast, Import, Extern, Record, Array, Absent, done, then, no_case, case, no_value, value, first_roots}
+use Rattle.ast.specs.Node.{Node, Nodes, Cases, Values, first_roots}
+use Rattle.ast.specs.Node.{Atom, Ident, Bin, Unary, Let, Fn, Match, Call, Field, Cast, Import, Extern, Record, Array, Absent, done, then, no_case, case, no_value, value}
 use Rattle.ast.specs.Span.{span_of}
 use Rattle.err.specs.Message.{empty_array}
 use Rattle.library.specs.Package.{pkg, pool_of, packages_of}

@@ -17,7 +17,7 @@ use Rattle.rules.specs.declared.Member.TheVariants.{Alike as alike, Silent as si
 use Rattle.rules.specs.Rules.{go_on, Branch, fn, unless_defined}
 use Rattle.laws.specs.SlotsOf.{ArgSlots}
 use Rattle.laws.specs.Keeps.{Keeps, kept}
-use Rattle.laws.specs.Keeps as K
+use Rattle.laws.specs.RulesKeep as K
 use Rattle.onerun.specs.Claim.{Run, All, end, and, NameAt, Recorded, Holds, AnswerOk}
 use Rattle.onerun.specs.Claim as C
 use Rattle.onerun.specs.Logic.{Silent, After, Gives, gives, stopped}
@@ -158,11 +158,11 @@ module _ (c : Ctx) where
     fn_same n slot name e args p pa low free {s} d h =
         option-same _ _ _ _ _
         (next-same _ (next-same _
-        (then-left ys _ _ refl (g_fn_arguments run n (slot + 1) args pa low (alone run (λ _. h))) (K.in_fn_arguments (Leaves ys) Any (Free ys) (leaves_kept ys) c n (slot + 1) args free (with_env s [])) (λ ps u₁ x₁ l₁.
-        then-left ys _ _ refl (g_type_from run n e p (λ _. x₁.holds)) (K.in_type_from (Leaves ys) Any (Free ys) (leaves_kept ys) c n e u₁) (λ ret u₂ x₂ l₂.
+        (then-left ys _ _ refl (g_fn_arguments run n (slot + 1) args pa low (alone run (λ _. h))) (K.in_fn_arguments (leaves_kept ys) c n (slot + 1) args free (with_env s [])) (λ ps u₁ x₁ l₁.
+        then-left ys _ _ refl (g_type_from run n e p (λ _. x₁.holds)) (K.in_type_from (leaves_kept ys) c n e u₁) (λ ret u₂ x₂ l₂.
         then-left ys _ _ refl
         (g_enter run name ps ret (λ _. x₂.holds) (λ _. record { sig = signature-ok run (params_grow run x₂.grown x₁.value.params) x₂.value }))
-        (K.in_enter (Leaves ys) Any (Free ys) (leaves_kept ys) (leaves_enters ys) name ps ret u₂) (λ _ u₃ x₃ l₃.
+        (K.in_enter (leaves_kept ys) (leaves_enters ys) name ps ret u₂) (λ _ u₃ x₃ l₃.
         let r₁ : Ready u₁ ys = ready-then [] ys (record { once = d.once; unset = d.unset; fit = d.fit }) l₁ in
         next-same _ (same u₃ (ready-then [] ys (ready-then [] ys r₁ l₂) l₃) x₃.holds))))))) (λ _. refl)
 

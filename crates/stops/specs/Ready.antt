@@ -1,9 +1,13 @@
 -- What is yet to be visited: no slot is owned twice in it, none of its slots has a type, its kinds and operators are document 01's. It stays so
 -- while other nodes are visited, which write their own slots alone. Assumes nothing.
-use Prim.Native.Nat.{ℕ, zero, suc, ◌+◌, ◌≤◌, ◌<◌}
+use Prim.Native.Nat.{ℕ, ◌+◌, ◌≤◌, ◌<◌}
 use Rattle.std.proofs.Common.{arith, subst, ◌∙◌, get_or-set_other}
 use Rattle.std.specs.Prelude.{◌≡◌, refl, get_or}
 use mathlib.Core.List.{List, [], ◌∷◌, ◌++◌, append_assoc}
+use Rattle.ast.specs.declared.NodeKind.{NodeKind}
+use Rattle.ast.specs.declared.NodeKind.TheVariants as kind
+use Rattle.ast.specs.Kinds.{kind_of_node}
+use Rattle.ast.specs.KindLaws.{NodeNumber, node-number}
 use Rattle.ast.specs.Image.{node_count, node_place, record_kind}
 use Rattle.ast.specs.TypeExpr.{TypeExpr, Arg}
 use Rattle.ast.specs.Node.{Node, Nodes, Cases, Atom, Ident, Bin, Unary, Let, Fn, Match, Call, Field, Cast, Import, Extern, Record, Array, Absent, done, then, slot_of, tree_of}
@@ -18,7 +22,7 @@ use Rattle.rules.specs.Visited.{visited_below, visited_among, visited_in_cases, 
 use Rattle.rules.specs.Promises.{Every}
 use Rattle.laws.specs.SlotsOf.{ArgSlots, SlotsOf, SlotsOfAll}
 use Rattle.laws.specs.Keeps.{Keeps, StepsKeep, Enters, logs-all}
-use Rattle.laws.specs.Keeps as K
+use Rattle.laws.specs.RulesKeep as K
 use Rattle.accepts.specs.Count.{total, total-append, one_same, count}
 use Rattle.accepts.proofs.Once.{own-slot}
 use Rattle.accepts.proofs.OtherSlots.{owned, among-hold}
@@ -44,26 +48,28 @@ Fits (Absent n) = Unit {0}
 
 -- every node of an accepted image
 module _ {text image : List ℕ} (a : Accepted text image) (n : ℕ) (l : n < node_count image) where
-  by_kind : (k : ℕ) → record_kind image (node_place image n) ≡ k → Fits (tree_of image n)
+  by_kind : (x : NodeKind) → NodeNumber x (record_kind image (node_place image n)) → Fits (tree_of image n)
   unfolding Fits
-  by_kind zero e = let w = atom-words (a.node n l) e in rw (tree-atom a n l e) (w.least, w.most)
-  by_kind (suc zero) e = rw (tree-ident a n l e) tt
-  by_kind (suc (suc zero)) e = let w = bin-words (a.node n l) e in rw (tree-bin a n l e) (omega (arith, w.operator.under))
-  by_kind (suc (suc (suc zero))) e = rw (tree-unary a n l e) tt
-  by_kind (suc (suc (suc (suc zero)))) e = rw (tree_let a n l e) tt
-  by_kind (suc (suc (suc (suc (suc zero))))) e = rw (tree-fn a n l e) tt
-  by_kind (suc (suc (suc (suc (suc (suc zero)))))) e = rw (tree-match a n l e) tt
-  by_kind (suc (suc (suc (suc (suc (suc (suc zero))))))) e = rw (tree-call a n l e) tt
-  by_kind (suc (suc (suc (suc (suc (suc (suc (suc zero)))))))) e = rw (tree-field a n l e) tt
-  by_kind (suc (suc (suc (suc (suc (suc (suc (suc (suc zero))))))))) e = rw (tree-cast a n l e) tt
-  by_kind (suc (suc (suc (suc (suc (suc (suc (suc (suc (suc zero)))))))))) e = rw (tree_import a n l e) tt
-  by_kind (suc (suc (suc (suc (suc (suc (suc (suc (suc (suc (suc zero))))))))))) e = rw (tree-extern a n l e) tt
-  by_kind (suc (suc (suc (suc (suc (suc (suc (suc (suc (suc (suc (suc zero)))))))))))) e = rw (tree_record a n l e) tt
-  by_kind (suc (suc (suc (suc (suc (suc (suc (suc (suc (suc (suc (suc (suc zero))))))))))))) e = rw (tree-array a n l e) tt
-  by_kind (suc (suc (suc (suc (suc (suc (suc (suc (suc (suc (suc (suc (suc (suc k)))))))))))))) e = absurd (let h = (a.node n l).words.kind in omega arith)
+  by_kind kind.Atom e = let w = atom-words (a.node n l) e in rw (tree-atom a n l e) (w.least, w.most)
+  by_kind kind.Ident e = rw (tree-ident a n l e) tt
+  by_kind kind.Bin e = let w = bin-words (a.node n l) e in rw (tree-bin a n l e) (omega (arith, w.operator.under))
+  by_kind kind.Unary e = rw (tree-unary a n l e) tt
+  by_kind kind.Let e = rw (tree_let a n l e) tt
+  by_kind kind.Fn e = rw (tree-fn a n l e) tt
+  by_kind kind.Match e = rw (tree-match a n l e) tt
+  by_kind kind.Call e = rw (tree-call a n l e) tt
+  by_kind kind.Field e = rw (tree-field a n l e) tt
+  by_kind kind.Cast e = rw (tree-cast a n l e) tt
+  by_kind kind.Import e = rw (tree_import a n l e) tt
+  by_kind kind.Extern e = rw (tree-extern a n l e) tt
+  by_kind kind.Record e = rw (tree_record a n l e) tt
+  by_kind kind.Array e = rw (tree-array a n l e) tt
+  by_kind kind.None e = absurd (let h = (a.node n l).words.kind in omega arith)
 
   pub fits : Fits (tree_of image n)
-  fits = by_kind (record_kind image (node_place image n)) refl
+  fits =
+      let k : ℕ = record_kind image (node_place image n) in
+      by_kind (kind_of_node k) (node-number k refl)
 
 -- ── What is yet to be visited, in order ──
 
@@ -148,7 +154,7 @@ leaves_enters ys = record { enters = λ name ps ret s. record { left = λ q l. r
 
 -- a step of the log leaves them
 pub log_leaves : (ys : List Node) {A : Type 0} (m : Step Log Refusal A) (s : World) → Keeps (Leaves ys) Any s (on_log m s)
-log_leaves ys m s = K.in_on_log (Leaves ys) Any (Free ys) (leaves_kept ys) m (λ l. logs-all (λ _. tt) (m l)) s
+log_leaves ys m s = K.in_on_log (leaves_kept ys) m (λ l. logs-all (λ _. tt) (m l)) s
 
 -- what is left is still to be visited
 pub ready-then : (xs ys : List Node) {s u : World} → Ready s (xs ++ ys) → Leaves ys s u → Ready u ys
@@ -168,16 +174,16 @@ free-end xs ys h = record { holds = λ q l k. omega (arith, h.once q, owned-both
 module _ (c : Ctx) (ys : List Node) where
   pub node_leaves : (x : Node) (s : World) → Ready s ((x ∷ visited_below x) ++ ys) → Keeps (Leaves ys) Any s (node c x s)
   unfolding visited_among SlotsOfAll
-  node_leaves x s h = K.in_node (Leaves ys) Any (Free ys) (leaves_kept ys) (leaves_enters ys) c x (among-hold (Free ys) (then x done) (free-end (x ∷ visited_below x) ys h)).0 s
+  node_leaves x s h = K.in_node (leaves_kept ys) (leaves_enters ys) c x (among-hold (Free ys) (then x done) (free-end (x ∷ visited_below x) ys h)).0 s
 
   pub block_leaves : (xs : Nodes) (s : World) → Ready s (visited_among xs ++ ys) → Keeps (Leaves ys) Any s (block c xs s)
-  block_leaves xs s h = K.in_block (Leaves ys) Any (Free ys) (leaves_kept ys) (leaves_enters ys) c xs (among-hold (Free ys) xs (free (visited_among xs) ys h)) s
+  block_leaves xs s h = K.in_block (leaves_kept ys) (leaves_enters ys) c xs (among-hold (Free ys) xs (free (visited_among xs) ys h)) s
 
   -- a Match's cases: its own slot is none of those either
   pub cases-leave : (n m slot token : ℕ) (cs : Cases) (d : Nodes) (s : World) → Ready s (Match m slot cs token d ∷ (visited_in_cases cs ++ ys)) → Keeps (Leaves ys) Any s (cases c n cs s)
   unfolding visited_among visited_below SlotsOfAll SlotsOf slot_of arguments_of total
   cases-leave n m slot token cs d s h =
-      K.in_cases (Leaves ys) Any (Free ys) (leaves_kept ys) (leaves_enters ys) c n cs
+      K.in_cases (leaves_kept ys) (leaves_enters ys) c n cs
       (among-hold (Free ys) (then (Match m slot cs token done) done)
       (record { holds = λ q l k. omega (arith, h.once q, owned-both q (visited_in_cases cs) ys, owned-both q (visited_in_cases cs) [], owned-both q (visited_in_cases cs ++ []) []) })).0.1 s
 

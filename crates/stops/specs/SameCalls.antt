@@ -6,7 +6,6 @@ use Rattle.std.proofs.Math.Bool.{false}
 use mathlib.Core.List.{List}
 use Rattle.rules.specs.World.{Ctx, World}
 use Rattle.rules.specs.Calls.{Provided, argument, arguments}
-use Rattle.laws.specs.Keeps as K
 use Rattle.tworuns.specs.Means as M
 use Rattle.onerun.specs.Claim.{All, Recorded}
 use Rattle.stops.specs.Past.{run}

@@ -3,7 +3,8 @@ use Rattle.std.specs.Prelude.{ℕ, ◌+◌, ◌<◌, ◌≡◌, refl, get_or, se
 use Rattle.std.proofs.Common.{add-one, ◌∙◌, get_or-set_other}
 use mathlib.Core.List.{List, [], ◌∷◌, ◌++◌}
 use Rattle.ast.specs.TypeExpr.{Arg}
-use Rattle.ast.specs.Node.{Node, Nodes, Cases, Values, Atom, Ident, Bin, Unary, Let, Fn, Match, Call, Field, Cast, Import, Extern, Record, Array, Absent, done, then, no_case, case, no_value, value, slot_of}
+use Rattle.ast.specs.Node.{Node, Nodes, Cases, Values, slot_of}
+use Rattle.ast.specs.Node.{Atom, Ident, Bin, Unary, Let, Fn, Match, Call, Field, Cast, Import, Extern, Record, Array, Absent, done, then, no_case, case, no_value, value}
 use Rattle.ast.specs.Claims.{count_from}
 use Rattle.rules.specs.declared.Answer.{Answer}
 use Rattle.rules.specs.World.{Ctx, World}
@@ -11,14 +12,16 @@ use Rattle.rules.specs.Rules.{last}
 use Rattle.rules.specs.Visited.{visited_below, visited_among, visited_in_cases, visited_in_values, arguments_of, slots_of, all_slots}
 use Rattle.rules.specs.Promises.{Every}
 use Rattle.laws.specs.SlotsOf.{ArgSlots, SlotsOfAll}
-use Rattle.laws.specs.Keeps.{Keeps, StepsKeep, in_last, Enters}
-use Rattle.tworuns.specs.Means.{Grown, grown-same, grown-trans}
+use Rattle.laws.specs.Keeps.{Keeps, StepsKeep, Enters}
+use Rattle.laws.specs.RulesKeep.{in_last}
+use Rattle.tworuns.specs.Means.{grown-same, grown-trans}
 use Rattle.tworuns.specs.Written.{grown-append}
 use Rattle.tworuns.specs.Runs.{Runs}
 use Rattle.tworuns.specs.Sound.{Sound, SoundAll, SoundCases, SoundValues}
 use Rattle.tworuns.specs.Exprs.{In}
 use Rattle.tworuns.specs.Rules.{Own}
 use Rattle.tworuns.specs.Kept.{Goes, New}
+use Rattle.tworuns.specs.Pool.{every_join}
 
 abbrev Any : ℕ → Type 0
 Any k = Unit {0}
@@ -51,14 +54,9 @@ module _ (Old : ℕ → Type 0) where
   goes-enters = record { enters = λ name ps ret s. record { types = grown-same s.types; slots = λ a o. refl } }
 
   pub last_goes : (c : Ctx) (a : Answer) (xs : Nodes) → SlotsOfAll (New Old) xs → (s : World) → Keeps (Goes Old) Any s (last c a xs s)
-  last_goes c a xs h s = in_last (Goes Old) Any (New Old) goes_kept goes-enters c a xs h s
+  last_goes c a xs h s = in_last goes_kept goes-enters c a xs h s
 
 -- Every visited node owns slots below V.
-every_join : {A : Type 0} (P : A → Type 0) (xs ys : List A) → Every P xs → Every P ys → Every P (xs ++ ys)
-unfolding Every
-every_join P [] ys h k = k
-every_join P (x ∷ xs) ys h k = (h.0, every_join P xs ys h.1 k)
-
 module _ (r : Runs) where
   abbrev Low : ℕ → Type 0
   Low slot = slot < r.first.void

@@ -15,7 +15,7 @@ use Rattle.ptype.specs.Words.{ty_of}
 use Rattle.ptype.proofs.GrowLaws.{name_bytes-longer}
 use Rattle.ast.specs.Image.{node_count, root_count, slot_count}
 use Rattle.ast.specs.Node.{Nodes, tree_of, nodes_from, first_roots, roots_of}
-use Rattle.library.specs.Package.{Package, pool_of, packages_of}
+use Rattle.library.specs.Package.{pool_of}
 use Rattle.refusals.specs.Inputs.{Inputs, Buffers, texts_in}
 use Rattle.refusals.specs.Refusals.{refusal_of}
 use Rattle.rules.specs.declared.Answer.{Answer}
@@ -27,14 +27,14 @@ use Rattle.rules.specs.Visited.{visited_in, visited_slots}
 use Rattle.rules.specs.Walk.{ctx_of, start_of, pool_types, walk_first, later_roots, walk_later, walk, walk_of}
 use Rattle.rules.specs.Check.{end_of, unless_refused, check_of}
 use Rattle.rules.specs.Promises.{Every, Answered, AnsweredClean, Longer, MorePackages, MoreStatements, type_in, Entry, entries_of, old_functions, OldRootsSilent, Kept}
-use Rattle.laws.specs.SlotsOf.{SlotsOfAll, all_among_lem}
-use Rattle.laws.specs.Keeps.{Keeps, kept, stopped, in_last}
+use Rattle.laws.specs.SlotsOf.{all_among_lem}
+use Rattle.laws.specs.Keeps.{Keeps, kept, stopped}
+use Rattle.laws.specs.RulesKeep.{in_last}
 use Rattle.laws.specs.Grow.{kept-ok}
 use Rattle.laws.specs.Scope.{Scope, scope_kept, scope_enters}
 use Rattle.ptype.specs.Add.{Buffer}
 use Rattle.tworuns.specs.Means.{means_grow, means-ty_of, grown-same}
 use Rattle.tworuns.specs.Runs.{Runs, Each, each_map, each-length, SameFunction, function_grow, own, Worlds, tree-first}
-use Rattle.tworuns.specs.Logic.{Any}
 use Rattle.tworuns.specs.Exprs.{Names}
 use Rattle.tworuns.specs.Walk.{every-both, every_map, Walks, walks, cuts, parts, Beginning, over-walks}
 use Rattle.tworuns.specs.Entries.{words_of, NotZero, Stays, walk-holds, start-holds}
@@ -43,7 +43,7 @@ use Rattle.tworuns.specs.FnEntries.{walked_fns}
 use Rattle.tworuns.specs.Refused.{Numbered, numbered}
 use Rattle.tworuns.specs.Accepted.{TypeOf, Accepted, Accepts, library_types, walk-over, fresh_start}
 use Rattle.tworuns.specs.Split.{nodes-joined, last-dropped, Split, goes, stays, over-split, split-is}
-use Rattle.tworuns.specs.Kept.{Goes, New}
+use Rattle.tworuns.specs.Kept.{Goes}
 use Rattle.tworuns.proofs.Kept.{last_goes, slots-low}
 use Rattle.tworuns.specs.Larger.{OwnedIn, here, further, roots_after, Extended, Extends, Ends}
 
@@ -166,7 +166,8 @@ together (parts k l) s clean e = absurd (omega arith)
 same-world : {u w : World} → ◌≡◌ {A = Result World Refusal Done} (ok tt u) (ok tt w) → u ≡ w
 same-world e = cc
 
-pub after : {R : World → World → Type 0} {Q : ℕ → Type 0} {m w : World} {x : Result World Refusal Answer} → Keeps R Q m x → ◌≡◌ {A = Result World Refusal Done} (next x (λ _ t. ok tt t)) (ok tt w) → R m w
+pub after : {R : World → World → Type 0} {Q : ℕ → Type 0} {m w : World} {x : Result World Refusal Answer}
+    → Keeps R Q m x → ◌≡◌ {A = Result World Refusal Done} (next x (λ _ t. ok tt t)) (ok tt w) → R m w
 after {R} {m = m} (kept {u = u} p) e = subst (λ (t : World). R m t) (same-world e) p
 after (stopped q) e = absurd (not-ok e)
 
@@ -240,7 +241,7 @@ module _ {i i' : Inputs} {b b' : Buffers} (mp : MorePackages i i') (ms : MoreSta
   -- "every old function the same signature and place"
   more-own : Scope run.middle f'.world
   more-own =
-      after (in_last Scope Any Any scope_kept scope_enters (ctx_of i') run.answer (roots_after i'.image (root_count i.image) (length ms.roots)) (all_among_lem (λ _. tt) _) run.middle) run.rest
+      after (in_last scope_kept scope_enters (ctx_of i') run.answer (roots_after i'.image (root_count i.image) (length ms.roots)) (all_among_lem (λ _. tt) _) run.middle) run.rest
 
   pub functions-kept : take (length (entries_of i (check_of i b))) (entries_of i' (check_of i' b')) ≡ entries_of i (check_of i b)
   unfolding ctx_of
@@ -270,7 +271,9 @@ module _ {i i' : Inputs} {b b' : Buffers} (mp : MorePackages i i') (ms : MoreSta
   none_told e =
       let k : length ms.roots ≡ 0 = ap (λ (l : List ℕ). length l) e in
       let rest : ◌≡◌ {A = Result World Refusal Done} (ok tt run.middle) (ok tt f'.world)
-      = subst (λ (n : ℕ). ◌≡◌ {A = Result World Refusal Done} (next (last (ctx_of i') run.answer (roots_after i'.image (root_count i.image) n) run.middle) (λ _ t. ok tt t)) (ok tt f'.world)) k run.rest in
+      = subst
+      (λ (n : ℕ). ◌≡◌ {A = Result World Refusal Done}
+      (next (last (ctx_of i') run.answer (roots_after i'.image (root_count i.image) n) run.middle) (λ _ t. ok tt t)) (ok tt f'.world)) k run.rest in
       rw f'.ended (ap (λ (t : World). t.diagnostics.used) (sym (same-world rest)) ∙ (sym run.agree.diagnostics.used ∙ clean))
 
 -- no diagnostic in the answer, none in the world

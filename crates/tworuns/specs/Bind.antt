@@ -9,7 +9,8 @@ use Rattle.tok.specs.Text.{Texts, same_bytes}
 use Rattle.tok.specs.Step.{Step, Refusal}
 use Rattle.ptype.specs.Ty.{Ty, Fields, plain, wrap, rec, named, no_field, field}
 use Rattle.ptype.specs.Add.{Buffer}
-use Rattle.ptype.specs.Slots.{Binding, bound_to, Bound, all_bound, conflict, void_slot, and_then, bind_found, bind_one, bind_slots, bind_fields, is_some, has_bound_slot, any_bound_slot, bound_or, apply_slot_binding, apply_fields}
+use Rattle.ptype.specs.Slots.{Binding, bound_to, Bound, all_bound, conflict, void_slot, and_then, bind_found, bind_one, bind_slots}
+use Rattle.ptype.specs.Slots.{bind_fields, is_some, has_bound_slot, any_bound_slot, bound_or, apply_slot_binding, apply_fields}
 use Rattle.tworuns.specs.Means.{Means, flat, wrapped, recorded, called, FieldsMean, no_more, one_more, Grown, grown-same}
 use Rattle.tworuns.specs.Runs.{Runs, Relation, Each, end, and, each_map, Both?, neither, present, SameType, Used, SameBinding, type_grow, binding_grow, same_kind, same_test}
 use Rattle.tworuns.specs.Logic.{Typed, typed, t_next, t_when, Words}
@@ -88,7 +89,8 @@ module _ (r : Runs) where
             (λ q. bind-fields m (fields-same u h (eqb-true (kind_of w) 8 q)).are bs) (λ _. all bs)
         bind-same (called {k = k} {n = n} e i q) h bs = pick (SameBound b b') {b = eqb k 10} _ _ _ _ refl (λ _. one_same n h bs) (λ _. all bs)
 
-        pub bind-fields : {t : Texts} {types : List ℕ} {used v j : ℕ} {fs : Fields} → FieldsMean t types used v j fs → {at k at' k' : ℕ} {gs : Fields} {bs bs' : List Binding} → FieldsAre r b b' at k at' k' gs → Bindings b b' bs bs'
+        pub bind-fields : {t : Texts} {types : List ℕ} {used v j : ℕ} {fs : Fields} → FieldsMean t types used v j fs
+            → {at k at' k' : ℕ} {gs : Fields} {bs bs' : List Binding} → FieldsAre r b b' at k at' k' gs → Bindings b b' bs bs'
             → SameBound b b' (bind_fields r.first.texts b.words fs at k bs) (bind_fields r.second.texts b'.words fs at' k' bs')
         bind-fields no_more h bs = all bs
         bind-fields (one_more q l m ms) h bs =

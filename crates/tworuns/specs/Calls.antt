@@ -10,12 +10,14 @@ use Rattle.ptype.specs.Slots.{Binding, Bound}
 use Rattle.library.specs.Package.{Param, Signature}
 use Rattle.rules.specs.World.{World, Walk}
 use Rattle.rules.specs.Steps.{ty, tree, ty_tree, poison}
-use Rattle.rules.specs.Calls.{Callee, own_function, package_function, through_field, no_callee, Provided, compared, after_binding, slotted_argument, plain_argument, argument, arguments, returned, check_call_args, resolve_call, param_trees, provided_trees, position, all_return, common_return, select, in_group, resolve_pkg_call, call}
-use Rattle.tworuns.specs.Runs.{Runs, Relation, Each, end, and, each_map, each-length, Both?, neither, present, Slot, SameType, SameName, SameParam, SameSignature, Worlds, type_grow, param_grow, signature_grow, same-zero, same-tree, tree-first, tree-second}
+use Rattle.rules.specs.Calls.{Callee, own_function, package_function, through_field, no_callee, Provided, compared, after_binding, slotted_argument, plain_argument, argument, arguments}
+use Rattle.rules.specs.Calls.{returned, check_call_args, resolve_call, param_trees, provided_trees, position, all_return, common_return, select, in_group, resolve_pkg_call, call}
+use Rattle.tworuns.specs.Runs.{Runs, Relation, Each, end, and, each_map, each-length, Both?, neither, present, Slot, SameType, SameName, SameParam}
+use Rattle.tworuns.specs.Runs.{SameSignature, Worlds, type_grow, param_grow, signature_grow, same-zero, same-tree, tree-first, tree-second}
 use Rattle.tworuns.specs.Runs as R
 use Rattle.tworuns.specs.Sound.{SoundCallee}
-use Rattle.laws.specs.Keeps.{in_look, in_option, in_poison, in_check_call, in_group_lem}
-use Rattle.tworuns.specs.Logic.{Told, Any, told-kept, Parts, fine, q_next, Gives, p_next, p_return, p_when, p_option, p_set, p_on_types, Answers, Words, Nothing, Equal}
+use Rattle.laws.specs.RulesKeep.{in_look, in_option, in_poison, in_check_call, in_group_lem}
+use Rattle.tworuns.specs.Logic.{told-kept, Parts, fine, q_next, Gives, p_next, p_return, p_when, p_option, p_set, p_on_types, Answers, Words, Nothing, Equal}
 use Rattle.tworuns.specs.Primitive.{p_report, p_poison, Reads, p_reads, reads-each}
 use Rattle.tworuns.specs.Inner.{type-is}
 use Rattle.tworuns.specs.Exprs.{In}
@@ -58,7 +60,8 @@ module _ (r : Runs) (n : ℕ) {name name' : List ℕ} (q : name ≡ name') {p p'
       (λ _. p_next r _ _ (p_compared ws h (same-tree r h.type) t) (λ _ _ u u' g g' v _. p_return r v (bindings_grow r g g' bs))))
 
 module _ (r : Runs) (n : ℕ) {name name' : List ℕ} (q : name ≡ name') where
-  p_arguments : {given given' : List Provided} → Each (SameProvided r) given given' → {s s' : World} → Worlds r s s' → {slots slots' : Bool} {ps ps' : List Param} {bs bs' : List Binding} → slots ≡ slots'
+  p_arguments : {given given' : List Provided} → Each (SameProvided r) given given' → {s s' : World}
+      → Worlds r s s' → {slots slots' : Bool} {ps ps' : List Param} {bs bs' : List Binding} → slots ≡ slots'
       → Each (SameParam r s.types s'.types) ps ps' → Bindings r s.types s'.types bs bs'
       → Gives r (Bindings r) s s' (arguments r.first n name slots ps given bs s) (arguments r.second n name' slots' ps' given' bs' s')
   unfolding arguments
@@ -76,7 +79,8 @@ module _ (r : Runs) (n : ℕ) {name name' : List ℕ} (q : name ≡ name') where
       (λ _. rw (tree-first r h.ret, tree-second r h.ret) (p_on_types r _ _ ws (t_apply r n h.ret.tree ws.types bs (type-is h.ret))))
       (λ _. p_return r ws h.ret)
 
-  p_check_call : (slot token : ℕ) → slot < r.first.void → {given given' : List Provided} → Each (SameProvided r) given given' → {s s' : World} → Worlds r s s' → {f f' : Signature} → SameSignature r s.types s'.types f f'
+  p_check_call : (slot token : ℕ) → slot < r.first.void → {given given' : List Provided} → Each (SameProvided r) given given'
+      → {s s' : World} → Worlds r s s' → {f f' : Signature} → SameSignature r s.types s'.types f f'
       → Gives r (Answers r) s s' (check_call_args r.first n slot token name f given s) (check_call_args r.second n slot token name' f' given' s')
   unfolding check_call_args
   p_check_call slot token own is ws {f} {f'} h =
@@ -166,10 +170,10 @@ module _ (r : Runs) (n slot : ℕ) (own : slot < r.first.void) {given given' : L
       → Parts r (Equal r) s s' (visits s) (visits' s') → Parts r (Answers r) s s' (call r.first n slot f given visits s) (call r.second n slot f given' visits' s')
   unfolding call SoundCallee resolve_call resolve_pkg_call
   q_call ws (own_function name) h v v' m =
-      q_next r _ _ m (λ _. in_look Told Any Any told-kept _ λ s. in_option Told Any Any told-kept _ _ _ (in_poison Told Any Any told-kept n _) λ f. in_check_call Told Any Any told-kept r.first n slot name _ f given tt)
+      q_next r _ _ m (λ _. in_look told-kept _ λ s. in_option told-kept _ _ _ (in_poison told-kept n _) λ f. in_check_call told-kept r.first n slot name _ f given tt)
       (λ _ _ u u' g g' x _. fine (p_resolve_call x name (record { bytes = ws.names name h; word = λ z. refl })))
   q_call ws (package_function pkg name) h v v' m =
-      q_next r _ _ m (λ b. in_look Told Any Any told-kept _ λ s. in_option Told Any Any told-kept _ _ _ (in_poison Told Any Any told-kept n _) λ p. in_group_lem Told Any Any told-kept r.first n slot name _ _ given b tt)
+      q_next r _ _ m (λ b. in_look told-kept _ λ s. in_option told-kept _ _ _ (in_poison told-kept n _) λ p. in_group_lem told-kept r.first n slot name _ _ given b tt)
       (λ b b' u u' g g' x e. fine (p_resolve_pkg x pkg name (record { bytes = ws.names pkg h.0; word = λ z. refl }) (record { bytes = ws.names name h.1; word = λ z. refl }) e))
   q_call ws (through_field name) h v v' m = fine (p_poison r ws n refl)
   q_call ws no_callee h v v' m = fine (p_return r ws R.poison)

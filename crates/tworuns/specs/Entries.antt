@@ -11,7 +11,8 @@ use Rattle.rules.specs.World.{World}
 use Rattle.rules.specs.Steps.{entry_of}
 use Rattle.rules.specs.Walk.{start_of, copy_pool, walk_first}
 use Rattle.laws.specs.SlotsOf.{all_among_lem}
-use Rattle.laws.specs.Keeps.{Keeps, kept, stopped, StepsKeep, at-when, at-walk, Enters}
+use Rattle.laws.specs.Keeps.{Keeps, kept, stopped, StepsKeep, Enters}
+use Rattle.laws.specs.RulesKeep.{at-when, at-walk}
 
 -- the words of functions, newest first in the list, in the order in which they were met
 unfoldable pub words_of : List Function → List ℕ
@@ -53,7 +54,8 @@ module _ (before : List ℕ) where
   Stays s u = Holds before s → Holds before u
 
   entered : (name : ℕ) (ps : List Param) (ret : ℕ) (s : World) → Holds before s
-      → append s.functions (entry_of name ps ret) ≡ buffer (write before 0 (words_of (function name (signature ps ret false) ∷ s.own))) (length (words_of (function name (signature ps ret false) ∷ s.own)))
+      → append s.functions (entry_of name ps ret)
+      ≡ (let words = words_of (function name (signature ps ret false) ∷ s.own) in buffer (write before 0 words) (length words))
   unfolding words_of
   entered name ps ret s h = rw h.functions (append-more before (words_of s.own) (entry_of name ps ret))
 
@@ -81,8 +83,8 @@ module _ (before : List ℕ) where
   pub walk-holds : (i : Inputs) (k : ℕ) (s : World) → Keeps Stays NotZero s (walk_first i k s)
   unfolding copy_pool NotZero
   walk-holds i k s =
-      at-walk Stays NotZero Any holds_kept holds-enters i k s (all_among_lem (λ _. tt) _)
-      (at-when Stays NotZero Any holds_kept _ _ _ s (λ _. kept (λ h. record { functions = h.functions })) (λ _. stopped {r = refusal 7 (node_count i.image)} (λ e. omega arith)))
+      at-walk holds_kept holds-enters i k s (all_among_lem (λ _. tt) _)
+      (at-when holds_kept _ _ _ s (λ _. kept (λ h. record { functions = h.functions })) (λ _. stopped {r = refusal 7 (node_count i.image)} (λ e. omega arith)))
 
 pub start-holds : (i : Inputs) (b : Buffers) → Holds b.functions (start_of i b)
 unfolding start_of words_of

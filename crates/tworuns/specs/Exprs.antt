@@ -77,7 +77,8 @@ module _ (r : Runs) where
       t_type_from (ArrayType t) h u = t_next r _ _ (t_type_from t h u) (λ w w' d d' g g' v x. t_wrap r v n 7 w w' refl x)
       t_type_from (RecordType token fs) h u = t_next r _ _ (t_fields_from fs h u) (λ ps ps' d d' g g' v x. t_record r v n ps ps' x)
 
-      pub t_fields_from : (fs : TypeFields) → SoundTypes P In fs → {b b' : Buffer} → Used r b b' → Typed r Pairs b b' (fields_from_exprs r.first.texts n fs b) (fields_from_exprs r.second.texts n fs b')
+      pub t_fields_from : (fs : TypeFields) → SoundTypes P In fs → {b b' : Buffer} → Used r b b'
+          → Typed r Pairs b b' (fields_from_exprs r.first.texts n fs b) (fields_from_exprs r.second.texts n fs b')
       t_fields_from no_type h {b} {b'} u = typed (grown-same b) (grown-same b') u (no_pairs b b')
       t_fields_from (type_field name t fs) h u =
           t_next r _ _ (t_type_from t h.1 u) (λ w w' d d' g g' v x. t_next r _ _ (t_fields_from fs h.2 v)

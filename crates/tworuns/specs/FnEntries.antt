@@ -18,8 +18,8 @@ use Rattle.rules.specs.Walk.{ctx_of, start_of, copy_pool, walk_first, walk, walk
 use Rattle.rules.specs.Visited.{visited_in}
 use Rattle.rules.specs.Functions.{FnHead, fns_in}
 use Rattle.rules.specs.Promises.{fn_parameters, fn_entries}
-use Rattle.laws.specs.Keeps.{Keeps, kept, stopped}
-use Rattle.laws.specs.Keeps as K
+use Rattle.laws.specs.Keeps.{Keeps, kept, stopped, StepsKeep}
+use Rattle.laws.specs.RulesKeep as K
 use Rattle.tworuns.specs.Sound.{SoundAll}
 use Rattle.tworuns.specs.ExprTrees.{word-tree}
 use Rattle.tworuns.specs.Signatures.{forward, parameters_of, entry_for, entries_at}
@@ -65,22 +65,22 @@ module _ (i : Inputs) (b : Buffers) (P N : ℕ → Type 0) (sound : SoundAll P N
   abbrev Q : World → World → Type 0
   Q = Quiet (ctx_of i).texts
 
-  law : K.StepsKeep Q Any Any
+  law : StepsKeep Q Any Any
   law = quiet-kept (ctx_of i).texts
 
   -- before the pool is copied no type word is used
   copies : (n : ℕ) (pool : List ℕ) → Keeps Q Any (start_of i b) (copy_pool n pool (start_of i b))
   unfolding copy_pool start_of
   copies n pool =
-      K.at-when Q Any Any law _ _ _ (start_of i b)
+      K.at-when law _ _ _ (start_of i b)
       (λ _. kept {u = with_types (start_of i b) (buffer (write b.types 0 pool) (length pool))}
       (record { more = omega arith; grown = record { more = omega arith; front = λ j l. absurd (omega arith) }; met = λ e. no_fn })) (λ _. stopped tt)
 
   walk_fns : Gives (ctx_of i).texts Nothing (fns_in i.image) (start_of i b) (walk_of i b)
   unfolding walk_of walk walk_first roots_of fns_in visited_in
   walk_fns =
-      step (ctx_of i).texts _ (quietly (ctx_of i).texts (copies _ _)) (λ _ u _ _. quiet-first (ctx_of i).texts _ (K.in_measure Q Any Any law (ctx_of i) _ _) (λ _ v.
-      quiet-last (ctx_of i).texts _ (last_fns (ctx_of i) P N _ (roots_of i.image) sound v) (λ _. K.in_return Q Any Any law tt)))
+      step (ctx_of i).texts _ (quietly (ctx_of i).texts (copies _ _)) (λ _ u _ _. quiet-first (ctx_of i).texts _ (K.in_measure law (ctx_of i) _ _) (λ _ v.
+      quiet-last (ctx_of i).texts _ (last_fns (ctx_of i) P N _ (roots_of i.image) sound v) (λ _. K.in_return law tt)))
 
 gave : {t : Texts} {ds : List FnHead} {s u : World} {x : Result World Refusal Done} → Gives t Nothing ds s x → x ≡ ok tt u → Went t ds s u
 gave {t} {ds} {s} {u} h e = go (rw e at h)

@@ -24,11 +24,13 @@ use Rattle.rules.specs.declared.Member.TheVariants.{Alike as alike, Silent as si
 use Rattle.rules.specs.Rules.{fn_arguments, fn, unless_defined, member_types, member, go_on, node, block, last, visit_all, cases, values, array, members}
 use Rattle.rules.specs.Visited.{visited_below, visited_among, visited_in_cases, visited_in_values}
 use Rattle.rules.specs.Functions.{type_meant, FnHead, head_of, fns_among}
-use Rattle.laws.specs.Keeps as K
+use Rattle.laws.specs.Keeps.{StepsKeep, t_record}
+use Rattle.laws.specs.RulesKeep as K
 use Rattle.tworuns.specs.Means.{grown-same, grown-trans}
 use Rattle.tworuns.specs.Sound.{SoundType, SoundArgs, SoundCallee, Sound, SoundAll, SoundCases, SoundValues}
 use Rattle.tworuns.specs.ExprTrees.{Adds, adds, stops, WordOf, word_grow, expr-word}
-use Rattle.tworuns.specs.Met.{Any, Nothing, ParamsOf, end, and, no_fn, one_fn, params_grow, Quiet, quiet-kept, Gives, gives, ceases, step, of_equal, quietly, quiet-first, quiet-last, Raises, raises, fails, after_raise, raises-next, in_frame, set_apart}
+use Rattle.tworuns.specs.Met.{Any, Nothing, ParamsOf, end, and, no_fn, one_fn, params_grow, Quiet, quiet-kept, Gives, gives, ceases, step, of_equal}
+use Rattle.tworuns.specs.Met.{quietly, quiet-first, quiet-last, Raises, raises, fails, after_raise, raises-next, in_frame, set_apart}
 
 -- the Fns of two lists of nodes
 pub fns_append : (xs ys : List Node) → fns_among (xs ++ ys) ≡ fns_among xs ++ fns_among ys
@@ -43,7 +45,7 @@ module _ (c : Ctx) (P N : ℕ → Type 0) where
   abbrev Q : World → World → Type 0
   Q = Quiet c.texts
 
-  law : K.StepsKeep Q Any Any
+  law : StepsKeep Q Any Any
   law = quiet-kept c.texts
 
   abbrev pub Meets : {A : Type 0} → List FnHead → World → Result World Refusal A → Type 0
@@ -62,7 +64,7 @@ module _ (c : Ctx) (P N : ℕ → Type 0) where
 
   poisons : (n : ℕ) (d : Diagnostic) {ds : List FnHead} (s : World) → Meets ds s (poison n d s)
   unfolding poison
-  poisons n d s = after_raise c.texts (λ u a. tt) (raises-next c.texts _ (tells n d s) (λ _. K.in_return Q Any Any law Poison))
+  poisons n d s = after_raise c.texts (λ u a. tt) (raises-next c.texts _ (tells n d s) (λ _. K.in_return law Poison))
 
   -- ── Fn ──
 
@@ -83,8 +85,8 @@ module _ (c : Ctx) (P N : ℕ → Type 0) where
   params-from n slot [] h s = no-params
   params-from n slot (a ∷ rest) h s =
       step c.texts _ (word-from n a.type h.1 s) (λ w u₁ g₁ x.
-      step c.texts _ (quietly c.texts (K.in_set Q Any Any law slot w tt u₁)) (λ _ u₂ g₂ _.
-      step c.texts _ (quietly c.texts (K.in_insert Q Any Any law a.name (some w) u₂)) (λ _ u₃ g₃ _.
+      step c.texts _ (quietly c.texts (K.in_set law slot w tt u₁)) (λ _ u₂ g₂ _.
+      step c.texts _ (quietly c.texts (K.in_insert law a.name (some w) u₂)) (λ _ u₃ g₃ _.
       step c.texts _ (params-from n (slot + 1) rest h.2 u₃) (λ ps u₄ g₄ y.
       gives (law.same u₄) (and (word_grow c.texts (grown-trans g₂.grown (grown-trans g₃.grown g₄.grown)) x) y)))))
 
@@ -110,8 +112,8 @@ module _ (c : Ctx) (P N : ℕ → Type 0) where
       (step c.texts _ (params-from n (slot + 1) args ha (with_env s [])) (λ ps u₁ g₁ x₁.
       step c.texts _ (word-from n e he u₁) (λ ret u₂ g₂ x₂.
       step c.texts _ (enters (record { name = name; args = args; ret = e }) ps ret u₂ (params_grow c.texts g₂.grown x₁) x₂) (λ _ u₃ g₃ _.
-      quiet-last c.texts _ (hb u₃) (λ a. K.in_next Q Any Any law _ (K.in_check_return Q Any Any law c n name e ret a) λ _. K.in_return Q Any Any law ret))))))
-      (λ ret. K.in_set Q Any Any law slot ret tt))
+      quiet-last c.texts _ (hb u₃) (λ a. K.in_next law _ (K.in_check_return law c n name e ret a) λ _. K.in_return law ret))))))
+      (λ ret. K.in_set law slot ret tt))
       (λ f. poisons n _ s)
 
   -- ── Calls ──
@@ -119,9 +121,9 @@ module _ (c : Ctx) (P N : ℕ → Type 0) where
   in_call : (n slot : ℕ) (f : Callee) (given : List Provided) (ds : List FnHead) (visits : Walk Bool)
       → SoundCallee P N f → ((s : World) → Meets ds s (visits s)) → (s : World) → Meets ds s (call c n slot f given visits s)
   unfolding call SoundCallee
-  in_call n slot (own_function name) given ds visits h k s = quiet-last c.texts _ (k s) (λ b. K.in_call Q Any Any law c n slot (own_function name) given (return b) (K.in_return Q Any Any law b) tt)
+  in_call n slot (own_function name) given ds visits h k s = quiet-last c.texts _ (k s) (λ b. K.in_call law c n slot (own_function name) given (return b) (K.in_return law b) tt)
   in_call n slot (package_function pkg name) given ds visits h k s =
-      quiet-last c.texts _ (k s) (λ b. K.in_call Q Any Any law c n slot (package_function pkg name) given (return b) (K.in_return Q Any Any law b) tt)
+      quiet-last c.texts _ (k s) (λ b. K.in_call law c n slot (package_function pkg name) given (return b) (K.in_return law b) tt)
   in_call n slot (through_field name) given ds visits h k s = poisons n _ s
   in_call n slot no_callee given ds visits h k s = absurd h
 
@@ -157,33 +159,33 @@ module _ (c : Ctx) (P N : ℕ → Type 0) where
     unfolding node Sound visited_below fns_among head_of
 
     pub node_fns : (x : Node) → Sound P N x → (s : World) → Meets (whole x) s (node c x s)
-    node_fns (Atom n slot token k) h s = quietly c.texts (K.in_set Q Any Any law slot _ tt s)
-    node_fns (Ident n slot name) h s = quietly c.texts (K.in_ident Q Any Any law c n slot name tt s)
+    node_fns (Atom n slot token k) h s = quietly c.texts (K.in_set law slot _ tt s)
+    node_fns (Ident n slot name) h s = quietly c.texts (K.in_ident law c n slot name tt s)
     node_fns (Bin n slot token op l r) h s =
         of_equal c.texts (sym (fns_append (l ∷ visited_below l) (r ∷ visited_below r)))
         (step c.texts _ (node_fns l h.1 s) (λ a u _ _. quiet-last c.texts _ (node_fns r h.2 u)
-        (λ b. K.in_known Q Any Any law a _ λ i. K.in_known Q Any Any law b _ λ j. K.in_fuse Q Any Any law c n slot token op i j tt)))
-    node_fns (Unary n slot token op r) h s = quiet-last c.texts _ (node_fns r h.1 s) (λ a. K.in_known Q Any Any law a _ λ i. K.in_unary Q Any Any law c n slot token op i tt)
+        (λ b. K.in_known law a _ λ i. K.in_known law b _ λ j. K.in_fuse law c n slot token op i j tt)))
+    node_fns (Unary n slot token op r) h s = quiet-last c.texts _ (node_fns r h.1 s) (λ a. K.in_known law a _ λ i. K.in_unary law c n slot token op i tt)
     node_fns (Let n slot name r) h s =
         quiet-last c.texts _ (node_fns r h.2 s)
-        (λ a. K.in_next Q Any Any law _ (K.in_let Q Any Any law n name a) λ b. K.in_next Q Any Any law _ (K.in_insert Q Any Any law name b) λ _. K.in_set Q Any Any law slot _ tt)
+        (λ a. K.in_next law _ (K.in_let law n name a) λ b. K.in_next law _ (K.in_insert law name b) λ _. K.in_set law slot _ tt)
     node_fns (Fn n slot name ret args body) h s = in_fn n slot name ret args (fns_among (visited_among body)) (block c body) h.2 h.3 (λ u. block_fns body h.5 u) s
     node_fns (Match n slot cs token d) h s =
         of_equal c.texts (sym (fns_append (visited_in_cases cs) (visited_among d)))
-        (step c.texts _ (cases_fns n cs h.1 s) (λ bs u _ _. quiet-last c.texts _ (block_fns d h.2 u) (λ a. K.in_matched Q Any Any law c n slot bs a tt)))
+        (step c.texts _ (cases_fns n cs h.1 s) (λ bs u _ _. quiet-last c.texts _ (block_fns d h.2 u) (λ a. K.in_matched law c n slot bs a tt)))
     node_fns (Call n slot target args) h s = in_call n slot (callee_of target) (provided_of args) (fns_among (visited_among args)) (visit_all c args) h.1 (λ u. all_fns args h.2 u) s
-    node_fns (Field n slot target name) h s = quiet-last c.texts _ (node_fns target h.1 s) (λ a. K.in_known Q Any Any law a _ λ i. K.in_field Q Any Any law c n slot name i tt)
+    node_fns (Field n slot target name) h s = quiet-last c.texts _ (node_fns target h.1 s) (λ a. K.in_known law a _ λ i. K.in_field law c n slot name i tt)
     node_fns (Cast n slot token l t) h s =
-        quiet-first c.texts _ (K.in_type_from Q Any Any law c n t) (λ to u. quiet-last c.texts _ (node_fns l h.1 u)
-        (λ a. K.in_known Q Any Any law a _ λ i. K.in_cast Q Any Any law c n slot token i to tt))
-    node_fns (Import n slot token paths) h s = quietly c.texts (K.in_next Q Any Any law _ (K.in_imports Q Any Any law c n token paths) (λ _. K.in_set Q Any Any law slot _ tt) s)
+        quiet-first c.texts _ (K.in_type_from law c n t) (λ to u. quiet-last c.texts _ (node_fns l h.1 u)
+        (λ a. K.in_known law a _ λ i. K.in_cast law c n slot token i to tt))
+    node_fns (Import n slot token paths) h s = quietly c.texts (K.in_next law _ (K.in_imports law c n token paths) (λ _. K.in_set law slot _ tt) s)
     node_fns (Extern n slot token name fs) h s =
         quietly c.texts
-        (K.in_next Q Any Any law _ (K.in_each Q Any Any law _ fs λ f. K.in_extern Q Any Any law c n f)
-        (λ gs. K.in_next Q Any Any law _ (K.in_hold Q Any Any law _) λ _. K.in_set Q Any Any law slot _ tt) s)
+        (K.in_next law _ (K.in_each law _ fs λ f. K.in_extern law c n f)
+        (λ gs. K.in_next law _ (K.in_hold law _) λ _. K.in_set law slot _ tt) s)
     node_fns (Record n slot token fs) h s =
         quiet-last c.texts _ (values_fns fs h.1 s)
-        (λ ps. K.in_next Q Any Any law _ (K.in_on_types Q Any Any law _ (K.t_record Q Any Any law c.texts n ps)) λ w. K.in_set Q Any Any law slot w tt)
+        (λ ps. K.in_next law _ (K.in_on_types law _ (t_record law c.texts n ps)) λ w. K.in_set law slot w tt)
     node_fns (Array n slot token ms) h s = array_fns n slot token ms h.1 s
     node_fns (Absent n) h s = absurd h
 
@@ -202,21 +204,21 @@ module _ (c : Ctx) (P N : ℕ → Type 0) where
     all_fns done h s = gives (law.same s) tt
     all_fns (then x xs) h s =
         of_equal c.texts (sym (fns_append (x ∷ visited_below x) (visited_among xs)))
-        (step c.texts _ (node_fns x h.0 s) (λ a u _ _. quiet-last c.texts _ (all_fns xs h.1 u) (λ b. K.in_return Q Any Any law _)))
+        (step c.texts _ (node_fns x h.0 s) (λ a u _ _. quiet-last c.texts _ (all_fns xs h.1 u) (λ b. K.in_return law _)))
 
     cases_fns : (n : ℕ) (cs : Cases) → SoundCases P N cs → (s : World) → Meets (fns_among (visited_in_cases cs)) s (cases c n cs s)
     cases_fns n no_case h s = gives (law.same s) tt
     cases_fns n (case token x body cs) h s =
         of_equal c.texts (sym (fns_three (x ∷ visited_below x) (visited_among body) (visited_in_cases cs)))
-        (step c.texts _ (node_fns x h.0 s) (λ a u _ _. quiet-first c.texts _ (K.in_condition Q Any Any law c n token a) (λ _ v.
-        step c.texts _ (block_fns body h.1 v) (λ b w _ _. quiet-last c.texts _ (cases_fns n cs h.2 w) (λ bs. K.in_return Q Any Any law _)))))
+        (step c.texts _ (node_fns x h.0 s) (λ a u _ _. quiet-first c.texts _ (K.in_condition law c n token a) (λ _ v.
+        step c.texts _ (block_fns body h.1 v) (λ b w _ _. quiet-last c.texts _ (cases_fns n cs h.2 w) (λ bs. K.in_return law _)))))
 
     values_fns : (vs : Values) → SoundValues P N vs → (s : World) → Meets (fns_among (visited_in_values vs)) s (values c vs s)
     values_fns no_value h s = gives (law.same s) tt
     values_fns (value name x vs) h s =
         of_equal c.texts (sym (fns_append (x ∷ visited_below x) (visited_in_values vs)))
-        (step c.texts _ (node_fns x h.1 s) (λ a u _ _. quiet-first c.texts _ (K.in_value Q Any Any law a) (λ w v.
-        quiet-last c.texts _ (values_fns vs h.2 v) (λ rest. K.in_return Q Any Any law _))))
+        (step c.texts _ (node_fns x h.1 s) (λ a u _ _. quiet-first c.texts _ (K.in_value law a) (λ w v.
+        quiet-last c.texts _ (values_fns vs h.2 v) (λ rest. K.in_return law _))))
 
     array_fns : (n slot token : ℕ) (xs : Nodes) → SoundAll P N xs → (s : World) → Meets (fns_among (visited_among xs)) s (array c n slot token xs s)
     array_fns n slot token done h s = poisons n _ s
@@ -224,7 +226,7 @@ module _ (c : Ctx) (P N : ℕ → Type 0) where
         of_equal c.texts (sym (fns_append (x ∷ visited_below x) (visited_among xs))) (step c.texts _ (node_fns x h.0 s) (λ a u _ _. members_fns n slot a false xs h.1 u))
 
     members_fns : (n slot : ℕ) (a : Answer) (b : Bool) (xs : Nodes) → SoundAll P N xs → (s : World) → Meets (fns_among (visited_among xs)) s (members c n slot a b xs s)
-    members_fns n slot a b done h s = quietly c.texts (K.in_array_of Q Any Any law c n slot a b tt s)
+    members_fns n slot a b done h s = quietly c.texts (K.in_array_of law c n slot a b tt s)
     members_fns n slot a b (then x xs) h s =
         of_equal c.texts (sym (fns_append (x ∷ visited_below x) (visited_among xs)))
         (step c.texts _ (node_fns x h.0 s) (λ y u _ _. after-member b _ (λ p v. members_fns n slot a p xs h.1 v) n (span_of x) a y u))

@@ -44,7 +44,7 @@ pub record SameFields (r : Runs) (b b' : Buffer) (w w' : ℕ) : Type 0 where
   pub fields : Fields
   pub are : FieldsAre r b b' (payload_of w + 1) (field_count b.words w) (payload_of w' + 1) (field_count b'.words w') fields
 
-no_name : (k : ℕ) → wraps k ≡ true → names k ≡ true → ⊥
+pub no_name : (k : ℕ) → wraps k ≡ true → names k ≡ true → ⊥
 no_name k h i = elim (one_of 6 7 k h) [ inl e ↦ true≢false (sym (rw e at i)) | inr e ↦ true≢false (sym (rw e at i)) ]
 
 module _ {r : Runs} {b b' : Buffer} where

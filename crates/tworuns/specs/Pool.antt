@@ -112,6 +112,11 @@ module _ (r : Runs) (pool : List ℕ) {d d' : Buffer} (h : Begins pool d) (h' : 
       }
 
 -- what holds of two lists one after the other
+pub every_join : {A : Type 0} (P : A → Type 0) (xs ys : List A) → Every P xs → Every P ys → Every P (xs ++ ys)
+unfolding Every
+every_join P [] ys h k = k
+every_join P (x ∷ xs) ys h k = (h.0, every_join P xs ys h.1 k)
+
 pub every_front : {A : Type 0} (P : A → Type 0) (xs ys : List A) → Every P (xs ++ ys) → Every P xs
 unfolding Every
 every_front P [] ys h = tt
@@ -137,20 +142,29 @@ module _ (r : Runs) (d d' : Buffer) (same : Names r) where
   unfolding Every function_names function_types
   functions-same [] n t = end
   functions-same (f ∷ fs) n t =
+      let own : List ℕ = param_names f.sig.params in
+      let ret : List ℕ = word_names (f.sig.ret ∷ []) in
       let rest = every_back One (param_types f.sig.params) (f.sig.ret ∷ function_types fs) t in
       and (record {
         name = same_name r same f.name n.0;
         sig = record {
-          params = params_same f.sig.params (every_front (In r) (param_names f.sig.params) (word_names (f.sig.ret ∷ [])) (every_front (In r) (param_names f.sig.params ++ word_names (f.sig.ret ∷ [])) (function_names fs) n.1)) (every_front One (param_types f.sig.params) (f.sig.ret ∷ function_types fs) t);
+          params = params_same f.sig.params (every_front (In r) own ret (every_front (In r) (own ++ ret) (function_names fs) n.1))
+              (every_front One (param_types f.sig.params) (f.sig.ret ∷ function_types fs) t);
           ret = rest.0;
           with_slots = refl;
         };
       })
-      (functions-same fs (every_back (In r) (param_names f.sig.params ++ word_names (f.sig.ret ∷ [])) (function_names fs) n.1) rest.1)
+      (functions-same fs (every_back (In r) (own ++ ret) (function_names fs) n.1) rest.1)
 
   pub packages-same : (ps : List Package) → Every (In r) (package_names ps) → Every One (package_types ps) → Each (SamePackage r d d') ps ps
   unfolding Every package_names package_types
   packages-same [] n t = end
   packages-same (p ∷ ps) n t =
-      and (record { name = same_name r same p.name n.0; functions = functions-same p.functions (every_front (In r) (function_names p.functions) (package_names ps) n.1) (every_front One (function_types p.functions) (package_types ps) t) })
-      (packages-same ps (every_back (In r) (function_names p.functions) (package_names ps) n.1) (every_back One (function_types p.functions) (package_types ps) t))
+      let names : List ℕ = function_names p.functions in
+      let types : List ℕ = function_types p.functions in
+      and
+      (record {
+        name = same_name r same p.name n.0;
+        functions = functions-same p.functions (every_front (In r) names (package_names ps) n.1) (every_front One types (package_types ps) t);
+      })
+      (packages-same ps (every_back (In r) names (package_names ps) n.1) (every_back One types (package_types ps) t))

@@ -18,6 +18,24 @@ use Rattle.tworuns.specs.Runs as R
 use Rattle.tworuns.specs.Logic.{Gives, gives, stopped, cut, p_next, p_return, Answers, Nothing, Parts, fine, parted}
 use Rattle.tworuns.specs.Written.{take-written}
 
+-- the room for a diagnostic, as lengths
+pub record Room (s : World) (d : Diagnostic) : Type 0 where
+  pub told : s.diagnostics.used < min (length s.diagnostics.words / 6) 256
+  pub bytes : s.messages.used + length (bytes_of d) ≤ min (length s.messages.words) 65536
+
+pub room-true : (s : World) (d : Diagnostic) → has_room (output_of s) d ≡ true → Room s d
+room-true s d e =
+    let h = (and-eq-true_iff (ltb s.diagnostics.used (min (length s.diagnostics.words / 6) 256)) (leb (s.messages.used + length (bytes_of d)) (min (length s.messages.words) 65536))).0 e in
+    record {
+      told = ltb-true s.diagnostics.used (min (length s.diagnostics.words / 6) 256) h.0;
+      bytes = leb-true (s.messages.used + length (bytes_of d)) (min (length s.messages.words) 65536) h.1;
+    }
+
+true-room : (s : World) (d : Diagnostic) → Room s d → has_room (output_of s) d ≡ true
+true-room s d h =
+    (and-eq-true_iff (ltb s.diagnostics.used (min (length s.diagnostics.words / 6) 256)) (leb (s.messages.used + length (bytes_of d)) (min (length s.messages.words) 65536))).1
+    (lt-ltb s.diagnostics.used (min (length s.diagnostics.words / 6) 256) h.told, le-leb (s.messages.used + length (bytes_of d)) (min (length s.messages.words) 65536) h.bytes)
+
 module _ (r : Runs) where
   -- words written at the end of what was told
   told_more : (m : ℕ) {b b' : Buffer} (at at' : ℕ) (new : List ℕ) (k : ℕ) → SameTold r m b b' → at ≡ m * b.used → at' ≡ at → at + length new ≡ m * (b.used + k)
@@ -43,24 +61,6 @@ module _ (r : Runs) where
   p_told {b = true} o o' e h k = rw (h refl) (k refl)
   p_told {b = false} o o' e h k = stopped
 
-  -- the room for a diagnostic, as lengths
-  record Room (s : World) (d : Diagnostic) : Type 0 where
-    told : s.diagnostics.used < min (length s.diagnostics.words / 6) 256
-    bytes : s.messages.used + length (bytes_of d) ≤ min (length s.messages.words) 65536
-
-  room-true : (s : World) (d : Diagnostic) → has_room (output_of s) d ≡ true → Room s d
-  room-true s d e =
-      let h = (and-eq-true_iff (ltb s.diagnostics.used (min (length s.diagnostics.words / 6) 256)) (leb (s.messages.used + length (bytes_of d)) (min (length s.messages.words) 65536))).0 e in
-      record {
-        told = ltb-true s.diagnostics.used (min (length s.diagnostics.words / 6) 256) h.0;
-        bytes = leb-true (s.messages.used + length (bytes_of d)) (min (length s.messages.words) 65536) h.1;
-      }
-
-  true-room : (s : World) (d : Diagnostic) → Room s d → has_room (output_of s) d ≡ true
-  true-room s d h =
-      (and-eq-true_iff (ltb s.diagnostics.used (min (length s.diagnostics.words / 6) 256)) (leb (s.messages.used + length (bytes_of d)) (min (length s.messages.words) 65536))).1
-      (lt-ltb s.diagnostics.used (min (length s.diagnostics.words / 6) 256) h.told, le-leb (s.messages.used + length (bytes_of d)) (min (length s.messages.words) 65536) h.bytes)
-
   module _ {s s' : World} (ws : Worlds r s s') where
     room-more : (d : Diagnostic) → Room s d → Room s' d
     room-more d h = record {
@@ -83,7 +83,9 @@ module _ (r : Runs) where
       packages = ws.packages;
       own = ws.own;
       library = ws.library;
-      diagnostics = rw (← ws.messages.used) (told_more 6 (6 * s.diagnostics.used) (6 * s'.diagnostics.used) (six_words d s.messages.used) 1 ws.diagnostics refl (omega (arith, ws.diagnostics.used)) (omega arith) (omega (arith, h.told)));
+      diagnostics = rw (← ws.messages.used)
+          (told_more 6 (6 * s.diagnostics.used) (6 * s'.diagnostics.used) (six_words d s.messages.used) 1 ws.diagnostics refl
+          (omega (arith, ws.diagnostics.used)) (omega arith) (omega (arith, h.told)));
       messages = told_more 1 s.messages.used s'.messages.used (bytes_of d) (length (bytes_of d)) ws.messages (omega arith) (sym ws.messages.used) (omega arith) (omega (arith, h.bytes));
       log = ws.log;
     }

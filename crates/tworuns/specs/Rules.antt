@@ -21,13 +21,17 @@ use Rattle.rules.specs.World.{World, Walk, name_in}
 use Rattle.rules.specs.Steps.{skip, known, if_known, on_option, ty, tree, ty_tree, report, poison, hold, type_from_expr}
 use Rattle.rules.specs.declared.Member.{Member}
 use Rattle.rules.specs.declared.Member.TheVariants.{Alike as alike, Silent as silent, Differs as differs}
-use Rattle.rules.specs.Rules.{ident, let_binding, fn_arguments, check_return, fn, unless_defined, field_type, field, value_type, member_types, member, go_on, array_of, condition, Branch, compare_branches, matched, import_one, import_all, extern_fn}
+use Rattle.rules.specs.Rules.{ident, let_binding, fn_arguments, check_return, fn, unless_defined, field_type, field, value_type, member_types}
+use Rattle.rules.specs.Rules.{member, go_on, array_of, condition, Branch, compare_branches, matched, import_one, import_all, extern_fn}
 use Rattle.laws.specs.SlotsOf.{ArgSlots}
-use Rattle.tworuns.specs.Runs.{Runs, Relation, Each, end, and, each_map, Both?, neither, present, Slot, SameType, SameName, SameAnswer, SameParam, SameSignature, SameFunction, SamePackage, Worlds, type_grow, param_grow, function_grow, same_kind, same-tree, same_test}
+use Rattle.tworuns.specs.Runs.{Runs, Relation, Each, end, and, each_map, Both?, neither, present, Slot, SameType, SameName, SameAnswer, SameParam, SameSignature}
+use Rattle.tworuns.specs.Runs.{SameFunction, SamePackage, Worlds, type_grow, param_grow, function_grow, same_kind, same-tree, same_test}
 use Rattle.tworuns.specs.Runs as R
 use Rattle.tworuns.specs.Sound.{SoundType, SoundArgs, SoundExterns, SoundNames}
-use Rattle.laws.specs.Keeps.{Keeps, in_next, in_return, in_each, in_set, in_enter, in_type_from, in_check_return, in_import}
-use Rattle.tworuns.specs.Logic.{Told, Any, told-kept, Parts, fine, q_next, Gives, p_next, p_return, p_when, p_option, p_known, p_if_known, p_set, p_on_types, Answers, Words, Nothing, Equal, told-enters}
+use Rattle.laws.specs.Keeps.{Keeps}
+use Rattle.laws.specs.RulesKeep.{in_next, in_return, in_each, in_set, in_enter, in_type_from, in_check_return, in_import}
+use Rattle.tworuns.specs.Logic.{Told, Any, told-kept, Parts, fine, q_next, Gives, p_next, p_return, p_when, p_option}
+use Rattle.tworuns.specs.Logic.{p_known, p_if_known, p_set, p_on_types, Answers, Words, Nothing, Equal, told-enters}
 use Rattle.tworuns.specs.Primitive.{p_report, p_poison, p_insert, p_hold, p_enter, q_apart, q_told}
 use Rattle.tworuns.specs.Types.{t_wrap}
 use Rattle.tworuns.specs.Inner.{fields-same}
@@ -195,21 +199,23 @@ module _ (r : Runs) where
           q_next r _ _
           (q_apart r {Q = Words r} ws _ _ (λ ws₀.
           q_next r _ _ (fine (p_fn_arguments n (slot + 1) args h o ws₀))
-          (λ ps. in_next Told Any Any told-kept _ (in_type_from Told Any Any told-kept r.first n e) λ ret. in_next Told Any Any told-kept _ (in_enter Told Any Any told-kept told-enters name ps ret) λ _. in_next Told Any Any told-kept _ bk λ a. in_next Told Any Any told-kept _ (in_check_return Told Any Any told-kept r.first n name e ret a) λ _. in_return Told Any Any told-kept ret)
+          (λ ps. in_next told-kept _ (in_type_from told-kept r.first n e) λ ret. in_next told-kept _ (in_enter told-kept told-enters name ps ret) λ _.
+          in_next told-kept _ bk λ a. in_next told-kept _ (in_check_return told-kept r.first n name e ret a) λ _. in_return told-kept ret)
           (λ ps ps' u₁ u₁' g₁ g₁' v₁ hs.
           q_next r _ _ (fine (p_type_from v₁ n e t))
-          (λ ret. in_next Told Any Any told-kept _ (in_enter Told Any Any told-kept told-enters name ps ret) λ _. in_next Told Any Any told-kept _ bk λ a. in_next Told Any Any told-kept _ (in_check_return Told Any Any told-kept r.first n name e ret a) λ _. in_return Told Any Any told-kept ret)
+          (λ ret. in_next told-kept _ (in_enter told-kept told-enters name ps ret) λ _.
+          in_next told-kept _ bk λ a. in_next told-kept _ (in_check_return told-kept r.first n name e ret a) λ _. in_return told-kept ret)
           (λ ret ret' u₂ u₂' g₂ g₂' v₂ x.
           q_next r _ _
           (fine (p_enter r v₂ name ps ps' ret ret' (record { name = name_of v₂ l; sig = record { params = each_map (param_grow r g₂ g₂') hs; ret = x; with_slots = refl } })))
-          (λ _. in_next Told Any Any told-kept _ bk λ a. in_next Told Any Any told-kept _ (in_check_return Told Any Any told-kept r.first n name e ret a) λ _. in_return Told Any Any told-kept ret)
+          (λ _. in_next told-kept _ bk λ a. in_next told-kept _ (in_check_return told-kept r.first n name e ret a) λ _. in_return told-kept ret)
           (λ _ _ u₃ u₃' g₃ g₃' v₃ _.
           q_next r _ _ (k u₃ u₃' v₃)
-          (λ a. in_next Told Any Any told-kept _ (in_check_return Told Any Any told-kept r.first n name e ret a) λ _. in_return Told Any Any told-kept ret)
+          (λ a. in_next told-kept _ (in_check_return told-kept r.first n name e ret a) λ _. in_return told-kept ret)
           (λ a a' u₄ u₄' g₄ g₄' v₄ y.
           let x₄ = type_grow r g₄ g₄' ret ret' (type_grow r g₃ g₃' ret ret' x) in
           fine (p_next r _ _ (p_check_return v₄ n name l e x₄ y) (λ _ _ u₅ u₅' g₅ g₅' v₅ _. p_return r v₅ (type_grow r g₅ g₅' ret ret' x₄)))))))))
-          (λ ret. in_set Told Any Any told-kept slot ret tt)
+          (λ ret. in_set told-kept slot ret tt)
           (λ ret ret' u u' g g' v x. fine (p_set r slot v own x))
 
       found : {p p' : Option Signature} → Both? (SameSignature r s.types s'.types) p p'
@@ -224,14 +230,14 @@ module _ (r : Runs) where
   unfolding for_each SoundNames
   q_imports n [] h ws = fine (p_return r ws tt)
   q_imports n (p ∷ ps) h ws =
-      q_next r _ _ (q_import ws n p h.0) (λ b. in_next Told Any Any told-kept _ (in_each Told Any Any told-kept _ ps λ x. in_import Told Any Any told-kept r.first n x) λ bs. in_return Told Any Any told-kept (b ∷ bs))
-      (λ _ _ u u' g g' v _. q_next r _ _ (q_imports n ps h.1 v) (λ bs. in_return Told Any Any told-kept _) (λ _ _ k k' i i' z _. fine (p_return r z tt)))
+      q_next r _ _ (q_import ws n p h.0) (λ b. in_next told-kept _ (in_each told-kept _ ps λ x. in_import told-kept r.first n x) λ bs. in_return told-kept (b ∷ bs))
+      (λ _ _ u u' g g' v _. q_next r _ _ (q_imports n ps h.1 v) (λ bs. in_return told-kept _) (λ _ _ k k' i i' z _. fine (p_return r z tt)))
 
   pub q_import_all : (n token : ℕ) (paths : List ℕ) → SoundNames Own (In r) paths → {s s' : World} → Worlds r s s'
       → Parts r (Nothing r) s s' (import_all r.first n token paths s) (import_all r.second n token paths s')
   unfolding import_all
   q_import_all n token [] h ws = fine (p_report r ws n refl)
-  q_import_all n token (p ∷ ps) h ws = q_next r _ _ (q_imports n (p ∷ ps) h ws) (λ _. in_return Told Any Any told-kept tt) (λ _ _ u u' g g' v _. fine (p_return r v tt))
+  q_import_all n token (p ∷ ps) h ws = q_next r _ _ (q_imports n (p ∷ ps) h ws) (λ _. in_return told-kept tt) (λ _ _ u u' g g' v _. fine (p_return r v tt))
 
   p_extern_args : (n : ℕ) (args : List Arg) → SoundArgs Own (In r) args → {s s' : World} → Worlds r s s'
       → Gives r Params s s'

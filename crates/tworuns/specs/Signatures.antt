@@ -18,20 +18,23 @@ use Rattle.tworuns.specs.Entries.{words_of}
 use Rattle.tworuns.specs.Written.{get_d_written}
 
 -- a list stands in a buffer from a place on
-record Stands (words : List ℕ) (at : ℕ) (l : List ℕ) : Type 0 where
-  each : (i : ℕ) → i < length l → get_or words (at + i) 0 ≡ get_or l i 0
+pub record Stands (words : List ℕ) (at : ℕ) (l : List ℕ) : Type 0 where
+  pub each : (i : ℕ) → i < length l → get_or words (at + i) 0 ≡ get_or l i 0
 
 module _ {words : List ℕ} {at : ℕ} where
-  stands-head : {x : ℕ} {l : List ℕ} → Stands words at (x ∷ l) → get_or words at 0 ≡ x
+  pub stands-head : {x : ℕ} {l : List ℕ} → Stands words at (x ∷ l) → get_or words at 0 ≡ x
   stands-head h = ap (λ (p : ℕ). get_or words p 0) (sym (add-zero at)) ∙ h.each 0 (omega arith)
 
-  stands_tail : {x : ℕ} {l : List ℕ} → Stands words at (x ∷ l) → Stands words (at + 1) l
-  stands_tail h = record { each = λ i k. ap (λ (p : ℕ). get_or words p 0) (omega arith) ∙ h.each (suc i) (omega arith) }
+  pub stands-second : {x y : ℕ} {l : List ℕ} → Stands words at (x ∷ y ∷ l) → get_or words (at + 1) 0 ≡ y
+  stands-second h = h.each 1 (omega arith)
 
-  stands-front : (a b : List ℕ) → Stands words at (a ++ b) → Stands words at a
+  pub stands-rest : {x y : ℕ} {l : List ℕ} → Stands words at (x ∷ y ∷ l) → Stands words (at + 2) l
+  stands-rest h = record { each = λ i k. ap (λ (p : ℕ). get_or words p 0) (omega arith) ∙ h.each (suc (suc i)) (omega arith) }
+
+  pub stands-front : (a b : List ℕ) → Stands words at (a ++ b) → Stands words at a
   stands-front a b h = record { each = λ i k. h.each i (omega (arith, length-append a b)) ∙ get_or-append a b 0 i k }
 
-  stands-back : (a b : List ℕ) → Stands words at (a ++ b) → Stands words (at + length a) b
+  pub stands-back : (a b : List ℕ) → Stands words at (a ++ b) → Stands words (at + length a) b
   stands-back a b h = record { each = λ i k. ap (λ (p : ℕ). get_or words p 0) (omega arith) ∙ (h.each (length a + i) (omega (arith, length-append a b)) ∙ get_or-append-add a b i 0) }
 
 -- functions in the order in which they were met, and their words
@@ -39,7 +42,7 @@ unfoldable pub forward : List Function → List Function
 forward [] = []
 forward (f ∷ fs) = forward fs ++ (f ∷ [])
 
-abbrev entry : Function → List ℕ
+abbrev pub entry : Function → List ℕ
 entry f = entry_of f.name f.sig.params f.sig.ret
 
 flat : List Function → List ℕ
@@ -61,14 +64,18 @@ unfolding forward
 forward-append [] ys = sym (append-nil (forward ys))
 forward-append (x ∷ xs) ys = rw (forward-append xs ys) (append_assoc (forward ys) (forward xs) (x ∷ []))
 
-length_pairs : (ps : List Param) → length (pairs_of ps) ≡ 2 * length ps
+pub length_pairs : (ps : List Param) → length (pairs_of ps) ≡ 2 * length ps
 unfolding pairs_of
 length_pairs [] = refl
 length_pairs (p ∷ ps) = let e = length_pairs ps in omega arith
 
-length-entry : (f : Function) → length (entry f) ≡ 3 + 2 * length f.sig.params
+pub length-entry : (f : Function) → length (entry f) ≡ 3 + 2 * length f.sig.params
 unfolding entry_of
 length-entry f = let e = length_pairs f.sig.params in omega (arith, length-append (f.name ∷ length f.sig.params ∷ pairs_of f.sig.params) (f.sig.ret ∷ []))
+
+pub count-read : {words : List ℕ} (f : Function) (at : ℕ) → Stands words at (entry f) → get_or words (at + 1) 0 ≡ length f.sig.params
+unfolding entry_of
+count-read f at h = stands-second (stands-front (f.name ∷ length f.sig.params ∷ pairs_of f.sig.params) (f.sig.ret ∷ []) h)
 
 module _ (t : Texts) (types : List ℕ) where
   unfoldable pub parameters_of : List Param → List Parameter
@@ -87,10 +94,7 @@ module _ (t : Texts) (types : List ℕ) where
     params-read : (ps : List Param) (at : ℕ) → Stands words at (pairs_of ps) → parameters_at t types words at (length ps) ≡ parameters_of ps
     unfolding parameters_at parameters_of pairs_of
     params-read [] at h = refl
-    params-read (p ∷ ps) at h =
-        let two = stands_tail (stands_tail h) in
-        let two' : Stands words (at + 2) (pairs_of ps) = record { each = λ i k. ap (λ (q : ℕ). get_or words q 0) (omega arith) ∙ two.each i k } in
-        rw (stands-head h, stands-head (stands_tail h), params-read ps (at + 2) two')
+    params-read (p ∷ ps) at h = rw (stands-head h, stands-second h, params-read ps (at + 2) (stands-rest h))
 
     entry_read : (f : Function) (at : ℕ) → Stands words at (entry f) → entry_at t types words at (length f.sig.params) ≡ entry_for at f
     unfolding entry_at entry_for entry_of
@@ -98,14 +102,8 @@ module _ (t : Texts) (types : List ℕ) where
         let ps = f.sig.params in
         let front = stands-front (f.name ∷ length ps ∷ pairs_of ps) (f.sig.ret ∷ []) h in
         let back = stands-back (f.name ∷ length ps ∷ pairs_of ps) (f.sig.ret ∷ []) h in
-        let pairs = stands_tail (stands_tail front) in
-        let pairs' : Stands words (at + 2) (pairs_of ps) = record { each = λ i k. ap (λ (q : ℕ). get_or words q 0) (omega arith) ∙ pairs.each i k } in
         let place : at + 2 + 2 * length ps ≡ at + length (f.name ∷ length ps ∷ pairs_of ps) = omega (arith, length_pairs ps) in
-        rw (stands-head front, params-read ps (at + 2) pairs', place, stands-head back)
-
-    count-read : (f : Function) (at : ℕ) → Stands words at (entry f) → get_or words (at + 1) 0 ≡ length f.sig.params
-    unfolding entry_of
-    count-read f at h = stands-head (stands_tail (stands-front (f.name ∷ length f.sig.params ∷ pairs_of f.sig.params) (f.sig.ret ∷ []) h))
+        rw (stands-head front, params-read ps (at + 2) (stands-rest front), place, stands-head back)
 
     none_left_lem : (used m at : ℕ) → used ≤ at → entries_up_to t types words used (suc m) at ≡ []
     unfolding entries_up_to

@@ -125,8 +125,12 @@ module _ (r : Runs) where
 
       go : (a : Bool) → leb (b.used + length new) (type_room b) ≡ a → (a' : Bool) → leb (b'.used + length new') (type_room b') ≡ a'
           → Typed r (Words r) b b'
-          (when a (when (leb (depth_of (ty_of r.first.texts (append b new).words (word_of k b.used))) 32) (give (word_of k b.used) (append b new)) (refuse (refusal 8 n))) (refuse (refusal 7 n)) b)
-          (when a' (when (leb (depth_of (ty_of r.second.texts (append b' new').words (word_of k b'.used))) 32) (give (word_of k b'.used) (append b' new')) (refuse (refusal 8 n))) (refuse (refusal 7 n)) b')
+          (when a
+          (when (leb (depth_of (ty_of r.first.texts (append b new).words (word_of k b.used))) 32) (give (word_of k b.used) (append b new)) (refuse (refusal 8 n)))
+          (refuse (refusal 7 n)) b)
+          (when a'
+          (when (leb (depth_of (ty_of r.second.texts (append b' new').words (word_of k b'.used))) 32) (give (word_of k b'.used) (append b' new')) (refuse (refusal 8 n)))
+          (refuse (refusal 7 n)) b')
       go false e a' e' = stopped
       go true e false e' =
           cut (λ z. true≢false (sym (le-leb (b'.used + length new') (type_room b') (fits_too u n k new new' long words (leb-true (b.used + length new) (type_room b) e) z)) ∙ e'))

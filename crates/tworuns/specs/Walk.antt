@@ -26,8 +26,8 @@ use Rattle.laws.specs.Writes.{length-write}
 use Rattle.tworuns.specs.Runs.{Runs, Each, end, and, Front, ends, longer, before, Slot, own, void, SameType, Used, Worlds, tree-second}
 use Rattle.tworuns.specs.Runs as R
 use Rattle.tworuns.specs.Sound.{SoundAll}
-use Rattle.laws.specs.Keeps.{in_return}
-use Rattle.tworuns.specs.Logic.{gives, stopped, cut, p_return, Nothing, Told, Any, told-kept, Parts, fine, parted, q_next}
+use Rattle.laws.specs.RulesKeep.{in_return}
+use Rattle.tworuns.specs.Logic.{gives, stopped, cut, p_return, Nothing, told-kept, Parts, fine, parted, q_next}
 use Rattle.tworuns.specs.Written.{take-written}
 use Rattle.tworuns.specs.Exprs.{Names, In, plain-same}
 use Rattle.tworuns.specs.Operators.{plain-low}
@@ -182,7 +182,8 @@ module _ (r : Runs) {s s' : World} {pool pool' words words' : List ℕ} (h : Beg
         env = rw (h.fresh.env, h.fresh'.env) end;
         packages = rw (h.fresh.packages, h.fresh'.packages) end;
         own = rw (h.fresh.own, h.fresh'.own) end;
-        library = subst (λ (l : List Package). Front r.strict (R.SamePackage r d d') r.first.library l) (sym h.library) (each-front h.more h.no_more (packages-same r d d' h.names r.first.library h.library_names
+        library = subst (λ (l : List Package). Front r.strict (R.SamePackage r d d') r.first.library l) (sym h.library)
+            (each-front h.more h.no_more (packages-same r d d' h.names r.first.library h.library_names
             (every_back (λ w. SameType r d d' w w) h.others (package_types r.first.library) (rw h.types at all_same))));
         diagnostics = record { used = h.fresh.diagnostics ∙ sym h.fresh'.diagnostics; front = rw h.fresh.diagnostics refl; long = h.long_diagnostics };
         messages = record { used = h.fresh.messages ∙ sym h.fresh'.messages; front = rw h.fresh.messages refl; long = h.long_messages };
@@ -204,7 +205,7 @@ module _ (r : Runs) {s s' : World} {pool pool' words words' : List ℕ} (h : Beg
     visited f f' (deep k) m = fine stopped
     visited f f' (low l) (deep k) = fine (cut (λ z. k (measured_too f f' l z)))
     visited f f' (low l) (low l') =
-        q_next r _ _ (q_last r roots sound (R.known void) (begun f f' l)) (λ _. in_return Told Any Any told-kept tt) (λ _ _ u u' g g' v _. fine (p_return r v tt))
+        q_next r _ _ (q_last r roots sound (R.known void) (begun f f' l)) (λ _. in_return told-kept tt) (λ _ _ u u' g g' v _. fine (p_return r v tt))
 
     pub over-walks : Walks r (over r.first n pool words roots s) (over r.second n' pool' words' roots s')
     unfolding over copy_pool when
@@ -212,8 +213,10 @@ module _ (r : Runs) {s s' : World} {pool pool' words words' : List ℕ} (h : Beg
       where
         go : (a : Bool) → leb (length pool) (type_room s.types) ≡ a → (a' : Bool) → leb (length pool') (type_room s'.types) ≡ a'
             → Walks r
-            (next (when a (give (tt {0}) (with_types s d)) (refuse (refusal 7 n)) s) (λ _ t. next (measure r.first n words t) (λ _. ◌>>=◌ (last r.first (Known r.first.void) roots) (λ _. skip))))
-            (next (when a' (give (tt {0}) (with_types s' d')) (refuse (refusal 7 n')) s') (λ _ t. next (measure r.second n' words' t) (λ _. ◌>>=◌ (last r.second (Known r.second.void) roots) (λ _. skip))))
+            (next (when a (give (tt {0}) (with_types s d)) (refuse (refusal 7 n)) s)
+            (λ _ t. next (measure r.first n words t) (λ _. ◌>>=◌ (last r.first (Known r.first.void) roots) (λ _. skip))))
+            (next (when a' (give (tt {0}) (with_types s' d')) (refuse (refusal 7 n')) s')
+            (λ _ t. next (measure r.second n' words' t) (λ _. ◌>>=◌ (last r.second (Known r.second.void) roots) (λ _. skip))))
         go false e a' e' = stops
         go true e false e' =
             cuts (λ z. let q = ap (λ (x : List ℕ). length x) (h.pools z) in
