@@ -1,8 +1,9 @@
 // What a call carries, and Typechecker::check_call_args of a function without slots: argument count, each argument, the return type.
-// The buffers are lent in one order: slots, types, diagnostics, messages; then the texts, the image.
+// The buffers are lent in one order: slots, types (with the texts), diagnostics, messages; then the image.
 #![tactic(auto)]
 
 ghost use Rattle.std.specs.Prelude.{◌≡◌, ◌<◌, false, List, ℕ};
+ghost use Rattle.tok.specs.Text.{Texts};
 ghost use Rattle.ast.specs.Node.{tree_of, slot_of};
 ghost use Rattle.err.specs.Message.{argument_count, call_name};
 ghost use Rattle.library.specs.Package.{Package};
@@ -19,6 +20,7 @@ ghost use Rattle.call_args.specs.Given.{given_from, argument_in, CallReady};
 use arguments::Argument;
 use err::CallName;
 use places::Image;
+use ptype::Types;
 use rules::Answer;
 use signatures::Signature;
 use state::{Step, Used};
@@ -95,10 +97,9 @@ pub fn report_count(
 // Each argument, in order.
 fn plain_arguments(
     slots: &[u32],
-    types: &[u32],
+    types: &Types,
     diagnostics: &mut [u32],
     messages: &mut [u8],
-    texts: &Texts,
     image: &Image,
     used: Used,
     call: Call,
@@ -106,8 +107,9 @@ fn plain_arguments(
     signature: &Signature,
 ) -> Step<()>
     requires { CallReady image.now.words image.now.places call.n call.args call.count signature.now.params }
-    ensures { let given : List Provided = given_from image.now.words call.args call.count in
-        Leaves texts.now (λ c. arguments c call.n (call_name texts.now callee) false signature.now.params given) slots.now types.now
+    ensures { let T : Texts = types.now.texts.now in
+        let given : List Provided = given_from image.now.words call.args call.count in
+        Leaves T (λ c. arguments c call.n (call_name T callee) false signature.now.params given) slots.now types.now.words.now
         diagnostics.old messages.old used diagnostics.new messages.new result }
 {
     let mut used = used;
@@ -118,7 +120,6 @@ fn plain_arguments(
             types,
             diagnostics,
             messages,
-            texts,
             used,
             call.n,
             callee,
@@ -132,10 +133,9 @@ fn plain_arguments(
 // Typechecker::check_call_args, of a function without slots. Another number of arguments is 19, yet the return type is known.
 pub fn check_plain(
     slots: &mut [u32],
-    types: &[u32],
+    types: &Types,
     diagnostics: &mut [u32],
     messages: &mut [u8],
-    texts: &Texts,
     image: &Image,
     used: Used,
     call: Call,
@@ -144,11 +144,12 @@ pub fn check_plain(
     signature: &Signature,
 ) -> Step<Answer>
     requires { NodesReady image.now.words image.now.places call.n call.args call.count }
-    ensures { ((ls : List Package) (v : ℕ) →
+    ensures { let T : Texts = types.now.texts.now in
+        ((ls : List Package) (v : ℕ) →
         let given : List Provided = given_from image.now.words call.args call.count in
-        let name : List ℕ = call_name texts.now callee in
-        Steps (check_call_args (ctx texts.now ls v) call.n call.slot token name (as_plain signature.now) given) slots.old types.now
-        diagnostics.old messages.old used slots.new types.now diagnostics.new messages.new result) }
+        let name : List ℕ = call_name T callee in
+        Steps (check_call_args (ctx T ls v) call.n call.slot token name (as_plain signature.now) given) slots.old types.now.words.now
+        diagnostics.old messages.old used slots.new types.now.words.now diagnostics.new messages.new result) }
 {
     let required = signature.argument_count();
     let ret = signature.return_type();
@@ -156,7 +157,7 @@ pub fn check_plain(
         let (_, used) = report_count(
             diagnostics,
             messages,
-            texts,
+            types.texts,
             used,
             call,
             token,
@@ -170,7 +171,6 @@ pub fn check_plain(
         types,
         diagnostics,
         messages,
-        texts,
         image,
         used,
         call,

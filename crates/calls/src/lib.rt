@@ -20,6 +20,7 @@ ghost use Rattle.calls.specs.CallVisits.{Resolvable};
 use ast::NodeKind;
 use call_args::{Call, PackageCall};
 use places::Image;
+use ptype::Types;
 use rules::Answer;
 use scope::Own;
 use tok::Texts;
@@ -99,10 +100,9 @@ pub fn or_poison(poisoned: bool, answer: Answer) -> bool
 fn resolve_own(
     slots: &mut [u32],
     functions: &[u32],
-    types: &[u32],
+    types: &Types,
     diagnostics: &mut [u32],
     messages: &mut [u8],
-    texts: &Texts,
     image: &Image,
     st: State,
     call: Call,
@@ -110,9 +110,9 @@ fn resolve_own(
 ) -> Visit<Answer>
     requires { OwnReady functions.now st.functions image.now.words image.now.places call.n call.args call.count }
     ensures { ((ls : List Package) (v : ℕ) (words e : List ℕ) (o : More) →
-        let b : Lent = lent slots.old functions.now types.now diagnostics.old messages.old e o in
-        let b' : Lent = lent slots.new functions.now types.now diagnostics.new messages.new e o in
-        Visits (resolve_call (ctx texts.now ls v) call.n call.slot name (given_from image.now.words call.args call.count)) 0 0 words st b b' result) }
+        let b : Lent = lent slots.old functions.now types.now.words.now diagnostics.old messages.old e o in
+        let b' : Lent = lent slots.new functions.now types.now.words.now diagnostics.new messages.new e o in
+        Visits (resolve_call (ctx types.now.texts.now ls v) call.n call.slot name (given_from image.now.words call.args call.count)) 0 0 words st b b' result) }
 {
     let own = Own {
         words: functions,
@@ -124,7 +124,6 @@ fn resolve_own(
         diagnostics,
         messages,
         &own,
-        texts,
         image,
         st.used,
         call,
@@ -169,10 +168,12 @@ pub fn resolve(
         Target::Own(name) => resolve_own(
             slots,
             functions,
-            &types[..],
+            &Types {
+                words: &types[..],
+                texts: &*texts,
+            },
             diagnostics,
             messages,
-            texts,
             image,
             st,
             call,

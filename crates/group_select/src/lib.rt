@@ -4,8 +4,8 @@
 #![tactic(auto)]
 
 ghost use Rattle.std.specs.Prelude.{List, map, ℕ};
-ghost use Rattle.tok.specs.Text.{text, name_bytes};
-ghost use Rattle.ptype.specs.Words.{ty_of};
+ghost use Rattle.tok.specs.Text.{Texts, text, name_bytes};
+ghost use Rattle.ptype.specs.Types.{type_at};
 ghost use Rattle.display.specs.Writing.{Writes};
 ghost use Rattle.display.specs.Joined.{joined, sig};
 ghost use Rattle.err.specs.Message.{pkg_name};
@@ -14,20 +14,20 @@ ghost use Rattle.group_select.specs.Selects.{candidate_types, NoneFits, Selects}
 use call_args::PackageCall;
 use display::{Full, Sink, Writer};
 use err::CallName;
+use ptype::Types;
 use rules::Answer;
 use signatures::Group;
 use state::{Step, Used};
-use tok::Texts;
 
 // Writes the candidates, joined by ` | `.
-fn put_candidates(out: &mut Writer, types: &[u32], texts: &Texts, group: &Group) -> Result<(), Full>
-    ensures { Writes out.old out.new result (joined (text " | ") (map sig (candidate_types (ty_of texts.now types.now) group.now))) }
+fn put_candidates(out: &mut Writer, types: &Types, group: &Group) -> Result<(), Full>
+    ensures { Writes out.old out.new result (joined (text " | ") (map sig (candidate_types (type_at types.now) group.now))) }
 {
     // 1 once a candidate is written
     let mut before = 0;
     for candidate in group.iter() {
         out.put_separator(before, b" | ")?;
-        err_calls::put_candidate(out, types, texts, candidate.words, candidate.at)?;
+        err_calls::put_candidate(out, types, candidate.words, candidate.at)?;
         before = 1;
     }
     out.put(b"")
@@ -36,62 +36,60 @@ fn put_candidates(out: &mut Writer, types: &[u32], texts: &Texts, group: &Group)
 // No candidate fits: 18, and what all return is still known.
 fn none_fits(
     slots: &mut [u32],
-    types: &[u32],
+    types: &Types,
     diagnostics: &mut [u32],
     messages: &mut [u8],
     provided: &[u32],
-    texts: &Texts,
     used: Used,
     call: PackageCall,
     group: &Group,
 ) -> Step<Answer>
-    ensures { let name : List ℕ = pkg_name (name_bytes texts.now call.pkg) (name_bytes texts.now call.name) in
-        NoneFits texts.now call.site.n call.site.slot call.name name (map (ty_of texts.now types.now) provided.now) group.now
-        slots.old types.now diagnostics.old messages.old used slots.new diagnostics.new messages.new result }
+    ensures { let T : Texts = types.now.texts.now in
+        let name : List ℕ = pkg_name (name_bytes T call.pkg) (name_bytes T call.name) in
+        NoneFits T call.site.n call.site.slot call.name name (map (type_at types.now) provided.now) group.now
+        slots.old types.now.words.now diagnostics.old messages.old used slots.new diagnostics.new messages.new result }
 {
     let r = err_calls::no_specialisation(
         diagnostics,
         messages,
         used.told,
         types,
-        texts,
         call.name,
         CallName::OfPackage(call.pkg, call.name),
         provided,
-        |out: &mut Writer| put_candidates(out, types, texts, group),
+        |out: &mut Writer| put_candidates(out, types, group),
     );
     let (_, used) = state::told(call.site.n, used, r, ())?;
-    selection::common_return(slots, types, texts, used, call.site.slot, group)
+    selection::common_return(slots, types, used, call.site.slot, group)
 }
 
 // A group of several: the first that fits; where an argument is poisoned, or none fits, what all return.
 pub fn select(
     slots: &mut [u32],
-    types: &[u32],
+    types: &Types,
     diagnostics: &mut [u32],
     messages: &mut [u8],
     provided: &[u32],
-    texts: &Texts,
     used: Used,
     call: PackageCall,
     group: &Group,
 ) -> Step<Answer>
-    ensures { let name : List ℕ = pkg_name (name_bytes texts.now call.pkg) (name_bytes texts.now call.name) in
-        Selects texts.now call.site.n call.site.slot call.name name provided.now call.poisoned group.now
-        slots.old types.now diagnostics.old messages.old used slots.new diagnostics.new messages.new result }
+    ensures { let T : Texts = types.now.texts.now in
+        let name : List ℕ = pkg_name (name_bytes T call.pkg) (name_bytes T call.name) in
+        Selects T call.site.n call.site.slot call.name name provided.now call.poisoned group.now
+        slots.old types.now.words.now diagnostics.old messages.old used slots.new diagnostics.new messages.new result }
 {
     let slot = call.site.slot;
     if call.poisoned {
-        return selection::common_return(slots, types, texts, used, slot, group);
+        return selection::common_return(slots, types, used, slot, group);
     }
-    let Some(candidate) = selection::position(types, texts, group, provided) else {
+    let Some(candidate) = selection::position(types, group, provided) else {
         return none_fits(
             slots,
             types,
             diagnostics,
             messages,
             provided,
-            texts,
             used,
             call,
             group,

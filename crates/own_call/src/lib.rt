@@ -9,36 +9,34 @@ ghost use Rattle.spans.specs.Ready.{NodesReady};
 use call_args::Call;
 use err::CallName;
 use places::Image;
+use ptype::Types;
 use rules::Answer;
 use scope::Own;
 use signatures::Signature;
 use state::{Step, Used};
-use tok::Texts;
 
 // The newest own function of the name; without one, 17.
 pub fn resolve_call(
     slots: &mut [u32],
-    types: &[u32],
+    types: &Types,
     diagnostics: &mut [u32],
     messages: &mut [u8],
     own: &Own,
-    texts: &Texts,
     image: &Image,
     used: Used,
     call: Call,
     name: u32,
 ) -> Step<Answer>
     requires { NodesReady image.now.words image.now.places call.n call.args call.count }
-    ensures { OwnCalls texts.now call.n call.slot name (given_from image.now.words call.args call.count) own.now.words own.now.count slots.old types.now
+    ensures { OwnCalls types.now.texts.now call.n call.slot name (given_from image.now.words call.args call.count) own.now.words own.now.count slots.old types.now.words.now
         diagnostics.old messages.old used slots.new diagnostics.new messages.new result }
 {
-    match own.find(texts, name) {
+    match own.find(types.texts, name) {
         Some(at) => call_args::check_plain(
             slots,
             types,
             diagnostics,
             messages,
-            texts,
             image,
             used,
             call,
@@ -51,7 +49,13 @@ pub fn resolve_call(
             },
         ),
         None => {
-            let reported = err_calls::undefined_own(diagnostics, messages, used.told, texts, name);
+            let reported = err_calls::undefined_own(
+                diagnostics,
+                messages,
+                used.told,
+                types.texts,
+                name,
+            );
             state::told(call.n, used, reported, Answer::Poison)
         }
     }

@@ -4,7 +4,7 @@
 #![tactic(auto)]
 
 ghost use Rattle.std.specs.Prelude.{◌≡◌, List, ℕ};
-ghost use Rattle.tok.specs.Text.{name_bytes};
+ghost use Rattle.tok.specs.Text.{Texts, name_bytes};
 ghost use Rattle.library.specs.Package.{Package, group_of};
 ghost use Rattle.library.specs.PackagesRead.{package_at};
 ghost use Rattle.rules.specs.declared.Answer.{Answer};
@@ -26,6 +26,7 @@ use call_args::PackageCall;
 use err::CallName;
 use pkg_group::{Candidates, in_group};
 use places::Image;
+use ptype::Types;
 use rules::Answer;
 use scope::Held;
 use signatures::{Entries, Group};
@@ -85,11 +86,13 @@ fn in_library(
         let end = top + call.site.count;
         return in_group(
             slots,
-            &types[..],
+            &Types {
+                words: &types[..],
+                texts: &*texts,
+            },
             diagnostics,
             messages,
             &scratch[top..end],
-            texts,
             image,
             used,
             call,
@@ -116,25 +119,25 @@ fn in_library(
 // A call into the Extern's package at word `at` of scratch. Its functions have no slots.
 fn in_extern(
     slots: &mut [u32],
-    types: &[u32],
+    types: &Types,
     diagnostics: &mut [u32],
     messages: &mut [u8],
     scratch: &[u32],
-    texts: &Texts,
     image: &Image,
     used: Used,
     top: usize,
     call: PackageCall,
     at: usize,
 ) -> Step<Answer>
-    requires { let i : Image = image.now in
-        GatheredReady texts.now i.words i.places scratch.now top call.site.n call.site.args call.site.count slots.old types.now used.types }
-    ensures { let given : List Provided = given_from image.now.words call.site.args call.site.count in
-        InGroup texts.now call.site.n call.site.slot call.pkg call.name given call.poisoned
-        (group_of texts.now (name_bytes texts.now call.name) (extern_at scratch.now at).functions) slots.old types.now diagnostics.old messages.old used
-        slots.new types.now diagnostics.new messages.new result }
+    requires { let T : Texts = types.now.texts.now in let i : Image = image.now in
+        GatheredReady T i.words i.places scratch.now top call.site.n call.site.args call.site.count slots.old types.now.words.now used.types }
+    ensures { let T : Texts = types.now.texts.now in
+        let given : List Provided = given_from image.now.words call.site.args call.site.count in
+        InGroup T call.site.n call.site.slot call.pkg call.name given call.poisoned
+        (group_of T (name_bytes T call.name) (extern_at scratch.now at).functions) slots.old types.now.words.now diagnostics.old messages.old used
+        slots.new types.now.words.now diagnostics.new messages.new result }
 {
-    let group = candidates_at(texts, scratch, false, at, call.name);
+    let group = candidates_at(types.texts, scratch, false, at, call.name);
     let found = pkg_group::find_candidates(&group);
     let end = top + call.site.count;
     in_group(
@@ -143,7 +146,6 @@ fn in_extern(
         diagnostics,
         messages,
         &scratch[top..end],
-        texts,
         image,
         used,
         call,
@@ -192,11 +194,13 @@ fn in_held(
         ),
         Some(Held::Extern(at)) => in_extern(
             slots,
-            &types[..],
+            &Types {
+                words: &types[..],
+                texts: &*texts,
+            },
             diagnostics,
             messages,
             &scratch[..],
-            texts,
             image,
             used,
             top,

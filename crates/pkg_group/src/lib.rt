@@ -1,5 +1,5 @@
 // The candidates of a package's group, after the call's arguments are visited (typecheck/lib.rs, `resolve_pkg_call`).
-// The buffers are lent in one order: slots, types, diagnostics, messages; then the texts, and the image.
+// The buffers are lent in one order: slots, types (with the texts), diagnostics, messages; then the image.
 #![tactic(auto)]
 
 ghost use Rattle.std.specs.Prelude.{◌≡◌, List};
@@ -11,10 +11,10 @@ ghost use Rattle.pkg_group.specs.Groups.{GroupReady, InGroup};
 use call_args::PackageCall;
 use err::CallName;
 use places::Image;
+use ptype::Types;
 use rules::Answer;
 use signatures::{Group, Signature};
 use state::{Step, Used};
-use tok::Texts;
 
 // The candidates of a name: none, one without slots or with them, or several.
 #[derive(Drop)]
@@ -46,11 +46,10 @@ pub fn find_candidates<'a>(group: &Group<'a>) -> Candidates<'a>
 // one is checked by itself, several are selected from.
 pub fn in_group(
     slots: &mut [u32],
-    types: &[u32],
+    types: &Types,
     diagnostics: &mut [u32],
     messages: &mut [u8],
     provided: &[u32],
-    texts: &Texts,
     image: &Image,
     used: Used,
     call: PackageCall,
@@ -59,8 +58,8 @@ pub fn in_group(
 ) -> Step<Answer>
     requires { GroupReady image.now.words image.now.places call.site.n call.site.args call.site.count slots.old provided.now group.now found }
     ensures { let given : List Provided = given_from image.now.words call.site.args call.site.count in
-        InGroup texts.now call.site.n call.site.slot call.pkg call.name given call.poisoned group.now slots.old types.now diagnostics.old messages.old used
-        slots.new types.now diagnostics.new messages.new result }
+        InGroup types.now.texts.now call.site.n call.site.slot call.pkg call.name given call.poisoned group.now slots.old types.now.words.now diagnostics.old messages.old used
+        slots.new types.now.words.now diagnostics.new messages.new result }
 {
     match found {
         Candidates::Nothing => {
@@ -68,7 +67,7 @@ pub fn in_group(
                 diagnostics,
                 messages,
                 used.told,
-                texts,
+                types.texts,
                 call.pkg,
                 call.name,
             );
@@ -79,7 +78,6 @@ pub fn in_group(
             types,
             diagnostics,
             messages,
-            texts,
             image,
             used,
             call.site,
@@ -95,7 +93,6 @@ pub fn in_group(
             diagnostics,
             messages,
             provided,
-            texts,
             used,
             call,
             group,

@@ -4,18 +4,18 @@
 
 ghost use Rattle.std.specs.Prelude.{◌≡◌, map, ℕ};
 ghost use Rattle.ptype.specs.Ty.{Ty};
-ghost use Rattle.ptype.specs.Words.{ty_of};
+ghost use Rattle.ptype.specs.Types.{type_at};
 ghost use Rattle.rules.specs.Calls.{overload_matches};
 ghost use Rattle.selection.specs.Candidates.{param_types, position_of, all_return_of, CommonReturn};
 
+use ptype::Types;
 use rules::Answer;
 use signatures::{Group, Signature};
 use state::{Step, Used};
-use tok::Texts;
 
 // Whether the type of every argument is equal to the provided one, counts alike.
-fn fits(types: &[u32], texts: &Texts, candidate: &Signature, provided: &[u32]) -> bool
-    ensures { let U : ℕ → Ty = ty_of texts.now types.now in
+fn fits(types: &Types, candidate: &Signature, provided: &[u32]) -> bool
+    ensures { let U : ℕ → Ty = type_at types.now in
         result ≡ overload_matches (param_types U candidate.now.params) (map U provided.now) }
 {
     if candidate.argument_count() != provided.len() {
@@ -23,7 +23,7 @@ fn fits(types: &[u32], texts: &Texts, candidate: &Signature, provided: &[u32]) -
     }
     for i in 0..provided.len() {
         let expected = candidate.argument_type(i);
-        if !ptype::same_type(types, texts, expected, tok::word_at(provided, i)) {
+        if !ptype::same_type(types, expected, tok::word_at(provided, i)) {
             return false;
         }
     }
@@ -31,36 +31,30 @@ fn fits(types: &[u32], texts: &Texts, candidate: &Signature, provided: &[u32]) -
 }
 
 // The first candidate whose every argument type is equal to the provided one, counts alike.
-pub fn position<'a>(
-    types: &[u32],
-    texts: &Texts,
-    group: &Group<'a>,
-    provided: &[u32],
-) -> Option<Signature<'a>>
-    ensures { let U : ℕ → Ty = ty_of texts.now types.now in result ≡ position_of U (map U provided.now) group.now }
+pub fn position<'a>(types: &Types, group: &Group<'a>, provided: &[u32]) -> Option<Signature<'a>>
+    ensures { let U : ℕ → Ty = type_at types.now in result ≡ position_of U (map U provided.now) group.now }
 {
     group
         .iter()
-        .find(|candidate| fits(types, texts, candidate, provided))
+        .find(|candidate| fits(types, candidate, provided))
 }
 
 // What all candidates return, else Poison.
 pub fn common_return(
     slots: &mut [u32],
-    types: &[u32],
-    texts: &Texts,
+    types: &Types,
     used: Used,
     slot: u32,
     group: &Group,
 ) -> Step<Answer>
-    ensures { CommonReturn texts.now slot group.now slots.old types.now used slots.new result }
+    ensures { CommonReturn types.now.texts.now slot group.now slots.old types.now.words.now used slots.new result }
 {
     let mut others = group.iter();
     let Some(first) = others.next() else {
         return Ok((Answer::Poison, used));
     };
     let ret = first.return_type();
-    if others.all(|candidate| ptype::same_type(types, texts, candidate.return_type(), ret)) {
+    if others.all(|candidate| ptype::same_type(types, candidate.return_type(), ret)) {
         return operators::set_known(slots, used, slot, ret);
     }
     Ok((Answer::Poison, used))

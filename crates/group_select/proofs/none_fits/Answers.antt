@@ -10,7 +10,7 @@ pub returns-in_err-used : goal.returns-in_err-used
 unfolding call_name
 returns-in_err-used c = record {
   of = λ f others q library void.
-      on-err (λ _. common_return (ctx c.args.texts.now library void) c.args.call.site.slot f others)
+      on-err (λ _. common_return (ctx c.args.types.now.texts.now library void) c.args.call.site.slot f others)
       (reports_step c.args.call.site.n (c.no_specialisation-r.ensures _ (λ w r w' p. search rules))) (sym c.told.ensures ∙ c.in_err-used.was) c.from_residual.ensures.1;
 }
 
@@ -19,6 +19,6 @@ unfolding call_name
 returns c =
     record {
       of = λ f others q library void.
-          on-ok (λ _. common_return (ctx c.args.texts.now library void) c.args.call.site.slot f others) (reports_step c.args.call.site.n (c.no_specialisation-r.ensures _ (λ w r w' p. search rules))) (sym c.told.ensures ∙ c.in_ok-used.was)
+          on-ok (λ _. common_return (ctx c.args.types.now.texts.now library void) c.args.call.site.slot f others) (reports_step c.args.call.site.n (c.no_specialisation-r.ensures _ (λ w r w' p. search rules))) (sym c.told.ensures ∙ c.in_ok-used.was)
           (c.common_return.ensures.of f others q library void _ _);
     }

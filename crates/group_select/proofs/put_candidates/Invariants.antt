@@ -3,4 +3,4 @@ use Rattle.group_select.proofs.Candidates.{Listing}
 use Rattle.group_select.proofs.put_candidates.Given as goal
 
 abbrev pub invariant-loop-candidate : goal.invariant-loop-candidate
-invariant-loop-candidate l = Listing l.texts l.types l.group l.initial.out l.out l.candidate-iterator l.before
+invariant-loop-candidate l = Listing l.types.texts.now l.types.words.now l.group l.initial.out l.out l.candidate-iterator l.before

@@ -10,7 +10,7 @@ use Rattle.selection.proofs.common_return.Goals as goal
 
 pub returns-then-all : goal.returns-then-all
 returns-then-all c =
-    let U = ty_of c.args.texts.now c.args.types.now in
+    let U = type_at c.args.types.now in
     let a = all_from_yields_List (λ f. same_ty (U f.ret) (U c.return_type-ret.result)) _ _ c.all.result c.all.ensures.ran
     (YieldsList-from_first (λ f. f) (λ fs. fs) c.next.new.self refl) (λ x b q k. search (rules, tests)) in
     common_known _ _ _ _ _ (sym c.iter-others.ensures ∙ c.in-Some.ensures.steps) (rw c.return_type-ret.ensures at a) c.if-all.true
@@ -18,7 +18,7 @@ returns-then-all c =
 
 pub returns : goal.returns
 returns c =
-    let U = ty_of c.args.texts.now c.args.types.now in
+    let U = type_at c.args.types.now in
     let a = all_from_yields_List (λ f. same_ty (U f.ret) (U c.return_type-ret.result)) _ _ c.all.result c.all.ensures.ran
     (YieldsList-from_first (λ f. f) (λ fs. fs) c.next.new.self refl) (λ x b q k. search (rules, tests)) in
     common_poison _ _ _ _ _ (sym c.iter-others.ensures ∙ c.in-Some.ensures.steps) (rw c.return_type-ret.ensures at a) c.if-all.false

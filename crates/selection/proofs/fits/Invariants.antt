@@ -4,4 +4,4 @@ use Rattle.selection.proofs.Ways.{Alike}
 use Rattle.selection.proofs.fits.Given as goal
 
 abbrev pub invariant-loop-i : goal.invariant-loop-i
-invariant-loop-i l = Alike (ty_of l.texts l.types) l.candidate.params l.provided l.i
+invariant-loop-i l = Alike (type_at l.types) l.candidate.params l.provided l.i

@@ -11,6 +11,6 @@ use Rattle.selection.proofs.position.Goals as goal
 
 pub returns : goal.returns
 returns c =
-    let U = ty_of c.args.texts.now c.args.types.now in
+    let U = type_at c.args.types.now in
     as_found _ ∙ find_from_yields_List (λ f. overload_matches (param_types U f.params) (map U c.args.provided.now)) _ _ c.find.result c.find.ensures.ran
     (YieldsList-from_first (λ f. f) (λ fs. fs) _ c.iter.ensures) (λ x b q k. search (rules, tests))
