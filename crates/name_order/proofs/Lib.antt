@@ -1,4 +1,4 @@
-pub mod SwapWays
+pub mod SortWays
 pub mod SplitWays
 pub mod BytesWays
 pub mod EndWays
