@@ -66,12 +66,13 @@ pub fn slot_conflict(
         Reports (slot_conflict span (call_name T callee) (name_bytes T slot) (U existing) (U new))
         diagnostics.old messages.old counts diagnostics.new messages.new result }
 {
+    let provided = Piece::TypeOf(&*types, new);
     let message = [
         Piece::Call(types.texts, callee),
         Piece::Text(b" can not bind "),
         Piece::Name(types.texts, slot),
         Piece::Text(b" to "),
-        Piece::TypeOf(&*types, new),
+        provided,
         Piece::Text(b", it is already bound to "),
         Piece::TypeOf(&*types, existing),
     ];
@@ -79,7 +80,7 @@ pub fn slot_conflict(
         Piece::Text(b"this argument binds "),
         Piece::Name(types.texts, slot),
         Piece::Text(b" to "),
-        Piece::TypeOf(&*types, new),
+        provided,
     ];
     err_text::tell(diagnostics, messages, counts, 21, span, &message, &primary)
 }
