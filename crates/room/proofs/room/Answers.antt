@@ -8,7 +8,9 @@ pub loop-init : goal.loop-init
 loop-init c = to-fit _ _ _ _ c.word_at-2.ensures
 
 pub returns-then-left-need : goal.returns-then-left-need
-returns-then-left-need c = functions-short c.args.words.now _ _ c.word_at.ensures c.word_at-n.ensures c.if-slots-word_at.false (no_room c.loop.invariant c.loop-test.true c.entry_words-need.ensures c.if-left-need.true)
+returns-then-left-need c =
+    functions-short c.args.words.now _ _ c.word_at.ensures c.word_at-n.ensures c.if-slots-word_at.false
+    (no_room c.loop.invariant c.loop-test.true c.entry_words-need.ensures c.if-left-need.true)
 
 pub loop-preserved : goal.loop-preserved
 loop-preserved c = fit-more c.loop.invariant c.loop-test.true c.entry_words-need.ensures c.if-left-need.false c.after-at.ensures
