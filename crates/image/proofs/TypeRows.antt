@@ -1,10 +1,12 @@
 -- The type records, as the code reads them: the rows of the table of kinds, and one record after the other. Assumes nothing.
-use Prim.Native.Nat.{ℕ, suc, ◌+◌, ◌-◌, ◌≤◌, ◌<◌}
-use mathlib.Core.Bool.{false}
+use Prim.Native.Nat.{ℕ, suc, ◌+◌, ◌-◌, ◌%◌, ◌≤◌, ◌<◌}
+use mathlib.Core.Bool.{false, ◌&&◌}
 use mathlib.Core.List.{List}
 use mathlib.Core.Path.{◌≡◌, refl, sym, ap, ◌∙◌}
 use native.Mathlib.Omega.{arith}
-use lib.Dec.{eqb}
+use lib.Dec.{leb, eqb}
+use borrow.Author.Tests.{lt-leb}
+use Rattle.std.proofs.Math.Decide.{dec_lt}
 use Rattle.std.specs.Prelude.{Result, Ok, ◌⊎◌}
 use Rattle.std.proofs.Common.{inl, inr}
 use Rattle.tok.specs.Word.{kind_of, payload_of}
@@ -32,6 +34,13 @@ same_row w v e = rw e refl
 pub head-by : (w v long : ℕ) → long ≡ payload_of w → kind_of w ≡ kind_of v → (type_kind v).long long ≡ good_type_head w
 unfolding good_type_head
 head-by w v long p e = ap (λ κ. κ.long long) (sym (same_row w v e)) ∙ ap (type_kind w).long p
+
+-- 2 and pairs more
+pub pairs-even : (k : ℕ) → (leb 2 k && eqb ((k - 2) % 2) 0) ≡ (leb 2 k && eqb (k % 2) 0)
+pairs-even k = elim (dec_lt k 2) [
+  | yes l ↦ rw (lt-leb 2 k l) refl
+  | no l ↦ let e : (k - 2) % 2 ≡ k % 2 = omega arith in rw e refl
+]
 
 -- its words, likewise
 pub rest-by : (from : Reader) (text : List ℕ) (to : Result Reader Fault) (head v number left : ℕ) → kind_of head ≡ kind_of v

@@ -5,7 +5,6 @@ ghost use Rattle.std.specs.Prelude.{◌≡◌, ◌&&◌, ◌||◌, List, [], ℕ
 ghost use Rattle.tok.specs.Text.{texts_of};
 ghost use Rattle.tok.specs.Word.{kind_of};
 ghost use Rattle.reader.specs.Reading.{next_word, onward, gave, offending};
-ghost use Rattle.ast.specs.Kinds.{kind_of_expr};
 ghost use Rattle.ast.specs.Nodes.{nodes};
 ghost use Rattle.ast.specs.TypeRecords.{type_atom, type_foreign, type_inner, type_record, type_kind, good_type_head, type_expression, type_expressions};
 ghost use Rattle.ast.specs.ImageFault.{image, image_fault};
@@ -15,7 +14,7 @@ ghost use Rattle.image.specs.Counted.{LeadsFor};
 
 use ast::{ExprKind, NodeKind};
 use image_nodes::Sizes;
-use image_words::{between, numbers, pairs, token};
+use image_words::{and_pairs, between, numbers, pairs, token};
 use reader::{Fault, Reader};
 
 // Type records: the words after the first, by kind.
@@ -60,13 +59,6 @@ fn type_record<'a>(
     pairs(script, at, left.saturating_sub(1) / 2, number)
 }
 
-// Whether a length is even, and 2 at least.
-fn even(long: usize) -> bool
-    ensures { result ≡ (leb 2 long && eqb (long % 2) 0) }
-{
-    long >= 2 && long % 2 == 0
-}
-
 // Whether a record's first word has a kind of type, and a length that the kind may have.
 fn good_type_head(head: u32) -> bool
     ensures { result ≡ good_type_head head }
@@ -75,22 +67,22 @@ fn good_type_head(head: u32) -> bool
     match ExprKind::of(head) {
         ExprKind::Atom => long == 3,
         ExprKind::Foreign | ExprKind::Option | ExprKind::Array => long == 2,
-        ExprKind::Record => even(long),
+        ExprKind::Record => and_pairs(2, long),
         ExprKind::None => false,
     }
 }
 
-// The words after the first, by kind.
+// The words after the first, by its kind.
 fn type_rest<'a>(
     script: &[u8],
     from: Reader<'a>,
-    kind: ExprKind,
+    head: u32,
     number: usize,
     left: usize,
 ) -> Result<Reader<'a>, Fault>
-    ensures { (head : ℕ) → kind ≡ kind_of_expr (kind_of head) → LeadsFor from.entry script.now (λ c. (type_kind head).rest c number left) result }
+    ensures { LeadsFor from.entry script.now (λ c. (type_kind head).rest c number left) result }
 {
-    match kind {
+    match ExprKind::of(head) {
         ExprKind::Atom => type_atom(script, from),
         ExprKind::Foreign => type_foreign(script, from),
         ExprKind::Option | ExprKind::Array => type_inner(from, number),
@@ -107,13 +99,7 @@ fn type_expression<'a>(script: &[u8], from: Reader<'a>, number: usize) -> Result
     let head = from.next_word();
     let long = tok::payload(head);
     let at = from.owing(good_type_head(head), long.saturating_sub(2))?;
-    type_rest(
-        script,
-        at,
-        ExprKind::of(head),
-        number,
-        long.saturating_sub(1),
-    )
+    type_rest(script, at, head, number, long.saturating_sub(1))
 }
 
 // All `count` type records.

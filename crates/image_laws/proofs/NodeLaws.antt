@@ -14,8 +14,10 @@ use Rattle.ast.specs.Outline.{Outline, Counts, Here}
 use Rattle.ast.specs.NodeRecords.{atom, ident, bin, unary, binding, fn, match, call, field, cast, imports, extern, record_node, array}
 use Rattle.ast.specs.Nodes.{node_kinds, node_kind, good_node_head, node}
 use Rattle.reader.specs.Reads.{Reads, reads_then, reads-show, reads_word}
-use Rattle.image_laws.specs.OutlineAt.{parts_by_kind, parts_at, arguments_at, outline_from, bin_parts, unary_parts, let_parts, fn_parts, match_parts, call_parts, field_parts, cast_parts, record_parts, array_parts}
-use Rattle.image_laws.specs.RecordWords.{Under, AtomWords, IdentWords, BinWords, UnaryWords, LetWords, FnWords, MatchWords, CallReads, FieldWords, CastWords, ImportWords, ExternWords, RecordWords, ArrayWords}
+use Rattle.image_laws.specs.OutlineAt.{parts_by_kind, parts_at, arguments_at, outline_from}
+use Rattle.image_laws.specs.OutlineAt.{bin_parts, unary_parts, let_parts, fn_parts, match_parts, call_parts, field_parts, cast_parts, record_parts, array_parts}
+use Rattle.image_laws.specs.RecordWords.{Under, AtomWords, IdentWords, BinWords, UnaryWords, LetWords, FnWords, MatchWords, CallReads}
+use Rattle.image_laws.specs.RecordWords.{FieldWords, CastWords, ImportWords, ExternWords, RecordWords, ArrayWords}
 use Rattle.image_laws.proofs.RecordLaws.{under, Rest, atom-gives, ident-gives, bin_gives, unary-gives, let_gives, field-gives, cast-gives}
 use Rattle.image_laws.proofs.ListLaws.{fn-gives, call-gives, array-gives, import_gives, record_gives}
 use Rattle.image_laws.proofs.CaseLaws.{match-gives, extern-gives}
@@ -127,10 +129,14 @@ module _ (c : Counts) (before : List Outline) (image : List ℕ) (n at : ℕ) wh
   by_kind (suc (suc (suc (suc (suc (suc (suc zero))))))) e least = reads-show (λ _ w. record { kind = omega arith; slot = w.0; long = let l = w.1.long in omega arith }) (call-node e least)
   by_kind (suc (suc (suc (suc (suc (suc (suc (suc zero)))))))) e least = reads-show (λ _ w. record { kind = omega arith; slot = w.0; long = let l = w.1.long in omega arith }) (field-node e least)
   by_kind (suc (suc (suc (suc (suc (suc (suc (suc (suc zero))))))))) e least = reads-show (λ _ w. record { kind = omega arith; slot = w.0; long = let l = w.1.long in omega arith }) (cast-node e least)
-  by_kind (suc (suc (suc (suc (suc (suc (suc (suc (suc (suc zero)))))))))) e least = reads-show (λ _ w. record { kind = omega arith; slot = w.0; long = let l = w.1.long in omega arith }) (import_node e least)
-  by_kind (suc (suc (suc (suc (suc (suc (suc (suc (suc (suc (suc zero))))))))))) e least = reads-show (λ _ w. record { kind = omega arith; slot = w.0; long = let l = w.1.long in omega arith }) (extern-node e least)
-  by_kind (suc (suc (suc (suc (suc (suc (suc (suc (suc (suc (suc (suc zero)))))))))))) e least = reads-show (λ _ w. record { kind = omega arith; slot = w.0; long = let l = w.1.long in omega arith }) (record_node_lem e least)
-  by_kind (suc (suc (suc (suc (suc (suc (suc (suc (suc (suc (suc (suc (suc zero))))))))))))) e least = reads-show (λ _ w. record { kind = omega arith; slot = w.0; long = let l = w.1.long in omega arith }) (array-node e least)
+  by_kind (suc (suc (suc (suc (suc (suc (suc (suc (suc (suc zero)))))))))) e least =
+      reads-show (λ _ w. record { kind = omega arith; slot = w.0; long = let l = w.1.long in omega arith }) (import_node e least)
+  by_kind (suc (suc (suc (suc (suc (suc (suc (suc (suc (suc (suc zero))))))))))) e least =
+      reads-show (λ _ w. record { kind = omega arith; slot = w.0; long = let l = w.1.long in omega arith }) (extern-node e least)
+  by_kind (suc (suc (suc (suc (suc (suc (suc (suc (suc (suc (suc (suc zero)))))))))))) e least =
+      reads-show (λ _ w. record { kind = omega arith; slot = w.0; long = let l = w.1.long in omega arith }) (record_node_lem e least)
+  by_kind (suc (suc (suc (suc (suc (suc (suc (suc (suc (suc (suc (suc (suc zero))))))))))))) e least =
+      reads-show (λ _ w. record { kind = omega arith; slot = w.0; long = let l = w.1.long in omega arith }) (array-node e least)
   by_kind (suc (suc (suc (suc (suc (suc (suc (suc (suc (suc (suc (suc (suc (suc k)))))))))))))) e least =
       reads_then _ (reads_word good_node_head _ image at least) λ l₁ w₁ g. absurd (false≢true (rw (e, good_node_head) at g))
 

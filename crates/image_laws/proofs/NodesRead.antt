@@ -13,15 +13,18 @@ use Rattle.ast.specs.Outline.{Counts}
 use Rattle.ast.specs.NodeRecords.{callable}
 use Rattle.ast.specs.Nodes.{node, nodes}
 use Rattle.image_laws.specs.OutlineAt.{outline_from, outline_at, outlines_from}
-use Rattle.image_laws.specs.RecordWords.{AtomWords, IdentWords, BinWords, UnaryWords, LetWords, FnWords, MatchWords, CallWords, FieldWords, CastWords, ImportWords, ExternWords, RecordWords, ArrayWords}
-use Rattle.image_laws.proofs.NodeLaws.{NodeWords, any_node, atom-node, ident-node, bin-node, unary-node, let_node, fn-node, match-node, call-node, field-node, cast-node, import_node, extern-node, record_node_lem, array-node}
+use Rattle.image_laws.specs.RecordWords.{AtomWords, IdentWords, BinWords, UnaryWords, LetWords, FnWords, MatchWords, CallWords}
+use Rattle.image_laws.specs.RecordWords.{FieldWords, CastWords, ImportWords, ExternWords, RecordWords, ArrayWords}
+use Rattle.image_laws.proofs.NodeLaws.{NodeWords, any_node, atom-node, ident-node, bin-node, unary-node, let_node, fn-node, match-node}
+use Rattle.image_laws.proofs.NodeLaws.{call-node, field-node, cast-node, import_node, extern-node, record_node_lem, array-node}
 use Rattle.image_laws.proofs.Places.{node-next, outlines-more, outlines-known}
 
 -- node n was read: its record is accepted at its place, and gives its outline
 pub record NodeRead (c : Counts) (image : List ℕ) (n : ℕ) : Type 0 where
   pub least : ℕ
   pub after : ℕ
-  pub read : node c (outlines_from image 0 n) n (standing image (node_place image n) least) ≡ ok (outline_from image (node_place image n)) (standing image (node_place image n + record_length image (node_place image n)) after)
+  pub read : node c (outlines_from image 0 n) n (standing image (node_place image n) least)
+      ≡ ok (outline_from image (node_place image n)) (standing image (node_place image n + record_length image (node_place image n)) after)
   pub words : NodeWords c image (node_place image n)
   pub within : Within image (node_place image n + record_length image (node_place image n))
 

@@ -60,7 +60,8 @@ parts-give n words k at least w =
 pub names-give : (text words : List ℕ) (k at least : ℕ) → Within words at
     → Reads words (parts_from words 1 at k) (at + k) (Each (Named text words) 1 at k) (many k (word (good_name in_script text)) (standing words at least))
 names-give text words k at least w =
-    reads_to (at + k) (λ _. omega arith) (reads-as (answers-words words 1 k at) (gives-many words (word (good_name in_script text)) (word_at words) 1 (Named text words) (named-at text words) k at least w))
+    reads_to (at + k) (λ _. omega arith)
+    (reads-as (answers-words words 1 k at) (gives-many words (word (good_name in_script text)) (word_at words) 1 (Named text words) (named-at text words) k at least w))
 
 -- k pairs of a name and a number below n
 abbrev pub pair_rule : (text : List ℕ) (n : ℕ) → Read ℕ

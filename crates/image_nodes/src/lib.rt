@@ -5,14 +5,15 @@ ghost use Rattle.std.specs.Prelude.{◌≡◌, false, ◌&&◌, List, ℕ, ◌+�
 ghost use Rattle.tok.specs.Word.{kind_of};
 ghost use Rattle.reader.specs.Reading.{Comes};
 ghost use Rattle.ast.specs.Outline.{Outline};
-ghost use Rattle.ast.specs.NodeRecords.{atom, ident, bin, unary, binding, good_arguments, fn, cases, match, call, field, cast, imports, good_extern_count, extern_functions, good_function_count, extern, record_node, array};
+ghost use Rattle.ast.specs.NodeRecords.{atom, ident, bin, unary, binding, fn, cases, match, call, field, cast, imports, extern_functions, extern, record_node, array};
+ghost use Rattle.ast.specs.NodeRecords.{good_arguments, good_extern_count, good_function_count};
 ghost use Rattle.ast.specs.Nodes.{node_kind, good_node_head, node};
 ghost use Rattle.image_laws.specs.OutlineAt.{outline_from};
 ghost use Rattle.image_words.specs.Leads.{Leads};
 ghost use Rattle.image_nodes.specs.Site.{Site, counts_of, site_of, here_of, LeadsAt, Kept};
 
 use ast::NodeKind;
-use image_words::{between, names, numbers, pairs, token};
+use image_words::{and_pairs, between, names, numbers, pairs, token};
 use reader::{Fault, Reader};
 use std::marker::Model;
 
@@ -279,13 +280,6 @@ fn array<'a>(from: Reader<'a>, site: &Site) -> Result<Reader<'a>, Fault>
 }
 
 // Nodes.
-
-// Whether a length is `least`, or that and pairs more.
-fn and_pairs(least: usize, long: usize) -> bool
-    ensures { result ≡ (leb least long && eqb ((long - least) % 2) 0) }
-{
-    long >= least && (long - least) % 2 == 0
-}
 
 // Whether a record's first word has a kind of node, and a length that the kind may have.
 #[tactic(auto, unfolding(ast::specs::Nodes::node_kinds), using(crate::proofs::Heads::long_by))]

@@ -1,7 +1,7 @@
 // Words of an image's records, read forward: names, numbers below others, lists of them (document 01, "Words").
 #![tactic(auto)]
 
-ghost use Rattle.std.specs.Prelude.{◌≡◌};
+ghost use Rattle.std.specs.Prelude.{◌≡◌, ◌&&◌, ◌-◌, ◌%◌, leb, eqb};
 ghost use Rattle.utf8.specs.Rfc3629.{range};
 ghost use Rattle.tok.specs.Name.{good_name, in_script};
 ghost use Rattle.tok.specs.Reader.{word, below, many};
@@ -18,6 +18,13 @@ pub fn between(low: usize, high: usize, n: usize) -> bool
     ensures { result ≡ range low high n }
 {
     (low..=high).contains(&n)
+}
+
+// Whether a length is `least`, or that and pairs more.
+pub fn and_pairs(least: usize, long: usize) -> bool
+    ensures { result ≡ (leb least long && eqb ((long - least) % 2) 0) }
+{
+    long >= least && (long - least) % 2 == 0
 }
 
 // One word, and lists.

@@ -2,7 +2,7 @@
 use mathlib.Core.Path.{◌∙◌}
 use Rattle.ast.specs.KindLaws.{expr-number}
 use Rattle.ast.specs.TypeRecords.{type_kind, type_kinds}
-use Rattle.image.proofs.TypeRows.{head-by, two-long, no-head}
+use Rattle.image.proofs.TypeRows.{head-by, pairs-even, two-long, no-head}
 use Rattle.image.proofs.good_type_head.Goals as goal
 
 pub returns-in-Atom : goal.returns-in-Atom
@@ -14,7 +14,7 @@ returns-in-Foreign c = two-long _ _ c.payload-long.ensures c.of.ensures c.in-For
 
 pub returns-in-Record : goal.returns-in-Record
 unfolding type_kind type_kinds
-returns-in-Record c = c.even.ensures ∙ head-by _ 0x4000_0000 _ c.payload-long.ensures (expr-number _ c.in-Record.ensures)
+returns-in-Record c = c.and_pairs.ensures ∙ pairs-even c.payload-long.result ∙ head-by _ 0x4000_0000 _ c.payload-long.ensures (expr-number _ c.in-Record.ensures)
 
 pub returns-in-None : goal.returns-in-None
 returns-in-None c = no-head _ (expr-number _ c.in-None.ensures)

@@ -16,5 +16,5 @@ returns c =
     let head = owed good_type_head (λ w. payload_of w - 2) c.args.from (Ok c.in_ok-at.at) c.next_word-head.result c.saturating_sub.result c.good_type_head.result
     c.next_word-head.ensures c.good_type_head.ensures (c.saturating_sub.ensures ∙ ap (λ n. n - 2) c.payload-long.ensures) c.in_ok-at.ensures.0 in
     let left = c.saturating_sub-2.ensures ∙ ap (λ n. n - 1) c.payload-long.ensures in
-    let rest = c.type_rest.ensures c.next_word-head.result c.of.ensures in
+    let rest = c.type_rest.ensures in
     (λ n t v. rw head (rw left at (rest.0 n t v)), same_on c.args.from c.in_ok-at.at _ c.in_ok-at.ensures.1 rest.1)

@@ -8,7 +8,9 @@ pub loop-init : goal.loop-init
 loop-init c = to-fit _ _ _ _ c.root_count.ensures
 
 pub returns-then-left-need : goal.returns-then-left-need
-returns-then-left-need c = functions-short c.args.words.now _ _ c.slot_count.ensures c.node_count-n.ensures c.if-slots-slot_count.false (no_room c.loop.invariant c.loop-test.true c.entry_words-need.ensures c.if-left-need.true)
+returns-then-left-need c =
+    functions-short c.args.words.now _ _ c.slot_count.ensures c.node_count-n.ensures c.if-slots-slot_count.false
+    (no_room c.loop.invariant c.loop-test.true c.entry_words-need.ensures c.if-left-need.true)
 
 pub loop-preserved : goal.loop-preserved
 loop-preserved c = fit-more c.loop.invariant c.loop-test.true c.entry_words-need.ensures c.if-left-need.false c.after-at.ensures
