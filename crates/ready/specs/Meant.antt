@@ -25,7 +25,7 @@ use Rattle.library_laws.specs.Room.{most_pairs}
 use Rattle.onerun.specs.Claim.{All, Both, Is, ParamOk, SignatureOk, FunctionOk, PackageOk}
 use Rattle.onerun.specs.Claim as C
 use Rattle.onerun.specs.Grows.{is-tree}
-use Rattle.onerun.specs.Inner.{no_name}
+use Rattle.tworuns.specs.Inner.{no_name}
 use Rattle.onerun.proofs.Nodes.{proper-slot}
 use Rattle.state.specs.Store.{held_from}
 use Rattle.spans.specs.Ready.{NodesReady}
