@@ -124,8 +124,9 @@ fn compare_branches(
     let mut here = used;
     let mut place = at;
     for _ in 0..count {
-        let body = image.word_after(place, 2) as usize;
-        let answer = body_answer(slots, image, n, place + 3, body);
+        let nodes = image.word_after(place, 2) as usize;
+        let body = place + 3;
+        let answer = body_answer(slots, image, n, body, nodes);
         let (_, after) = values::compare_branch(
             slots,
             types,
@@ -138,7 +139,7 @@ fn compare_branches(
             answer,
         )?;
         here = after;
-        place = place + 3 + body;
+        place = body + nodes;
     }
     Ok(((), here))
 }

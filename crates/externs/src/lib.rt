@@ -26,10 +26,11 @@ pub fn extern_arguments(
 {
     let mut after = used;
     for k in 0..count {
-        let t = image.word_after(from + 2 * k, 1);
+        let pair = from + 2 * k;
+        let t = image.word_after(pair, 1);
         let added = type_from_type_expr(types, after.types, image, t);
         let (w, next) = state::added(n, after, added)?;
-        let name = image.word_at(from + 2 * k);
+        let name = image.word_at(pair);
         add::set_pair(scratch, at + 2 * k, name, w);
         after = next;
     }

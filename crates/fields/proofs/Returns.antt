@@ -70,15 +70,15 @@ module _ (count : ℕ) (image slots : List ℕ) (at : ℕ) where
   pairs = pairs_read image slots at count
 
   abbrev set : (n : ℕ) → Stepping Buffer Refused ℕ
-  set n b = next (opened n count b) (paired 0 pairs)
+  set n = λ b. next (opened n count b) (paired 0 pairs)
 
-  parts-are : (T : Texts) (n : ℕ) (b : Buffer) → add_record T n pairs b ≡ next (set n b) (measured T n)
+  parts-are : (a : Arena) (T : Texts) (n : ℕ) → add_record T n pairs (buffer_of a) ≡ next (set n (buffer_of a)) (measured T n)
   unfolding record_from
-  parts-are T n b = record_parts_lem T n pairs count (read_length image slots at count) b
+  parts-are a T n = record_parts_lem T n pairs count (read_length image slots at count) (buffer_of a)
 
   module _ {a a₁ : Arena} where
     pub record-refused : {e : AddError} → Allocates (λ T n. opened n count) a (Err e) a₁ → Allocates (λ T n. add_record T n pairs) a (Err e) a₁
-    record-refused g = record { lent = g.lent; keeps = g.keeps; result = λ T n. parts-are T n (buffer_of a) ∙ rw (g.result T n) }
+    record-refused g = record { lent = g.lent; keeps = g.keeps; result = λ T n. parts-are a T n ∙ rw (g.result T n) }
 
     module _ {w q : ℕ} {a₂ : Arena} (g : Allocates (λ T n. opened n count) a (Ok w) a₁) (eq : q ≡ payload_of w)
         (el : a₂.words.ghost_name ≡ a₁.words.ghost_name) (eu : a₂.used ≡ a₁.used) (h : a₂.words.now ≡ write a₁.words.now (q + 1) pairs) where
@@ -94,7 +94,7 @@ module _ (count : ℕ) (image slots : List ℕ) (at : ℕ) where
 
       pub record-closed : {y : Answered ℕ AddError} → ((T : Texts) (n : ℕ) → measured T n w (buffer_of a₂) ≡ result_of n (answer_of y a₂.used) a₂.words.now)
           → Allocates (λ T n. add_record T n pairs) a y a₂
-      record-closed c = allocates_then (λ T n. measured T n) (λ T n. parts-are T n (buffer_of a)) set-is (record { lent = refl; keeps = refl; result = c })
+      record-closed c = allocates_then (λ T n. measured T n) (parts-are a) set-is (record { lent = refl; keeps = refl; result = c })
 
 -- ── Node::Record once its values are visited ──
 

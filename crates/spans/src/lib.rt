@@ -62,9 +62,10 @@ fn cover_externs(image: &Image, span: Span, at: usize, k: usize) -> Span
     for _ in 0..k {
         let count = image.word_after(i, 2) as usize;
         let named = cover_spans(covered, token_span(image.word_at(i)));
-        let args = cover_args(image, named, i + 3, count);
+        let pairs = i + 3;
+        let args = cover_args(image, named, pairs, count);
         covered = cover_spans(args, type_span(image, image.word_after(i, 1)));
-        i = i + 3 + 2 * count;
+        i = pairs + 2 * count;
     }
     covered
 }
@@ -121,8 +122,9 @@ fn cover_cases(image: &Image, owner: u32, span: Span, at: usize, k: usize) -> Sp
         let count = image.word_after(i, 2) as usize;
         let begun = cover_spans(covered, token_span(image.word_at(i)));
         let tested = cover_spans(begun, span_of(image, image.word_after(i, 1)));
-        covered = cover_nodes(image, owner, tested, i + 3, count);
-        i = i + 3 + count;
+        let body = i + 3;
+        covered = cover_nodes(image, owner, tested, body, count);
+        i = body + count;
     }
     covered
 }
@@ -136,10 +138,12 @@ fn match_span(image: &Image, n: u32, at: usize, end: usize) -> Span
     ensures { result ≡ span_of (tree_of image.now.words n) }
 {
     let count = image.word_after(at, 2) as usize;
-    let default = cases_end(image, n, at + 3, count);
+    let begin = at + 3;
+    let default = cases_end(image, n, begin, count);
     let first = token_span(image.word_at(default));
-    let cases = cover_cases(image, n, first, at + 3, count);
-    cover_nodes(image, n, cases, default + 1, end - (default + 1))
+    let cases = cover_cases(image, n, first, begin, count);
+    let body = default + 1;
+    cover_nodes(image, n, cases, body, end - body)
 }
 
 // The span of a node of a kind that has a list, whose record stands at `at` and begins with the word `head`.

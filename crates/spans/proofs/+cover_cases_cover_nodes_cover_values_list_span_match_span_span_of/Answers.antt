@@ -224,23 +224,17 @@ pub cover_nodes-returns : goal.cover_nodes-returns
 cover_nodes-returns t c = nodes-done c.loop-i.invariant (none-left (omega arith))
 
 -- `spans::match_span` meets its contract. Assumes nothing.
-pub match_span-overflow_add-at : goal.match_span-overflow_add-at
-match_span-overflow_add-at t c = omega (arith, match-long c.requires)
+pub match_span-overflow_add-begin : goal.match_span-overflow_add-begin
+match_span-overflow_add-begin t c = omega (arith, match-long c.requires)
 
 pub match_span-cases_end-default-requires : goal.match_span-cases_end-default-requires
 match_span-cases_end-default-requires t c = cases-ready c.requires c.word_after-count.ensures
 
-pub match_span-overflow_add-at-2 : goal.match_span-overflow_add-at-2
-match_span-overflow_add-at-2 t c = omega (arith, match-long c.requires)
-
 pub match_span-cover_cases-cases-requires : goal.match_span-cover_cases-cases-requires
 match_span-cover_cases-cases-requires t c = (omega (arith, c.decreases), cases-ready c.requires c.word_after-count.ensures)
 
-pub match_span-overflow_add-default : goal.match_span-overflow_add-default
-match_span-overflow_add-default t c = omega (arith, default_end c.requires c.word_after-count.ensures c.cases_end-default.ensures, match-room c.requires)
-
-pub match_span-overflow_add-default-2 : goal.match_span-overflow_add-default-2
-match_span-overflow_add-default-2 t c = omega (arith, default_end c.requires c.word_after-count.ensures c.cases_end-default.ensures, match-room c.requires)
+pub match_span-overflow_add-body : goal.match_span-overflow_add-body
+match_span-overflow_add-body t c = omega (arith, default_end c.requires c.word_after-count.ensures c.cases_end-default.ensures, match-room c.requires)
 
 pub match_span-overflow_sub-end : goal.match_span-overflow_sub-end
 match_span-overflow_sub-end t c = default_end c.requires c.word_after-count.ensures c.cases_end-default.ensures
@@ -260,18 +254,15 @@ pub cover_cases-span_of-requires : goal.cover_cases-span_of-requires
 cover_cases-span_of-requires t c =
     let p = case-condition (some-left c.loop-test.true) c.loop.invariant.ready c.word_after.ensures in (omega (arith, c.decreases, p.under), p.ready)
 
-pub cover_cases-overflow_add-i : goal.cover_cases-overflow_add-i
-cover_cases-overflow_add-i t c = omega (arith, case-room (some-left c.loop-test.true) c.loop.invariant.ready refl)
-
 pub cover_cases-cover_nodes-covered-requires : goal.cover_cases-cover_nodes-covered-requires
 cover_cases-cover_nodes-covered-requires t c =
     (omega (arith, c.decreases), case-body (some-left c.loop-test.true) c.loop.invariant.ready c.word_after-count.ensures)
 
-pub cover_cases-overflow_add-i-in-loop : goal.cover_cases-overflow_add-i-in-loop
-cover_cases-overflow_add-i-in-loop t c = omega (arith, case-room (some-left c.loop-test.true) c.loop.invariant.ready refl)
+pub cover_cases-overflow_add-body : goal.cover_cases-overflow_add-body
+cover_cases-overflow_add-body t c = omega (arith, case-room (some-left c.loop-test.true) c.loop.invariant.ready refl)
 
-pub cover_cases-overflow_add-i-in-loop-2 : goal.cover_cases-overflow_add-i-in-loop-2
-cover_cases-overflow_add-i-in-loop-2 t c = omega (arith, case-room (some-left c.loop-test.true) c.loop.invariant.ready c.word_after-count.ensures)
+pub cover_cases-overflow_add-i : goal.cover_cases-overflow_add-i
+cover_cases-overflow_add-i t c = omega (arith, case-room (some-left c.loop-test.true) c.loop.invariant.ready c.word_after-count.ensures)
 
 pub cover_cases-loop-preserved : goal.cover_cases-loop-preserved
 cover_cases-loop-preserved t c =

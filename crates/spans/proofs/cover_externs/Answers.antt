@@ -9,23 +9,20 @@ use Rattle.spans.proofs.cover_externs.Goals as goal
 pub loop-init : goal.loop-init
 loop-init c = rw sub-zero (externs_all c.requires)
 
-pub overflow_add-i : goal.overflow_add-i
-overflow_add-i c = omega (arith, extern-room (some-left c.loop-test.true) c.loop.invariant.ready refl)
-
 pub cover_args-args-requires : goal.cover_args-args-requires
 cover_args-args-requires c = extern-args (some-left c.loop-test.true) c.loop.invariant.ready c.word_after-count.ensures
 
 pub type_span-requires : goal.type_span-requires
 type_span-requires c = extern-ret (some-left c.loop-test.true) c.loop.invariant.ready c.word_after.ensures
 
-pub overflow_add-i-in-loop : goal.overflow_add-i-in-loop
-overflow_add-i-in-loop c = omega (arith, extern-room (some-left c.loop-test.true) c.loop.invariant.ready refl)
+pub overflow_add-pairs : goal.overflow_add-pairs
+overflow_add-pairs c = omega (arith, extern-room (some-left c.loop-test.true) c.loop.invariant.ready refl)
 
 pub overflow_mul-i : goal.overflow_mul-i
 overflow_mul-i c = omega (arith, extern-room (some-left c.loop-test.true) c.loop.invariant.ready c.word_after-count.ensures)
 
-pub overflow_add-i-in-loop-2 : goal.overflow_add-i-in-loop-2
-overflow_add-i-in-loop-2 c = omega (arith, extern-room (some-left c.loop-test.true) c.loop.invariant.ready c.word_after-count.ensures)
+pub overflow_add-i : goal.overflow_add-i
+overflow_add-i c = omega (arith, extern-room (some-left c.loop-test.true) c.loop.invariant.ready c.word_after-count.ensures)
 
 pub loop-preserved : goal.loop-preserved
 loop-preserved c =
