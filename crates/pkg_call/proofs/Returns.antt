@@ -42,7 +42,7 @@ front-stays e rest l = record { same = take_at (take 8192 e) rest 8192 (length-t
 
 -- ── Into one package ──
 
-module _ {texts : Texts} {n slot pkg name : ℕ} {given : List Provided} {poisoned : Bool} {words : List ℕ} (at : ℕ)
+module _ {texts : Texts} {n slot pkg name : ℕ} {given : List Provided} {poisoned : Bool} (words : List ℕ) (at : ℕ)
     {s t d m : List ℕ} {u : Used} {s' t' d' m' : List ℕ} {r : Step Answer} where
   pub library-calls : (e : List ℕ)
       → InGroup texts n slot pkg name given poisoned (candidates_at texts (name_bytes texts name) words true at) s t d m u s' t' d' m' r

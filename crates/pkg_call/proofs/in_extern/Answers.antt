@@ -1,5 +1,5 @@
 -- `pkg_call::in_extern` meets its contract: an Extern's functions have no slots. Assumes nothing.
-use mathlib.Core.Path.{◌≡◌, refl, sym, ap, ◌∙◌}
+use mathlib.Core.Path.{refl, sym, ap, ◌∙◌}
 use Rattle.pkg_call.proofs.Ready.{extern-plain, group-ready}
 use Rattle.pkg_call.proofs.Returns.{extern-calls}
 use Rattle.pkg_group.specs.GroupSize.{group_size}
@@ -11,4 +11,4 @@ in_group-requires c =
     (extern-plain _ _ _ _ (sym (ap group_size c.candidates_at-group.ensures) ∙ c.find_candidates-found.ensures))
 
 pub returns : goal.returns
-returns c = extern-calls _ (rw c.candidates_at-group.ensures at c.in_group.ensures)
+returns c = extern-calls _ _ (rw c.candidates_at-group.ensures at c.in_group.ensures)

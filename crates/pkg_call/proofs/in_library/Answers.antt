@@ -1,6 +1,6 @@
 -- `pkg_call::in_library` meets its contract: one function with slots, whose bindings stand in the lent tail of scratch, or a group.
 -- Assumes nothing.
-use mathlib.Core.Path.{◌≡◌, refl, sym, ap, ◌∙◌}
+use mathlib.Core.Path.{refl, sym, ap, ◌∙◌}
 use native.Mathlib.Omega.{arith}
 use Rattle.pkg_call.proofs.Ready.{group-ready, slotted-ready}
 use Rattle.pkg_call.proofs.Returns.{front-stays, library-calls, slotted-calls}
@@ -12,7 +12,7 @@ in_group-requires c =
     group-ready c.requires.ready refl c.find_candidates-found.ensures c.in_default.not-Slotted
 
 pub returns-in_default : goal.returns-in_default
-returns-in_default c = library-calls _ _ (rw c.candidates_at-group.ensures at c.in_group.ensures)
+returns-in_default c = library-calls _ _ _ (rw c.candidates_at-group.ensures at c.in_group.ensures)
 
 pub check_slotted-requires : goal.check_slotted-requires
 check_slotted-requires c =
@@ -21,4 +21,4 @@ check_slotted-requires c =
 pub returns : goal.returns
 returns c =
     let l = front-stays _ _ (omega (arith, c.requires.ready.long)) in
-    slotted-calls _ (sym (ap group_size c.candidates_at-group.ensures) ∙ c.find_candidates-found.ensures) c.in-Slotted.is c.check_slotted.ensures l
+    slotted-calls _ _ (sym (ap group_size c.candidates_at-group.ensures) ∙ c.find_candidates-found.ensures) c.in-Slotted.is c.check_slotted.ensures l
