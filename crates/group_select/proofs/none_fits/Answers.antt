@@ -19,6 +19,7 @@ unfolding call_name
 returns c =
     record {
       of = λ f others q library void.
-          on-ok (λ _. common_return (ctx c.args.texts.now library void) c.args.call.site.slot f others) (reports_step c.args.call.site.n (c.no_specialisation-r.ensures _ (λ w r w' p. search rules))) (sym c.told.ensures ∙ c.in_ok-used.was)
+          on-ok (λ _. common_return (ctx c.args.texts.now library void) c.args.call.site.slot f others) (reports_step c.args.call.site.n (c.no_specialisation-r.ensures _ (λ w r w' p. search rules)))
+          (sym c.told.ensures ∙ c.in_ok-used.was)
           (c.common_return.ensures.of f others q library void _ _);
     }
