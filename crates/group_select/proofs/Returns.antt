@@ -12,7 +12,7 @@ use Rattle.library.specs.Package.{Signature, Package}
 use Rattle.rules.specs.declared.Answer.{Answer}
 use Rattle.rules.specs.Steps.{set_known, on_option}
 use Rattle.rules.specs.World.{World}
-use Rattle.rules.specs.Calls.{Provided, position, select}
+use Rattle.rules.specs.Calls.{Provided, provided_trees, position, select}
 use Rattle.state.specs.declared.Used.{Used}
 use Rattle.state.specs.Context.{ctx}
 use Rattle.state.specs.World.{Rest, world, Step, Steps}
@@ -26,8 +26,17 @@ provided-is : (texts : Texts) (s t provided : List ℕ) (given : List Provided) 
     → map (λ a. ty_of texts t (get_or s a.slot 0)) given ≡ map (ty_of texts t) provided
 provided-is texts s t provided given e = sym (map-map (ty_of texts t) (λ a. get_or s a.slot 0) given) ∙ ap (map (ty_of texts t)) e
 
+-- the rule reads the same types
+module _ (texts : Texts) (provided s t d m : List ℕ) (u : Used) (given : List Provided) (e : map (λ a. get_or s a.slot 0) given ≡ provided)
+    (library : List Package) (void : ℕ) (w : Rest) where
+  provided-taken : provided_trees (ctx texts library void) given (world w s t d m u) ≡ ok (map (ty_of texts t) provided) (world w s t d m u)
+  provided-taken =
+      let here : World = world w s t d m u in
+      provided-are (ctx texts library void) here given ∙ ap (λ ts. ok ts here) (provided-is texts s t provided given e)
+
 module _ (texts : Texts) (n slot token : ℕ) (call_name provided : List ℕ) {poisoned : Bool} {fs : List Signature} (s t d m : List ℕ) (u : Used) where
-  pub select-poisoned : {s' : List ℕ} {r : Step Answer} → poisoned ≡ true → CommonReturn texts slot fs s t u s' r → Selects texts n slot token call_name provided poisoned fs s t d m u s' d m r
+  pub select-poisoned : {s' : List ℕ} {r : Step Answer} → poisoned ≡ true → CommonReturn texts slot fs s t u s' r
+      → Selects texts n slot token call_name provided poisoned fs s t d m u s' d m r
   unfolding select when
   select-poisoned y c = record { of = λ f others q given e library void. record { step = λ w. rw y ((c.of f others q library void d m).step w) } }
 
@@ -48,7 +57,7 @@ module _ (texts : Texts) (n slot token : ℕ) (call_name provided : List ℕ) {p
     select-taken {x} o er k = record {
       of = λ f others q given e library void. record {
         step = λ w.
-            rw (no, provided-are (ctx texts library void) (world w s t d m u) given, provided-is texts s t provided given e, position-taken f others q library void w, o, ← er)
+            rw (no, provided-taken texts provided s t d m u given e library void w, position-taken f others q library void w, o, ← er)
             ((k t d m).step w);
       };
     }
@@ -59,7 +68,7 @@ module _ (texts : Texts) (n slot token : ℕ) (call_name provided : List ℕ) {p
     select-none o k = record {
       of = λ f others q given e library void. record {
         step = λ w.
-            rw (no, provided-are (ctx texts library void) (world w s t d m u) given, provided-is texts s t provided given e, position-taken f others q library void w, o, ← q, candidates-are (ctx texts library void) (world w s t d m u) fs)
+            rw (no, provided-taken texts provided s t d m u given e library void w, position-taken f others q library void w, o, ← q, candidates-are (ctx texts library void) (world w s t d m u) fs)
             ((k.of f others q library void).step w);
       };
     }

@@ -4,14 +4,14 @@
 #![tactic(auto)]
 
 ghost use Rattle.std.specs.Prelude.{List, map, ℕ};
-ghost use Rattle.tok.specs.Text.{Texts, text, name_bytes};
+ghost use Rattle.tok.specs.Text.{Texts, text};
 ghost use Rattle.ptype.specs.Types.{type_at};
 ghost use Rattle.display.specs.Writing.{Writes};
 ghost use Rattle.display.specs.Joined.{joined, sig};
-ghost use Rattle.err.specs.Message.{pkg_name};
+ghost use Rattle.err.specs.Message.{call_name};
 ghost use Rattle.group_select.specs.Selects.{candidate_types, NoneFits, Selects};
 
-use call_args::PackageCall;
+use call_args::Call;
 use display::{Full, Sink, Writer};
 use err::CallName;
 use ptype::Types;
@@ -41,12 +41,13 @@ fn none_fits(
     messages: &mut [u8],
     provided: &[u32],
     used: Used,
-    call: PackageCall,
+    call: Call,
+    token: u32,
+    callee: CallName,
     group: &Group,
 ) -> Step<Answer>
     ensures { let T : Texts = types.now.texts.now in
-        let name : List ℕ = pkg_name (name_bytes T call.pkg) (name_bytes T call.name) in
-        NoneFits T call.site.n call.site.slot call.name name (map (type_at types.now) provided.now) group.now
+        NoneFits T call.n call.slot token (call_name T callee) (map (type_at types.now) provided.now) group.now
         slots.old types.now.words.now diagnostics.old messages.old used slots.new diagnostics.new messages.new result }
 {
     let r = err_calls::no_specialisation(
@@ -54,13 +55,13 @@ fn none_fits(
         messages,
         used.told,
         types,
-        call.name,
-        CallName::OfPackage(call.pkg, call.name),
+        token,
+        callee,
         provided,
         |out: &mut Writer| put_candidates(out, types, group),
     );
-    let (_, used) = state::told(call.site.n, used, r, ())?;
-    selection::common_return(slots, types, used, call.site.slot, group)
+    let (_, used) = state::told(call.n, used, r, ())?;
+    selection::common_return(slots, types, used, call.slot, group)
 }
 
 // A group of several: the first that fits; where an argument is poisoned, or none fits, what all return.
@@ -71,17 +72,18 @@ pub fn select(
     messages: &mut [u8],
     provided: &[u32],
     used: Used,
-    call: PackageCall,
+    call: Call,
+    token: u32,
+    callee: CallName,
+    poisoned: bool,
     group: &Group,
 ) -> Step<Answer>
     ensures { let T : Texts = types.now.texts.now in
-        let name : List ℕ = pkg_name (name_bytes T call.pkg) (name_bytes T call.name) in
-        Selects T call.site.n call.site.slot call.name name provided.now call.poisoned group.now
+        Selects T call.n call.slot token (call_name T callee) provided.now poisoned group.now
         slots.old types.now.words.now diagnostics.old messages.old used slots.new diagnostics.new messages.new result }
 {
-    let slot = call.site.slot;
-    if call.poisoned {
-        return selection::common_return(slots, types, used, slot, group);
+    if poisoned {
+        return selection::common_return(slots, types, used, call.slot, group);
     }
     let Some(candidate) = selection::position(types, group, provided) else {
         return none_fits(
@@ -92,9 +94,11 @@ pub fn select(
             provided,
             used,
             call,
+            token,
+            callee,
             group,
         );
     };
     let ret = candidate.return_type();
-    operators::set_known(slots, used, slot, ret)
+    operators::set_known(slots, used, call.slot, ret)
 }

@@ -94,7 +94,10 @@ pub fn in_group(
             messages,
             provided,
             used,
-            call,
+            call.site,
+            call.name,
+            CallName::OfPackage(call.pkg, call.name),
+            call.poisoned,
             group,
         ),
     }
