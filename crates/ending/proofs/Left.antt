@@ -12,7 +12,8 @@ use Rattle.state.specs.World.{no_more}
 use Rattle.visit.specs.declared.State.{State}
 use Rattle.visit.specs.Whole.{Visit, lent, visited}
 use Rattle.ending.specs.declared.AnswerCounts.{AnswerCounts}
-use Rattle.ending.specs.Ended.{EndsAs, counts_of, over_of, EndsWell}
+use Rattle.ending.specs.declared.Refused.{Refused}
+use Rattle.ending.specs.Ended.{EndsAs, within_of, counts_of, over_of, EndsWell}
 
 -- the entries lie in the functions buffer, by the answer
 pub entries-inside : (f : List ℕ) {v : Visit Answer} {a : Answer} {st : State} → EndsWell f v → v ≡ Ok (a, st) → entries_end f 0 0 st.functions ≤ length f
@@ -28,12 +29,11 @@ module _ (words s f t d m e : List ℕ) where
   unfolding end_of visited
   finish-answered p q z = rw (p, q, z) (record { means = refl; only = refl })
 
-  refused_by : (x : Refusal) → EndsAs (finished (Err x)) (zeroed (buffers_of s f t d m e)) (Err (record { number = (refusal_of x).number; place = (refusal_of x).place }))
+  refused_by : (x : Refusal) → EndsAs (finished (Err x)) (zeroed (buffers_of s f t d m e)) (Err (within_of x))
   unfolding end_of visited refusal_of
   refused_by (TypesFull n) = record { means = refl; only = refl }
   refused_by (TooDeep n) = record { means = refl; only = refl }
   refused_by (ReportsFull n) = record { means = refl; only = refl }
 
-  pub finish-refused : {v : Visit Answer} {x : Refusal} {b' : Buffers} {number place : ℕ} → v ≡ Err x → b' ≡ zeroed (buffers_of s f t d m e)
-      → number ≡ (refusal_of x).number → place ≡ (refusal_of x).place → EndsAs (finished v) b' (Err (record { number = number; place = place }))
-  finish-refused {x = x} p z n q = rw (p, z, n, q) (refused_by x)
+  pub finish-refused : {v : Visit Answer} {x : Refusal} {b' : Buffers} {r : Refused} → v ≡ Err x → b' ≡ zeroed (buffers_of s f t d m e) → r ≡ within_of x → EndsAs (finished v) b' (Err r)
+  finish-refused {x = x} p z q = rw (p, z, q) (refused_by x)
