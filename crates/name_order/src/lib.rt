@@ -3,7 +3,7 @@
 // what is proved is that no place is lost, and that where `group_names` answers true the names are grouped.
 #![tactic(auto)]
 
-ghost use Rattle.std.specs.Prelude.{◌≡◌, true, ℕ, ◌+◌, ◌*◌, ◌<◌, ◌≤◌, ◌^◌, length, get_or, set};
+ghost use Rattle.std.specs.Prelude.{◌≡◌, true, false, ℕ, ◌+◌, ◌*◌, ◌<◌, ◌≤◌, ◌^◌, length, get_or, set};
 ghost use Rattle.std.specs.Ordering.{is_lt};
 ghost use Rattle.tok.specs.Text.{name_bytes};
 ghost use Rattle.name_order.specs.Bytes.{bytes_before};
@@ -101,15 +101,22 @@ pub fn group_names(texts: &Texts, words: &[u32], order: &mut [u16]) -> bool
     split(texts, words, order)
 }
 
+// How many entries stand before the first with which a new name begins; all, where none does.
+fn before_new(entries: &[u16]) -> usize
+    ensures within { result ≤ length entries.now }
+    ensures inner { (i : ℕ) → i < result → new_in (get_or entries.now i 0) ≡ false }
+    ensures next { result < length entries.now → new_in (get_or entries.now result 0) ≡ true }
+{
+    entries
+        .iter()
+        .position(|entry| *entry % 2 == 1)
+        .unwrap_or(entries.len())
+}
+
 // Where the group ends that begins at a rank: at the next new name, or with the last entry.
 pub fn group_end(order: &[u16], at: usize) -> usize
     requires { at < length order.now }
     ensures { GroupEnd order.now at (length order.now) result }
 {
-    for i in at + 1..order.len() {
-        if item_at(order, i, 0) % 2 == 1 {
-            return i;
-        }
-    }
-    order.len()
+    at + 1 + before_new(&order[at + 1..])
 }
