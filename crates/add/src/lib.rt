@@ -2,7 +2,7 @@
 // A buffer is lent with how many of its words are used, as an arena. A word past the end reads as 0, and none is stored there.
 #![tactic(auto)]
 
-ghost use Rattle.std.specs.Prelude.{◌≡◌, List, [], ◌∷◌, ℕ, ◌+◌, ◌*◌, ◌<◌, ◌^◌, min, leb, length, set, take, replicate};
+ghost use Rattle.std.specs.Prelude.{◌≡◌, List, [], ◌∷◌, ℕ, ◌+◌, ◌*◌, ◌<◌, ◌^◌, min, leb, length, take, replicate};
 ghost use Rattle.tok.specs.Word.{word_of};
 ghost use Rattle.tok.specs.Text.{Texts};
 ghost use Rattle.ptype.specs.Add.{add_wrap, write};
@@ -10,7 +10,7 @@ ghost use Rattle.ptype.specs.Marks.{Depths};
 ghost use Rattle.add.specs.Answer.{buffer_of, answer_of, result_of, Adds};
 ghost use Rattle.ptype.specs.TypeKind.{number_of_type};
 ghost use Rattle.add.specs.Parts.{opened, shallow, measured};
-ghost use Rattle.add.specs.Pool.{is_type, pool_types, all_shallow, Copies};
+ghost use Rattle.add.specs.Pool.{pool_types, all_shallow, Copies};
 ghost use Rattle.add.specs.ShallowBy.{ShallowFound, shallow_found, shallow_by, all_shallow_by, RightAnswer};
 
 use ptype::TypeKind;
@@ -44,13 +44,6 @@ pub fn word_of(kind: TypeKind, at: usize) -> u32
     ensures { result ≡ word_of (number_of_type kind) at }
 {
     kind.number() * 0x1000_0000 + (at as u32)
-}
-
-// Stores a word, where there is room.
-fn store(words: &mut [u32], at: usize, w: u32)
-    ensures { words.new ≡ set words.old at w }
-{
-    tok::set_item(words, at, w);
 }
 
 // Whether a type is at most 32 deep.
@@ -176,7 +169,7 @@ pub fn set_pair(types: &mut [u32], at: usize, name: u32, ty: u32)
 {
     if at < types.len() {
         types[at] = name;
-        store(types, at + 1, ty);
+        tok::set_item(types, at + 1, ty);
     }
 }
 
@@ -192,13 +185,6 @@ pub fn copy_pool(types: &mut [u32], pool: &[u32]) -> bool
     true
 }
 
-// Whether a word of the pool is a type: kinds 1 to 11. A field count has kind 0, a name 12.
-fn is_type(w: u32) -> bool
-    ensures { result ≡ is_type w }
-{
-    !matches!(TypeKind::of(w), TypeKind::None)
-}
-
 // Whether a type is at most 32 deep by the depths that are marked of field lists (`ptype::depth_known`): where the marks are right, that is so, and
 // they stay right.
 pub fn is_shallow_known(types: &[u32], w: u32, known: &mut [u8]) -> bool
@@ -212,7 +198,7 @@ pub fn is_shallow_known(types: &[u32], w: u32, known: &mut [u8]) -> bool
 fn word_is_shallow(types: &[u32], w: u32, known: &mut [u8]) -> bool
     ensures { all_shallow_by types.now (w ∷ []) known.old ≡ shallow_found result known.new }
 {
-    !is_type(w) || is_shallow_known(types, w, known)
+    !ptype::is_type(w) || is_shallow_known(types, w, known)
 }
 
 // Whether every type of the pool is at most 32 deep. A word refers to smaller indices, so that what it holds is marked when its turn comes.

@@ -3,7 +3,7 @@
 // with every level.
 #![tactic(auto)]
 
-ghost use Rattle.std.specs.Prelude.{◌≡◌, true, false, cond, List, ℕ, ◌+◌, ◌*◌, ◌≤◌, ◌<◌, ◌^◌, min, length, get_or, set, eqb};
+ghost use Rattle.std.specs.Prelude.{◌≡◌, true, false, cond, List, ℕ, ◌+◌, ◌*◌, ◌≤◌, ◌<◌, ◌^◌, min, length, get_or, eqb};
 ghost use Rattle.tok.specs.Word.{kind_of};
 ghost use Rattle.tok.specs.Text.{Texts, name_bytes};
 ghost use Rattle.library.specs.SlotSums.{slot_by, zeros, sums_to};
@@ -14,7 +14,7 @@ ghost use Rattle.library_slots.specs.Named.{of_pairs, in_pool, argued, wanted, r
 
 use ptype::TypeKind;
 use reader::MOST_WORDS;
-use tok::Texts;
+use tok::{Texts, item_at, set_item};
 
 // Whether a word's kind is that of a slot.
 fn slot_kind(w: u32) -> bool
@@ -23,14 +23,7 @@ fn slot_kind(w: u32) -> bool
     matches!(TypeKind::of(w), TypeKind::Slot)
 }
 
-// Counts.
-
-// How many pool words before index j hold a slot; 0 past the end.
-fn sum_at(sums: &[u16], j: usize) -> u16
-    ensures { result ≡ get_or sums.now j 0 }
-{
-    tok::item_at(sums, j, 0)
-}
+// Counts: how many pool words before an index hold a slot; 0 past the end.
 
 // Whether a slot stands in a type: in one of the words that it refers to.
 #[tactic(auto, unfolding(library::specs::SlotSums::slot_by))]
@@ -40,10 +33,10 @@ pub fn has_slot(pool: &[u32], sums: &[u16], w: u32) -> bool
     let q = tok::payload(w);
     match TypeKind::of(w) {
         TypeKind::Slot => true,
-        TypeKind::Option | TypeKind::Array => sum_at(sums, q) < sum_at(sums, q + 1),
+        TypeKind::Option | TypeKind::Array => item_at(sums, q, 0) < item_at(sums, q + 1, 0),
         TypeKind::Record => {
             let n = ptype::field_count(pool, w);
-            sum_at(sums, q + 1) < sum_at(sums, q + 1 + 2 * n)
+            item_at(sums, q + 1, 0) < item_at(sums, q + 1 + 2 * n, 0)
         }
         _ => false,
     }
@@ -62,18 +55,6 @@ pub fn slot_sums(pool: &[u32], sums: &mut [u16; MOST_WORDS + 1])
 
 // Marks.
 
-fn mark(marks: &mut [bool], i: usize)
-    ensures { marks.new ≡ set marks.old i true }
-{
-    tok::set_item(marks, i, true);
-}
-
-fn is_marked(marks: &[bool], i: usize) -> bool
-    ensures { result ≡ get_or marks.now i false }
-{
-    marks.get(i).copied().unwrap_or(false)
-}
-
 // The type words of a list of n fields, as far as there are marks.
 fn mark_fields(marks: &mut [bool], at: usize, n: usize)
     requires { at + 2 * n < 2 ^ 40 }
@@ -84,7 +65,7 @@ fn mark_fields(marks: &mut [bool], at: usize, n: usize)
         if i >= marks.len() {
             return;
         }
-        mark(marks, i);
+        set_item(marks, i, true);
     }
 }
 
@@ -95,7 +76,7 @@ fn mark_inside(pool: &[u32], w: u32, marks: &mut [bool])
 {
     let q = tok::payload(w);
     match TypeKind::of(w) {
-        TypeKind::Option | TypeKind::Array => mark(marks, q),
+        TypeKind::Option | TypeKind::Array => set_item(marks, q, true),
         TypeKind::Record => mark_fields(marks, q + 2, ptype::field_count(pool, w)),
         _ => {}
     }
@@ -105,7 +86,7 @@ fn mark_inside(pool: &[u32], w: u32, marks: &mut [bool])
 fn spread_from(pool: &[u32], i: usize, marks: &mut [bool])
     ensures { marks.new ≡ cond (get_or marks.old i false) (mark_inside pool.now (get_or pool.now i 0) marks.old) marks.old }
 {
-    if is_marked(marks, i) {
+    if item_at(marks, i, false) {
         mark_inside(pool, tok::word_at(pool, i), marks);
     }
 }
@@ -155,7 +136,7 @@ fn among_marks(texts: &Texts, pool: &[u32], marks: &[bool], named: u32) -> bool
     ensures { result ≡ any_marked marks.now (λ i. is_slot texts.now (name_bytes texts.now named) (get_or pool.now i 0)) (length pool.now) }
 {
     for i in (0..pool.len()).rev() {
-        if is_marked(marks, i) && is_slot(texts, named, pool[i]) {
+        if item_at(marks, i, false) && is_slot(texts, named, pool[i]) {
             return true;
         }
     }
@@ -184,8 +165,8 @@ fn any_missing(texts: &Texts, pool: &[u32], pairs: &[u32], args: &[bool], marks:
         (length pool.now) }
 {
     for i in (0..pool.len()).rev() {
-        if is_marked(marks, i)
-            && !is_marked(args, i)
+        if item_at(marks, i, false)
+            && !item_at(args, i, false)
             && missing(texts, pool, pairs, args, pool[i])
         {
             return true;
@@ -220,7 +201,7 @@ impl<'a> Reach<'a> {
     fn in_pool(&self, p: usize) -> bool
         ensures { result ≡ in_pool self.now.size self.now.marks.now p }
     {
-        p >= 2 && p - 2 < self.size && is_marked(self.marks, p - 2)
+        p >= 2 && p - 2 < self.size && item_at(self.marks, p - 2, false)
     }
 
     // Whether an argument reaches it.
@@ -345,7 +326,7 @@ pub fn named_slots(
 ) -> usize
     ensures { (8192 ≤ length order.old → 0 < result → SlotsNamed texts.now words.now order.new result) }
 {
-    if sum_at(sums, pool.len()) == 0 {
+    if item_at(sums, pool.len(), 0) == 0 {
         return 0;
     }
     let n = slot_places(words, order).min(order.len());

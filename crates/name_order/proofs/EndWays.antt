@@ -1,11 +1,11 @@
--- Entries told, and the end of a group, looked for from its first rank on. Assumes nothing.
-use Prim.Native.Nat.{ℕ, ◌+◌, ◌*◌, ◌/◌, ◌%◌, ◌≤◌, ◌<◌}
+-- Entries told, and the end of a group: the next new name after its first entry. Assumes nothing.
+use Prim.Native.Nat.{ℕ, ◌+◌, ◌-◌, ◌*◌, ◌/◌, ◌%◌, ◌≤◌, ◌<◌}
 use mathlib.Core.Path.{◌≡◌, sym, ap, ◌∙◌}
 use mathlib.Core.Bool.{Bool, true, false}
 use mathlib.Core.List.{List}
 use native.Mathlib.Omega.{arith}
-use native.Mathlib.Decide.{ℕ_discrete}
-use lib.ListN.{get_or}
+use lib.ListN.{length, get_or, take, drop}
+use Rattle.std.proofs.Common.{get_or-take, get_or-drop, length-take-le, length-drop}
 use borrow.Author.Tests.{eq-eqb, ne_eqb}
 use Rattle.name_order.specs.Order.{place_in, new_in, GroupEnd}
 
@@ -15,17 +15,24 @@ told-new e y = (omega arith, eq-eqb ((2 * (e / 2) + 1) % 2) 1 (omega arith) ∙ 
 pub told_same : (e : ℕ) {new : Bool} → new ≡ false → (place_in (2 * (e / 2)) ≡ place_in e) × (new_in (2 * (e / 2)) ≡ new)
 told_same e y = (omega arith, ne_eqb (2 * (e / 2) % 2) 1 (λ z. omega arith) ∙ sym y)
 
-module _ (order : List ℕ) (at i : ℕ) where
-  pub end-past : ((j : ℕ) → at < j → j < i → new_in (get_or order j 0) ≡ false) → (e : ℕ) → e ≡ get_or order i 0 → (e % 2 ≡ 1 → ⊥)
-      → (j : ℕ) → at < j → j < i + 1 → new_in (get_or order j 0) ≡ false
-  end-past h e ee d j l m = elim (ℕ_discrete j i) [
-    | yes q ↦ ap (λ k. new_in (get_or order k 0)) q ∙ ap new_in (sym ee) ∙ ne_eqb _ 1 d
-    | no q ↦ h j l (omega arith)
-  ]
+-- the entries from the one after a group's first on, of which n stand before the next new name
+module _ (order : List ℕ) (at : ℕ) where
+  abbrev rest : List ℕ
+  rest = take (length order - (at + 1)) (drop (at + 1) order)
 
-  pub end-found : (n : ℕ) → at < i → i ≤ n → ((j : ℕ) → at < j → j < i → new_in (get_or order j 0) ≡ false) → (e : ℕ) → e ≡ get_or order i 0 → e % 2 ≡ 1
-      → GroupEnd order at n i
-  end-found n l m h e ee y = record { after = l; within = m; inner = h; next = λ _. ap new_in (sym ee) ∙ eq-eqb _ 1 y }
+  pub rest-long : length rest ≡ length order - (at + 1)
+  rest-long = length-take-le (length order - (at + 1)) (drop (at + 1) order) (omega (arith, length-drop (at + 1) order))
 
-  pub end-last : (n : ℕ) → at < i → i ≤ n → n ≤ i → ((j : ℕ) → at < j → j < i → new_in (get_or order j 0) ≡ false) → GroupEnd order at n i
-  end-last n l m k h = record { after = l; within = m; inner = h; next = λ o. absurd (omega arith) }
+  there : (k : ℕ) → k < length order - (at + 1) → get_or rest k 0 ≡ get_or order (at + 1 + k) 0
+  there k l = get_or-take (length order - (at + 1)) (drop (at + 1) order) k 0 l ∙ get_or-drop (at + 1) order k 0
+
+  pub end-after : (n : ℕ) → at < length order → n ≤ length rest → ((k : ℕ) → k < n → new_in (get_or rest k 0) ≡ false)
+      → (n < length rest → new_in (get_or rest n 0) ≡ true) → GroupEnd order at (length order) (at + 1 + n)
+  end-after n l m inner next = record {
+    after = omega arith;
+    within = omega (arith, rest-long);
+    inner = λ i o p.
+        let back : at + 1 + (i - (at + 1)) ≡ i = omega arith in
+        ap (λ j. new_in (get_or order j 0)) (sym back) ∙ ap new_in (sym (there (i - (at + 1)) (omega (arith, rest-long)))) ∙ inner (i - (at + 1)) (omega arith);
+    next = λ o. ap new_in (sym (there n (omega arith))) ∙ next (omega (arith, rest-long));
+  }

@@ -3,14 +3,14 @@
 // what is proved is that no place is lost, and that where `group_names` answers true the names are grouped.
 #![tactic(auto)]
 
-ghost use Rattle.std.specs.Prelude.{◌≡◌, true, ℕ, ◌+◌, ◌*◌, ◌<◌, ◌≤◌, ◌^◌, length, get_or, set};
+ghost use Rattle.std.specs.Prelude.{◌≡◌, true, false, ℕ, ◌+◌, ◌*◌, ◌<◌, ◌≤◌, ◌^◌, length, get_or, set};
 ghost use Rattle.std.specs.Ordering.{is_lt};
 ghost use Rattle.tok.specs.Text.{name_bytes};
 ghost use Rattle.name_order.specs.Bytes.{bytes_before};
 ghost use Rattle.name_order.specs.Order.{place_in, new_in, Rearranged, Split, Grouping, GroupEnd};
 
 use std::cmp::Ordering;
-use tok::Texts;
+use tok::{Texts, item_at, set_item};
 
 // Names.
 
@@ -26,12 +26,6 @@ fn compare_names(texts: &Texts, a: u32, b: u32) -> Ordering
 
 // Places in a row.
 
-fn entry_at(order: &[u16], i: usize) -> u16
-    ensures { result ≡ get_or order.now i 0 }
-{
-    tok::item_at(order, i, 0)
-}
-
 // The place that an entry keeps.
 pub fn place_of(entry: u16) -> usize
     ensures { result ≡ place_in entry }
@@ -43,7 +37,7 @@ pub fn place_of(entry: u16) -> usize
 pub fn place_at(order: &[u16], i: usize) -> usize
     ensures { result ≡ place_in (get_or order.now i 0) }
 {
-    place_of(entry_at(order, i))
+    place_of(item_at(order, i, 0))
 }
 
 // The word of rank i.
@@ -74,18 +68,12 @@ fn told(entry: u16, new: bool) -> u16
     if new { 2 * place + 1 } else { 2 * place }
 }
 
-fn put(order: &mut [u16], i: usize, entry: u16)
-    ensures { order.new ≡ set order.old i entry }
-{
-    tok::set_item(order, i, entry);
-}
-
 // The entry of a place at a rank.
 pub fn enter(order: &mut [u16], rank: usize, place: usize)
     requires { place < 2 ^ 15 }
     ensures { order.new ≡ set order.old rank (2 * place) }
 {
-    put(order, rank, (2 * place) as u16);
+    set_item(order, rank, (2 * place) as u16);
 }
 
 // Each entry is told whether its name is that of the one before it; false where the names are not in order.
@@ -99,8 +87,8 @@ fn split(texts: &Texts, words: &[u32], order: &mut [u16]) -> bool
         if !new && !tok::same_name(texts, a, b) {
             return false;
         }
-        let entry = told(entry_at(order, i), new);
-        put(order, i, entry);
+        let entry = told(item_at(order, i, 0), new);
+        set_item(order, i, entry);
     }
     true
 }
@@ -113,15 +101,22 @@ pub fn group_names(texts: &Texts, words: &[u32], order: &mut [u16]) -> bool
     split(texts, words, order)
 }
 
+// How many entries stand before the first with which a new name begins; all, where none does.
+fn before_new(entries: &[u16]) -> usize
+    ensures within { result ≤ length entries.now }
+    ensures inner { (i : ℕ) → i < result → new_in (get_or entries.now i 0) ≡ false }
+    ensures next { result < length entries.now → new_in (get_or entries.now result 0) ≡ true }
+{
+    entries
+        .iter()
+        .position(|entry| *entry % 2 == 1)
+        .unwrap_or(entries.len())
+}
+
 // Where the group ends that begins at a rank: at the next new name, or with the last entry.
 pub fn group_end(order: &[u16], at: usize) -> usize
     requires { at < length order.now }
     ensures { GroupEnd order.now at (length order.now) result }
 {
-    for i in at + 1..order.len() {
-        if entry_at(order, i) % 2 == 1 {
-            return i;
-        }
-    }
-    order.len()
+    at + 1 + before_new(&order[at + 1..])
 }

@@ -2,12 +2,12 @@ use Rattle.library_slots.proofs.NameWays.{marks-found, marks-fails, marks-past, 
 use Rattle.library_slots.proofs.among_marks.Goals as goal
 
 pub returns-then-is_slot : goal.returns-then-is_slot
-returns-then-is_slot c = marks-found _ _ _ _ c.loop-i.invariant c.loop-i-test.true c.is_marked.ensures c.if-is_marked.true c.is_slot.ensures c.if-is_slot.true
+returns-then-is_slot c = marks-found _ _ _ _ c.loop-i.invariant c.loop-i-test.true c.item_at.ensures c.if-item_at.true c.is_slot.ensures c.if-is_slot.true
 
 pub loop-i-preserved : goal.loop-i-preserved
-loop-i-preserved c = elim c.else-is_marked.branch [
-  | goal.else-is_marked-via-then-is_marked+else-is_slot w ↦ marks-fails _ _ _ _ c.loop-i.invariant c.loop-i-test.true c.is_marked.ensures w.if-is_marked.true w.is_slot.ensures w.if-is_slot.false
-  | goal.else-is_marked-via-else-is_marked w ↦ marks-past _ _ _ _ c.loop-i.invariant c.loop-i-test.true c.is_marked.ensures w.if-is_marked.false
+loop-i-preserved c = elim c.else-item_at.branch [
+  | goal.else-item_at-via-then-item_at+else-is_slot w ↦ marks-fails _ _ _ _ c.loop-i.invariant c.loop-i-test.true c.item_at.ensures w.if-item_at.true w.is_slot.ensures w.if-is_slot.false
+  | goal.else-item_at-via-else-item_at w ↦ marks-past _ _ _ _ c.loop-i.invariant c.loop-i-test.true c.item_at.ensures w.if-item_at.false
 ]
 
 pub returns : goal.returns

@@ -3,15 +3,15 @@ use Rattle.library_slots.proofs.NameWays.{marks-found, marks-fails, marks-past, 
 use Rattle.library_slots.proofs.any_missing.Goals as goal
 
 pub returns-then-missing : goal.returns-then-missing
-returns-then-missing c = marks-found _ _ _ _ c.loop-i.invariant.1 c.loop-i-test.true c.is_marked.ensures c.if-is_marked.true c.missing.ensures c.if-missing.true
+returns-then-missing c = marks-found _ _ _ _ c.loop-i.invariant.1 c.loop-i-test.true c.item_at.ensures c.if-item_at.true c.missing.ensures c.if-missing.true
 
 pub loop-i-preserved : goal.loop-i-preserved
 loop-i-preserved c = (
   omega arith,
-  elim c.else-is_marked.branch [
-    | goal.else-is_marked-via-then-is_marked+then-not-is_marked+else-missing w ↦ marks-fails _ _ _ _ c.loop-i.invariant.1 c.loop-i-test.true c.is_marked.ensures w.if-is_marked.true w.missing.ensures w.if-missing.false
-    | goal.else-is_marked-via-then-is_marked+else-not-is_marked w ↦ marks-not _ _ _ _ c.loop-i.invariant.1 c.loop-i-test.true c.is_marked.ensures (not-missing _ _ _ _ _ (omega arith) w.is_marked-then-is_marked.ensures w.if-not-is_marked.false)
-    | goal.else-is_marked-via-else-is_marked w ↦ marks-past _ _ _ _ c.loop-i.invariant.1 c.loop-i-test.true c.is_marked.ensures w.if-is_marked.false
+  elim c.else-item_at.branch [
+    | goal.else-item_at-via-then-item_at+then-not-item_at+else-missing w ↦ marks-fails _ _ _ _ c.loop-i.invariant.1 c.loop-i-test.true c.item_at.ensures w.if-item_at.true w.missing.ensures w.if-missing.false
+    | goal.else-item_at-via-then-item_at+else-not-item_at w ↦ marks-not _ _ _ _ c.loop-i.invariant.1 c.loop-i-test.true c.item_at.ensures (not-missing _ _ _ _ _ (omega arith) w.item_at-then-item_at.ensures w.if-not-item_at.false)
+    | goal.else-item_at-via-else-item_at w ↦ marks-past _ _ _ _ c.loop-i.invariant.1 c.loop-i-test.true c.item_at.ensures w.if-item_at.false
   ],
 )
 

@@ -14,14 +14,14 @@ returns-in-Slot c = rw (type-number (kind_of c.args.w) c.in-Slot.ensures) refl
 pub returns-in-Option : goal.returns-in-Option
 unfolding slot_by
 returns-in-Option c = elim c.in-Option.is [
-  | inl p ↦ rw (type-number (kind_of c.args.w) (sym p ∙ c.of.ensures), c.sum_at.ensures, c.sum_at-in-Option.ensures, c.payload-q.ensures) refl
-  | inr p ↦ rw (type-number (kind_of c.args.w) (sym p ∙ c.of.ensures), c.sum_at.ensures, c.sum_at-in-Option.ensures, c.payload-q.ensures) refl
+  | inl p ↦ rw (type-number (kind_of c.args.w) (sym p ∙ c.of.ensures), c.item_at.ensures, c.item_at-in-Option.ensures, c.payload-q.ensures) refl
+  | inr p ↦ rw (type-number (kind_of c.args.w) (sym p ∙ c.of.ensures), c.item_at.ensures, c.item_at-in-Option.ensures, c.payload-q.ensures) refl
 ]
 
 pub returns-in-Record : goal.returns-in-Record
 unfolding slot_by
 returns-in-Record c =
-    rw (type-number (kind_of c.args.w) c.in-Record.ensures, c.sum_at-in-Record.ensures, c.sum_at-in-Record-2.ensures, c.field_count-n.ensures, c.payload-q.ensures) refl
+    rw (type-number (kind_of c.args.w) c.in-Record.ensures, c.item_at-in-Record.ensures, c.item_at-in-Record-2.ensures, c.field_count-n.ensures, c.payload-q.ensures) refl
 
 pub returns-in_default : goal.returns-in_default
 unfolding slot_by

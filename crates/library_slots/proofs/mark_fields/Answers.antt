@@ -9,7 +9,7 @@ pub returns-then-i-marks : goal.returns-then-i-marks
 returns-then-i-marks c = marked-past c.loop-k.invariant c.if-i-marks.true
 
 pub loop-k-preserved : goal.loop-k-preserved
-loop-k-preserved c = to_mark_less c.loop-k.invariant (omega arith) (omega arith) c.mark.ensures
+loop-k-preserved c = to_mark_less c.loop-k.invariant (omega arith) (omega arith) c.set_item.ensures
 
 pub returns : goal.returns
 returns c = all-marked c.loop-k.invariant (omega arith)

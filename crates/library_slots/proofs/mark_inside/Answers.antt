@@ -8,7 +8,7 @@ use Rattle.library_slots.proofs.mark_inside.Goals as goal
 
 pub returns-in-Option : goal.returns-in-Option
 unfolding mark_inside
-returns-in-Option c = rw (type-wraps _ c.of.ensures c.in-Option.is, ← c.payload-q.ensures) c.mark.ensures
+returns-in-Option c = rw (type-wraps _ c.of.ensures c.in-Option.is, ← c.payload-q.ensures) c.set_item.ensures
 
 pub returns-in-Record : goal.returns-in-Record
 unfolding mark_inside

@@ -1,16 +1,10 @@
+-- `name_order::group_end` meets its contract: the entries after the first, looked through. Assumes nothing.
 use native.Mathlib.Omega.{arith}
-use Rattle.name_order.proofs.EndWays.{end-found, end-past, end-last}
+use Rattle.name_order.proofs.EndWays.{rest-long, end-after}
 use Rattle.name_order.proofs.group_end.Goals as goal
 
-pub loop-i-init : goal.loop-i-init
-loop-i-init c = λ j l m. absurd (omega arith)
-
-pub returns-then-entry_at-eq1 : goal.returns-then-entry_at-eq1
-returns-then-entry_at-eq1 c = end-found _ _ _ _ (omega arith) (omega arith) c.loop-i.invariant _ c.entry_at.ensures c.if-entry_at-eq1.true
-
-pub loop-i-preserved : goal.loop-i-preserved
-loop-i-preserved c =
-    end-past c.args.order.now _ _ c.loop-i.invariant _ c.entry_at.ensures c.if-entry_at-eq1.false
+pub overflow_add-result-2 : goal.overflow_add-result-2
+overflow_add-result-2 c = omega (arith, c.requires, c.before_new.ensures.within, rest-long c.args.order.now c.args.at)
 
 pub returns : goal.returns
-returns c = end-last _ _ _ _ (omega (arith, c.requires)) (omega arith) (omega arith) (λ j l m. c.loop-i.invariant j l (omega arith))
+returns c = end-after _ _ _ c.requires c.before_new.ensures.within c.before_new.ensures.inner c.before_new.ensures.next
