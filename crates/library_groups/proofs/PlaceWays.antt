@@ -1,7 +1,6 @@
 -- The places of a package's functions. Assumes nothing.
 use Prim.Native.Nat.{ℕ, zero, suc, ◌+◌, ◌-◌, ◌*◌, ◌≤◌, ◌<◌, min}
 use mathlib.Core.Path.{◌≡◌, refl, sym, ap, ◌∙◌}
-use mathlib.Core.Bool.{Bool, true, false, true≢false}
 use mathlib.Core.List.{List}
 use native.Mathlib.Omega.{arith}
 use native.Mathlib.Decide.{dec_lt, ℕ_discrete}
@@ -14,7 +13,7 @@ use Rattle.std.proofs.lemmas.Option.{slice_get-get_or, slice_get_within, get_or_
 use Rattle.std.proofs.Common.{get_or-take, length-take-le}
 use Rattle.library.specs.Package.{function_end, functions_end}
 use Rattle.name_order.specs.Order.{place_in}
-use Rattle.library_groups.specs.Kept.{slotted, FunctionsListed, ListedEnd, NoneSlotted}
+use Rattle.library_groups.specs.Kept.{FunctionsListed, ListedEnd}
 
 -- the place of the next function
 pub functions_end-suc : (words : List ℕ) (k at : ℕ) → functions_end words at (suc k) ≡ function_end words (functions_end words at k)
@@ -109,19 +108,3 @@ end-last words from order last e h {p} {r} ep er = record { only = λ k l. by k 
       | yes q ↦ absurd (omega (arith, all, ap (functions_end words from) q))
       | no q ↦ absurd (omega (arith, all, ends_rise words from k (length order) (omega arith)))
     ]
-
--- ── Slots ──
-
-module _ (words order : List ℕ) (n : ℕ) where
-  pub none-past : (i : ℕ) → ((j : ℕ) → j < i → slotted words (place_in (get_or order j 0)) ≡ false) → {p : ℕ} {s : Bool} → p ≡ place_in (get_or order i 0)
-      → s ≡ slotted words p → s ≡ false → (j : ℕ) → j < i + 1 → slotted words (place_in (get_or order j 0)) ≡ false
-  none-past i h ep es f j l = elim (ℕ_discrete j i) [
-    | yes q ↦ ap (λ x. slotted words (place_in (get_or order x 0))) q ∙ ap (slotted words) (sym ep) ∙ sym es ∙ f
-    | no d ↦ h j (omega arith)
-  ]
-
-  pub none-yes : (i : ℕ) → n ≤ i → ((j : ℕ) → j < i → slotted words (place_in (get_or order j 0)) ≡ false) → NoneSlotted words order n true
-  none-yes i l h = record { none = λ _ j m. h j (omega arith) }
-
-  pub none-no : NoneSlotted words order n false
-  none-no = record { none = λ e. absurd (true≢false (sym e)) }

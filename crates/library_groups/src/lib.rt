@@ -41,12 +41,7 @@ fn listed_end(words: &[u32], from: usize, order: &[u16]) -> usize
 fn none_slotted(words: &[u32], order: &[u16]) -> bool
     ensures { NoneSlotted words.now order.now (length order.now) result }
 {
-    for entry in order {
-        if library::with_slots(words, name_order::place_of(*entry)) {
-            return false;
-        }
-    }
-    true
+    order.iter().all(|entry| !library::with_slots(words, name_order::place_of(*entry)))
 }
 
 // The lowest place of a group.

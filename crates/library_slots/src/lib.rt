@@ -235,13 +235,7 @@ impl<'a> Reach<'a> {
     fn any_reached(&self, group: &[u16], returned: bool) -> bool
         ensures { Told (reached returned self.now.size self.now.marks.now self.now.first self.now.end) group.now 0 (length group.now) result }
     {
-        for entry in group {
-            let p = name_order::place_of(*entry);
-            if self.reached(returned, p) {
-                return true;
-            }
-        }
-        false
+        group.iter().any(|entry| self.reached(returned, name_order::place_of(*entry)))
     }
 }
 
