@@ -4,7 +4,7 @@ use Rattle.std.proofs.lemmas.Iterator.Consumers.{YieldsList-from_first}
 use Rattle.std.proofs.lemmas.Iterator.Search.{all_from_yields_List}
 use borrow.Author.Tests.{tests}
 use Rattle.ptype.specs.Ty.{same_ty}
-use Rattle.ptype.specs.Words.{ty_of}
+use Rattle.ptype.specs.Types.{type_at}
 use Rattle.selection.proofs.Ways.{common_known, common_poison}
 use Rattle.selection.proofs.common_return.Goals as goal
 

@@ -1,5 +1,5 @@
 -- `selection::fits` meets its contract. The loop's invariant: the types so far are equal. Assumes nothing.
-use Rattle.ptype.specs.Words.{ty_of}
+use Rattle.ptype.specs.Types.{type_at}
 use Rattle.selection.proofs.Ways.{Alike}
 use Rattle.selection.proofs.fits.Given as goal
 

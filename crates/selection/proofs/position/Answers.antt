@@ -3,7 +3,7 @@ use Rattle.std.proofs.Common.{rules, map, ◌∙◌}
 use Rattle.std.proofs.lemmas.Iterator.Consumers.{YieldsList-from_first}
 use Rattle.std.proofs.lemmas.Iterator.Search.{find_from_yields_List}
 use borrow.Author.Tests.{tests}
-use Rattle.ptype.specs.Words.{ty_of}
+use Rattle.ptype.specs.Types.{type_at}
 use Rattle.rules.specs.Calls.{overload_matches}
 use Rattle.selection.specs.Candidates.{param_types}
 use Rattle.selection.proofs.Ways.{as_found}
