@@ -98,7 +98,7 @@ module _ (count : ℕ) (image slots : List ℕ) (at : ℕ) where
 
 -- ── Node::Record once its values are visited ──
 
-module _ (n slot : ℕ) (pairs : List ℕ) (st : State) {t t' : List ℕ} {added : Added}
+module _ (n slot : ℕ) (pairs : List ℕ) (st : State) {t t' : List ℕ} (added : Added)
     (p : (T : Texts) (n : ℕ) → add_record T n pairs (buffer t st.used.types) ≡ result_of n added t') where
   of_type : (T : Texts) (s d m : List ℕ) → Steps (on_types (add_record T n pairs)) s t d m st.used s t' d m (added_of n st.used added)
   of_type T s d m = added-step n (add_record T n pairs) added (p T n)

@@ -9,14 +9,8 @@ loop-i-init c = (none-set _ _ _ _ _, omega arith, refl)
 pub overflow_mul-i : goal.overflow_mul-i
 overflow_mul-i c = omega (arith, c.requires.1.room)
 
-pub overflow_add-at : goal.overflow_add-at
-overflow_add-at c = omega (arith, c.requires.1.room)
-
 pub node_value-ty-requires : goal.node_value-ty-requires
 node_value-ty-requires c = value-ready c.requires.1 (omega arith) c.word_after-value.ensures
-
-pub overflow_mul-i-in-loop-i : goal.overflow_mul-i-in-loop-i
-overflow_mul-i-in-loop-i c = omega (arith, c.requires.1.room)
 
 pub overflow_add-to : goal.overflow_add-to
 overflow_add-to c =

@@ -1,4 +1,5 @@
 -- `pkg_group::in_group` meets its contract: no candidate (16), one, or several. Assumes nothing.
+use Rattle.err.specs.Message.{call_name}
 use Rattle.pkg_group.proofs.Returns.{group-none, group-plain, group_several}
 use Rattle.pkg_group.proofs.in_group.Goals as goal
 
@@ -13,4 +14,5 @@ pub unreachable-requires : goal.unreachable-requires
 unreachable-requires c = c.requires.other _ c.in-Slotted.is
 
 pub returns-in-Several : goal.returns-in-Several
+unfolding call_name
 returns-in-Several c = group_several c.requires c.in-Several.is c.select.ensures
