@@ -1,37 +1,31 @@
 -- Groups and flags as the code asks for them: by the candidates of the group's name. Assumes nothing.
-use Prim.Native.Nat.{ℕ, ◌<◌}
+use Prim.Native.Nat.{ℕ}
 use mathlib.Core.Path.{◌≡◌, refl, sym, ap, ◌∙◌}
 use mathlib.Core.Bool.{Bool, true, false, ◌&&◌, ◌||◌}
 use mathlib.Core.List.{List, [], ◌∷◌}
-use native.Mathlib.Omega.{arith}
-use lib.ListN.{length}
 use Rattle.tok.specs.Text.{Texts, name_bytes, same_bytes}
 use Rattle.library.specs.declared.Entry.{Entry}
 use Rattle.std.specs.Prelude.{Option as Answer, Some, None}
+use Rattle.std.specs.List.{list_any}
 use Rattle.std.specs.Option.{is_some}
 use Rattle.library.specs.Package.{Signature, Function, group_of}
-use Rattle.library.specs.Signatures.{signature_at}
-use Rattle.library.specs.Entries.{entries_of, Finds}
+use Rattle.library.specs.Entries.{entries_of}
 use Rattle.library.specs.PackageRecords.{any_function, same_group}
 
 -- a group's functions are all that its tests look at
-unfoldable pub any_slots : List Signature → Bool
-any_slots [] = false
-any_slots (s ∷ ss) = s.with_slots || any_slots ss
-
 is_met : List Signature → Bool
 is_met [] = false
 is_met (s ∷ ss) = true
 
 module _ (t : Texts) (group : ℕ) where
-  slots_in_lem : (fs : List Function) → any_function (λ f. same_group t group f && f.sig.with_slots) fs ≡ any_slots (group_of t (name_bytes t group) fs)
-  unfolding any_function group_of any_slots
+  pub slots_in_lem : (fs : List Function) → any_function (λ f. same_group t group f && f.sig.with_slots) fs ≡ list_any (λ s. s.with_slots) (group_of t (name_bytes t group) fs)
+  unfolding any_function group_of
   slots_in_lem [] = refl
   slots_in_lem (f ∷ fs) = by (same_bytes (name_bytes t group) (name_bytes t f.name)) (slots_in_lem fs)
     where
-      by : (b : Bool) → any_function (λ f. same_group t group f && f.sig.with_slots) fs ≡ any_slots (group_of t (name_bytes t group) fs)
+      by : (b : Bool) → any_function (λ f. same_group t group f && f.sig.with_slots) fs ≡ list_any (λ s. s.with_slots) (group_of t (name_bytes t group) fs)
           → (b && f.sig.with_slots || any_function (λ f. same_group t group f && f.sig.with_slots) fs)
-          ≡ any_slots (elim b [ true ↦ f.sig ∷ group_of t (name_bytes t group) fs | false ↦ group_of t (name_bytes t group) fs ])
+          ≡ list_any (λ s. s.with_slots) (elim b [ true ↦ f.sig ∷ group_of t (name_bytes t group) fs | false ↦ group_of t (name_bytes t group) fs ])
       by true e = rw e refl
       by false e = e
 
@@ -58,26 +52,3 @@ module _ (t : Texts) (group : ℕ) (fs : List Function) {name : List ℕ} (en : 
         by : (o : Answer Entry) → is_met (found o) ≡ is_some o
         by (Some f) = refl
         by None = refl
-
-    pub slots-begin : any_function (λ f. same_group t group f && f.sig.with_slots) fs ≡ any_slots (found r)
-    slots-begin = slots_in_lem t group fs ∙ ap any_slots (ap (λ n. group_of t n fs) (sym en) ∙ h)
-
--- The loop over what is found: no entry so far has slots.
-module _ (t : Texts) (name words : List ℕ) (flags : ℕ) (r : Answer Entry) where
-  pub slots-over : r ≡ None → false ≡ any_slots (entries_of t name words flags r)
-  unfolding any_slots
-  slots-over e = rw e refl
-
-  module _ (e : Entry) (is : r ≡ Some e) where
-    pub slots-yes : e.slotted ≡ true → true ≡ any_slots (entries_of t name words flags r)
-    unfolding any_slots signature_at
-    slots-yes y = rw (is, y) refl
-
-    module _ (next : Answer Entry) (h : Finds t name words flags e.next e.left next) where
-      pub slots-next : e.slotted ≡ false → any_slots (entries_of t name words flags r) ≡ any_slots (entries_of t name words flags next)
-      unfolding any_slots signature_at
-      slots-next n = rw (is, n) (ap any_slots h.is)
-
-      -- each turn takes one
-      pub slots-fewer : length (entries_of t name words flags next) < length (entries_of t name words flags r)
-      slots-fewer = rw (is, ← h.is) (omega arith)

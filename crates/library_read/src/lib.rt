@@ -19,6 +19,7 @@ ghost use Rattle.library_read.specs.Ready.{Counted, counted, pool, PoolReads, Re
 
 use library::Entries;
 use reader::{Fault, MOST_WORDS, Reader};
+use signatures::Group;
 use std::marker::Model;
 use tok::Texts;
 
@@ -37,14 +38,7 @@ fn group_slotted(texts: &Texts, functions: &Entries, group: u32) -> bool
     ensures { result ≡ any_function (λ f. same_group texts.now group f && f.sig.with_slots) (functions_in functions.now) }
 {
     let name = tok::name_bytes(texts, group);
-    let mut found = functions.find(texts, name);
-    while let Some(entry) = found {
-        if entry.slotted {
-            return true;
-        }
-        found = functions.after(entry).find(texts, name);
-    }
-    false
+    Group::new(texts, name, functions).any(|candidate| candidate.has_slots())
 }
 
 // The group name of a function after those before it in its package: none of its group has flag 1. `kept`: the rule is known to hold.

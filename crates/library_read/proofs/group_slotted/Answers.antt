@@ -1,18 +1,16 @@
-use Rattle.std.proofs.Common.{◌∙◌, sym}
-use Rattle.library_read.proofs.GroupWays.{slots-begin, slots-over, slots-yes, slots-next, slots-fewer}
+-- `library_read::group_slotted` meets its contract: by the flag of each function of the group. Assumes nothing.
+use Rattle.std.proofs.Common.{Bool, rules, sym, ap, ◌∙◌}
+use Rattle.std.specs.List.{list_any}
+use Rattle.std.proofs.lemmas.Iterator.Consumers.{YieldsList-from_first}
+use Rattle.std.proofs.lemmas.Iterator.Search.{any_from_yields_List}
+use Rattle.library.specs.Package.{Signature, group_of}
+use Rattle.library.specs.Entries.{functions_in}
+use Rattle.library_read.proofs.GroupWays.{slots_in_lem}
 use Rattle.library_read.proofs.group_slotted.Goals as goal
 
-pub loop-found-init : goal.loop-found-init
-loop-found-init c = slots-begin _ _ _ c.name_bytes-name.ensures _ _ _ c.find-found.ensures.is
-
-pub returns-then-entry : goal.returns-then-entry
-returns-then-entry c = slots-yes _ _ _ _ _ _ c.in-Some.is c.if-entry.true ∙ sym c.loop-found.invariant
-
-pub loop-found-smaller : goal.loop-found-smaller
-loop-found-smaller c = slots-fewer _ _ _ _ _ _ c.in-Some.is _ (rw c.after.ensures at c.find-found-in-Some.ensures)
-
-pub loop-found-preserved : goal.loop-found-preserved
-loop-found-preserved c = c.loop-found.invariant ∙ slots-next _ _ _ _ _ _ c.in-Some.is _ (rw c.after.ensures at c.find-found-in-Some.ensures) c.if-entry.false
-
 pub returns : goal.returns
-returns c = slots-over _ _ _ _ _ c.in_default.is ∙ sym c.loop-found.invariant
+returns c =
+    let slotted : Signature → Bool = λ s. s.with_slots in
+    let fs = functions_in c.args.functions.now in
+    let any = any_from_yields_List slotted _ _ c.any.result c.any.ensures.ran (YieldsList-from_first (λ s. s) (λ ss. ss) _ c.new.ensures) (λ x b q k. search rules) in
+    any ∙ ap (λ n. list_any slotted (group_of c.args.texts.now n fs)) c.name_bytes-name.ensures ∙ sym (slots_in_lem c.args.texts.now c.args.group fs)
