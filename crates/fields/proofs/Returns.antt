@@ -106,7 +106,7 @@ module _ (n slot : ℕ) (pairs : List ℕ) (st : State) {t t' : List ℕ} (added
   pub made-refused : {x : Refusal} {s : List ℕ} {v : Visit Answer} → added_of n st.used added ≡ Err x → IsErrAnd v (λ y. y ≡ x)
       → (T : Texts) (words f d m e : List ℕ) (o : More) → Visits (record_of T n slot pairs) 0 0 words st (lent s f t d m e o) (lent s f t' d m e o) v
   unfolding record_of visit_of
-  made-refused {x} {s} h k T words f d m e o = passed_on k (visits-stop (set_known slot) (rw h at (steps-visits (of_type T s d m) words f e o)) 0 0)
+  made-refused {x} {s} h k T words f d m e o = passed_on k (visits-stop (set_known slot) (rw h at (steps-visits {st = st} (of_type T s d m) words f e o)) 0 0)
 
   pub made-set : {word own : ℕ} {u : Used} {s s' : List ℕ} {r : Step Answer} {v : Visit Answer} → added_of n st.used added ≡ Ok (word, u) → own ≡ slot
       → ((t d m : List ℕ) → Steps (set_known own word) s t d m u s' t d m r) → v ≡ visit_of st r
