@@ -1,6 +1,5 @@
 -- Selection as the code has it, one law for each way out. Assumes nothing.
 use Rattle.std.specs.Prelude.{Ok, Some, None, Option as Found}
-use Rattle.std.specs.Option.{option_map}
 use Prim.Native.Nat.{ℕ, suc, ◌+◌, ◌≤◌, ◌<◌}
 use mathlib.Core.Path.{◌≡◌, refl, sym, ap, ◌∙◌}
 use mathlib.Core.Bool.{Bool, true, false, ◌&&◌}
@@ -21,7 +20,7 @@ use Rattle.rules.specs.Calls.{overload_matches, common_return}
 use Rattle.state.specs.declared.Used.{Used}
 use Rattle.state.specs.Context.{ctx}
 use Rattle.state.specs.World.{world, Step, stepped, Steps}
-use Rattle.selection.specs.Candidates.{param_types, all_return_of, CommonReturn}
+use Rattle.selection.specs.Candidates.{param_types, position_of, all_return_of, CommonReturn}
 use Rattle.selection.proofs.Read.{returns-are}
 
 -- ── Whether one candidate fits ──
@@ -68,9 +67,16 @@ module _ (U : ℕ → Ty) (ps : List Param) (provided : List ℕ) where
 
 -- ── What is found ──
 
-pub as_found : (r : Found Signature) → r ≡ option_map (λ f. f) r
-as_found (Some f) = refl
-as_found None = refl
+module _ (U : ℕ → Ty) (provided : List ℕ) {fs left : List Signature} (inv : position_of U (map U provided) fs ≡ position_of U (map U provided) left) where
+  pub none-fits : left ≡ [] → None ≡ position_of U (map U provided) fs
+  none-fits e = sym (inv ∙ rw e refl)
+
+  module _ {x : Signature} {rest : List Signature} (steps : left ≡ x ∷ rest) where
+    pub passed : false ≡ overload_matches (param_types U x.params) (map U provided) → position_of U (map U provided) fs ≡ position_of U (map U provided) rest
+    passed n = inv ∙ rw (steps, ← n) refl
+
+    pub taken : true ≡ overload_matches (param_types U x.params) (map U provided) → Some x ≡ position_of U (map U provided) fs
+    taken y = sym (inv ∙ rw (steps, ← y) refl)
 
 -- ── The common return type ──
 

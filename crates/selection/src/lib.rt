@@ -1,42 +1,34 @@
 // A package group of several (typecheck/lib.rs, `resolve_pkg_call`; err.rs, `common_return`): the first candidate whose every argument type is
-// equal, else diagnostic 18 and what all candidates return.
+// equal, and what all candidates return.
 #![tactic(auto)]
 
 ghost use Rattle.std.specs.Prelude.{◌≡◌, map, ℕ};
 ghost use Rattle.ptype.specs.Ty.{Ty};
 ghost use Rattle.ptype.specs.Types.{type_at};
-ghost use Rattle.rules.specs.Calls.{overload_matches};
-ghost use Rattle.selection.specs.Candidates.{param_types, position_of, all_return_of, CommonReturn};
+ghost use Rattle.selection.specs.Candidates.{position_of, all_return_of, CommonReturn};
 
 use ptype::Types;
 use rules::Answer;
 use signatures::{Group, Signature};
 use state::{Step, Used};
 
-// Whether the type of every argument is equal to the provided one, counts alike.
-fn fits(types: &Types, candidate: &Signature, provided: &[u32]) -> bool
-    ensures { let U : ℕ → Ty = type_at types.now in
-        result ≡ overload_matches (param_types U candidate.now.params) (map U provided.now) }
-{
-    if candidate.argument_count() != provided.len() {
-        return false;
-    }
-    for i in 0..provided.len() {
-        let expected = candidate.argument_type(i);
-        if !ptype::same_type(types, expected, tok::word_at(provided, i)) {
-            return false;
-        }
-    }
-    true
-}
-
 // The first candidate whose every argument type is equal to the provided one, counts alike.
 pub fn position<'a>(types: &Types, group: &Group<'a>, provided: &[u32]) -> Option<Signature<'a>>
     ensures { let U : ℕ → Ty = type_at types.now in result ≡ position_of U (map U provided.now) group.now }
 {
-    group
-        .iter()
-        .find(|candidate| fits(types, candidate, provided))
+    'candidates: for candidate in group.iter() {
+        if candidate.argument_count() != provided.len() {
+            continue 'candidates;
+        }
+        for i in 0..provided.len() {
+            let expected = candidate.argument_type(i);
+            if !ptype::same_type(types, expected, tok::word_at(provided, i)) {
+                continue 'candidates;
+            }
+        }
+        return Some(candidate);
+    }
+    None
 }
 
 // What all candidates return, else Poison.

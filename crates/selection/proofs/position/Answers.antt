@@ -1,16 +1,22 @@
--- `selection::position` meets its contract: the first of the group that fits. Assumes nothing.
-use Rattle.std.proofs.Common.{rules, map, ◌∙◌}
-use Rattle.std.proofs.lemmas.Iterator.Consumers.{YieldsList-from_first}
-use Rattle.std.proofs.lemmas.Iterator.Search.{find_from_yields_List}
-use borrow.Author.Tests.{tests}
-use Rattle.ptype.specs.Types.{type_at}
-use Rattle.rules.specs.Calls.{overload_matches}
-use Rattle.selection.specs.Candidates.{param_types}
-use Rattle.selection.proofs.Ways.{as_found}
+use Rattle.std.proofs.Common.{◌∙◌}
+use Rattle.selection.proofs.Ways.{count-differs, alike-more, alike-not, alike_all, none-fits, passed, taken}
 use Rattle.selection.proofs.position.Goals as goal
 
+pub candidates-preserved-then-argument_count-provided : goal.candidates-preserved-then-argument_count-provided
+candidates-preserved-then-argument_count-provided c =
+    passed _ _ c.candidates.invariant c.in-Some.ensures.steps (count-differs _ _ _ (λ e. c.if-argument_count-provided.true (c.argument_count.ensures ∙ e)))
+
+pub candidates-preserved : goal.candidates-preserved
+candidates-preserved c =
+    passed _ _ c.candidates.invariant c.in-Some.ensures.steps
+    (alike-not _ _ _ c.loop-i.invariant c.loop-i-test.true c.argument_type-expected.ensures c.word_at.ensures c.same_type.ensures c.if-not-same_type.true)
+
+pub loop-i-preserved : goal.loop-i-preserved
+loop-i-preserved c =
+    alike-more _ _ _ c.loop-i.invariant c.loop-i-test.true c.argument_type-expected.ensures c.word_at.ensures c.same_type.ensures c.if-not-same_type.false
+
+pub returns-in-Some : goal.returns-in-Some
+returns-in-Some c = taken _ _ c.candidates.invariant c.in-Some.ensures.steps (alike_all _ _ _ c.loop-i.invariant c.loop-i-test.false)
+
 pub returns : goal.returns
-returns c =
-    let U = type_at c.args.types.now in
-    as_found _ ∙ find_from_yields_List (λ f. overload_matches (param_types U f.params) (map U c.args.provided.now)) _ _ c.find.result c.find.ensures.ran
-    (YieldsList-from_first (λ f. f) (λ fs. fs) _ c.iter.ensures) (λ x b q k. search (rules, tests))
+returns c = none-fits _ _ c.candidates.invariant c.in-None.ensures.steps.0
