@@ -67,7 +67,7 @@ module _ (U : ℕ → Ty) (ps : List Param) (provided : List ℕ) where
 
 -- ── What is found ──
 
-module _ (U : ℕ → Ty) (provided : List ℕ) {fs left : List Signature} (inv : position_of U (map U provided) fs ≡ position_of U (map U provided) left) where
+module _ (U : ℕ → Ty) (provided : List ℕ) (fs left : List Signature) (inv : position_of U (map U provided) fs ≡ position_of U (map U provided) left) where
   pub none-fits : left ≡ [] → None ≡ position_of U (map U provided) fs
   none-fits e = sym (inv ∙ rw e refl)
 
