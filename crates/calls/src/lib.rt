@@ -1,6 +1,6 @@
 // Node::Call (typecheck/lib.rs, `node`), around the visits of its arguments: what its target says, and the call once all are visited.
 // The buffers are lent in one order: slots, functions, types, diagnostics, messages, scratch; then the texts, the image, the library's
-// words.
+// words. Who only reads types takes them with the texts.
 #![tactic(auto)]
 
 ghost use Rattle.std.specs.Prelude.{◌≡◌, Bool, ◌||◌, List, ℕ, ◌+◌, get_or};

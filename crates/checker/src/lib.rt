@@ -45,8 +45,8 @@ fn visit_roots(
 {
     let mut places = [0u16; 3072];
     places::record_places(&mut places, inputs.image);
-    let nodes = tok::word_at(inputs.image, 0);
-    let roots = tok::word_at(inputs.image, 2) as usize;
+    let nodes = ast::node_count(inputs.image);
+    let roots = ast::root_count(inputs.image) as usize;
     let texts = Texts {
         script: inputs.script,
         library: inputs.library_text,

@@ -1,4 +1,4 @@
--- Writing text into the rest of a message buffer: what the contracts of the crate cite, and the laws that its callers cite.
+-- Writing text into a sink (the rest of a message buffer, a window of rows): what the contracts of the crate cite, and the laws that its callers cite.
 pub mod Writing
 pub mod Sink
 pub mod SinkLaws

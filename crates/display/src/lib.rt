@@ -1,4 +1,4 @@
-// Writing pieces, numbers, types and signatures into the rest of a message buffer (`format!`, `impl Display`).
+// Writing pieces, numbers, types and signatures into a sink: the rest of a message buffer, or a window of rows (`format!`, `impl Display`).
 #![tactic(auto, using(crate::specs::WritingLaws::writing))]
 
 ghost use Rattle.std.specs.Prelude.{◌≡◌, List, ℕ, Result, ⊤, [], ◌∷◌, ◌++◌, map, ◌+◌, ◌*◌, ◌^◌, ◌≤◌, ◌<◌, get_or};

@@ -1,5 +1,6 @@
 // A function that is defined (typecheck/lib.rs, Node::Fn): whether its name was met, what comes before its body, and what comes after.
-// The buffers are lent in one order: slots, functions, types, diagnostics, messages, scratch; then the texts, the image.
+// The buffers are lent in one order: slots, functions, types, diagnostics, messages, scratch; then the texts, the image. Who only reads types
+// takes them with the texts.
 #![tactic(auto)]
 
 ghost use Rattle.std.specs.Prelude.{◌≡◌, List, ℕ, ◌+◌, ◌*◌, ◌≤◌, length};

@@ -148,8 +148,8 @@ fn nodes_by<'a>(
 
 // The whole image.
 
-// Counts, roots, nodes, types, the end. Which nodes may be called stands in this frame, which lies in its caller's: what the caller has for another refusal then is not there
-// beside them (docs/PERFORMANCE.md, "Stack").
+// Counts, roots, nodes, types, the end. Which nodes may be called stands in this frame, which lies in its caller's: what the caller has for
+// another refusal then is not there beside them (docs/PERFORMANCE.md, "Stack").
 #[tactic(auto, unfolding(ast::specs::ImageFault::image, reader::specs::Reading::gave, image_words::specs::Leads::unanswered), using(image_words::specs::LeadLaws::leads))]
 fn whole<'a>(script: &[u8], from: Reader<'a>) -> Result<Reader<'a>, Fault>
     ensures { (library : List ℕ) → unanswered (onward from.entry (image (texts_of script.now library))) ≡ gave tt result }

@@ -1,4 +1,4 @@
-// Words of an image's records, read forward: names, numbers below others, lists of them (document 01, "Words").
+// Words of an image's records, read forward: names, numbers below others, lists of them, and the length that pairs have (document 01, "Words").
 #![tactic(auto)]
 
 ghost use Rattle.std.specs.Prelude.{◌≡◌, ◌&&◌, ◌-◌, ◌%◌, leb, eqb};

@@ -1,4 +1,4 @@
--- A call of an own function: what it takes for granted, and its contract. Definitions.
+-- A call of an own function: what who calls it with the functions buffer takes for granted, and its contract. Definitions.
 use Rattle.std.specs.Prelude.{ℕ, ◌≤◌, ◌≡◌, List, length}
 use Rattle.tok.specs.Text.{Texts}
 use Rattle.library.specs.Package.{Package}

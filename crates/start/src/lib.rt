@@ -124,8 +124,8 @@ fn first_state(pool: usize) -> State
 pub fn begin(slots: &mut [u32], types: &mut [u32], image: &[u32], words: &[u32]) -> Visit<()>
     ensures { Starts image.now words.now slots.old types.old slots.new types.new result }
 {
-    let nodes = tok::word_at(image, 0);
-    empty_slots(slots, tok::word_at(image, 3) as usize);
+    let nodes = ast::node_count(image);
+    empty_slots(slots, ast::slot_count(image) as usize);
     let pool = library::pool(words);
     if !add::copy_pool(types, pool) {
         return Err(Refusal::TypesFull(nodes));

@@ -15,8 +15,8 @@ zeros-filled image e = e
 pub nodes-requires : goal.nodes-requires
 nodes-requires c =
     let r = rw (← c.inputs.view_is) at c.requires in
-    roots-counted r (zeros-filled _ c.record_places.ensures) c.word_at-nodes.ensures c.word_at-roots.ensures
+    roots-counted r (zeros-filled _ c.record_places.ensures) c.node_count-nodes.ensures c.root_count-roots.ensures
 
 pub returns : goal.returns
 returns c =
-    rw (← c.inputs.view_is) (roots-visited _ _ c.word_at-roots.ensures c.nodes.ensures)
+    rw (← c.inputs.view_is) (roots-visited _ _ c.root_count-roots.ensures c.nodes.ensures)

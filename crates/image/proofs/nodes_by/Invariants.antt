@@ -1,4 +1,4 @@
--- `image::nodes_by` meets its contract: the invariant `Before`: the outlines so far, their kinds kept, and what the other nodes lead to. Assumes nothing.
+-- `image::nodes_by` meets its contract: the invariant `Before`: the outlines so far, whether each may be called, and what the other nodes lead to. Assumes nothing.
 use mathlib.Core.Path.{◌≡◌}
 use lib.ListN.{length}
 use Rattle.image_nodes.specs.Site.{counts_of}
