@@ -24,6 +24,8 @@ RINGS = [(name, most, why) for names, most, why in (
     ("type_expr::build type_expr::fields_from_exprs", 33, "it is called for type expressions of at most 33 levels"),
     ("type_expr::type_size type_expr::sizes", 34, "asked of types that were made: at most 32 levels"),
     ("display::put_digits", 11, "digits"),
+    ("core::slice::sort::unstable::quicksort", 27, "the sort of at most 8,192 entries: 2 x 13 levels, then it sorts by a heap"),
+    ("core::slice::sort::pivot::median_of_medians", 4, "the sort's sample: 1,024, 128, 16 and 2 entries"),
 ) for name in names.split()]
 ORDER = [name for name, _, _ in RINGS]
 ACTIVE = {name: (most, why) for name, most, why in RINGS}
@@ -40,6 +42,8 @@ Instruction = namedtuple("Instruction", "at name words symbol")
 PREFIXES = ("notrack", "bnd", "rep", "repz", "lock", "data16", "cs")
 HEADING = re.compile(r"^([0-9a-f]+) <(.+)>:$")
 LINE = re.compile(r"^\s*([0-9a-f]+):\t(\S+)\s*(.*)$")
+# (a generic function's name has a # of its own)
+COMMENT = re.compile(r"\s#\s")
 RELOCATION = re.compile(r"^\s*[0-9a-f]+: R_X86_64_(\w+)\s+(.+)$")
 TARGET = re.compile(r"^([0-9a-f]+)(?: <(.+?)(?:\+0x[0-9a-f]+)?>)?$")
 
@@ -56,11 +60,16 @@ def disassembled(archive):
             if moved.group(1) in ("PLT32", "PC32") and body[-1].name in ("call", "jmp"):
                 body[-1] = body[-1]._replace(symbol=re.sub(r"^\.text\.|[-+]0x[0-9a-f]+$", "", moved.group(2)))
         elif one and body is not None:
-            name, words = one.group(2), one.group(3).split("#")[0].strip()
+            name, words = one.group(2), COMMENT.split(one.group(3))[0].strip()
             if name in PREFIXES and words:
                 name, words = (words.split(None, 1) + [""])[:2]
             body.append(Instruction(int(one.group(1), 16), {"callq": "call", "jmpq": "jmp", "retq": "ret"}.get(name, name), words, None))
     return {name: body for name, body in out.items() if body}
+
+
+def plain(name):
+    """A generic function's name without what tells its instances apart."""
+    return re.sub(r"::<.*>$", "", name)
 
 
 def signed(text):
@@ -224,8 +233,8 @@ class Sum:
 
     def cut(self, ring):
         """The functions at which a ring is taken apart, as few as will do, and the others, callees first."""
-        cut = [f for f in ring if f in ACTIVE]
-        for f in sorted(cut, key=ORDER.index, reverse=True):
+        cut = [f for f in ring if plain(f) in ACTIVE]
+        for f in sorted(cut, key=lambda f: ORDER.index(plain(f)), reverse=True):
             if acyclic_order(self.graph, set(ring) - set(cut) | {f}) is not None and f not in self.graph[f].calls:
                 cut.remove(f)
         order = acyclic_order(self.graph, set(ring) - set(cut))
@@ -242,7 +251,7 @@ class Sum:
             ways += [(at + turn[g][0], (f,) + turn[g][1]) for g, at in self.graph[f].calls.items() if g in turn and g not in cut and turn[g]]
             turn[f] = max(ways, default=None)
             leaves[f] = self.leaving(f, {g: cost for g, cost in leaves.items() if g not in cut}, set(ring))
-        told = {c: "%%d x %s: %s (%s)" % (format(turn[c][0], ","), ", ".join(turn[c][1]), ACTIVE[c][1]) for c in cut}
+        told = {c: "%%d x %s: %s (%s)" % (format(turn[c][0], ","), ", ".join(turn[c][1]), ACTIVE[plain(c)][1]) for c in cut}
         if "spans::span_of" in cut and turn["spans::span_of"][0] > 1000:
             raise ValueError("a level of spans::span_of takes %d bytes: is that still less than a level of the walk?" % turn["spans::span_of"][0])
         last = joined(*[leaves[c] for c in cut])
@@ -252,7 +261,7 @@ class Sum:
             self.turns[most] = [told[c] for c in cut if turn[c][0] == most][0]
         else:
             # The last frame of a single one goes round no more.
-            times = {c: ACTIVE[c][0] - (1 if len(cut) == 1 else 0) for c in cut}
+            times = {c: ACTIVE[plain(c)][0] - (1 if len(cut) == 1 else 0) for c in cut}
             entry = after(last, sum(times[c] * turn[c][0] for c in cut), *[told[c] % times[c] for c in cut])
         for f in cut:
             self.cost[f] = entry
@@ -267,7 +276,12 @@ class Sum:
 
 def worst(archive, entry="shelfstork_check"):
     """Bytes below the caller's frame, the return address included, and lines that say where they come from."""
-    graph = {name: frame(name, body) for name, body in disassembled(archive).items()}
+    bodies, graph, left = disassembled(archive), {}, [entry]
+    while left:
+        name = left.pop()
+        if name in bodies and name not in graph:
+            graph[name] = frame(name, bodies[name])
+            left += graph[name].calls
     unknown = sorted({g for f in graph.values() for g in f.calls if g not in graph and g not in OUTSIDE})
     if unknown:
         raise ValueError("not in the archive: %s" % ", ".join(unknown))
