@@ -1,4 +1,4 @@
-pub mod SortWays
+pub mod SwapWays
 pub mod SplitWays
 pub mod BytesWays
 pub mod EndWays

@@ -119,12 +119,12 @@ module _ {t : Texts} {words before after : List ℕ} {i : ℕ} (h : Telling t wo
 
 -- ── All of it ──
 
-pub grouping_is : {t : Texts} {words a b c : List ℕ} {n : ℕ} {r : Bool} → Rearranged a b n → Split t words b c n r → Grouping t words a c n r
-grouping_is f s = record {
-  rearranged = rearranged-then f (record {
+pub grouping_is : {t : Texts} {words a b c d : List ℕ} {n : ℕ} {r : Bool} → Rearranged a b n → Rearranged b c n → Split t words c d n r → Grouping t words a d n r
+grouping_is f g s = record {
+  rearranged = rearranged-then f (rearranged-then g (record {
     long = s.long;
     all = λ p h. record { rank = h.rank; below = h.below; is = s.places h.rank ∙ h.is };
     only = λ p h. record { rank = h.rank; below = h.below; is = sym (s.places h.rank) ∙ h.is };
-  });
+  }));
   grouped = s.grouped;
 }

@@ -4,24 +4,22 @@
 #![tactic(auto)]
 
 ghost use Rattle.std.specs.Prelude.{◌≡◌, true, false, ℕ, ◌+◌, ◌*◌, ◌<◌, ◌≤◌, ◌^◌, length, get_or, set};
-ghost use Rattle.std.specs.Ordering.{is_lt};
 ghost use Rattle.tok.specs.Text.{name_bytes};
 ghost use Rattle.name_order.specs.Bytes.{bytes_before};
 ghost use Rattle.name_order.specs.Order.{place_in, new_in, Rearranged, Split, Grouping, GroupEnd};
 
-use std::cmp::Ordering;
 use tok::{Texts, item_at, set_item};
 
 // Names.
 
-// How the names of two words stand in order: by the first byte that differs, else the shorter one first.
-fn compare_names(texts: &Texts, a: u32, b: u32) -> Ordering
-    ensures { is_lt result ≡ bytes_before (name_bytes texts.now a) (name_bytes texts.now b) }
+// Whether the name of a word comes before that of another: by the first byte that differs, else the shorter one.
+fn name_before(texts: &Texts, a: u32, b: u32) -> bool
+    ensures { result ≡ bytes_before (name_bytes texts.now a) (name_bytes texts.now b) }
 {
-    if a == b {
-        return Ordering::Equal;
-    }
-    tok::name_bytes(texts, a).cmp(tok::name_bytes(texts, b))
+    a != b
+        && tok::name_bytes(texts, a)
+            .cmp(tok::name_bytes(texts, b))
+            .is_lt()
 }
 
 // Places in a row.
@@ -47,15 +45,67 @@ fn word_of(words: &[u32], order: &[u16], i: usize) -> u32
     tok::word_at(words, place_at(order, i))
 }
 
-// The entries sorted by name.
-fn sort(texts: &Texts, words: &[u32], order: &mut [u16])
+// Two entries change places.
+fn swap(order: &mut [u16], i: usize, j: usize)
     ensures { Rearranged order.old order.new (length order.old) }
 {
-    order.sort_unstable_by(|a, b| {
-        let first = tok::word_at(words, place_of(*a));
-        let second = tok::word_at(words, place_of(*b));
-        compare_names(texts, first, second)
-    });
+    if i < order.len() && j < order.len() {
+        order.swap(i, j);
+    }
+}
+
+// The sort: a heap of the entries, the last name on top.
+
+// The one of two children of an entry whose name comes last.
+fn later_child(texts: &Texts, words: &[u32], order: &[u16], at: usize) -> usize
+    requires { 2 * at + 1 < length order.now }
+    ensures { (at < result) × (result < length order.now) }
+{
+    let child = 2 * at + 1;
+    if child + 1 >= order.len() {
+        return child;
+    }
+    let a = word_of(words, order, child);
+    let b = word_of(words, order, child + 1);
+    if name_before(texts, a, b) {
+        return child + 1;
+    }
+    child
+}
+
+// An entry goes down until no child comes after it.
+fn sift(texts: &Texts, words: &[u32], order: &mut [u16], root: usize)
+    ensures { Rearranged order.old order.new (length order.old) }
+{
+    let mut at = root;
+    while at < order.len() / 2 {
+        let child = later_child(texts, words, order, at);
+        let a = word_of(words, order, at);
+        let b = word_of(words, order, child);
+        if !name_before(texts, a, b) {
+            return;
+        }
+        swap(order, at, child);
+        at = child;
+    }
+}
+
+fn make_heap(texts: &Texts, words: &[u32], order: &mut [u16])
+    ensures { Rearranged order.old order.new (length order.old) }
+{
+    for i in (0..order.len() / 2).rev() {
+        sift(texts, words, order, i);
+    }
+}
+
+// The last name of the heap goes behind it, again and again.
+fn take_heap(texts: &Texts, words: &[u32], order: &mut [u16])
+    ensures { Rearranged order.old order.new (length order.old) }
+{
+    for left in (1..order.len()).rev() {
+        swap(order, 0, left);
+        sift(texts, words, &mut order[..left], 0);
+    }
 }
 
 // Groups.
@@ -83,7 +133,7 @@ fn split(texts: &Texts, words: &[u32], order: &mut [u16]) -> bool
     for i in 1..order.len() {
         let a = word_of(words, order, i - 1);
         let b = word_of(words, order, i);
-        let new = compare_names(texts, a, b).is_lt();
+        let new = name_before(texts, a, b);
         if !new && !tok::same_name(texts, a, b) {
             return false;
         }
@@ -97,7 +147,8 @@ fn split(texts: &Texts, words: &[u32], order: &mut [u16]) -> bool
 pub fn group_names(texts: &Texts, words: &[u32], order: &mut [u16]) -> bool
     ensures { Grouping texts.now words.now order.old order.new (length order.old) result }
 {
-    sort(texts, words, order);
+    make_heap(texts, words, order);
+    take_heap(texts, words, order);
     split(texts, words, order)
 }
 
