@@ -24,8 +24,6 @@ RINGS = [(name, most, why) for names, most, why in (
     ("type_expr::build type_expr::fields_from_exprs", 33, "it is called for type expressions of at most 33 levels"),
     ("type_expr::type_size type_expr::sizes", 34, "asked of types that were made: at most 32 levels"),
     ("display::put_digits", 11, "digits"),
-    ("core::slice::sort::unstable::quicksort", 27, "the sort of at most 8,192 entries: 2 x 13 levels, then it sorts by a heap"),
-    ("core::slice::sort::pivot::median_of_medians", 4, "the sort's sample: 1,024, 128, 16 and 2 entries"),
 ) for name in names.split()]
 ORDER = [name for name, _, _ in RINGS]
 ACTIVE = {name: (most, why) for name, most, why in RINGS}
