@@ -186,6 +186,7 @@ pub enum Piece<'a> {
 }
 
 // Writes a piece.
+#[tactic(auto, unfolding(crate::specs::Pieces::text_of, tok::specs::Text::text))]
 fn put_piece(out: &mut Writer, piece: &Piece) -> Result<(), Full>
     ensures { Writes out.old out.new result (text_of piece.now) }
 {

@@ -132,16 +132,3 @@ module _ (o s : List ℕ) {o' : List ℕ} {i n : ℕ} {r : Result ⊤ Full} {x :
   -- so it is the piece that is lent from there
   pub shows_front : {w w' : Window} {b : List ℕ} → b ≡ o' → Shows w w' (take n b) → Shows w w' s
   shows_front e h = shows_as (sym front_wrote) (rw e at h)
-
--- ---- loops
--- Of the text s, begun at the window w, the text s' is still to be written, at w': whoever writes s' has written s.
-pub record Owes (w : Window) (s : List ℕ) (w' : Window) (s' : List ℕ) : Type 0 where
-  pub ends : {r : Window} → Shows w' r s' → Shows w r s
-
--- before the first turn
-pub owes-all : {w : Window} {s s' : List ℕ} → s ≡ s' → Owes w s w s'
-owes-all e = record { ends = λ p. shows_as e p }
-
--- one turn writes the front t of what is owed
-pub owes-less : {w w' r : Window} {s s' t u : List ℕ} → Owes w s w' s' → s' ≡ t ++ u → Shows w' r t → Owes w s r u
-owes-less p e q = record { ends = λ r. p.ends (shows_as e (q and_then r)) }
