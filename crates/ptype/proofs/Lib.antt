@@ -1,6 +1,6 @@
 -- What the code's functions return, over what their calls gave; and examples.
 mod SameReturns
-mod StandsReturns
+pub mod StandsReturns
 mod SizeReturns
 mod DepthReturns
 mod Examples

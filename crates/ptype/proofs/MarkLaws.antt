@@ -2,20 +2,20 @@
 use Prim.Native.Nat.{ℕ, zero, suc, ◌+◌, ◌-◌, ◌≤◌, ◌<◌, min}
 use native.Mathlib.Omega.{arith}
 use Rattle.std.proofs.Math.Decide.{ℕ_discrete, dec_lt}
-use Rattle.std.specs.Prelude.{◌≡◌, Bool, false, List, get_or, set, length, replicate}
+use Rattle.std.specs.Prelude.{◌≡◌, Bool, true, false, List, get_or, set, length, replicate}
 use Rattle.std.proofs.Math.Path.{refl}
-use Rattle.std.proofs.Common.{sym, ap, ◌∙◌, true≢false, get_or-set_same, get_or-set_other}
+use Rattle.std.proofs.Common.{sym, ap, ◌∙◌, get_or-set_same, get_or-set_other}
 use Rattle.std.proofs.lemmas.List.{set_past}
-use borrow.Author.Tests.{ne_eqb}
-use Rattle.facts.specs.Tests.{neither}
+use Rattle.facts.specs.Tests.{neither, refuted}
 use Rattle.tok.specs.Word.{kind_of, payload_of}
 use Rattle.tok.specs.Text.{Texts}
-use Rattle.ptype.specs.Ty.{Ty, Fields, depth_of, deepest}
-use Rattle.ptype.specs.Words.{inner_word, field_count, fields_from, fields_of, unfolded}
+use Rattle.ptype.specs.Ty.{Ty, depth_of, deepest}
+use Rattle.ptype.specs.Words.{unknown_word, inner_word, field_count, fields_from, fields_of, unfolded}
 use Rattle.ptype.specs.Kinds.{shape, is_plain, is_wrap, is_record, is_named}
 use Rattle.ptype.proofs.UnfoldLaws.{unfolded-plain, unfolded-wrap, unfolded_record, unfolded-named}
 use Rattle.ptype.proofs.DepthLaws.{depth_positive}
-use Rattle.ptype.specs.Stands.{stands_in, stands_among}
+use Rattle.ptype.proofs.StandsReturns.{at-wrap, at_record, at_leaf, named-flat}
+use Rattle.ptype.specs.Stands.{found_from, found_among, found_within}
 use Rattle.ptype.specs.Marks.{fields_at, Depths, Free, Tells}
 
 module _ (t : Texts) (types : List ℕ) where
@@ -82,62 +82,57 @@ no-marks types n = record { each = λ q h t f. absurd (h (zeros n q)) }
 
 -- ── What is found nowhere ──
 
-module _ (k : ℕ) (t : Texts) (types : List ℕ) where
-  among-keeps : (go go' : ℕ → Ty) → ((v : ℕ) → stands_in k (go v) ≡ false → stands_in k (go' v) ≡ false) → (at n : ℕ)
-      → stands_among k (fields_from go t types at n) ≡ false → stands_among k (fields_from go' t types at n) ≡ false
-  unfolding fields_from stands_in
-  among-keeps go go' h at zero e = refl
-  among-keeps go go' h at (suc n) e =
-      let x = neither (stands_in k (go (get_or types (at + 1) 0))) (stands_among k (fields_from go t types (at + 2) n)) e in
-      rw (h (get_or types (at + 1) 0) x.0, among-keeps go go' h (at + 2) n x.1)
+module _ (leaf : ℕ → Bool) (types : List ℕ) where
+  from-keeps : (go go' : ℕ → Bool) → ((v : ℕ) → go v ≡ false → go' v ≡ false) → (at n : ℕ) → found_from go types at n ≡ false → found_from go' types at n ≡ false
+  unfolding found_from
+  from-keeps go go' h at zero e = refl
+  from-keeps go go' h at (suc n) e =
+      let x = neither (go (get_or types (at + 1) 0)) (found_from go types (at + 2) n) e in
+      rw (h (get_or types (at + 1) 0) x.0, from-keeps go go' h (at + 2) n x.1)
 
-  -- Where Unknown is not found, nothing was cut, and more levels show no more; of another kind, fewer levels show less.
-  pub stands-keeps : (f g w : ℕ) → (k ≡ 11 → f ≤ g) → ((k ≡ 11 → ⊥) → g ≤ f) → stands_in k (unfolded t types f w) ≡ false → stands_in k (unfolded t types g w) ≡ false
-  unfolding unfolded stands_in
-  stands-keeps zero zero w a b e = e
-  stands-keeps zero (suc g) w a b e = elim (ℕ_discrete k 11) [ yes z ↦ absurd (true≢false (rw z at e)) | no z ↦ absurd (omega (arith, b z)) ]
-  stands-keeps (suc f) zero w a b e = elim (ℕ_discrete k 11) [ yes z ↦ absurd (omega (arith, a z)) | no z ↦ ne_eqb 11 k (λ q. z (sym q)) ]
-  stands-keeps (suc f) (suc g) w a b e =
-      let less : k ≡ 11 → f ≤ g = λ z. omega (arith, a z) in
-      let more : (k ≡ 11 → ⊥) → g ≤ f = λ z. omega (arith, b z) in
+  -- Where Unknown is sought and is not found, nothing was cut, and more levels show no more; of anything else, fewer levels show less.
+  pub within-keeps : (f g w : ℕ) → (leaf unknown_word ≡ true → f ≤ g) → (leaf unknown_word ≡ false → g ≤ f) → found_within leaf types f w ≡ false → found_within leaf types g w ≡ false
+  unfolding found_within
+  within-keeps zero zero w a b e = e
+  within-keeps zero (suc g) w a b e = absurd (omega (arith, b e))
+  within-keeps (suc f) zero w a b e = refuted (leaf unknown_word) (λ z. omega (arith, a z))
+  within-keeps (suc f) (suc g) w a b e =
+      let less : leaf unknown_word ≡ true → f ≤ g = λ z. omega (arith, a z) in
+      let more : leaf unknown_word ≡ false → g ≤ f = λ z. omega (arith, b z) in
       elim (shape (kind_of w)) [
-        | is_plain h ↦ rw (unfolded-plain t types w {deep = suc g} refl refl h) (rw (unfolded-plain t types w {deep = suc f} refl refl h) at e)
-        | is_wrap h ↦
-            rw (unfolded-wrap t types w {deep = suc g} refl refl h)
-            (stands-keeps f g (inner_word types w) less more (rw (unfolded-wrap t types w {deep = suc f} refl refl h) at e))
+        | is_plain h ↦ at_leaf leaf types g w h.no_wrap h.no_record ∙ (sym (at_leaf leaf types f w h.no_wrap h.no_record) ∙ e)
+        | is_wrap h ↦ at-wrap leaf types g w h ∙ within-keeps f g (inner_word types w) less more (sym (at-wrap leaf types f w h) ∙ e)
         | is_record h ↦
-            rw (unfolded_record t types w {deep = suc g} refl refl h)
-            (among-keeps (unfolded t types f) (unfolded t types g) (λ v. stands-keeps f g v less more) (payload_of w + 1) (field_count types w)
-            (rw (unfolded_record t types w {deep = suc f} refl refl h) at e))
-        | is_named h ↦ rw (unfolded-named t types w {deep = suc g} refl refl h) (rw (unfolded-named t types w {deep = suc f} refl refl h) at e)
+            at_record leaf types g w h
+            ∙ from-keeps (found_within leaf types f) (found_within leaf types g) (λ v. within-keeps f g v less more) (payload_of w + 1) (field_count types w)
+            (sym (at_record leaf types f w h) ∙ e)
+        | is_named h ↦
+            let n = named-flat (kind_of w) h in
+            at_leaf leaf types g w n.0 n.1 ∙ (sym (at_leaf leaf types f w n.0 n.1) ∙ e)
       ]
 
   -- a mark that tells, as the code has it
-  pub free-hit : {free : List ℕ} (w f : ℕ) {at m : ℕ} → Free (stands_among k) t types free → at ≡ payload_of w → m ≡ get_or free at 0 → Tells k m f
-      → false ≡ stands_among k (fields_of (unfolded t types f) t types w)
+  pub free-hit : {free : List ℕ} (w f : ℕ) {at m : ℕ} → Free leaf types free → at ≡ payload_of w → m ≡ get_or free at 0 → Tells (leaf unknown_word) m f
+      → false ≡ found_among (found_within leaf types f) types w
   free-hit {free} w f {at} {m} h ea em q =
       let g = get_or free at 0 - 1 in
       let e = h.each at (λ z. q.marked (em ∙ z)) in
-      let less : k ≡ 11 → g ≤ f = λ z. omega (arith, q.more z) in
-      let more : (k ≡ 11 → ⊥) → f ≤ g = λ z. omega (arith, q.fewer z) in
-      sym (rw ea at (among-keeps (unfolded t types g) (unfolded t types f) (λ v. stands-keeps g f v less more) (at + 1) (payload_of (get_or types at 0)) e))
+      let less : leaf unknown_word ≡ true → g ≤ f = λ z. omega (arith, q.more z) in
+      let more : leaf unknown_word ≡ false → f ≤ g = λ z. omega (arith, q.fewer z) in
+      sym (rw ea at (from-keeps (found_within leaf types g) (found_within leaf types f) (λ v. within-keeps g f v less more) (at + 1) (payload_of (get_or types at 0)) e))
 
--- What was not found may be marked,
-pub free_more : {found : Fields → Bool} {t : Texts} {types free : List ℕ} (w f : ℕ) {at : ℕ} → Free found t types free → at ≡ payload_of w → at < length free
-    → false ≡ found (fields_of (unfolded t types f) t types w) → Free found t types (set free at (f + 1))
-free_more {found} {t} {types} {free} w f {at} h ea l e = record { each = λ p n. by p n (ℕ_discrete p at) }
-  where
-    by : (p : ℕ) → (get_or (set free at (f + 1)) p 0 ≡ 0 → ⊥) → Dec (p ≡ at) → found (fields_at t types (get_or (set free at (f + 1)) p 0 - 1) p) ≡ false
-    by p n (no z) = let o = get_or-set_other free at p (f + 1) 0 z in rw o (h.each p (λ y. n (o ∙ y)))
-    by p n (yes z) =
-        let o : get_or (set free at (f + 1)) p 0 - 1 ≡ f = rw (z, get_or-set_same free at (f + 1) 0 l) (omega arith) in
-        rw (o, z, ea) (sym e)
+  -- What was not found may be marked, where there are so many marks;
+  pub free_set : {free : List ℕ} (w f : ℕ) {at : ℕ} → Free leaf types free → at ≡ payload_of w
+      → false ≡ found_among (found_within leaf types f) types w → Free leaf types (set free at (f + 1))
+  free_set {free} w f {at} h ea e = elim (dec_lt at (length free)) [ yes l ↦ record { each = λ p n. by l p n (ℕ_discrete p at) } | no l ↦ rw (set_past free at (f + 1) (omega arith)) h ]
+    where
+      by : at < length free → (p : ℕ) → (get_or (set free at (f + 1)) p 0 ≡ 0 → ⊥) → Dec (p ≡ at)
+          → found_from (found_within leaf types (get_or (set free at (f + 1)) p 0 - 1)) types (p + 1) (payload_of (get_or types p 0)) ≡ false
+      by l p n (no z) = let o = get_or-set_other free at p (f + 1) 0 z in rw o (h.each p (λ y. n (o ∙ y)))
+      by l p n (yes z) =
+          let o : get_or (set free at (f + 1)) p 0 - 1 ≡ f = rw (z, get_or-set_same free at (f + 1) 0 l) (omega arith) in
+          rw (o, z, ea) (sym e)
 
--- and is, where there are so many marks;
-pub free_set : {found : Fields → Bool} {t : Texts} {types free : List ℕ} (w f : ℕ) {at : ℕ} → Free found t types free → at ≡ payload_of w
-    → false ≡ found (fields_of (unfolded t types f) t types w) → Free found t types (set free at (f + 1))
-free_set {free = free} w f {at} h ea e = elim (dec_lt at (length free)) [ yes l ↦ free_more w f h ea l e | no l ↦ rw (set_past free at (f + 1) (omega arith)) h ]
-
--- and nothing is at first.
-pub none_free : (found : Fields → Bool) (t : Texts) (types : List ℕ) (n : ℕ) → Free found t types (replicate n 0)
-none_free found t types n = record { each = λ q h. absurd (h (zeros n q)) }
+  -- and nothing is at first.
+  pub none_free : (n : ℕ) → Free leaf types (replicate n 0)
+  none_free n = record { each = λ q h. absurd (h (zeros n q)) }

@@ -2,4 +2,3 @@
 mod PairReturns
 mod BindReturns
 mod HasReturns
-mod MarkReturns

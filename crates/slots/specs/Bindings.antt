@@ -1,8 +1,9 @@
 -- Bindings in a lent part of scratch, and what binding answers ("`HashMap` becomes lists in scratch"). Definitions.
-use Rattle.std.specs.Prelude.{◌≡◌, cond, List, [], ◌∷◌, ℕ, zero, suc, ◌+◌, ◌*◌, ◌/◌, min, length, get_or, leb, ⊤, Option as Found, Some, None, Result, Ok, Err}
+use Rattle.std.specs.Prelude.{◌≡◌, Bool, true, false, eqb, cond, List, [], ◌∷◌, ℕ, zero, suc, ◌+◌, ◌*◌, ◌/◌, min, length, get_or, leb, ⊤, Option as Found, Some, None, Result, Ok, Err}
 use Rattle.std.proofs.Math.Option.{Option, none, some}
+use Rattle.tok.specs.Word.{kind_of}
 use Rattle.tok.specs.Text.{Texts, name_bytes}
-use Rattle.ptype.specs.Slots.{Binding, binding, Bound, all_bound, conflict, void_slot}
+use Rattle.ptype.specs.Slots.{Binding, binding, bound_to, is_some, Bound, all_bound, conflict, void_slot}
 use Rattle.slots.specs.declared.BindError.{BindError}
 use Rattle.slots.specs.declared.Bindings.{Bindings}
 use Rattle.slots.specs.declared.BindError.TheVariants.{Conflict, Void, NoRoom}
@@ -32,6 +33,10 @@ Bind = Result ⊤ BindError
 abbrev pub found_of : Found ℕ → Option ℕ
 found_of (Some w) = some w
 found_of None = none
+
+-- a word of a slot that is bound
+abbrev pub is_bound_slot : List Binding → Texts → (word : ℕ) → Bool
+is_bound_slot bs texts w = elim (eqb (kind_of w) 10) [ true ↦ is_some (bound_to (name_bytes texts w) bs) | false ↦ false ]
 
 -- "what was bound before an error stays"
 unfoldable pub bindings_after : Bound → List Binding

@@ -3,14 +3,12 @@
 
 ghost use Rattle.std.specs.Prelude.{◌≡◌, List, ◌∷◌, ℕ, ◌+◌, ◌*◌, ◌<◌, ◌^◌};
 ghost use Rattle.tok.specs.Text.{Texts, name_bytes};
-ghost use Rattle.ptype.specs.Ty.{Fields};
-ghost use Rattle.ptype.specs.Words.{fields_from, fields_of};
+ghost use Rattle.ptype.specs.Words.{fields_from};
 ghost use Rattle.ptype.specs.Types.{type_at, type_within};
-ghost use Rattle.ptype.specs.Marks.{Free};
-ghost use Rattle.ptype.specs.Slots.{Binding, binding, bound_to, is_some, all_bound, bind_one, bind_slots, bind_fields, has_bound_slot, any_bound_slot};
-ghost use Rattle.slots.specs.Bindings.{bindings_of, found_of, Binds};
+ghost use Rattle.ptype.specs.Slots.{binding, bound_to, is_some, all_bound, bind_one, bind_slots, bind_fields, has_bound_slot};
+ghost use Rattle.slots.specs.Bindings.{bindings_of, found_of, is_bound_slot, Binds};
 
-use ptype::{LEVELS, MOST_WORDS, TypeKind, Types, field_count, field_type, inner, same_type};
+use ptype::{LEVELS, Sought, TypeKind, Types, field_count, field_type, inner, same_type};
 use tok::{Texts, kind, payload, same_name, word_at};
 
 // The bindings of slots: pairs of words, a slot's and its type's, in a lent part of scratch, and how many of them there are. The newest is the last.
@@ -175,61 +173,31 @@ fn bind_fields(
     Ok(())
 }
 
-// Whether a slot that is bound stands in a type, as deep as `depth` says. The marks (crate `ptype`) are in this frame, which no caller takes into its
-// own; a type of few words needs none.
-#[inline(never)]
+// What is sought in a type: a slot that is bound.
+#[derive(Drop)]
+struct BoundSlot<'a, 'b, 'c> {
+    bindings: &'a Bindings<'b>,
+    texts: &'a Texts<'c>,
+}
+
+impl<'a, 'b, 'c> Sought for BoundSlot<'a, 'b, 'c> {
+    ghost Is = { λ s. is_bound_slot (bindings_of s.texts.now s.bindings.now) s.texts.now };
+
+    fn is(&self, w: u32) -> bool {
+        match TypeKind::of(w) {
+            TypeKind::Slot => self.bindings.is_bound(self.texts, w),
+            _ => false,
+        }
+    }
+}
+
+// Whether a slot that is bound stands in a type, as deep as `depth` says.
 pub fn has_bound_slot_within(bindings: &Bindings, types: &Types, w: u32, depth: usize) -> bool
     ensures { result ≡ has_bound_slot (bindings_of types.now.texts.now bindings.now) (type_within types.now depth w) }
 {
-    if ptype::is_small(types.words, w) {
-        bound_slot_in(bindings, types, w, depth, &mut [])
-    } else {
-        bound_slot_in(bindings, types, w, depth, &mut [0; MOST_WORDS])
-    }
-}
-
-// Whether one stands in a type; `free` has the levels, and 1, in which none stands in the list at an index.
-#[cycle(any_bound_slot_bound_slot_in)]
-fn bound_slot_in(bindings: &Bindings, types: &Types, w: u32, depth: usize, free: &mut [u8]) -> bool
-    requires { let T : Texts = types.now.texts.now in Free (any_bound_slot (bindings_of T bindings.now)) T types.now.words.now free.old }
-    ensures { let T : Texts = types.now.texts.now in let W : List ℕ = types.now.words.now in
-        let B : List Binding = bindings_of T bindings.now in
-        (result ≡ has_bound_slot B (type_within types.now depth w)) × Free (any_bound_slot B) T W free.new }
-{
-    if depth == 0 {
-        return false;
-    }
-    match TypeKind::of(w) {
-        TypeKind::Option | TypeKind::Array => {
-            bound_slot_in(bindings, types, inner(types.words, w), depth - 1, free)
-        }
-        TypeKind::Record => any_bound_slot(bindings, types, w, depth - 1, free),
-        TypeKind::Slot => bindings.is_bound(types.texts, w),
-        _ => false,
-    }
-}
-
-// Whether one stands in the fields of a Record: in fewer levels than a mark tells of, none either.
-#[cycle(any_bound_slot_bound_slot_in)]
-fn any_bound_slot(bindings: &Bindings, types: &Types, w: u32, depth: usize, free: &mut [u8]) -> bool
-    requires { let T : Texts = types.now.texts.now in Free (any_bound_slot (bindings_of T bindings.now)) T types.now.words.now free.old }
-    ensures { let T : Texts = types.now.texts.now in let W : List ℕ = types.now.words.now in
-        let B : List Binding = bindings_of T bindings.now in
-        let F : Fields = fields_of (type_within types.now depth) T W w in
-        (result ≡ any_bound_slot B F) × Free (any_bound_slot B) T W free.new }
-{
-    let at = payload(w);
-    if depth < ptype::mark_at(free, at) {
-        return false;
-    }
-    for i in 0..field_count(types.words, w) {
-        let x = field_type(types.words, at + 1 + 2 * i);
-        if bound_slot_in(bindings, types, x, depth, free) {
-            return true;
-        }
-    }
-    if at < free.len() && depth < 255 {
-        free[at] = (depth + 1) as u8;
-    }
-    false
+    let bound = BoundSlot {
+        bindings,
+        texts: types.texts,
+    };
+    ptype::contains(types.words, &bound, w, depth)
 }

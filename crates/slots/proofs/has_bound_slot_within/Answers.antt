@@ -1,11 +1,10 @@
--- `slots::has_bound_slot_within` meets its contract: no marks at first. Assumes nothing.
-use Rattle.tok.specs.Text.{texts_of}
-use Rattle.ptype.specs.Slots.{any_bound_slot}
-use Rattle.ptype.proofs.MarkLaws.{none_free}
+-- `slots::has_bound_slot_within` meets its contract: a bound slot is found where the tree has one. Assumes nothing.
+use mathlib.Core.Path.{◌∙◌}
 use Rattle.slots.specs.Bindings.{bindings_of}
+use Rattle.slots.proofs.HasReturns.{found_bound_slot}
 use Rattle.slots.proofs.has_bound_slot_within.Goals as goal
 
-pub bound_slot_in-requires-else-is_small : goal.bound_slot_in-requires-else-is_small
-bound_slot_in-requires-else-is_small c =
-    let bound = bindings_of c.args.types.now.texts.now c.args.bindings.now in
-    none_free (any_bound_slot bound) (texts_of c.args.types.now.texts.now.script c.args.types.now.texts.now.library) c.args.types.now.words.now 8192
+pub returns : goal.returns
+returns c =
+    let T = c.args.types.now.texts.now in
+    c.contains.ensures ∙ found_bound_slot T (bindings_of T c.args.bindings.now) c.args.types.now.words.now c.args.depth c.args.w
