@@ -3,7 +3,6 @@
 #![tactic(auto)]
 
 ghost use Rattle.std.specs.Prelude.{◌≡◌, List, [], ◌∷◌, ℕ, ◌+◌, ◌*◌, ◌<◌, ◌^◌, min, leb, length, take, replicate};
-ghost use Rattle.tok.specs.Word.{word_of};
 ghost use Rattle.tok.specs.Text.{Texts};
 ghost use Rattle.ptype.specs.Add.{add_wrap, write};
 ghost use Rattle.ptype.specs.Marks.{Depths};
@@ -13,7 +12,7 @@ ghost use Rattle.add.specs.Parts.{opened, shallow, measured};
 ghost use Rattle.add.specs.Pool.{pool_types, all_shallow, Copies};
 ghost use Rattle.add.specs.ShallowBy.{ShallowFound, shallow_found, shallow_by, all_shallow_by, RightAnswer};
 
-use ptype::TypeKind;
+use ptype::{MOST_WORDS, TypeKind};
 
 // Why a type is not added: "types buffer full" (7), "type depth 33" (8).
 #[derive(Clone, Copy, Debug, PartialEq, Eq)]
@@ -25,9 +24,6 @@ pub enum AddError {
 // The new type's word and how many words are used with it.
 pub type Added = Result<(u32, usize), AddError>;
 
-// "At most 8,192 words of the types buffer .. are used."
-const MOST_WORDS: usize = 8192;
-
 // "Type depth 32 (a type with nothing inside is 1)."
 pub const MOST_LEVELS: usize = 32;
 
@@ -36,14 +32,6 @@ fn type_room(types: &[u32]) -> usize
     ensures { result ≡ min (length types.now) 8192 }
 {
     types.len().min(MOST_WORDS)
-}
-
-// The word of a type of a kind that stands at an index.
-pub fn word_of(kind: TypeKind, at: usize) -> u32
-    requires { at < 2 ^ 28 }
-    ensures { result ≡ word_of (number_of_type kind) at }
-{
-    kind.number() * 0x1000_0000 + (at as u32)
 }
 
 // Whether a type is at most 32 deep.
@@ -114,7 +102,7 @@ impl<'a> Arena<'a> {
         }
         let old = self.words[at];
         self.words[at] = inner;
-        let word = word_of(kind, at);
+        let word = kind.word(at);
         if !self.is_shallow(word) {
             self.words[at] = old;
             return Err(AddError::TooDeep);
@@ -142,7 +130,7 @@ impl<'a> Arena<'a> {
         ensures { Adds (λ t n. opened n fields) self.old result self.new }
     {
         if record_fits(self.room(), self.used, fields) {
-            let word = word_of(TypeKind::Record, self.used);
+            let word = TypeKind::Record.word(self.used);
             self.words[self.used] = fields as u32;
             self.used += 1 + 2 * fields;
             Ok(word)

@@ -12,7 +12,7 @@ ghost use Rattle.apply.specs.Apply.{apply_pairs, apply_within, apply_word, only}
 ghost use Rattle.apply.specs.Sizes.{sizes_of, size_within, word_before, pairs_after};
 ghost use Rattle.apply.specs.Setting.{Setting};
 
-use add::{AddError, Added, Arena, MOST_LEVELS, word_of};
+use add::{AddError, Added, Arena, MOST_LEVELS};
 use ptype::{TypeKind, Types, field_count, field_type, inner};
 use slots::Bindings;
 use tok::{Texts, payload, word_at};
@@ -178,8 +178,8 @@ fn applied_word(
         return w;
     }
     match kind {
-        TypeKind::Option | TypeKind::Array => word_of(kind, end - 1),
-        _ => word_of(TypeKind::Record, end - (1 + 2 * field_count(old.words, w))),
+        TypeKind::Option | TypeKind::Array => kind.word(end - 1),
+        _ => TypeKind::Record.word(end - (1 + 2 * field_count(old.words, w))),
     }
 }
 

@@ -127,7 +127,7 @@ fn claims_by(words: &[u32], nodes: &mut [bool], slots: &mut [bool]) -> Result<()
 pub fn claims(words: &[u32]) -> Result<(), Fault>
     ensures { offending result ≡ claims_in words.now }
 {
-    let mut nodes = [false; 2048];
-    let mut slots = [false; 4096];
+    let mut nodes = [false; ast::MOST_NODES];
+    let mut slots = [false; ast::MOST_SLOTS];
     claims_by(words, &mut nodes, &mut slots)
 }

@@ -111,6 +111,6 @@ fn depth_by(words: &[u32], depths: &mut [u8]) -> Result<(), Fault>
 pub fn depth(words: &[u32]) -> Result<(), Fault>
     ensures { offending result ≡ depth_in words.now }
 {
-    let mut depths = [0u8; 2048];
+    let mut depths = [0u8; ast::MOST_NODES];
     depth_by(words, &mut depths)
 }

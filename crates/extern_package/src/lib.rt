@@ -16,7 +16,7 @@ ghost use Rattle.extern_package.specs.Packing.{FunctionsRoom, WritesFunctions, E
 use places::Image;
 use ptype::VOID_WORD;
 use rules::Answer;
-use state::{Step, Used};
+use state::{EXTERN, Step, Used};
 use visit::{State, Visit};
 
 // The functions, of which `count` stand in the image from word `from` on: their entries from word `at` of scratch on. An entry takes as
@@ -69,7 +69,7 @@ pub fn extern_package(
 {
     let size = 3 + (end - from);
     let start = st.held - size;
-    add::set_pair(scratch, start, (8192 + size) as u32, name);
+    add::set_pair(scratch, start, (EXTERN + size) as u32, name);
     operators::store(scratch, start + 2, count);
     let (_, used) = extern_functions(
         types,

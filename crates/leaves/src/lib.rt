@@ -40,7 +40,7 @@ pub fn leaf(
     match NodeKind::of(head) {
         NodeKind::Atom => {
             let used = st.used;
-            let w = operators::plain_word(TypeKind::from(image.word_after(at, 3)));
+            let w = TypeKind::from(image.word_after(at, 3)).word(0);
             visit::answered(st, operators::set_known(slots, used, slot, w))
         }
         NodeKind::Ident => names::ident(

@@ -34,13 +34,6 @@ pub fn set_known(slots: &mut [u32], used: Used, slot: u32, word: u32) -> Step<An
     Ok((Answer::Known(slot), used))
 }
 
-// The word of a kind that has no payload.
-pub fn plain_word(kind: TypeKind) -> u32
-    ensures { result ≡ word_of (number_of_type kind) 0 }
-{
-    kind.word(0)
-}
-
 // Operators.
 
 // The operator rules: left kind, then right kind (none, Void, Bool, Int, Double, Str); the kind of the result, or none. Kinds from 6 on have no
@@ -132,8 +125,8 @@ pub fn fuse(
 {
     let l = word_at(slots, left as usize);
     let r = word_at(slots, right as usize);
-    if let Some(kind) = result_kind(op, TypeKind::of(l), TypeKind::of(r)) {
-        return set_known(slots, used, slot, plain_word(kind));
+    if let Some(common) = result_kind(op, TypeKind::of(l), TypeKind::of(r)) {
+        return set_known(slots, used, slot, common.word(0));
     }
     let counts = used.told;
     if ptype::same_type(types, l, r) {
@@ -173,7 +166,7 @@ pub fn unary(
     let r = word_at(slots, right as usize);
     let kind = TypeKind::of(r);
     if takes(op, kind) {
-        return set_known(slots, used, slot, plain_word(kind));
+        return set_known(slots, used, slot, kind.word(0));
     }
     let counts = used.told;
     let told = err_values::bad_unary(diagnostics, messages, counts, types, token, op, r);

@@ -30,7 +30,7 @@ use ptype::Types;
 use rules::Answer;
 use scope::Held;
 use signatures::{Entries, Group};
-use state::{Step, Used};
+use state::{HELD_TOP, Step, Used};
 use tok::Texts;
 use visit::{State, Visit};
 
@@ -105,7 +105,7 @@ fn in_library(
         types,
         diagnostics,
         messages,
-        &mut scratch[8192..],
+        &mut scratch[HELD_TOP..],
         texts,
         image,
         used,

@@ -8,7 +8,7 @@ ghost use Rattle.ast.specs.Image.{slot_count};
 ghost use Rattle.places.specs.Image.{Image, image_of};
 ghost use Rattle.places.specs.Places.{clipped, place_after, Filled, most_in, levels_inside, levels_at, fill_levels, places_in};
 
-use ast::ExprKind;
+use ast::{ExprKind, MOST_NODES, MOST_TYPES};
 use std::marker::Model;
 
 // An image, with the places of its records.
@@ -25,10 +25,10 @@ impl<'a> Model for Image<'a> {
 }
 
 // The index of type 0's place.
-const TYPES: usize = 2048;
+const TYPES: usize = MOST_NODES;
 
 // The index of type 0's levels.
-const LEVELS: usize = 2560;
+const LEVELS: usize = TYPES + MOST_TYPES;
 
 fn place(places: &[u16], i: usize) -> u16
     ensures { result ≡ get_or places.now i 0 }
@@ -125,7 +125,7 @@ fn fill(places: &mut [u16], image: &[u32], index: usize, count: usize, first: u1
 }
 
 // How many fields a Record has, by the head of its record.
-fn fields_in(head: u32) -> usize
+pub fn fields_in(head: u32) -> usize
     ensures { (result ≡ (payload_of head - 2) / 2) × (result < 2 ^ 28) }
 {
     tok::payload(head).saturating_sub(2) / 2
@@ -181,8 +181,8 @@ fn fill_levels(places: &mut [u16], image: &[u32], types: usize)
 pub fn record_places(places: &mut [u16], image: &[u32])
     ensures { places.new ≡ places_in image.now places.old }
 {
-    let nodes = (ast::node_count(image) as usize).min(2048);
-    let types = (ast::type_count(image) as usize).min(512);
+    let nodes = (ast::node_count(image) as usize).min(MOST_NODES);
+    let types = (ast::type_count(image) as usize).min(MOST_TYPES);
     let first = clipped(4 + ast::root_count(image) as usize);
     let first_type = fill(places, image, 0, nodes, first);
     fill(places, image, TYPES, types, first_type);

@@ -9,6 +9,7 @@ ghost use Rattle.state.specs.Signatures.{entries_end, own_in};
 ghost use Rattle.state.specs.Store.{poisoned, local_name, env_up, held_at, held_size, held_from, held_end};
 ghost use Rattle.scope.specs.Found.{Owned, owned, binding_of, own_of, package_of, held_of};
 
+use state::EXTERN;
 use std::marker::Model;
 use tok::{Texts, kind, name_bytes, word_at};
 
@@ -115,9 +116,6 @@ impl<'a> Own<'a> {
         found
     }
 }
-
-// Words below are those of library packages, in the list of what is held; an Extern's has this much more than its size.
-const EXTERN: usize = 8192;
 
 // Which package is held at a word of scratch, and how many words it takes there.
 fn held_at(scratch: &[u32], at: usize) -> (Held, usize)

@@ -14,7 +14,7 @@ ghost use Rattle.start.specs.Begin.{first_state, Starts};
 use err::Counts;
 use ptype::{MOST_WORDS, VOID_WORD};
 use scope::Names;
-use state::{Kept, Refusal, Used};
+use state::{HELD_TOP, Kept, Refusal, Used};
 use visit::{State, Visit};
 
 // "slot words (0 where none; slot V is Void)"
@@ -114,7 +114,7 @@ fn first_state(pool: usize) -> State
             kept: Kept {},
         },
         names: Names { base: 0, depth: 0 },
-        held: 8192,
+        held: HELD_TOP,
         packages: 0,
         functions: 0,
     }

@@ -9,6 +9,12 @@ ghost use Rattle.state.specs.Refused.{refusal_of};
 use add::{AddError, Added};
 use err::Counts;
 
+// In scratch the packages held stand below this word.
+pub const HELD_TOP: usize = 8192;
+
+// Words below are those of library packages, in the list of what is held; an Extern's has this much more than its size.
+pub const EXTERN: usize = 8192;
+
 // What is used of what later requests add: nothing yet.
 #[derive(Clone, Copy)]
 pub struct Kept {}

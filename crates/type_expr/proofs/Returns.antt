@@ -2,7 +2,8 @@
 use Rattle.std.specs.Prelude.{Result as Answered, Ok, Err}
 use mathlib.Core.Path.{◌≡◌, refl, sym, ap, ◌∙◌}
 use mathlib.Core.List.{List}
-use Prim.Native.Nat.{ℕ, ◌+◌, ◌-◌, ◌*◌, ◌/◌}
+use Prim.Native.Nat.{ℕ, ◌+◌, ◌-◌, ◌*◌, ◌/◌, ◌≤◌}
+use native.Mathlib.Omega.{arith}
 use native.Mathlib.Decide.{ℕ_discrete}
 use lib.ListN.{get_or}
 use Rattle.std.specs.Prelude.{◌⊎◌}
@@ -14,7 +15,10 @@ use Rattle.ast.specs.KindLaws.{expr-number}
 use Rattle.tok.specs.Word.{kind_of, payload_of, word_of}
 use Rattle.tok.specs.Text.{Texts}
 use Rattle.tok.specs.Step.{Step, Refusal, next}
+use Rattle.ptype.specs.declared.TypeKind.{TypeKind}
+use Rattle.ptype.specs.TypeKind.{kind_of_type, number_of_type}
 use Rattle.ptype.specs.Add.{Buffer, add_wrap}
+use Rattle.add.specs.KindLaws.{kind-numbered}
 use Rattle.add.specs.declared.AddError.{AddError}
 use Rattle.add.specs.declared.Arena.{Arena}
 use Rattle.add.specs.Answer.{buffer_of, answer_of, result_of, Allocates}
@@ -28,6 +32,10 @@ use Rattle.type_expr.specs.Sizes.{size_of, sizes_of, word_before}
 use Rattle.type_expr.specs.SizeLaws.{fields-long}
 use Rattle.type_expr.specs.TypesAt.{type-atom, type-foreign, type-option, type-array, type_record_lem, kind-array}
 use Rattle.type_expr.proofs.FieldReturns.{two-each}
+
+-- the word of a kind with nothing inside, by its number
+pub word-plain : {x y : ℕ} {kind : TypeKind} → kind ≡ kind_of_type y → x ≡ word_of (number_of_type kind) 0 → y ≤ 5 → x ≡ word_of y 0
+word-plain e x l = x ∙ ap (λ k. word_of k 0) (ap number_of_type e ∙ kind-numbered _ (omega arith))
 
 module _ {image places : List ℕ} {t at : ℕ} (r : TypeReady image places t) (ea : at ≡ get_or places (2048 + t) 0) {h k : ℕ} (eh : h ≡ get_or image at 0) (ek : k ≡ kind_of h) where
   -- ── The token ──

@@ -16,9 +16,9 @@ ghost use Rattle.type_expr.specs.Ready.{TypeReady, FieldsReady};
 ghost use Rattle.type_expr.specs.Onward.{Onward};
 ghost use Rattle.type_expr.specs.Sizes.{size_of, sizes_of, word_before, pairs_after};
 
-use add::{AddError, Added, Arena, MOST_LEVELS, word_of};
+use add::{AddError, Added, Arena, MOST_LEVELS};
 use ast::ExprKind;
-use places::Image;
+use places::{Image, fields_in};
 use ptype::TypeKind;
 use tok::payload;
 
@@ -38,26 +38,11 @@ pub fn type_token(image: &Image, t: u32) -> u32
     }
 }
 
-// How many fields a Record has, by the first word of its record.
-fn record_fields(head: u32) -> usize
-    ensures { result ≡ (payload_of head - 2) / 2 }
-{
-    payload(head).saturating_sub(2) / 2
-}
-
 // The word of a type of the script's: kind 9 with the token's payload.
 fn foreign_word(token: u32) -> u32
     ensures { result ≡ word_of 9 (payload_of token) }
 {
-    word_of(TypeKind::Foreign, payload(token))
-}
-
-// The word of a type with nothing inside, by the number of its kind.
-fn plain_word(kind: u32) -> u32
-    requires { kind ≤ 5 }
-    ensures { result ≡ word_of kind 0 }
-{
-    word_of(TypeKind::from(kind), 0)
+    TypeKind::Foreign.word(payload(token))
 }
 
 // Adds the type of a type expression, what is inside it first. Where it is refused, the rules leave open what the buffer holds.
@@ -85,7 +70,7 @@ fn deep_part(arena: &mut Arena, image: &Image, t: u32) -> Result<u32, AddError>
     let head = image.word_at(at);
     match ExprKind::of(head) {
         ExprKind::Record => {
-            let fields = record_fields(head);
+            let fields = fields_in(head);
             deep_field(arena, image, t, at + 2, fields)
         }
         _ => Ok(image.word_after(at, 1)),
@@ -124,10 +109,10 @@ fn build(arena: &mut Arena, image: &Image, t: u32) -> Result<u32, AddError>
     let at = image.type_place(t);
     let head = image.word_at(at);
     match ExprKind::of(head) {
-        ExprKind::Atom => Ok(plain_word(image.word_after(at, 2))),
+        ExprKind::Atom => Ok(TypeKind::from(image.word_after(at, 2)).word(0)),
         ExprKind::Foreign => Ok(foreign_word(image.word_after(at, 1))),
         ExprKind::Record => {
-            let fields = record_fields(head);
+            let fields = fields_in(head);
             let word = fields_from_exprs(arena, image, t, at + 2, fields)?;
             arena.close_record(word)
         }
@@ -206,14 +191,14 @@ fn type_word(image: &Image, end: usize, t: u32) -> u32
     let at = image.type_place(t);
     let head = image.word_at(at);
     match ExprKind::of(head) {
-        ExprKind::Atom => plain_word(image.word_after(at, 2)),
+        ExprKind::Atom => TypeKind::from(image.word_after(at, 2)).word(0),
         ExprKind::Foreign => foreign_word(image.word_after(at, 1)),
         ExprKind::Record => {
-            let fields = record_fields(head);
-            word_of(TypeKind::Record, end - (1 + 2 * fields))
+            let fields = fields_in(head);
+            TypeKind::Record.word(end - (1 + 2 * fields))
         }
-        ExprKind::Option => word_of(TypeKind::Option, end - 1),
-        _ => word_of(TypeKind::Array, end - 1),
+        ExprKind::Option => TypeKind::Option.word(end - 1),
+        _ => TypeKind::Array.word(end - 1),
     }
 }
 
@@ -229,7 +214,7 @@ fn type_size(image: &Image, t: u32) -> usize
     match ExprKind::of(head) {
         ExprKind::Atom | ExprKind::Foreign => 0,
         ExprKind::Record => {
-            let fields = record_fields(head);
+            let fields = fields_in(head);
             sizes(image, t, at + 2, fields) + (1 + 2 * fields)
         }
         _ => type_size(image, image.word_after(at, 1)) + 1,

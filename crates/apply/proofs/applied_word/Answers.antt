@@ -19,14 +19,14 @@ returns-then-size-eq0 c = same_word _ _ _ _ _ _ _ c.if-depth-eq0.false refl (typ
 pub returns-in-Option : goal.returns-in-Option
 returns-in-Option c =
     let no_slot = type-not _ c.of-kind.ensures c.in_default.not-Slot in
-    let word = rw (wrap-number _ c.of-kind.ensures c.in-Option.is) at c.word_of.ensures in
+    let word = rw (wrap-number _ c.of-kind.ensures c.in-Option.is) at c.word.ensures in
     wrap-word _ _ _ _ _ _ _ c.if-depth-eq0.false refl no_slot c.if-size-eq0.false (type-wraps _ c.of-kind.ensures c.in-Option.is) word
 
 pub returns-in_default-kind : goal.returns-in_default-kind
 returns-in_default-kind c =
     let no_slot = type-not _ c.of-kind.ensures c.in_default.not-Slot in
     let flat = type-flat _ c.of-kind.ensures c.in_default-kind.not-Option c.in_default-kind.not-Array in
-    record_word _ _ _ _ _ _ _ c.if-depth-eq0.false refl no_slot c.if-size-eq0.false flat c.field_count.ensures c.word_of-in_default-kind.ensures
+    record_word _ _ _ _ _ _ _ c.if-depth-eq0.false refl no_slot c.if-size-eq0.false flat c.field_count.ensures c.word-in_default-kind.ensures
 
 pub overflow_sub-end-in_default-kind : goal.overflow_sub-end-in_default-kind
 overflow_sub-end-in_default-kind c =

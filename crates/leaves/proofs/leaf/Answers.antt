@@ -11,7 +11,7 @@ use Rattle.leaves.proofs.leaf.Goals as goal
 pub returns-in-Atom : goal.returns-in-Atom
 returns-in-Atom c =
     let q = node-number _ c.in-Atom.ensures in
-    let word = atom-word c.requires c.node_place-at.ensures c.word_at-head.ensures q c.word_after.ensures c.from.ensures c.plain_word-w.ensures in
+    let word = atom-word c.requires c.node_place-at.ensures c.word_at-head.ensures q c.word_after.ensures c.from.ensures c.word-w.ensures in
     λ f o. atom-visited _ _ c.requires.node c.node_place-at.ensures c.word_at-head.ensures q c.word_after-slot.ensures c.word_after.ensures word
     (rw c.answered.ensures (steps-visits (c.set_known.ensures _ _ _) _ _ _ o))
 

@@ -5,7 +5,7 @@ use Rattle.operators.proofs.fuse.Goals as goal
 pub returns-in-Some : goal.returns-in-Some
 returns-in-Some c =
     fuse-known _ _ _ _ _ _ _ _ _ _ _ _ c.word_at-l.ensures c.word_at-r.ensures c.of.ensures c.of-2.ensures c.result_kind.ensures c.in-Some.is
-    c.plain_word.ensures c.set_known.ensures
+    c.word.ensures c.set_known.ensures
 
 pub returns-then-same_type : goal.returns-then-same_type
 returns-then-same_type c =

@@ -4,7 +4,7 @@ use Rattle.operators.proofs.unary.Goals as goal
 
 pub returns-then-takes : goal.returns-then-takes
 returns-then-takes c =
-    unary-known _ _ _ _ _ _ _ _ _ _ _ c.word_at-r.ensures c.of-kind.ensures c.takes.ensures c.if-takes.true c.plain_word.ensures c.set_known.ensures
+    unary-known _ _ _ _ _ _ _ _ _ _ _ c.word_at-r.ensures c.of-kind.ensures c.takes.ensures c.if-takes.true c.word.ensures c.set_known.ensures
 
 pub returns : goal.returns
 returns c =

@@ -4,15 +4,15 @@ use native.Mathlib.Omega.{arith}
 use Rattle.ast.specs.KindLaws.{expr-number, expr-not}
 use Rattle.type_expr.specs.TypesAt.{words-there, atom-low, kind-array, option-ready, array-ready, fields-ready}
 use Rattle.type_expr.proofs.DeepReturns.{levels_record, levels-option, levels-array}
-use Rattle.type_expr.proofs.Returns.{from-atom, from-foreign, record_refused, record_closed, option-stop, option-put, array-stop, array-put}
+use Rattle.type_expr.proofs.Returns.{word-plain, from-atom, from-foreign, record_refused, record_closed, option-stop, option-put, array-stop, array-put}
 use Rattle.type_expr.proofs.FieldReturns.{building_all, building_part, building_levels, building_stop, building_next, record_stop, record_room, record_put}
 use Rattle.type_expr.proofs.+build_fields_from_exprs.Goals as goal
 
-pub build-plain_word-requires : goal.build-plain_word-requires
-build-plain_word-requires t c = atom-low c.requires.0 c.type_place-at.ensures c.word_at-head.ensures refl (expr-number _ c.in-Atom.ensures) c.word_after.ensures
-
 pub build-returns-in-Atom : goal.build-returns-in-Atom
-build-returns-in-Atom t c = from-atom c.requires.0 c.type_place-at.ensures c.word_at-head.ensures refl (expr-number _ c.in-Atom.ensures) c.word_after.ensures c.plain_word.ensures
+build-returns-in-Atom t c =
+    let k = expr-number _ c.in-Atom.ensures in
+    let low = atom-low c.requires.0 c.type_place-at.ensures c.word_at-head.ensures refl k c.word_after.ensures in
+    from-atom c.requires.0 c.type_place-at.ensures c.word_at-head.ensures refl k c.word_after.ensures (word-plain c.from.ensures c.word.ensures low)
 
 pub build-returns-in-Foreign : goal.build-returns-in-Foreign
 build-returns-in-Foreign t c =
@@ -23,19 +23,19 @@ build-overflow_add-at t c = omega (arith, words-there c.requires.0 c.type_place-
 
 pub build-fields_from_exprs-requires : goal.build-fields_from_exprs-requires
 build-fields_from_exprs-requires t c =
-    let f = fields-ready c.requires.0 c.type_place-at.ensures c.word_at-head.ensures refl c.record_fields-fields.ensures (expr-number _ c.in-Record.ensures) in
-    let l = levels_record c.requires.0 c.type_place-at.ensures c.word_at-head.ensures refl (expr-number _ c.in-Record.ensures) refl c.record_fields-fields.ensures in
+    let f = fields-ready c.requires.0 c.type_place-at.ensures c.word_at-head.ensures refl c.fields_in-fields.ensures.0 (expr-number _ c.in-Record.ensures) in
+    let l = levels_record c.requires.0 c.type_place-at.ensures c.word_at-head.ensures refl (expr-number _ c.in-Record.ensures) refl c.fields_in-fields.ensures.0 in
     (omega (arith, c.decreases, l), (f, omega (arith, c.requires.1, l)))
 
 pub build-returns-in_err-word-in-Record : goal.build-returns-in_err-word-in-Record
 build-returns-in_err-word-in-Record t c =
     let p = err_from_is_err_and c.from_residual.result c.from_residual.ensures.1 in
-    let refused = record_refused c.requires.0 c.type_place-at.ensures c.word_at-head.ensures refl (expr-number _ c.in-Record.ensures) refl c.record_fields-fields.ensures in
+    let refused = record_refused c.requires.0 c.type_place-at.ensures c.word_at-head.ensures refl (expr-number _ c.in-Record.ensures) refl c.fields_in-fields.ensures.0 in
     rw (p.1, p.2) (refused c.in_err-word-in-Record.ensures)
 
 pub build-returns-in_ok-word-in-Record : goal.build-returns-in_ok-word-in-Record
 build-returns-in_ok-word-in-Record t c =
-    let closed = record_closed c.requires.0 c.type_place-at.ensures c.word_at-head.ensures refl (expr-number _ c.in-Record.ensures) refl c.record_fields-fields.ensures in
+    let closed = record_closed c.requires.0 c.type_place-at.ensures c.word_at-head.ensures refl (expr-number _ c.in-Record.ensures) refl c.fields_in-fields.ensures.0 in
     closed c.in_ok-word-in-Record.ensures c.close_record.ensures
 
 pub build-build-requires : goal.build-build-requires

@@ -32,17 +32,17 @@ type_size-overflow_add-at t c = omega (arith, words-there c.requires.0 c.type_pl
 
 pub type_size-sizes-requires : goal.type_size-sizes-requires
 type_size-sizes-requires t c =
-    let f = fields-ready c.requires.0 c.type_place-at.ensures c.word_at-head.ensures refl c.record_fields-fields.ensures (expr-number _ c.in-Record.ensures) in
-    let size = size_record c.requires.0 c.type_place-at.ensures c.word_at-head.ensures refl (expr-number _ c.in-Record.ensures) refl c.record_fields-fields.ensures in
+    let f = fields-ready c.requires.0 c.type_place-at.ensures c.word_at-head.ensures refl c.fields_in-fields.ensures.0 (expr-number _ c.in-Record.ensures) in
+    let size = size_record c.requires.0 c.type_place-at.ensures c.word_at-head.ensures refl (expr-number _ c.in-Record.ensures) refl c.fields_in-fields.ensures.0 in
     (omega (arith, c.decreases), (f, omega (arith, c.requires.1, size)))
 
 pub type_size-overflow_add-result-in-Record : goal.type_size-overflow_add-result-in-Record
 type_size-overflow_add-result-in-Record t c =
-    omega (arith, c.requires.1, c.sizes.ensures, size_record c.requires.0 c.type_place-at.ensures c.word_at-head.ensures refl (expr-number _ c.in-Record.ensures) refl c.record_fields-fields.ensures)
+    omega (arith, c.requires.1, c.sizes.ensures, size_record c.requires.0 c.type_place-at.ensures c.word_at-head.ensures refl (expr-number _ c.in-Record.ensures) refl c.fields_in-fields.ensures.0)
 
 pub type_size-returns-in-Record : goal.type_size-returns-in-Record
 type_size-returns-in-Record t c =
-    omega (arith, c.sizes.ensures, size_record c.requires.0 c.type_place-at.ensures c.word_at-head.ensures refl (expr-number _ c.in-Record.ensures) refl c.record_fields-fields.ensures)
+    omega (arith, c.sizes.ensures, size_record c.requires.0 c.type_place-at.ensures c.word_at-head.ensures refl (expr-number _ c.in-Record.ensures) refl c.fields_in-fields.ensures.0)
 
 pub type_size-type_size-requires : goal.type_size-type_size-requires
 type_size-type_size-requires t c =

@@ -11,13 +11,13 @@ overflow_add-at c = omega (arith, words-there c.requires.0 c.type_place-at.ensur
 
 pub deep_field-requires : goal.deep_field-requires
 deep_field-requires c = (
-  fields-ready c.requires.0 c.type_place-at.ensures c.word_at-head.ensures refl c.record_fields-fields.ensures (expr-number _ c.in-Record.ensures),
-  omega (arith, c.requires.1, levels_record c.requires.0 c.type_place-at.ensures c.word_at-head.ensures refl (expr-number _ c.in-Record.ensures) refl c.record_fields-fields.ensures),
+  fields-ready c.requires.0 c.type_place-at.ensures c.word_at-head.ensures refl c.fields_in-fields.ensures.0 (expr-number _ c.in-Record.ensures),
+  omega (arith, c.requires.1, levels_record c.requires.0 c.type_place-at.ensures c.word_at-head.ensures refl (expr-number _ c.in-Record.ensures) refl c.fields_in-fields.ensures.0),
 )
 
 pub returns-in-Record : goal.returns-in-Record
 returns-in-Record c =
-    part_record c.requires.0 c.type_place-at.ensures c.word_at-head.ensures refl _ c.requires.1 (expr-number _ c.in-Record.ensures) refl c.record_fields-fields.ensures c.deep_field.ensures
+    part_record c.requires.0 c.type_place-at.ensures c.word_at-head.ensures refl _ c.requires.1 (expr-number _ c.in-Record.ensures) refl c.fields_in-fields.ensures.0 c.deep_field.ensures
 
 pub returns-in_default : goal.returns-in_default
 returns-in_default c =

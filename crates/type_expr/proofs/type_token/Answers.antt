@@ -1,7 +1,6 @@
 use mathlib.Core.Path.{refl, sym, ◌∙◌}
-use native.Mathlib.Omega.{arith}
 use Rattle.ast.specs.KindLaws.{expr-not}
-use Rattle.type_expr.specs.TypesAt.{words-there, wrapped-ready}
+use Rattle.type_expr.specs.TypesAt.{wrapped-ready}
 use Rattle.type_expr.proofs.Returns.{token-inner, token-own}
 use Rattle.type_expr.proofs.type_token.Goals as goal
 

@@ -7,7 +7,7 @@ pub returns-then-at-room : goal.returns-then-at-room
 returns-then-at-room c = wrap-full _ _ _ c.room.ensures refl refl c.if-at-room.true
 
 pub returns-then-not-is_shallow : goal.returns-then-not-is_shallow
-returns-then-not-is_shallow c = wrap-deep _ _ _ c.room.ensures c.if-at-room.false c.word_of-word.ensures c.is_shallow.ensures refl c.if-not-is_shallow.true refl
+returns-then-not-is_shallow c = wrap-deep _ _ _ c.room.ensures c.if-at-room.false c.word-word.ensures c.is_shallow.ensures refl c.if-not-is_shallow.true refl
 
 pub returns : goal.returns
-returns c = wrap-put _ _ _ c.room.ensures c.if-at-room.false c.word_of-word.ensures c.is_shallow.ensures refl c.if-not-is_shallow.false refl refl
+returns c = wrap-put _ _ _ c.room.ensures c.if-at-room.false c.word-word.ensures c.is_shallow.ensures refl c.if-not-is_shallow.false refl refl
