@@ -103,15 +103,10 @@ fn type_expression<'a>(script: &[u8], from: Reader<'a>, number: usize) -> Result
 }
 
 // All `count` type records.
-#[tactic(auto, unfolding(reader::specs::Reading::gave, image_words::specs::Leads::unanswered), using(crate::proofs::TypeRows::types_ways))]
 fn type_expressions<'a>(script: &[u8], from: Reader<'a>, count: usize) -> Result<Reader<'a>, Fault>
     ensures { LeadsFor from.entry script.now (λ c. type_expressions c count 0) result }
 {
-    let mut to = from;
-    for i in 0..count {
-        to = type_expression(script, to, i)?;
-    }
-    Ok(to)
+    from.many(count, |to, i| type_expression(script, to, i))
 }
 
 // Nodes.
