@@ -9,6 +9,7 @@ ghost use Rattle.ast.specs.Claims.{count_from};
 ghost use Rattle.image_laws.specs.OutlineAt.{parts_from, case_parts, parts_at, outlines_from};
 ghost use Rattle.claims.specs.Marks.{claims_by, claims_in, Marking, Claiming};
 
+use ast::{MOST_NODES, MOST_SLOTS};
 use node_parts::{Cases, Parts, Run};
 use reader::Fault;
 use tok::word_at;
@@ -127,7 +128,7 @@ fn claims_by(words: &[u32], nodes: &mut [bool], slots: &mut [bool]) -> Result<()
 pub fn claims(words: &[u32]) -> Result<(), Fault>
     ensures { offending result ≡ claims_in words.now }
 {
-    let mut nodes = [false; ast::MOST_NODES];
-    let mut slots = [false; ast::MOST_SLOTS];
+    let mut nodes = [false; MOST_NODES];
+    let mut slots = [false; MOST_SLOTS];
     claims_by(words, &mut nodes, &mut slots)
 }

@@ -1,37 +1,22 @@
 // Refusal 5: "depth 65". The depths of the nodes stand in a local array.
 #![tactic(auto)]
 
-ghost use Rattle.std.specs.Prelude.{◌≡◌, ◌+◌, ◌*◌, ◌^◌, ◌≤◌, ◌<◌, length, get_or, set};
+ghost use Rattle.std.specs.Prelude.{◌≡◌, ◌+◌, ◌*◌, ◌^◌, ◌≤◌, ◌<◌, length};
 ghost use Rattle.reader.specs.Reading.{offending};
 ghost use Rattle.ast.specs.Image.{node_count};
 ghost use Rattle.ast.specs.Depth.{deepest};
 ghost use Rattle.image_laws.specs.OutlineAt.{parts_from, case_parts, parts_at, outlines_from};
 ghost use Rattle.depth.specs.Depths.{depth_by, depth_in};
 
+use ast::MOST_NODES;
 use node_parts::{Cases, Parts, Run};
 use reader::Fault;
-use tok::word_at;
+use tok::{item_at, set_item, word_at};
 
 // "node depth 64 (a leaf is 1)"
 const MOST: u8 = 64;
 
-// Depths so far.
-
-// The depth of a node, and 0 past the end.
-fn depth_at(depths: &[u8], p: usize) -> u8
-    ensures { result ≡ get_or depths.now p 0 }
-{
-    tok::item_at(depths, p, 0)
-}
-
-// Keeps the depth of a node. Past the end nothing is kept.
-fn keep(depths: &mut [u8], i: usize, d: u8)
-    ensures { depths.new ≡ set depths.old i d }
-{
-    tok::set_item(depths, i, d);
-}
-
-// The greatest depth of parts.
+// The greatest depth of parts, by the depths so far: 0 past their end.
 
 // Of those in a run of words.
 fn deepest_run(words: &[u32], run: Run, depths: &[u8]) -> u8
@@ -40,7 +25,7 @@ fn deepest_run(words: &[u32], run: Run, depths: &[u8]) -> u8
 {
     let mut d = 0u8;
     for k in 0..run.count {
-        d = d.max(depth_at(depths, run.number(words, k) as usize));
+        d = d.max(item_at(depths, run.number(words, k) as usize, 0));
     }
     d
 }
@@ -69,7 +54,7 @@ fn deepest_cases(words: &[u32], cases: Cases, depths: &[u8]) -> u8
     let mut at = cases.from;
     let mut d = 0u8;
     for _ in 0..cases.count {
-        d = d.max(depth_at(depths, word_at(words, at + 1) as usize));
+        d = d.max(item_at(depths, word_at(words, at + 1) as usize, 0));
         let n = word_at(words, at + 2) as usize;
         d = d.max(deepest_words(words, at + 3, n, depths));
         at = at + 3 + n;
@@ -101,7 +86,7 @@ fn depth_by(words: &[u32], depths: &mut [u8]) -> Result<(), Fault>
         if d >= MOST {
             return Err(Fault(i));
         }
-        keep(depths, i, 1 + d);
+        set_item(depths, i, 1 + d);
         at = node_parts::after(words, at);
     }
     Ok(())
@@ -111,6 +96,6 @@ fn depth_by(words: &[u32], depths: &mut [u8]) -> Result<(), Fault>
 pub fn depth(words: &[u32]) -> Result<(), Fault>
     ensures { offending result ≡ depth_in words.now }
 {
-    let mut depths = [0u8; ast::MOST_NODES];
+    let mut depths = [0u8; MOST_NODES];
     depth_by(words, &mut depths)
 }

@@ -7,12 +7,13 @@ use native.Mathlib.Omega.{arith}
 use lib.Dec.{leb, eqb}
 use borrow.Author.Tests.{lt-leb}
 use Rattle.std.proofs.Math.Decide.{dec_lt}
-use Rattle.std.specs.Prelude.{Result, Ok, ◌⊎◌}
+use Rattle.std.specs.Prelude.{Result, Ok, Err, ◌⊎◌}
 use Rattle.std.proofs.Common.{inl, inr}
 use Rattle.tok.specs.Word.{kind_of, payload_of}
 use Rattle.tok.specs.Step.{◌>>=◌, return}
 use Rattle.reader.specs.declared.Fault.{Fault}
 use Rattle.reader.specs.Reading.{Reader, gave}
+use Rattle.reader.specs.Repeated.{Repeated, none_left, one_more, one_stops}
 use Rattle.ast.specs.declared.ExprKind.{ExprKind}
 use Rattle.ast.specs.declared.ExprKind.TheVariants as expr
 use Rattle.ast.specs.Kinds.{kind_of_expr}
@@ -20,7 +21,7 @@ use Rattle.ast.specs.KindLaws.{expr-number}
 use Rattle.ast.specs.Outline.{Counts}
 use Rattle.ast.specs.TypeRecords.{type_inner, type_kinds, type_kind, good_type_head, type_expression, type_expressions}
 use Rattle.image_words.specs.Leads.{unanswered}
-use Rattle.image_words.specs.LeadLaws.{leads}
+use Rattle.image_words.specs.LeadLaws.{leads_then, leads_stops, same_on}
 use Rattle.image.specs.Counted.{LeadsFor}
 
 -- ── The rows of the table of kinds ──
@@ -78,15 +79,12 @@ no-rest from text head number left h = let s = beyond (kind_of head) h in (λ n 
 
 -- ── One record after the other ──
 
-pub types_some : (c : Counts) (count i : ℕ) → i < count → type_expressions c (count - i) i ≡ (do
-  _ ← type_expression c i
-  type_expressions c (count - (i + 1)) (i + 1))
-unfolding type_expressions
-types_some c count i h = let e : count - i ≡ suc (count - (i + 1)) = omega arith in rw e refl
-
-pub types_none : (c : Counts) (count i : ℕ) → count ≤ i → type_expressions c (count - i) i ≡ return tt
-unfolding type_expressions
-types_none c count i h = let e : count - i ≡ 0 = omega arith in rw e refl
-
--- what the loop goes by
-pub ruleset types_ways = (types_some, types_none, leads)
+module _ {one : Reader → ℕ → Result Reader Fault → Type 0} (text : List ℕ) (turn : (from : Reader) (i : ℕ) (to : Result Reader Fault) → one from i to → LeadsFor from text (λ c. type_expression c i) to) where
+  pub types_lead : {i count : ℕ} {from : Reader} {to : Result Reader Fault} → Repeated one i count from to → LeadsFor from text (λ c. type_expressions c count i) to
+  unfolding type_expressions unanswered gave
+  types_lead none_left = (λ n t v. refl, refl)
+  types_lead {from = from} {to = to} (one_more {i = i} {mid = mid} h rest) =
+      let this = turn from i (Ok mid) h in
+      let others = types_lead rest in
+      (λ n t v. leads_then _ _ mid to (this.0 n t v) (λ _. others.0 n t v), same_on from mid to this.1 others.1)
+  types_lead {from = from} (one_stops {i = i} {fault = fault} h) = let this = turn from i (Err fault) h in (λ n t v. leads_stops _ _ fault (this.0 n t v), tt)

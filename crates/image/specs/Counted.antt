@@ -12,8 +12,3 @@ counted text nodes types slots = record { text = text; nodes = nodes; types = ty
 -- Going on from `from` by a rule of type records comes to `to`, in the same words, whatever the counts: such a rule asks only for the text.
 abbrev pub LeadsFor : {A : Type 0} → (from : Reader) → (text : List ℕ) → (Counts → Read A) → Result Reader Fault → Type 0
 LeadsFor from text rule to = ((n t v : ℕ) → unanswered (onward from (rule (counted text n t v))) ≡ gave tt to) × Same from to
-
--- What a loop keeps that has come from `from` to `to`: what is left leads where all of it leads, in the same words.
-abbrev pub LeftFor : {A : Type 0} → (from : Reader) → (text : List ℕ) → (all : Counts → Read A) → (to : Reader) → (left : Counts → Read A) → Type 0
-LeftFor from text all to left =
-    ((n t v : ℕ) → let c = counted text n t v in unanswered (onward to (left c)) ≡ unanswered (onward from (all c))) × (to.words ≡ from.words)

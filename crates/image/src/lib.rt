@@ -12,7 +12,7 @@ ghost use Rattle.image_words.specs.Leads.{unanswered, Leads};
 ghost use Rattle.image_nodes.specs.Site.{counts_of};
 ghost use Rattle.image.specs.Counted.{LeadsFor};
 
-use ast::{ExprKind, NodeKind};
+use ast::{ExprKind, MOST_NODES, MOST_ROOTS, MOST_SLOTS, MOST_TYPES, NodeKind};
 use image_nodes::Sizes;
 use image_words::{and_pairs, between, numbers, pairs, token};
 use reader::{Fault, Reader};
@@ -103,15 +103,10 @@ fn type_expression<'a>(script: &[u8], from: Reader<'a>, number: usize) -> Result
 }
 
 // All `count` type records.
-#[tactic(auto, unfolding(reader::specs::Reading::gave, image_words::specs::Leads::unanswered), using(crate::proofs::TypeRows::types_ways))]
 fn type_expressions<'a>(script: &[u8], from: Reader<'a>, count: usize) -> Result<Reader<'a>, Fault>
     ensures { LeadsFor from.entry script.now (λ c. type_expressions c count 0) result }
 {
-    let mut to = from;
-    for i in 0..count {
-        to = type_expression(script, to, i)?;
-    }
-    Ok(to)
+    from.many(count, |to, i| type_expression(script, to, i))
 }
 
 // Nodes.
@@ -155,20 +150,20 @@ fn whole<'a>(script: &[u8], from: Reader<'a>) -> Result<Reader<'a>, Fault>
     ensures { (library : List ℕ) → unanswered (onward from.entry (image (texts_of script.now library))) ≡ gave tt result }
 {
     let n = from.next_word() as usize;
-    let at = from.owing(n <= 2048, 3 * n)?;
+    let at = from.owing(n <= MOST_NODES, 3 * n)?;
     let t = at.next_word() as usize;
-    let at = at.owing(t <= 512, 2 * t)?;
+    let at = at.owing(t <= MOST_TYPES, 2 * t)?;
     let r = at.next_word() as usize;
-    let at = at.owing(r <= 512, r)?;
+    let at = at.owing(r <= MOST_ROOTS, r)?;
     let v = at.next_word() as usize;
-    let at = at.word(v <= 4096)?;
+    let at = at.word(v <= MOST_SLOTS)?;
     let at = numbers(at, r, n)?;
     let sizes = Sizes {
         nodes: n,
         types: t,
         slots: v,
     };
-    let mut callable = [false; 2048];
+    let mut callable = [false; MOST_NODES];
     let at = nodes_by(script, &mut callable, at, sizes)?;
     let at = type_expressions(script, at, t)?;
     at.ends()

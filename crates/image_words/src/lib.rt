@@ -10,6 +10,7 @@ ghost use Rattle.image_laws.proofs.RecordLaws.{pair_rule};
 ghost use Rattle.image_words.specs.Leads.{Leads};
 
 use reader::{Fault, Reader};
+use tok::Source;
 
 // Numbers.
 
@@ -30,28 +31,28 @@ pub fn and_pairs(least: usize, long: usize) -> bool
 // One word, and lists.
 
 // A name or token of the script text.
-#[tactic(auto, using(reader::specs::Laws::by_rule))]
 pub fn token<'a>(script: &[u8], from: Reader<'a>) -> Result<Reader<'a>, Fault>
     ensures { Comes from.entry (word (good_name in_script script.now)) (next_word from.entry) result }
 {
-    let w = from.next_word();
-    from.word(tok::good_name(tok::Source::Script.bit(), script, w))
+    from.name(Source::Script, script)
 }
 
 // n numbers below `most`.
-#[tactic(auto, unfolding(reader::specs::Reading::gave, crate::specs::Leads::unanswered), using(crate::proofs::Lists::many_ways))]
 pub fn numbers(from: Reader, n: usize, most: usize) -> Result<Reader, Fault>
     ensures { Leads from.entry (many n (below most)) result }
 {
-    let mut to = from;
-    for _ in 0..n {
-        to = to.below(most)?;
-    }
-    Ok(to)
+    from.many(n, |to, _| to.below(most))
 }
 
-// n pairs of a name and a number below `most`.
-#[tactic(auto, unfolding(reader::specs::Reading::gave, crate::specs::Leads::unanswered), using(crate::proofs::Lists::many_ways))]
+// A name and a number below `most`.
+#[tactic(auto, unfolding(reader::specs::Reading::gave, crate::specs::Leads::unanswered), using(crate::specs::LeadLaws::leads))]
+fn pair<'a>(script: &[u8], from: Reader<'a>, most: usize) -> Result<Reader<'a>, Fault>
+    ensures { Leads from.entry (pair_rule script.now most) result }
+{
+    token(script, from)?.below(most)
+}
+
+// n such pairs.
 pub fn pairs<'a>(
     script: &[u8],
     from: Reader<'a>,
@@ -60,21 +61,12 @@ pub fn pairs<'a>(
 ) -> Result<Reader<'a>, Fault>
     ensures { Leads from.entry (many n (pair_rule script.now most)) result }
 {
-    let mut to = from;
-    for _ in 0..n {
-        to = token(script, to)?.below(most)?;
-    }
-    Ok(to)
+    from.many(n, |to, _| pair(script, to, most))
 }
 
 // n names.
-#[tactic(auto, unfolding(reader::specs::Reading::gave, crate::specs::Leads::unanswered), using(crate::proofs::Lists::many_ways))]
 pub fn names<'a>(script: &[u8], from: Reader<'a>, n: usize) -> Result<Reader<'a>, Fault>
     ensures { Leads from.entry (many n (word (good_name in_script script.now))) result }
 {
-    let mut to = from;
-    for _ in 0..n {
-        to = token(script, to)?;
-    }
-    Ok(to)
+    from.many(n, |to, _| token(script, to))
 }

@@ -2,7 +2,7 @@
 // node n's place at index n, type t's at index 2,048 + t, and its levels at index 2,560 + t.
 #![tactic(auto)]
 
-ghost use Rattle.std.specs.Prelude.{◌≡◌, ◌+◌, ◌-◌, ◌*◌, ◌/◌, ◌<◌, ◌^◌, get_or, set};
+ghost use Rattle.std.specs.Prelude.{◌≡◌, ◌+◌, ◌-◌, ◌*◌, ◌/◌, ◌<◌, ◌^◌, get_or};
 ghost use Rattle.tok.specs.Word.{payload_of};
 ghost use Rattle.ast.specs.Image.{slot_count};
 ghost use Rattle.places.specs.Image.{Image, image_of};
@@ -10,6 +10,7 @@ ghost use Rattle.places.specs.Places.{clipped, place_after, Filled, most_in, lev
 
 use ast::{ExprKind, MOST_NODES, MOST_TYPES};
 use std::marker::Model;
+use tok::{item_at, set_item};
 
 // An image, with the places of its records.
 #[derive(Drop)]
@@ -30,16 +31,10 @@ const TYPES: usize = MOST_NODES;
 // The index of type 0's levels.
 const LEVELS: usize = TYPES + MOST_TYPES;
 
-fn place(places: &[u16], i: usize) -> u16
-    ensures { result ≡ get_or places.now i 0 }
-{
-    tok::item_at(places, i, 0)
-}
-
 fn levels(places: &[u16], t: u32) -> u16
     ensures { result ≡ get_or places.now (2560 + t) 0 }
 {
-    place(places, LEVELS + t as usize)
+    item_at(places, LEVELS + t as usize, 0)
 }
 
 impl<'a> Image<'a> {
@@ -71,14 +66,14 @@ impl<'a> Image<'a> {
     pub fn node_place(&self, n: u32) -> usize
         ensures { result ≡ get_or self.now.places n 0 }
     {
-        place(self.places, n as usize) as usize
+        item_at(self.places, n as usize, 0) as usize
     }
 
     // Where type t's record stands; 0 where the array has no place for it.
     pub fn type_place(&self, t: u32) -> usize
         ensures { result ≡ get_or self.now.places (2048 + t) 0 }
     {
-        place(self.places, TYPES + t as usize) as usize
+        item_at(self.places, TYPES + t as usize, 0) as usize
     }
 
     // How many levels type t has; 0 where the array has no place for it.
@@ -105,12 +100,6 @@ fn place_after(image: &[u32], at: u16) -> u16
     clipped(i + tok::payload(tok::word_at(image, i)))
 }
 
-fn store(places: &mut [u16], i: usize, at: u16)
-    ensures { places.new ≡ set places.old i at }
-{
-    tok::set_item(places, i, at);
-}
-
 // Fills in the places of some records, the first of them at `first`, from an index on; the answer is the place after them.
 fn fill(places: &mut [u16], image: &[u32], index: usize, count: usize, first: u16) -> u16
     requires { index + count < 2 ^ 40 }
@@ -118,7 +107,7 @@ fn fill(places: &mut [u16], image: &[u32], index: usize, count: usize, first: u1
 {
     let mut at = first;
     for i in index..index + count {
-        store(places, i, at);
+        set_item(places, i, at);
         at = place_after(image, at);
     }
     at
@@ -162,7 +151,7 @@ fn levels_at(places: &[u16], image: &[u32], t: usize) -> u16
     requires { t < 2 ^ 40 }
     ensures { result ≡ levels_at image.now places.now t }
 {
-    levels_inside(places, image, place(places, TYPES + t)).saturating_add(1)
+    levels_inside(places, image, item_at(places, TYPES + t, 0)).saturating_add(1)
 }
 
 // Fills in the levels of some types, each after its parts: "A part's number is smaller than its owner's."
@@ -172,7 +161,7 @@ fn fill_levels(places: &mut [u16], image: &[u32], types: usize)
 {
     for t in 0..types {
         let most = levels_at(&places[..], image, t);
-        store(places, LEVELS + t, most);
+        set_item(places, LEVELS + t, most);
     }
 }
 

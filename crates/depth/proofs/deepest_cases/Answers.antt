@@ -10,7 +10,7 @@ pub loop-preserved : goal.loop-preserved
 loop-preserved c =
     let d = c.max-d.ensures in
     let body = c.deepest_words.ensures in
-    cases-placed (case-more c.loop.invariant.1 (omega arith) (omega arith) c.word_at.ensures c.depth_at.ensures d c.word_at-n.ensures (omega arith) body c.max-d-in-loop.ensures)
+    cases-placed (case-more c.loop.invariant.1 (omega arith) (omega arith) c.word_at.ensures c.item_at.ensures d c.word_at-n.ensures (omega arith) body c.max-d-in-loop.ensures)
 
 pub returns : goal.returns
 returns c = default_end c.loop.invariant.1 (omega arith) c.saturating_sub-n.ensures c.deepest_words-2.ensures c.max.ensures

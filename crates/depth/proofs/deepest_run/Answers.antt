@@ -9,7 +9,7 @@ loop-k-init c = rw (sub-zero, place-first c.args.run) to-measure
 
 pub loop-k-preserved : goal.loop-k-preserved
 loop-k-preserved c =
-    rw (← place-next c.args.run c.loop-k.k) (run_more c.loop-k.invariant (omega arith) (omega arith) c.requires.0 c.number.ensures c.depth_at.ensures c.max-d.ensures)
+    rw (← place-next c.args.run c.loop-k.k) (run_more c.loop-k.invariant (omega arith) (omega arith) c.requires.0 c.number.ensures c.item_at.ensures c.max-d.ensures)
 
 pub returns : goal.returns
 returns c = run_end c.loop-k.invariant (omega arith)

@@ -12,7 +12,7 @@ pub returns-then-d-ge-MOST : goal.returns-then-d-ge-MOST
 returns-then-d-ge-MOST c = whole _ _ c.node_count-n.ensures (node-stop c.loop-i.invariant c.loop-i-test.true c.deepest_part-d.ensures c.if-d-ge-MOST.true)
 
 pub loop-i-preserved : goal.loop-i-preserved
-loop-i-preserved c = node-more c.loop-i.invariant c.loop-i-test.true c.deepest_part-d.ensures (omega (arith, c.if-d-ge-MOST.false)) c.keep.ensures c.after-at.ensures
+loop-i-preserved c = node-more c.loop-i.invariant c.loop-i-test.true c.deepest_part-d.ensures (omega (arith, c.if-d-ge-MOST.false)) c.set_item.ensures c.after-at.ensures
 
 pub shape_of-depths : goal.shape_of-depths
 shape_of-depths c = c.loop-i.invariant.long

@@ -6,7 +6,7 @@ loop-t-init c = levelling_none
 
 pub loop-t-preserved : goal.loop-t-preserved
 loop-t-preserved c =
-    levelling_more c.loop-t.invariant c.loop-t-test.true c.levels_at-most.ensures c.store.ensures
+    levelling_more c.loop-t.invariant c.loop-t-test.true c.levels_at-most.ensures c.set_item.ensures
 
 pub shape_of-places : goal.shape_of-places
 shape_of-places c = c.loop-t.invariant.long
