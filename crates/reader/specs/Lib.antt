@@ -2,4 +2,5 @@
 pub mod Reading
 pub mod Laws
 pub mod Reads
+pub mod Repeated
 pub mod Many

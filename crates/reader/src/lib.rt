@@ -2,10 +2,14 @@
 #![tactic(auto)]
 
 ghost use Rattle.std.specs.Prelude.{◌≡◌, ◌&&◌, ◌+◌, length, leb, ltb};
+ghost use Rattle.tok.specs.Name.{good_name};
+ghost use Rattle.tok.specs.Source.{bit_of};
 ghost use Rattle.tok.specs.Reader.{most_words, owing, word, below, ends};
 ghost use Rattle.reader.specs.Reading.{Reader, reading, beginning, next_word, Comes};
+ghost use Rattle.reader.specs.Repeated.{Repeated};
 
 use std::marker::Model;
+use tok::Source;
 
 // A reading of a list of words: it stands before word `at`, and the list has `least` words at least.
 #[derive(Drop)]
@@ -90,6 +94,31 @@ impl<'a> Reader<'a> {
     {
         let good = (self.next_word() as usize) < n;
         self.word(good)
+    }
+
+    // One name or token, held by the text of which bit 24 tells.
+    #[tactic(auto, using(crate::specs::Laws::by_rule))]
+    pub fn name(self, source: Source, text: &[u8]) -> Result<Self, Fault>
+        ensures { Comes self.entry (word (good_name (bit_of source) text.now)) (next_word self.entry) result }
+    {
+        let good = tok::good_name(source.bit(), text, self.next_word());
+        self.word(good)
+    }
+
+    // Reads `count` times by one rule, which is told how often it was read before.
+    pub fn many<F: Fn(Self, usize) -> Result<Self, Fault>>(
+        self,
+        count: usize,
+        one: F,
+    ) -> Result<Self, Fault>
+        requires { F.IsAlwaysCallable one }
+        ensures { Repeated (F.post one) 0 count self.entry result }
+    {
+        let mut to = self;
+        for i in 0..count {
+            to = one(to, i)?;
+        }
+        Ok(to)
     }
 
     // No word is left.

@@ -78,11 +78,12 @@ pub fn little_endian(bytes: &[u8], at: usize) -> u32
     ensures { result ≡ little_endian bytes.now at }
 {
     let rest = &bytes[at.min(bytes.len())..];
-    let a = byte_at(rest, 0);
-    let b = byte_at(rest, 1);
-    let c = byte_at(rest, 2);
-    let d = byte_at(rest, 3);
-    a + 0x100 * (b + 0x100 * (c + 0x100 * d))
+    u32::from_le_bytes([
+        item_at(rest, 0, 0),
+        item_at(rest, 1, 0),
+        item_at(rest, 2, 0),
+        item_at(rest, 3, 0),
+    ])
 }
 
 // Names and tokens.

@@ -2,7 +2,7 @@
 // The functions `utf8_..` are named after the rules of its ABNF, and take octets.
 #![tactic(auto)]
 
-ghost use Rattle.std.specs.Prelude.{◌≡◌, ◌&&◌, ◌<◌, length};
+ghost use Rattle.std.specs.Prelude.{◌≡◌, ◌≢◌, ◌&&◌, ◌<◌, Some, length, unwrap_or};
 ghost use Rattle.utf8.specs.Rfc3629.{range, utf8_tail, utf8_1, utf8_2, utf8_3, utf8_4, well_formed};
 ghost use Rattle.utf8.specs.Properties.{ascii};
 ghost use Rattle.utf8.specs.Front.{Front};
@@ -71,18 +71,18 @@ fn utf8_4(a: u8, b: u8, c: u8, d: u8) -> bool
         || four(0xF4, 0xF4, 0x80, 0x8F, a, b, c, d)
 }
 
-// How many octets the character has that t begins with; 0 where it begins with none.
+// How many octets the character has that t begins with, if it begins with one.
 #[tactic(auto, using(crate::proofs::Fronts::front_1, crate::proofs::Fronts::front_2, crate::proofs::Fronts::front_3, crate::proofs::Fronts::front_4, crate::proofs::Fronts::front_0))]
-fn char_len(t: &[u8]) -> usize
+fn char_len(t: &[u8]) -> Option<usize>
     requires { 0 < length t.now }
-    ensures { Front t.now result }
+    ensures { Front t.now (unwrap_or result 0) × (result ≢ Some 0) }
 {
     match *t {
-        [a, ..] if utf8_1(a) => 1,
-        [a, b, ..] if utf8_2(a, b) => 2,
-        [a, b, c, ..] if utf8_3(a, b, c) => 3,
-        [a, b, c, d, ..] if utf8_4(a, b, c, d) => 4,
-        _ => 0,
+        [a, ..] if utf8_1(a) => Some(1),
+        [a, b, ..] if utf8_2(a, b) => Some(2),
+        [a, b, c, ..] if utf8_3(a, b, c) => Some(3),
+        [a, b, c, d, ..] if utf8_4(a, b, c, d) => Some(4),
+        _ => None,
     }
 }
 
@@ -106,10 +106,9 @@ pub fn well_formed(s: &[u8]) -> bool
     }
     let mut rest = s;
     while !rest.is_empty() {
-        let n = char_len(rest);
-        if n == 0 {
+        let Some(n) = char_len(rest) else {
             return false;
-        }
+        };
         rest = &rest[n..];
     }
     true
