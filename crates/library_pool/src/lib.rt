@@ -4,13 +4,13 @@
 ghost use Rattle.std.specs.Prelude.{◌≡◌, ◌&&◌, List, ℕ, ◌+◌, ◌*◌, ◌<◌, ◌^◌, eqb, leb, ltb, get_or};
 ghost use Rattle.tok.specs.Word.{kind_of, payload_of};
 ghost use Rattle.tok.specs.Text.{texts_of};
-ghost use Rattle.tok.specs.Name.{good_name, in_library};
 ghost use Rattle.tok.specs.Reader.{word};
 ghost use Rattle.reader.specs.Reading.{next_word, Comes};
 ghost use Rattle.library.specs.Pool.{pool_at, good_type, fields, good_pool_word, pairs_after, pool_from};
 
 use ptype::TypeKind;
 use reader::{Fault, Reader};
+use tok::Source;
 
 // The kind of a field count's word: no type has it.
 const COUNT: u32 = 0;
@@ -20,15 +20,6 @@ const COUNT: u32 = 0;
 pub struct Pool<'a> {
     pub text: &'a [u8],
     pub words: &'a [u32],
-}
-
-// A name of the library.
-#[tactic(auto, using(reader::specs::Laws::by_rule))]
-pub fn name<'a>(library: &[u8], from: Reader<'a>) -> Result<Reader<'a>, Fault>
-    ensures { Comes from.entry (word (good_name in_library library.now)) (next_word from.entry) result }
-{
-    let w = from.next_word();
-    from.word(tok::good_name(tok::Source::Library.bit(), library, w))
 }
 
 // How many pairs follow a pool word.
@@ -75,7 +66,7 @@ impl<'a> Pool<'a> {
             TypeKind::Option | TypeKind::Array => self.good_inner(own, w),
             TypeKind::Record => self.good_list(own, w),
             TypeKind::Foreign | TypeKind::Slot => tok::good_payload(
-                tok::Source::Library.bit(),
+                Source::Library.bit(),
                 self.text,
                 w,
             ),
@@ -100,7 +91,7 @@ impl<'a> Pool<'a> {
     {
         let mut to = from;
         for k in 0..n {
-            let at = name(self.text, to)?;
+            let at = to.name(Source::Library, self.text)?;
             to = self.type_word(i + 2 * k + 1, at)?;
         }
         Ok(to)

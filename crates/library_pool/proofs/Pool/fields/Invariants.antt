@@ -7,4 +7,4 @@ use Rattle.library_pool.proofs.Pool.fields.Given as goal
 
 abbrev pub invariant-loop-k : goal.invariant-loop-k
 invariant-loop-k l = (l.to.words ≡ l.initial.to.words)
-    × ((script : List ℕ) (size : ℕ) → onward l.to (fields (pool_at (texts_of script l.self.text) size l.self.words) (l.n - l.k) (l.i + 2 * l.k)) ≡ onward l.initial.to (fields (pool_at (texts_of script l.self.text) size l.self.words) l.n l.i))
+    × ((script : List ℕ) (size : ℕ) → onward l.to (fields (pool_at (texts_of script l.self.text.now) size l.self.words.now) (l.n - l.k) (l.i + 2 * l.k)) ≡ onward l.initial.to (fields (pool_at (texts_of script l.self.text.now) size l.self.words.now) l.n l.i))

@@ -5,7 +5,7 @@ use Rattle.library_pool.proofs.PoolWays.{PoolLeft}
 use Rattle.library_pool.proofs.Pool.pool_words.Given as goal
 
 abbrev pub invariant-loop-i : goal.invariant-loop-i
-invariant-loop-i l = PoolLeft l.self.text l.self.words l.size l.initial.to l.to l.i
+invariant-loop-i l = PoolLeft l.self.text.now l.self.words.now l.size l.initial.to l.to l.i
 
 abbrev pub decreases-loop-i : goal.decreases-loop-i
 decreases-loop-i l = l.size - l.i
