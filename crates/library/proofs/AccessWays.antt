@@ -8,10 +8,9 @@ use native.Mathlib.Omega.{arith}
 use native.Mathlib.Decide.{dec_le}
 use lib.ListN.{length, get_or, take, drop, length-drop, drop_of_length-le, get_or-eq_default}
 use lib.Seq.{take_all, take-length, take-nil}
-use lib.Dec.{eqb}
 use Rattle.tok.specs.Text.{Texts, name_bytes, same_bytes}
-use Rattle.library.specs.Package.{param, params_from, function_at, function_end, functions_end, packages_from, packages_of, find_package}
-use Rattle.library.specs.Access.{params_at, return_at}
+use Rattle.library.specs.Package.{Signature, param, params_from, function_at, function_end, functions_end, packages_from, packages_of, find_package}
+use Rattle.library.specs.Signatures.{signature_at}
 use Rattle.library.specs.PackagesRead.{package_at, package_end}
 use Rattle.library.specs.Past.{functions_end-after, packages-held, functions_end-held}
 
@@ -125,55 +124,60 @@ get_d_params words (suc k) at zero j l e =
     rw s refl
 get_d_params words (suc k) at (suc i) j l e = get_d_params words k (at + 2) i j (omega arith) (omega arith)
 
-module _ (words : List ℕ) (at : ℕ) {n : ℕ} (en : n ≡ get_or words at 0) where
-  pub count-is : n ≡ length (params_at words at)
-  count-is = en ∙ sym (length-params words (get_or words at 0) (at + 1))
+-- as a signature that is read at a place has them
+module _ (words : List ℕ) (at : ℕ) (f : Bool) {s : Signature} (e : signature_at words at f ≡ s) where
+  pub count_of : {w : ℕ} → w ≡ get_or words at 0 → w ≡ length s.params
+  unfolding signature_at
+  count_of ew = ew ∙ sym (length-params words (get_or words at 0) (at + 1)) ∙ ap (λ s. length s.params) e
 
-  pub return-is : {w : ℕ} → w ≡ get_or words (at + (1 + 2 * n)) 0 → w ≡ return_at words at
-  return-is e =
-      let p : at + (1 + 2 * n) ≡ at + 1 + 2 * get_or words at 0 = omega arith in
-      e ∙ ap (λ q. get_or words q 0) p
+  counted : length s.params ≡ get_or words at 0
+  counted = sym (count_of refl)
 
-  module _ (i : ℕ) where
-    param-none : n ≤ i → get_or (params_at words at) i (param 0 0) ≡ param 0 0
-    param-none l = get_or-eq_default (params_at words at) (param 0 0) (rw length-params (omega arith))
+  pub return_of : {n w : ℕ} → n ≡ length s.params → w ≡ get_or words (at + (1 + 2 * n)) 0 → w ≡ s.ret
+  unfolding signature_at
+  return_of {n} en ew =
+      let p : at + (1 + 2 * n) ≡ at + 1 + 2 * get_or words at 0 = omega (arith, counted) in
+      ew ∙ ap (λ q. get_or words q 0) p ∙ ap (λ s. s.ret) e
 
-    param_is : i < n → get_or (params_at words at) i (param 0 0) ≡ param (get_or words (at + (1 + 2 * i)) 0) (get_or words (at + (2 + 2 * i)) 0)
+  module _ {i n : ℕ} (en : n ≡ length s.params) where
+    param_none : n ≤ i → get_or s.params i (param 0 0) ≡ param 0 0
+    param_none l = get_or-eq_default s.params (param 0 0) (omega arith)
+
+    param_is : i < n → get_or s.params i (param 0 0) ≡ param (get_or words (at + (1 + 2 * i)) 0) (get_or words (at + (2 + 2 * i)) 0)
+    unfolding signature_at
     param_is l =
         let p : at + (1 + 2 * i) + 1 ≡ at + (2 + 2 * i) = omega arith in
-        get_d_params words (get_or words at 0) (at + 1) i (at + (1 + 2 * i)) (omega arith) (omega arith) ∙ ap (λ q. param (get_or words (at + (1 + 2 * i)) 0) (get_or words q 0)) p
+        sym (ap (λ s. get_or s.params i (param 0 0)) e)
+        ∙ get_d_params words (get_or words at 0) (at + 1) i (at + (1 + 2 * i)) (omega (arith, counted)) (omega arith)
+        ∙ ap (λ q. param (get_or words (at + (1 + 2 * i)) 0) (get_or words q 0)) p
 
-    pub name-none : n ≤ i → 0 ≡ (get_or (params_at words at) i (param 0 0)).name
-    name-none l = sym (ap (λ a. a.name) (param-none l))
+    pub name_none : n ≤ i → 0 ≡ (get_or s.params i (param 0 0)).name
+    name_none l = sym (ap (λ a. a.name) (param_none l))
 
-    pub name-is : {w : ℕ} → i < n → w ≡ get_or words (at + (1 + 2 * i)) 0 → w ≡ (get_or (params_at words at) i (param 0 0)).name
-    name-is l e = e ∙ sym (ap (λ a. a.name) (param_is l))
+    pub name_is : {k w : ℕ} → i < n → w ≡ get_or words (at + (k + 2 * i)) 0 → k ≡ 1 → w ≡ (get_or s.params i (param 0 0)).name
+    name_is l ew ek = ew ∙ ap (λ k. get_or words (at + (k + 2 * i)) 0) ek ∙ sym (ap (λ a. a.name) (param_is l))
 
-    pub type-none : n ≤ i → 0 ≡ (get_or (params_at words at) i (param 0 0)).type
-    type-none l = sym (ap (λ a. a.type) (param-none l))
+    pub type_none : n ≤ i → 0 ≡ (get_or s.params i (param 0 0)).type
+    type_none l = sym (ap (λ a. a.type) (param_none l))
 
-    pub type-is : {w : ℕ} → i < n → w ≡ get_or words (at + (2 + 2 * i)) 0 → w ≡ (get_or (params_at words at) i (param 0 0)).type
-    type-is l e = e ∙ sym (ap (λ a. a.type) (param_is l))
+    pub type_is : {k w : ℕ} → i < n → w ≡ get_or words (at + (k + 2 * i)) 0 → k ≡ 2 → w ≡ (get_or s.params i (param 0 0)).type
+    type_is l ew ek = ew ∙ ap (λ k. get_or words (at + (k + 2 * i)) 0) ek ∙ sym (ap (λ a. a.type) (param_is l))
 
 -- ── The parts of a function ──
 
 module _ (words : List ℕ) (at : ℕ) where
-  pub slots-are : {w : ℕ} → w ≡ get_or words (at + 1) 0 → eqb w 1 ≡ (function_at words at).sig.with_slots
-  unfolding function_at
-  slots-are e = rw e refl
-
   -- its signature stands after its group name and the flag; past the end of the words it has no arguments, and returns word 0
-  pub signature-at : {place : ℕ} → place ≡ min at (length words) + 2 → (params_at words place ≡ (function_at words at).sig.params) × (return_at words place ≡ (function_at words at).sig.ret)
-  unfolding function_at params_from
-  signature-at {place} e = elim (dec_le at (length words)) [
+  pub signature_is : {place : ℕ} {f : Bool} → place ≡ min at (length words) + 2 → f ≡ (function_at words at).sig.with_slots → signature_at words place f ≡ (function_at words at).sig
+  unfolding function_at signature_at params_from
+  signature_is {place} {f} e ef = elim (dec_le at (length words)) [
     | yes l ↦
         let p : place ≡ at + 2 = omega arith in
         let q : at + 2 + 1 ≡ at + 3 = omega arith in
-        rw (p, q) (refl, refl)
+        rw (ef, p, q) refl
     | no l ↦
         let p : get_or words place 0 ≡ 0 = get_or-eq_default words 0 (omega arith) in
         let q : get_or words (at + 2) 0 ≡ 0 = get_or-eq_default words 0 (omega arith) in
         let r : get_or words (place + 1 + 2 * 0) 0 ≡ 0 = get_or-eq_default words 0 (omega arith) in
         let s : get_or words (at + 3 + 2 * 0) 0 ≡ 0 = get_or-eq_default words 0 (omega arith) in
-        rw (p, q) (refl, r ∙ sym s)
+        rw (ef, p, q, r, s) refl
   ]

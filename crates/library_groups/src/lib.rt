@@ -7,6 +7,7 @@ ghost use Rattle.tok.specs.Text.{Texts};
 ghost use Rattle.library_groups.specs.Kept.{GroupsKept, FunctionsListed, ListedEnd, NoneSlotted, Lowest, FaultAt, FaultsFrom, FirstFault};
 ghost use Rattle.name_order.specs.Order.{Grouped};
 
+use library::Function;
 use reader::MOST_WORDS;
 use tok::Texts;
 
@@ -22,7 +23,7 @@ fn function_places(words: &[u32], from: usize, count: usize, order: &mut [u16]) 
             return k;
         }
         name_order::enter(order, k, at);
-        at = library::function_end(words, at);
+        at = Function { words, at }.end();
     }
     end
 }
@@ -34,32 +35,41 @@ fn listed_end(words: &[u32], from: usize, order: &[u16]) -> usize
     let Some(last) = order.last() else {
         return from;
     };
-    library::function_end(words, name_order::place_of(*last))
+    Function {
+        words,
+        at: name_order::place_of(*last),
+    }
+    .end()
 }
 
 // Whether none of them has slots.
 fn none_slotted(words: &[u32], order: &[u16]) -> bool
     ensures { NoneSlotted words.now order.now (length order.now) result }
 {
-    order.iter().all(|entry| !library::with_slots(words, name_order::place_of(*entry)))
+    order.iter().all(|entry| {
+        let at = name_order::place_of(*entry);
+        !Function { words, at }.has_slots()
+    })
 }
 
 // The lowest place of a group.
 fn lowest(group: &[u16]) -> usize
     ensures { Lowest group.now 0 (length group.now) result }
 {
-    let mut low = name_order::place_at(group, 0);
-    for entry in group {
-        low = low.min(name_order::place_of(*entry));
-    }
-    low
+    group
+        .iter()
+        .map(|entry| name_order::place_of(*entry))
+        .min()
+        .unwrap_or(0)
 }
 
 // The lower of `most` and a place of a group, if the rule fails there: its function is not the first, and has slots or the first has.
 fn fault_at(words: &[u32], low: usize, p: usize, most: usize) -> usize
     ensures { FaultAt words.now low p most result }
 {
-    if p != low && (library::with_slots(words, low) || library::with_slots(words, p)) {
+    let first = Function { words, at: low };
+    let other = Function { words, at: p };
+    if p != low && (first.has_slots() || other.has_slots()) {
         most.min(p)
     } else {
         most

@@ -17,16 +17,16 @@ use Rattle.tok.specs.Step.{Result, ok, refused, next, ◌>>=◌, return}
 use Rattle.tok.specs.Reader.{Cursor, Read, word, owing, many}
 use Rattle.reader.specs.declared.Fault.{Fault}
 use Rattle.reader.specs.Reading.{Reader, standing, next_word, onward, gave, Same, Comes}
-use Rattle.reader.specs.Laws.{owed, onward-return, onward_then, onward_last}
+use Rattle.reader.specs.Laws.{owed, onward-return, onward_then, onward_stops, onward_last}
 use Rattle.reader.specs.Reads.{Within, Reads, reads_word, onward-place, onward-shown, onward-within, gave-there}
-use Rattle.reader.specs.Many.{many_more, many_faulted}
+use Rattle.reader.specs.Repeated.{Repeated, none_left, one_more as turn_more, one_stops}
 use Rattle.tok.specs.Text.{Texts}
 use Rattle.library.specs.Pool.{Pool, pool_in}
 use Rattle.library.specs.Slots.{return_stands}
 use Rattle.library.specs.Each.{Each}
 use Rattle.library.specs.TypeWords.{TypeWord}
 use Rattle.library.specs.SlotMarks.{types_in}
-use Rattle.library.specs.Package.{Param, param, Function, function, signature, Package, pkg, params_from, function_at, function_end, functions_from, functions_end, packages_from}
+use Rattle.library.specs.Package.{param, Function, function, signature, pkg, params_from, function_at, function_end, functions_from, functions_end, packages_from}
 use Rattle.library.specs.Signatures.{entries_from}
 use Rattle.library.specs.EntryLaws.{entries-library}
 use Rattle.library.specs.PackageRecords.{any_function, same_group, good_group, good_flag, good_signature_type, argument, good_return, function_record, function_records, package_record}
@@ -39,6 +39,29 @@ use Rattle.library_read.proofs.SignatureWays.{types-of-pairs, fine-types}
 same-then : (from mid : Reader) (to : rust.Result Reader Fault) → mid.words ≡ from.words → Same mid to → Same from to
 same-then from mid (Ok to) e f = f ∙ e
 same-then from mid (Err fault) e f = tt
+
+-- ── One rule again and again ──
+
+-- The turns of a list that one rule reads, each of which answers as its first place says.
+module _ {A : Type 0} {one : Reader → ℕ → rust.Result Reader Fault → Type 0} (m : Read A) (words : List ℕ) (answer : Reader → A)
+    (turn : (from : Reader) (i : ℕ) (to : rust.Result Reader Fault) → from.words ≡ words → one from i to → Comes from m (answer from) to) where
+  pub answers : {i n : ℕ} {from : Reader} {to : rust.Result Reader Fault} → Repeated one i n from to → List A
+  answers none_left = []
+  answers {from = from} (turn_more h rest) = answer from ∷ answers rest
+  answers (one_stops h) = []
+
+  pub all_turns : {i n : ℕ} {from : Reader} {to : rust.Result Reader Fault} → from.words ≡ words → (r : Repeated one i n from to) → Comes from (many n m) (answers r) to
+  unfolding many answers
+  all_turns {from = from} e none_left = (onward-return from [], refl)
+  all_turns {from = from} {to = to} e (turn_more {i = i} {count = n} {mid = mid} h rest) =
+      let t = turn from i (Ok mid) e h in
+      let others = all_turns (t.1 ∙ e) rest in (
+        onward_then from m (λ a. ◌>>=◌ (many n m) (λ found. return (a ∷ found))) (answer from) mid t.0
+            ∙ onward_last (λ found. answer from ∷ found) (answers rest) to (onward mid (many n m)) others.0,
+        same-then from mid to t.1 others.1,
+      )
+  all_turns {from = from} e (one_stops {i = i} {count = n} {fault = fault} h) =
+      (onward_stops from m (λ a. ◌>>=◌ (many n m) (λ found. return (a ∷ found))) (answer from) fault [] (turn from i (Err fault) e h).0, tt)
 
 -- ── Arguments ──
 
@@ -54,34 +77,18 @@ module _ (p : Pool) (flag : ℕ) where
     same-then from c to e.1 f.1,
   )
 
--- The loop over the arguments: i of them are read.
-pub record ArgumentsRead (p : Pool) (flag : ℕ) (from to : Reader) (i : ℕ) : Type 0 where
-  pub so_far : Comes from (many i (argument p flag)) (params_from from.words from.at i) (Ok to)
-
-module _ {p : Pool} {flag : ℕ} {from : Reader} where
-  pub arguments-begin : ArgumentsRead p flag from from 0
-  unfolding many params_from
-  arguments-begin = record { so_far = (onward-return from [], refl) }
-
-  module _ {to : Reader} {i : ℕ} (h : ArgumentsRead p flag from to i) (a : Param) where
-    pub arguments-turn : (next : Reader) → Comes to (argument p flag) a (Ok next) → ArgumentsRead p flag from next (i + 1)
-    arguments-turn next e = record {
-      so_far = (
-        rw (add-one i)
-            (gave-there (Ok next) _ _ (from.at + 2 * suc i) _
-            (arguments-reads p from.words flag (suc i) from.at from.least _ refl (λ z. absurd (omega arith)))
-            (many_more (argument p flag) from to i (params_from from.words from.at i) h.so_far.0 a next e.0)),
-        e.1 ∙ h.so_far.1,
-      );
-    }
-
-    pub arguments-stop : (fault : Fault) (count : ℕ) → i < count → Comes to (argument p flag) a (Err fault)
-        → Comes from (many count (argument p flag)) (params_from from.words from.at count) (Err fault)
-    arguments-stop fault count l e = (many_faulted (argument p flag) from to i (params_from from.words from.at i) h.so_far.0 a fault count _ l e.0, tt)
-
-  pub arguments-done : {to : Reader} {i : ℕ} → ArgumentsRead p flag from to i → (count : ℕ) → i ≡ count
-      → Comes from (many count (argument p flag)) (params_from from.words from.at count) (Ok to)
-  arguments-done h count e = rw (← e) h.so_far
+  -- all of them: where they are read, they are those that stand there
+  module _ {one : Reader → ℕ → rust.Result Reader Fault → Type 0}
+      (turn : (from : Reader) (i : ℕ) (to : rust.Result Reader Fault) → one from i to → Comes from (argument p flag) (param (next_word from) (get_or from.words (from.at + 1) 0)) to) where
+    pub arguments-all : {i n : ℕ} {from : Reader} {to : rust.Result Reader Fault} → Repeated one i n from to
+        → Comes from (many n (argument p flag)) (params_from from.words from.at n) to
+    unfolding many params_from answers gave
+    arguments-all {from = from} none_left = (onward-return from [], refl)
+    arguments-all {n = n} {from = from} {to = to} (turn_more h rest) =
+        let all = all_turns (argument p flag) from.words _ (λ at i to e. turn at i to) refl (turn_more h rest) in
+        (gave-there to _ _ _ _ (arguments-reads p from.words flag n from.at from.least _ refl (λ z. absurd (omega arith))) all.0, all.1)
+    arguments-all {from = from} (one_stops h) =
+        let all = all_turns (argument p flag) from.words _ (λ at i to e. turn at i to) refl (one_stops h) in (all.0, tt)
 
 -- ── A function ──
 
@@ -336,30 +343,14 @@ pub name_stops : (p : Pool) (from : Reader) (fault : Fault) → Comes from (word
 unfolding package_record gave
 name_stops p from fault k = (rw k.0 refl, tt)
 
--- The loop over the packages: i of them are read.
-pub record PackagesDone (p : Pool) (from to : Reader) (i : ℕ) : Type 0 where
-  pub so_far : Comes from (many i (package_record p)) (packages_from from.words from.at i) (Ok to)
-
-module _ {p : Pool} {from : Reader} where
-  pub packages-begin : PackagesDone p from from 0
-  unfolding many packages_from
-  packages-begin = record { so_far = (onward-return from [], refl) }
-
-  module _ {to : Reader} {i : ℕ} (h : PackagesDone p from to i) (a : Package) where
-    pub packages-turn : (next : Reader) → Comes to (package_record p) a (Ok next) → PackagesDone p from next (i + 1)
-    packages-turn next e = record {
-      so_far = (
-        rw (add-one i)
-            (gave-there (Ok next) _ _ _ _ (packages-reads p from.words (suc i) from.at from.least (λ z. absurd (omega arith)))
-            (many_more (package_record p) from to i (packages_from from.words from.at i) h.so_far.0 a next e.0)),
-        e.1 ∙ h.so_far.1,
-      );
-    }
-
-    pub packages-faulted : (fault : Fault) (count : ℕ) → i < count → Comes to (package_record p) a (Err fault)
-        → Comes from (many count (package_record p)) (packages_from from.words from.at count) (Err fault)
-    packages-faulted fault count l e = (many_faulted (package_record p) from to i (packages_from from.words from.at i) h.so_far.0 a fault count _ l e.0, tt)
-
-  pub packages-done : {to : Reader} {i : ℕ} → PackagesDone p from to i → (count : ℕ) → i ≡ count
-      → Comes from (many count (package_record p)) (packages_from from.words from.at count) (Ok to)
-  packages-done h count e = rw (← e) h.so_far
+-- all of them
+module _ (p : Pool) (from : Reader) {one : Reader → ℕ → rust.Result Reader Fault → Type 0}
+    (turn : (at : Reader) (i : ℕ) (to : rust.Result Reader Fault) → at.words ≡ from.words → one at i to → Comes at (package_record p) (package_at at.words at.at) to) where
+  pub packages-all : {i n : ℕ} {to : rust.Result Reader Fault} → Repeated one i n from to → Comes from (many n (package_record p)) (packages_from from.words from.at n) to
+  unfolding many packages_from answers gave
+  packages-all none_left = (onward-return from [], refl)
+  packages-all {n = n} {to = to} (turn_more h rest) =
+      let all = all_turns (package_record p) from.words _ turn refl (turn_more h rest) in
+      (gave-there to _ _ _ _ (packages-reads p from.words n from.at from.least (λ z. absurd (omega arith))) all.0, all.1)
+  packages-all (one_stops h) =
+      let all = all_turns (package_record p) from.words _ turn refl (one_stops h) in (all.0, tt)

@@ -21,7 +21,7 @@ use library::Entries;
 use reader::{Fault, MOST_WORDS, Reader};
 use signatures::Group;
 use std::marker::Model;
-use tok::Texts;
+use tok::{Source, Texts};
 
 // Groups and flags.
 
@@ -47,7 +47,7 @@ fn good_group(texts: &Texts, before: &Entries, kept: bool, group: u32) -> bool
     ensures { ((size : ℕ) (types : List ℕ) → (kept ≡ true → any_function (λ f. same_group texts.now group f && f.sig.with_slots) (functions_in before.now) ≡ false)
         → result ≡ good_group (pool_at texts.now size types) (functions_in before.now) group) }
 {
-    tok::good_name(tok::Source::Library.bit(), texts.library, group)
+    tok::good_name(Source::Library.bit(), texts.library, group)
         && (kept || !group_slotted(texts, before, group))
 }
 
@@ -94,7 +94,11 @@ impl<'a> Pool<'a> {
         ensures { (flag : ℕ) → slotted ≡ eqb flag 1 → result ≡ good_signature_type (pool self.now) flag w }
     {
         let texts = self.texts;
-        library_pool::good_type(texts.library, self.words, self.words.len(), w)
+        let pool = library_pool::Pool {
+            text: texts.library,
+            words: self.words,
+        };
+        pool.good_type(self.words.len(), w)
             && (slotted || !library_slots::has_slot(self.words, self.sums, w))
     }
 
@@ -105,7 +109,7 @@ impl<'a> Pool<'a> {
             (param (next_word from.entry) (get_or from.entry.words (from.entry.at + 1) 0)) result }
     {
         let texts = self.texts;
-        let at = library_pool::name(texts.library, from)?;
+        let at = from.name(Source::Library, texts.library)?;
         let w = at.next_word();
         at.word(self.good_signature_type(slotted, w))
     }
@@ -120,11 +124,7 @@ impl<'a> Pool<'a> {
         ensures { (flag : ℕ) → slotted ≡ eqb flag 1 → Comes from.entry (many count (argument (pool self.now) flag))
             (params_from from.entry.words from.entry.at count) result }
     {
-        let mut to = from;
-        for _ in 0..count {
-            to = self.argument(slotted, to)?;
-        }
-        Ok(to)
+        from.many(count as usize, |to, _| self.argument(slotted, to))
     }
 
     // A return type: a type of the signature, whose slots stand in the arguments. The arguments' pairs stand from place `first` on, it at `end`.
@@ -197,7 +197,7 @@ impl<'a> Pool<'a> {
             → Comes from.entry (package_record (pool self.now)) (package_at from.entry.words from.entry.at) result }
     {
         let texts = self.texts;
-        let at = library_pool::name(texts.library, from)?;
+        let at = from.name(Source::Library, texts.library)?;
         let count = at.next_word();
         let at = at.owing(true, 4 * count as usize)?;
         self.function_records(count, at)
@@ -208,11 +208,7 @@ impl<'a> Pool<'a> {
         ensures { OrderedIn from.entry.words self.now
             → Comes from.entry (many count (package_record (pool self.now))) (packages_from from.entry.words from.entry.at count) result }
     {
-        let mut to = from;
-        for _ in 0..count {
-            to = self.package_record(to)?;
-        }
-        Ok(to)
+        from.many(count as usize, |to, _| self.package_record(to))
     }
 }
 
@@ -225,8 +221,11 @@ fn pool_read<'a>(texts: &Texts, words: &'a [u32]) -> Result<(u32, Reader<'a>), F
     let at = at.owing(true, size as usize)?;
     let count = at.next_word();
     let at = at.owing(true, 2 * count as usize)?;
-    let pool = library::pool(words);
-    let at = library_pool::pool_words(texts.library, pool, size, at)?;
+    let pool = library_pool::Pool {
+        text: texts.library,
+        words: library::pool(words),
+    };
+    let at = pool.pool_words(size, at)?;
     Ok((count, at))
 }
 

@@ -24,6 +24,7 @@ ghost use Rattle.pkg_call.specs.Calls.{LibraryCalls, HeldCalls};
 
 use call_args::PackageCall;
 use err::CallName;
+use library::Package;
 use pkg_group::{Candidates, in_group};
 use places::Image;
 use ptype::Types;
@@ -51,7 +52,7 @@ fn candidates_at<'a>(
             words,
             flagged,
             from: at.min(words.len()) + 2,
-            count: library::function_count(words, at),
+            count: Package { words, at }.function_count(),
         },
     }
 }

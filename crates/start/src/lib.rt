@@ -12,6 +12,7 @@ ghost use Rattle.tworuns.specs.Accepted.{library_types};
 ghost use Rattle.start.specs.Begin.{first_state, Starts};
 
 use err::Counts;
+use library::{Function, Package, Signature};
 use ptype::{MOST_WORDS, VOID_WORD};
 use scope::Names;
 use state::{HELD_TOP, Kept, Refusal, Used};
@@ -25,30 +26,30 @@ pub fn empty_slots(slots: &mut [u32], void: usize)
     operators::store(slots, void, VOID_WORD);
 }
 
-// Whether the types of the arguments of the function at a word are at most 32 deep; `known` has what was found of field lists (crate `ptype`).
-fn arguments_are_shallow(types: &[u32], words: &[u32], at: usize, known: &mut [u8]) -> bool
+// Whether the types of the arguments of a signature are at most 32 deep; `known` has what was found of field lists (crate `ptype`).
+fn arguments_are_shallow(types: &[u32], signature: &Signature, known: &mut [u8]) -> bool
     requires { Depths types.now known.old }
     ensures { let D : Type 0 = Depths types.now known.new in
-        ((t : Texts) → result ≡ all_shallow t types.now (param_types (function_at words.now at).sig.params)) × D }
+        ((t : Texts) → result ≡ all_shallow t types.now (param_types signature.now.params)) × D }
 {
-    let count = library::argument_count(words, at);
-    for i in 0..count {
-        if !add::is_shallow_known(types, library::argument_type(words, at, i), known) {
+    for i in 0..signature.argument_count() {
+        if !add::is_shallow_known(types, signature.argument_type(i), known) {
             return false;
         }
     }
     true
 }
 
-// The same, of all types of that function.
-fn function_is_shallow(types: &[u32], words: &[u32], at: usize, known: &mut [u8]) -> bool
+// The same, of all types of a function of the library.
+fn function_is_shallow(types: &[u32], function: &Function, known: &mut [u8]) -> bool
     requires { Depths types.now known.old }
-    ensures { ((t : Texts) → result ≡ all_shallow t types.now (function_types (function_at words.now at ∷ []))) × Depths types.now known.new }
+    ensures { ((t : Texts) → result ≡ all_shallow t types.now (function_types (function_at function.now.words.now function.now.at ∷ []))) × Depths types.now known.new }
 {
-    if !arguments_are_shallow(types, words, at, known) {
+    let signature = function.signature();
+    if !arguments_are_shallow(types, &signature, known) {
         return false;
     }
-    add::is_shallow_known(types, library::return_type(words, at), known)
+    add::is_shallow_known(types, signature.return_type(), known)
 }
 
 // The same, of k functions from a word on.
@@ -64,10 +65,11 @@ fn functions_are_shallow(
 {
     let mut at = from;
     for _ in 0..k {
-        if !function_is_shallow(types, words, at, known) {
+        let function = Function { words, at };
+        if !function_is_shallow(types, &function, known) {
             return false;
         }
-        at = library::function_end(words, at);
+        at = function.end();
     }
     true
 }
@@ -80,11 +82,11 @@ fn packages_are_shallow(types: &[u32], words: &[u32], known: &mut [u8]) -> bool
     let mut at = library::packages_place(words);
     let count = library::package_count(words);
     for _ in 0..count {
-        let k = library::function_count(words, at);
-        if !functions_are_shallow(types, words, at + 2, k, known) {
+        let package = Package { words, at };
+        if !functions_are_shallow(types, words, at + 2, package.function_count(), known) {
             return false;
         }
-        at = library::package_end(words, at);
+        at = package.end();
     }
     true
 }

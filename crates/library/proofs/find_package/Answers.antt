@@ -14,7 +14,7 @@ pub loop-preserved : goal.loop-preserved
 loop-preserved c =
     package_past _ _ _ _ _ c.loop.invariant (omega arith) c.word_at-w.ensures refl refl
     (elim c.if-not-differs_in.branch [ goal.then-not-differs_in+else-is_name w ↦ sym w.is_name.ensures ∙ w.if-is_name.false | goal.else-not-differs_in w ↦ differs-other _ _ _ _ (sym c.differs_in.ensures ∙ w.if-not-differs_in.false) ])
-    c.package_end-at.ensures
+    c.end-at.ensures
 
 pub returns : goal.returns
 returns c = package_none _ _ _ _ _ c.loop.invariant (omega arith)

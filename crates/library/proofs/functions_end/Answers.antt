@@ -6,7 +6,7 @@ pub loop-init : goal.loop-init
 loop-init c = functions-begin (omega arith) (omega arith)
 
 pub loop-preserved : goal.loop-preserved
-loop-preserved c = functions-less c.loop.invariant (omega arith) c.function_end-at.ensures
+loop-preserved c = functions-less c.loop.invariant (omega arith) c.end-at.ensures
 
 pub returns : goal.returns
 returns c = functions-over c.loop.invariant (omega arith)

@@ -17,7 +17,7 @@ enter-requires c = omega (arith, c.min-last.ensures)
 
 pub loop-k-preserved : goal.loop-k-preserved
 loop-k-preserved c =
-    placing_more c.loop-k.invariant (omega (arith, c.min-last.ensures)) (omega (arith, c.min-end.ensures)) c.enter.ensures c.function_end-at.ensures
+    placing_more c.loop-k.invariant (omega (arith, c.min-last.ensures)) (omega (arith, c.min-end.ensures)) c.enter.ensures c.end-at.ensures
 
 pub shape_of-order : goal.shape_of-order
 shape_of-order c = c.loop-k.invariant.long

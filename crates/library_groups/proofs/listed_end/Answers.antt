@@ -6,4 +6,4 @@ pub returns-in_default : goal.returns-in_default
 returns-in_default c = λ h. end_none _ _ _ c.in_default.ensures.value
 
 pub returns : goal.returns
-returns c = λ h. end-last _ _ _ _ c.in-Some.ensures.value h c.place_of.ensures c.function_end.ensures
+returns c = λ h. end-last _ _ _ _ c.in-Some.ensures.value h c.place_of.ensures c.end.ensures

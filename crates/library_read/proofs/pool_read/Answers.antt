@@ -26,10 +26,10 @@ returns-in_err-at-4 c =
     let p = err_from_is_err_and c.from_residual-in_err-at-4.result c.from_residual-in_err-at-4.ensures.1 in
     rw (p.1, p.2, ← c.texts.view_is)
     (pool_stops _ _ _ (sym c.in_ok-at.ensures) _ _ c.next_word-size.ensures refl _ c.in_ok-at-2.ensures
-    _ _ c.next_word-count.ensures refl _ c.in_ok-at-3.ensures _ c.pool-pool.ensures _ (c.in_err-at-4.ensures c.texts.inside.script.now))
+    _ _ c.next_word-count.ensures refl _ c.in_ok-at-3.ensures _ c.pool.ensures _ (c.in_err-at-4.ensures c.texts.inside.script.now))
 
 pub returns : goal.returns
 returns c =
     rw (← c.texts.view_is)
     (pool-came _ _ _ (sym c.in_ok-at.ensures) _ _ c.next_word-size.ensures refl _ c.in_ok-at-2.ensures
-    _ _ c.next_word-count.ensures refl _ c.in_ok-at-3.ensures _ c.pool-pool.ensures _ (c.in_ok-at-4.ensures c.texts.inside.script.now))
+    _ _ c.next_word-count.ensures refl _ c.in_ok-at-3.ensures _ c.pool.ensures _ (c.in_ok-at-4.ensures c.texts.inside.script.now))

@@ -3,11 +3,10 @@ use mathlib.Core.Path.{◌≡◌}
 use lib.ListN.{length, drop}
 use Rattle.tok.specs.Text.{Texts}
 use Rattle.add.specs.Pool.{all_shallow}
-use Rattle.library.specs.Package.{function_at}
 use Rattle.rules.specs.Walk.{param_types}
 use Rattle.ptype.specs.Marks.{Depths}
 use Rattle.start.proofs.arguments_are_shallow.Given as goal
 
 abbrev pub invariant-loop-i : goal.invariant-loop-i
-invariant-loop-i l = ((t : Texts) → all_shallow t l.types (param_types (function_at l.words l.at).sig.params) ≡ all_shallow t l.types (param_types (drop l.i (function_at l.words l.at).sig.params)))
-    × (l.count ≡ length (function_at l.words l.at).sig.params) × Depths l.types l.known × (length l.known ≡ length l.initial.known)
+invariant-loop-i l = ((t : Texts) → all_shallow t l.types (param_types l.signature.params) ≡ all_shallow t l.types (param_types (drop l.i l.signature.params)))
+    × (l.end ≡ length l.signature.params) × Depths l.types l.known × (length l.known ≡ length l.initial.known)

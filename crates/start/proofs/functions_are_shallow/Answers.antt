@@ -25,8 +25,8 @@ loop-preserved c =
     let e : c.args.k - c.loop.counter - 1 ≡ c.args.k - (c.loop.counter + 1) = omega arith in (
       (λ t. c.loop.invariant.0 t ∙ functions-next t c.args.types.now c.args.words.now c.loop.at (c.args.k - c.loop.counter) (omega arith)
           (c.function_is_shallow.ensures.0 t) c.if-not-function_is_shallow.false
-          c.function_end-at.ensures
-          ∙ ap (λ n. all_shallow t c.args.types.now (function_types (functions_from c.args.words.now c.function_end-at.result n))) e),
+          c.end-at.ensures
+          ∙ ap (λ n. all_shallow t c.args.types.now (function_types (functions_from c.args.words.now c.end-at.result n))) e),
       c.function_is_shallow.ensures.1,
       c.function_is_shallow.auto.known ∙ c.loop.invariant.2,
     )

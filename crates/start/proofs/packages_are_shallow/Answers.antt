@@ -16,7 +16,7 @@ functions_are_shallow-requires c = c.loop.invariant.2
 pub returns-then-not-functions_are_shallow : goal.returns-then-not-functions_are_shallow
 returns-then-not-functions_are_shallow c = (
   (λ t. sym (c.loop.invariant.0 t ∙ packages-deep t c.args.types.now c.args.words.now c.loop.at (c.package_count-count.result - c.loop.counter) (omega arith)
-      c.function_count-k.ensures (c.functions_are_shallow.ensures.0 t) c.if-not-functions_are_shallow.true)),
+      c.function_count.ensures (c.functions_are_shallow.ensures.0 t) c.if-not-functions_are_shallow.true)),
   c.functions_are_shallow.ensures.1,
 )
 
@@ -24,9 +24,9 @@ pub loop-preserved : goal.loop-preserved
 loop-preserved c =
     let e : c.package_count-count.result - c.loop.counter - 1 ≡ c.package_count-count.result - (c.loop.counter + 1) = omega arith in (
       (λ t. c.loop.invariant.0 t ∙ packages-next t c.args.types.now c.args.words.now c.loop.at (c.package_count-count.result - c.loop.counter) (omega arith)
-          c.function_count-k.ensures (c.functions_are_shallow.ensures.0 t) c.if-not-functions_are_shallow.false c.package_end-at.ensures
-          ∙ ap (λ n. all_shallow t c.args.types.now (package_types (packages_from c.args.words.now c.package_end-at.result n))) e),
-      omega (arith, c.package_end-at.ensures),
+          c.function_count.ensures (c.functions_are_shallow.ensures.0 t) c.if-not-functions_are_shallow.false c.end-at.ensures
+          ∙ ap (λ n. all_shallow t c.args.types.now (package_types (packages_from c.args.words.now c.end-at.result n))) e),
+      omega (arith, c.end-at.ensures),
       c.functions_are_shallow.ensures.1,
       c.functions_are_shallow.auto.known ∙ c.loop.invariant.3,
     )
