@@ -10,13 +10,13 @@ ghost use Rattle.visit.specs.Within.{Visits};
 ghost use Rattle.visiting.specs.Blocks.{left_of};
 ghost use Rattle.bodies.specs.Bodies.{BeginReady, EndReady, Begins, end_at};
 
-use places::Image;
+use places::NodeAt;
 use ptype::Types;
 use rules::Answer;
 use tok::Texts;
 use visit::{State, Visit};
 
-// Up to the body, of the Fn whose record stands at a word of the image: the return type's word, and the state in which the body begins;
+// Up to the body of a Fn: the return type's word, and the state in which the body begins;
 // or none, where the name was met already, which poisons.
 pub fn begin(
     slots: &mut [u32],
@@ -26,25 +26,23 @@ pub fn begin(
     messages: &mut [u8],
     scratch: &mut [u32],
     texts: &Texts,
-    image: &Image,
-    at: usize,
+    node: &NodeAt,
     st: State,
-    n: u32,
 ) -> Visit<Option<u32>>
-    requires { BeginReady image.now.words image.now.places at st functions.old scratch.old }
+    requires { BeginReady node.now.image.now.words node.now.image.now.places node.now.at st functions.old scratch.old }
     ensures { ((ls : List Package) (v : ℕ) (words : List ℕ) (o : More) →
         let b : Lent = lent slots.old functions.old types.old diagnostics.old messages.old scratch.old o in
         let b' : Lent = lent slots.new functions.new types.new diagnostics.new messages.new scratch.new o in
-        Begins (ctx texts.now ls v) image.now.words at n words st b b' result) }
+        Begins (ctx texts.now ls v) node.now.image.now.words node.now.at node.now.n words st b b' result) }
 {
-    let name = image.word_after(at, 2);
+    let name = node.word(2);
     let (is_new, used) = functions::unless_defined(
         &functions[..],
         diagnostics,
         messages,
         texts,
         st,
-        n,
+        node.n,
         name,
     )?;
     let st = State { used, ..st };
@@ -56,14 +54,14 @@ pub fn begin(
         functions,
         types,
         scratch,
-        image,
+        node.image,
         visiting::inner(st),
-        n,
-        image.word_after(at, 1) as usize + 1,
+        node.n,
+        node.word(1) as usize + 1,
         name,
-        image.word_after(at, 3),
-        at + 5,
-        image.word_after(at, 4) as usize,
+        node.word(3),
+        node.at + 5,
+        node.word(4) as usize,
     )?;
     Ok((Some(ret), inner))
 }
@@ -74,31 +72,29 @@ pub fn end(
     types: &Types,
     diagnostics: &mut [u32],
     messages: &mut [u8],
-    image: &Image,
-    at: usize,
+    node: &NodeAt,
     inside: State,
     before: State,
-    n: u32,
     ret: u32,
     computed: Answer,
 ) -> Visit<Answer>
-    requires { EndReady image.now.words image.now.places at }
+    requires { EndReady node.now.image.now.words node.now.image.now.places node.now.at }
     ensures { ((ls : List Package) (v : ℕ) (words f e : List ℕ) (o : More) →
         let b : Lent = lent slots.old f types.now.words.now diagnostics.old messages.old e o in
         let b' : Lent = lent slots.new f types.now.words.now diagnostics.new messages.new e o in
-        Visits (end_at (ctx types.now.texts.now ls v) image.now.words at n ret computed) 0 0 words (left_of inside before) b b' result) }
+        Visits (end_at (ctx types.now.texts.now ls v) node.now.image.now.words node.now.at node.now.n ret computed) 0 0 words (left_of inside before) b b' result) }
 {
     let step = functions::fn_end(
         slots,
         types,
         diagnostics,
         messages,
-        image,
+        node.image,
         inside.used,
-        n,
-        image.word_after(at, 1),
-        image.word_after(at, 2),
-        image.word_after(at, 3),
+        node.n,
+        node.word(1),
+        node.word(2),
+        node.word(3),
         ret,
         computed,
     );

@@ -49,7 +49,7 @@ pub fn slot_of(image: &Image, n: u32) -> u32
     requires { NodeReady image.now.words image.now.places n }
     ensures { result ≡ slot_of (tree_of image.now.words n) }
 {
-    image.word_at(image.node_place(n) + 1)
+    image.node(n).word(1)
 }
 
 // Argument number i of a call, for the parameter of that number.
@@ -58,7 +58,7 @@ pub fn argument_of(image: &Image, call: Call, signature: &Signature, i: usize) -
     requires within { i < call.count }
     ensures { result ≡ argument_in image.now.words call.args signature.now.params i }
 {
-    let number = image.word_at(call.args + i);
+    let number = image.word_after(call.args, i);
     Argument {
         name: signature.argument_name(i),
         expected: signature.argument_type(i),

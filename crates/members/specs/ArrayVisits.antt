@@ -4,11 +4,10 @@ use Rattle.std.specs.Prelude.{ℕ, ◌+◌, ◌*◌, ◌-◌, ◌<◌, ◌≤◌
 use Rattle.std.proofs.Common.{sym, ◌∙◌, arith}
 use Rattle.std.proofs.Math.Path.{ap}
 use mathlib.Core.List.{List, [], ◌++◌}
-use Rattle.tok.specs.Word.{kind_of, payload_of}
 use Rattle.tok.specs.Text.{Texts}
 use Rattle.tok.specs.Step.{◌>>=◌}
 use Rattle.tok.specs.declared.Span.{Span}
-use Rattle.ast.specs.Image.{node_count, record_length}
+use Rattle.ast.specs.Image.{node_count, record_kind, record_length}
 use Rattle.ast.specs.Node.{Nodes, Array, then, tree_of, nodes_from}
 use Rattle.ast.specs.Span.{span_of}
 use Rattle.image_laws.specs.RecordWords.{ArrayWords}
@@ -20,7 +19,7 @@ use Rattle.rules.specs.Steps.{poison}
 use Rattle.rules.specs.Rules.{node, array, members, array_of}
 use Rattle.rules.specs.Visited.{visited_among}
 use Rattle.accepts.proofs.Fresh.{visited_from, Fresh, Apart, fresh-first, fresh-rest, member_apart}
-use Rattle.places.specs.NodesAt.{NodeReady, counts_of, record_room, length-there, node-array, words-array}
+use Rattle.places.specs.NodesAt.{NodeReady, counts_of, record_room, node-array, words-array}
 use Rattle.room_laws.specs.Room.{room, rooms, rows, rows_all}
 use Rattle.onerun.specs.Claim.{AnswerOk}
 use Rattle.onerun.specs.Logic.{g_next, g_return}
@@ -184,22 +183,19 @@ module _ {T : Texts} {image places words : List ℕ} {n slot q count : ℕ} {fir
 
 -- ── Node::Array ──
 
-module _ {T : Texts} {image places words : List ℕ} {n : ℕ} {st : State} {b : Lent} (y : ClassVisit (Is 13) T image places words n st b) {at h l : ℕ}
-    (ea : at ≡ get_or places n 0) (eh : h ≡ get_or image at 0) (el : l ≡ payload_of h) where
+module _ {T : Texts} {image places words : List ℕ} {n : ℕ} {st : State} {b : Lent} (y : ClassVisit (Is 13) T image places words n st b) {at l : ℕ}
+    (ea : at ≡ get_or places n 0) (long : l ≡ record_length image at) where
   there : NodeReady image places n
   there = node-ready y.visit
 
-  kind : kind_of h ≡ 13
-  kind = ap kind_of (eh ∙ ap (λ a. get_or image a 0) ea) ∙ y.kind
-
-  long : l ≡ record_length image at
-  long = length-there there ea eh refl el
+  kind : record_kind image at ≡ 13
+  kind = ap (record_kind image) ea ∙ y.kind
 
   facts : ArrayWords (counts_of there) image n at
-  facts = words-array there ea eh refl kind
+  facts = words-array there ea refl refl kind
 
   tree : tree_of image n ≡ Array n (get_or image (at + 1) 0) (get_or image (at + 2) 0) (nodes_at image (at + 3) (l - 3))
-  tree = node-array there ea eh refl kind ∙ ap (λ j. Array n (get_or image (at + 1) 0) (get_or image (at + 2) 0) (nodes_at image (at + 3) (j - 3))) (sym long)
+  tree = node-array there ea refl refl kind ∙ ap (λ j. Array n (get_or image (at + 1) 0) (get_or image (at + 2) 0) (nodes_at image (at + 3) (j - 3))) (sym long)
 
   -- the record's words
   pub array-length : 3 ≤ l

@@ -17,60 +17,57 @@ ghost use Rattle.visit.specs.Whole.{Lent, lent};
 ghost use Rattle.visit.specs.Within.{Visits};
 ghost use Rattle.members.specs.Turns.{member_turn};
 
-use places::Image;
+use places::NodeAt;
 use ptype::Types;
 use rules::{Answer, Member};
 use visit::{State, Visit};
 
-// An array of no members, whose record stands at `at`: 1.
+// An array of no members: 1.
 pub fn empty(
     diagnostics: &mut [u32],
     messages: &mut [u8],
-    image: &Image,
-    at: usize,
+    node: &NodeAt,
     st: State,
-    n: u32,
 ) -> Visit<Answer>
     ensures { ((words s f t e : List ℕ) (o : More) →
         let b : Lent = lent s f t diagnostics.old messages.old e o in
         let b' : Lent = lent s f t diagnostics.new messages.new e o in
-        Visits (poison n (empty_array (get_or image.now.words (at + 2) 0))) 0 0 words st b b' result) }
+        Visits (poison node.now.n (empty_array (get_or node.now.image.now.words (node.now.at + 2) 0))) 0 0 words st b b' result) }
 {
     let used = st.used;
-    let step = values::empty_array(diagnostics, messages, used, n, image.word_after(at, 2));
+    let step = values::empty_array(diagnostics, messages, used, node.n, node.word(2));
     visit::answered(st, step)
 }
 
-// The member `part` of the Array n, which answered `second`, against the first, which answered `first`: 2 where their types differ, and then none;
+// The member `part` of an Array, which answered `second`, against the first, which answered `first`: 2 where their types differ, and then none;
 // else whether a member is poisoned so far.
 pub fn member(
     slots: &[u32],
     types: &Types,
     diagnostics: &mut [u32],
     messages: &mut [u8],
-    image: &Image,
+    node: &NodeAt,
     st: State,
-    n: u32,
     part: u32,
     first: Answer,
     second: Answer,
     poisoned: bool,
 ) -> Visit<Option<bool>>
-    requires { NodeReady image.now.words image.now.places part }
+    requires { NodeReady node.now.image.now.words node.now.image.now.places part }
     ensures { ((ls : List Package) (v : ℕ) (words f e : List ℕ) (o : More) →
         let b : Lent = lent slots.now f types.now.words.now diagnostics.old messages.old e o in
         let b' : Lent = lent slots.now f types.now.words.now diagnostics.new messages.new e o in
-        Visits (member_turn (ctx types.now.texts.now ls v) n (span_of (tree_of image.now.words part)) first second poisoned) 0 0 words st b b' result) }
+        Visits (member_turn (ctx types.now.texts.now ls v) node.now.n (span_of (tree_of node.now.image.now.words part)) first second poisoned) 0 0 words st b b' result) }
 {
     let used = st.used;
-    let span = spans::span_of(image, part);
+    let span = spans::span_of(node.image, part);
     let (compared, after) = values::member(
         slots,
         types,
         diagnostics,
         messages,
         used,
-        n,
+        node.n,
         span,
         first,
         second,
@@ -83,31 +80,21 @@ pub fn member(
     Ok((turn, State { used: after, ..st }))
 }
 
-// The end of Node::Array, whose record stands at `at`, when all members are visited: an Array of the first's type, unless one is poisoned.
+// The end of Node::Array, when all members are visited: an Array of the first's type, unless one is poisoned.
 pub fn end(
     slots: &mut [u32],
     types: &mut [u32],
-    image: &Image,
-    at: usize,
+    node: &NodeAt,
     st: State,
-    n: u32,
     first: Answer,
     poisoned: bool,
 ) -> Visit<Answer>
     ensures { ((T : Texts) (ls : List Package) (v : ℕ) (words f d m e : List ℕ) (o : More) →
         let b : Lent = lent slots.old f types.old d m e o in
         let b' : Lent = lent slots.new f types.new d m e o in
-        Visits (array_of (ctx T ls v) n (get_or image.now.words (at + 1) 0) first poisoned) 0 0 words st b b' result) }
+        Visits (array_of (ctx T ls v) node.now.n (get_or node.now.image.now.words (node.now.at + 1) 0) first poisoned) 0 0 words st b b' result) }
 {
     let used = st.used;
-    let step = values::array_of(
-        slots,
-        types,
-        used,
-        n,
-        image.word_after(at, 1),
-        first,
-        poisoned,
-    );
+    let step = values::array_of(slots, types, used, node.n, node.word(1), first, poisoned);
     visit::answered(st, step)
 }

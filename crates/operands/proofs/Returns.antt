@@ -1,9 +1,6 @@
 -- Each return of the functions, from what the callees answered. By rewriting. Assumes nothing.
 use Rattle.std.specs.Prelude.{ℕ, ◌+◌, ◌≡◌, List, get_or, Ok}
-use Rattle.std.proofs.Math.Path.{ap}
-use Rattle.std.proofs.Common.{sym, ◌∙◌}
 use Rattle.std.proofs.Math.Decide.{ℕ_discrete}
-use Rattle.tok.specs.Word.{kind_of}
 use Rattle.tok.specs.Text.{Texts}
 use Rattle.library.specs.Package.{Package}
 use Rattle.ast.specs.Image.{record_kind}
@@ -74,50 +71,40 @@ visits_as : {rule rule' : Walk Answer} {r r' : ℕ} {words : List ℕ} {st : Sta
     → Visits rule r 0 words st b b' x
 visits_as e f p = rw (e, f) p
 
-kind-there : (image : List ℕ) (at : ℕ) {h k : ℕ} → h ≡ get_or image at 0 → k ≡ kind_of h → k ≡ record_kind image at
-kind-there image at eh ek = ek ∙ ap kind_of eh
-
-module _ (T : Texts) (image : List ℕ) (n at : ℕ) (st : State) (answer : Answer) {h k : ℕ} (eh : h ≡ get_or image at 0) (ek : k ≡ kind_of h) where
-  abbrev there-one : k ≡ record_kind image at
-  there-one = kind-there image at eh ek
-
-  pub one_let : {slot name : ℕ} {s t d m e s' d' m' e' : List ℕ} {x : Visit Answer} → k ≡ 4 → slot ≡ get_or image (at + 1) 0 → name ≡ get_or image (at + 2) 0
+module _ (T : Texts) (image : List ℕ) (n at : ℕ) (st : State) (answer : Answer) where
+  pub one_let : {slot name : ℕ} {s t d m e s' d' m' e' : List ℕ} {x : Visit Answer} → record_kind image at ≡ 4 → slot ≡ get_or image (at + 1) 0 → name ≡ get_or image (at + 2) 0
       → ((words f t : List ℕ) (o : More) → Visits (let_end n slot name answer) 2 0 words st (lent s f t d m e o) (lent s' f t d' m' e' o) x)
       → (ls : List Package) (v : ℕ) (words f : List ℕ) (o : More) → Visits (one_end (ctx T ls v) image n at answer) (one_room image at) 0 words st (lent s f t d m e o) (lent s' f t d' m' e' o) x
   unfolding one_end one_room
-  one_let {t = t} q es en p ls v words f o = visits_as (by_let _ _ _ (sym there-one ∙ q)) (by_let 0 2 0 (sym there-one ∙ q)) (rw (es, en) at (p words f t o))
+  one_let {t = t} q es en p ls v words f o = visits_as (by_let _ _ _ q) (by_let 0 2 0 q) (rw (es, en) at (p words f t o))
 
-  pub one-unary : {i slot token op : ℕ} {s t d m s' d' m' : List ℕ} {r : Step Answer} {x : Visit Answer} → k ≡ 3 → answer ≡ Known i
+  pub one-unary : {i slot token op : ℕ} {s t d m s' d' m' : List ℕ} {r : Step Answer} {x : Visit Answer} → record_kind image at ≡ 3 → answer ≡ Known i
       → slot ≡ get_or image (at + 1) 0 → token ≡ get_or image (at + 2) 0 → op ≡ get_or image (at + 3) 0
       → ((ls : List Package) (v : ℕ) → Steps (unary (ctx T ls v) n slot token op i) s t d m st.used s' t d' m' r) → x ≡ visit_of st r
       → (e : List ℕ) (ls : List Package) (v : ℕ) (words f : List ℕ) (o : More)
       → Visits (one_end (ctx T ls v) image n at answer) (one_room image at) 0 words st (lent s f t d m e o) (lent s' f t d' m' e o) x
   unfolding one_end one_room
   one-unary q ea es et eo p ex e ls v words f o =
-      visits_as (by-unary _ _ _ (sym there-one ∙ q)) (by-unary 0 2 0 (sym there-one ∙ q)) (rw ex (visits-known _ ea (steps-visits (rw (es, et, eo) at (p ls v)) words f e o)))
+      visits_as (by-unary _ _ _ q) (by-unary 0 2 0 q) (rw ex (visits-known _ ea (steps-visits (rw (es, et, eo) at (p ls v)) words f e o)))
 
-  pub one_field : {i slot name : ℕ} {s t d m s' d' m' : List ℕ} {r : Step Answer} {x : Visit Answer} → (k ≡ 3 → ⊥) → (k ≡ 4 → ⊥) → answer ≡ Known i
+  pub one_field : {i slot name : ℕ} {s t d m s' d' m' : List ℕ} {r : Step Answer} {x : Visit Answer} → (record_kind image at ≡ 3 → ⊥) → (record_kind image at ≡ 4 → ⊥) → answer ≡ Known i
       → slot ≡ get_or image (at + 1) 0 → name ≡ get_or image (at + 3) 0
       → ((ls : List Package) (v : ℕ) → Steps (field (ctx T ls v) n slot name i) s t d m st.used s' t d' m' r) → x ≡ visit_of st r
       → (e : List ℕ) (ls : List Package) (v : ℕ) (words f : List ℕ) (o : More)
       → Visits (one_end (ctx T ls v) image n at answer) (one_room image at) 0 words st (lent s f t d m e o) (lent s' f t d' m' e o) x
   unfolding one_end one_room
   one_field a b ea es en p ex e ls v words f o =
-      let l : record_kind image at ≡ 3 → ⊥ = λ q. a (there-one ∙ q) in
-      let k : record_kind image at ≡ 4 → ⊥ = λ q. b (there-one ∙ q) in
-      visits_as (by_field _ _ _ l k) (by_field 0 2 0 l k) (rw ex (visits-known _ ea (steps-visits (rw (es, en) at (p ls v)) words f e o)))
+      visits_as (by_field _ _ _ a b) (by_field 0 2 0 a b) (rw ex (visits-known _ ea (steps-visits (rw (es, en) at (p ls v)) words f e o)))
 
-  pub one-poisoned : (k ≡ 4 → ⊥) → answer ≡ Poison → (ls : List Package) (v : ℕ) (words s f t d m e : List ℕ) (o : More)
+  pub one-poisoned : (record_kind image at ≡ 4 → ⊥) → answer ≡ Poison → (ls : List Package) (v : ℕ) (words s f t d m e : List ℕ) (o : More)
       → Visits (one_end (ctx T ls v) image n at answer) (one_room image at) 0 words st (lent s f t d m e o) (lent s f t d m e o) (Ok (Poison, st))
   unfolding one_end one_room
   one-poisoned b ea ls v words s f t d m e o =
-      let z : record_kind image at ≡ 4 → ⊥ = λ q. b (there-one ∙ q) in
       elim (ℕ_discrete (record_kind image at) 3) [
         | yes q ↦ visits_as (by-unary _ _ _ q) (by-unary 0 2 0 q) (visits-poison _ words st (lent s f t d m e o) ea)
-        | no a ↦ visits_as (by_field _ _ _ a z) (by_field 0 2 0 a z) (visits-poison _ words st (lent s f t d m e o) ea)
+        | no a ↦ visits_as (by_field _ _ _ a b) (by_field 0 2 0 a b) (visits-poison _ words st (lent s f t d m e o) ea)
       ]
 
 -- a Let's name can be bound
-pub let_binds : {image : List ℕ} {at : ℕ} {st : State} {e : List ℕ} {h k name : ℕ} → OneReady image at st e → h ≡ get_or image at 0 → k ≡ kind_of h → k ≡ 4 → name ≡ get_or image (at + 2) 0
-    → Bindable st e name
-let_binds {image} {at} r eh ek q en = rw en (r.binds (sym (kind-there image at eh ek) ∙ q))
+pub let_binds : {image : List ℕ} {at : ℕ} {st : State} {e : List ℕ} {name : ℕ} → OneReady image at st e → record_kind image at ≡ 4 → name ≡ get_or image (at + 2) 0 → Bindable st e name
+let_binds r q en = rw en (r.binds q)

@@ -1,6 +1,5 @@
-// What the rules of one and two operands do beside visiting these (typecheck/lib.rs: Node::Bin, Unary, Let, Field, Cast). The node is n,
-// its record stands at word `at` of the image.
-// The buffers are lent in one order: slots, types (with the texts), diagnostics, messages, scratch; then the image.
+// What the rules of one and two operands do beside visiting these (typecheck/lib.rs: Node::Bin, Unary, Let, Field, Cast).
+// The buffers are lent in one order: slots, types (with the texts), diagnostics, messages, scratch; then the node.
 #![tactic(auto)]
 
 ghost use Rattle.std.specs.Prelude.{◌≡◌, List, ℕ, ◌+◌};
@@ -16,20 +15,20 @@ ghost use Rattle.operands.specs.Ends.{operand_at, bin_end, one_end, one_room, ca
 ghost use Rattle.operands.specs.Ready.{OneReady};
 
 use ast::NodeKind;
-use places::Image;
+use places::NodeAt;
 use ptype::Types;
 use rules::Answer;
 use visit::{State, Visit};
 
 // The number of the operand of a Unary, a Let or a Field.
 #[tactic(auto, unfolding(crate::specs::Ends::operand_at, crate::specs::Ends::by_kind))]
-pub fn operand_of(image: &Image, at: usize) -> u32
-    ensures { result ≡ operand_at image.now.words at }
+pub fn operand_of(node: &NodeAt) -> u32
+    ensures { result ≡ operand_at node.now.image.now.words node.now.at }
 {
-    match NodeKind::of(image.word_at(at)) {
-        NodeKind::Unary => image.word_after(at, 4),
-        NodeKind::Let => image.word_after(at, 3),
-        _ => image.word_after(at, 2),
+    match node.kind() {
+        NodeKind::Unary => node.word(4),
+        NodeKind::Let => node.word(3),
+        _ => node.word(2),
     }
 }
 
@@ -39,17 +38,15 @@ pub fn bin_end(
     types: &Types,
     diagnostics: &mut [u32],
     messages: &mut [u8],
-    image: &Image,
-    at: usize,
+    node: &NodeAt,
     st: State,
-    n: u32,
     left: Answer,
     right: Answer,
 ) -> Visit<Answer>
     ensures { ((ls : List Package) (v : ℕ) (words f e : List ℕ) (o : More) →
         let b : Lent = lent slots.old f types.now.words.now diagnostics.old messages.old e o in
         let b' : Lent = lent slots.new f types.now.words.now diagnostics.new messages.new e o in
-        Visits (bin_end (ctx types.now.texts.now ls v) image.now.words n at left right) 0 0 words st b b' result) }
+        Visits (bin_end (ctx types.now.texts.now ls v) node.now.image.now.words node.now.n node.now.at left right) 0 0 words st b b' result) }
 {
     let Answer::Known(left_slot) = left else {
         return Ok((Answer::Poison, st));
@@ -58,9 +55,9 @@ pub fn bin_end(
         return Ok((Answer::Poison, st));
     };
     let used = st.used;
-    let slot = image.word_after(at, 1);
-    let token = image.word_after(at, 2);
-    let op = image.word_after(at, 3);
+    let slot = node.word(1);
+    let token = node.word(2);
+    let op = node.word(3);
     visit::answered(
         st,
         operators::fuse(
@@ -69,7 +66,7 @@ pub fn bin_end(
             diagnostics,
             messages,
             used,
-            n,
+            node.n,
             slot,
             token,
             op,
@@ -86,30 +83,28 @@ pub fn one_end(
     diagnostics: &mut [u32],
     messages: &mut [u8],
     scratch: &mut [u32],
-    image: &Image,
-    at: usize,
+    node: &NodeAt,
     st: State,
-    n: u32,
     answer: Answer,
 ) -> Visit<Answer>
-    requires { OneReady image.now.words at st scratch.old }
+    requires { OneReady node.now.image.now.words node.now.at st scratch.old }
     ensures { ((ls : List Package) (v : ℕ) (words f : List ℕ) (o : More) →
         let b : Lent = lent slots.old f types.now.words.now diagnostics.old messages.old scratch.old o in
         let b' : Lent = lent slots.new f types.now.words.now diagnostics.new messages.new scratch.new o in
-        Visits (one_end (ctx types.now.texts.now ls v) image.now.words n at answer) (one_room image.now.words at) 0 words st b b' result) }
+        Visits (one_end (ctx types.now.texts.now ls v) node.now.image.now.words node.now.n node.now.at answer) (one_room node.now.image.now.words node.now.at) 0 words st b b' result) }
 {
-    let slot = image.word_after(at, 1);
-    let second = image.word_after(at, 2);
-    let third = image.word_after(at, 3);
+    let slot = node.word(1);
+    let second = node.word(2);
+    let third = node.word(3);
     let used = st.used;
-    match NodeKind::of(image.word_at(at)) {
+    match node.kind() {
         NodeKind::Let => names::let_end(
             slots,
             diagnostics,
             messages,
             scratch,
             st,
-            n,
+            node.n,
             slot,
             second,
             answer,
@@ -126,7 +121,7 @@ pub fn one_end(
                     diagnostics,
                     messages,
                     used,
-                    n,
+                    node.n,
                     slot,
                     second,
                     third,
@@ -146,7 +141,7 @@ pub fn one_end(
                     diagnostics,
                     messages,
                     used,
-                    n,
+                    node.n,
                     slot,
                     third,
                     operand,
@@ -157,17 +152,17 @@ pub fn one_end(
 }
 
 // Node::Cast before its operand: the type that it casts to. Gives its word.
-pub fn cast_begin(types: &mut [u32], image: &Image, at: usize, st: State, n: u32) -> Visit<u32>
-    requires { TypeReady image.now.words image.now.places (word_at image.now.words (at + 4)) }
+pub fn cast_begin(types: &mut [u32], node: &NodeAt, st: State) -> Visit<u32>
+    requires { TypeReady node.now.image.now.words node.now.image.now.places (word_at node.now.image.now.words (node.now.at + 4)) }
     ensures { ((T : Texts) (ls : List Package) (v : ℕ) (words s f d m e : List ℕ) (o : More) →
         let b : Lent = lent s f types.old d m e o in
         let b' : Lent = lent s f types.new d m e o in
-        Visits (cast_type (ctx T ls v) image.now.words n at) 0 0 words st b b' result) }
+        Visits (cast_type (ctx T ls v) node.now.image.now.words node.now.n node.now.at) 0 0 words st b b' result) }
 {
     let used = st.used;
-    let expr = image.word_after(at, 4);
-    let added = type_expr::type_from_type_expr(types, used.types, image, expr);
-    visit::answered(st, state::added(n, used, added))
+    let expr = node.word(4);
+    let added = type_expr::type_from_type_expr(types, used.types, node.image, expr);
+    visit::answered(st, state::added(node.n, used, added))
 }
 
 // Node::Cast after its operand.
@@ -176,24 +171,22 @@ pub fn cast_end(
     types: &Types,
     diagnostics: &mut [u32],
     messages: &mut [u8],
-    image: &Image,
-    at: usize,
+    node: &NodeAt,
     st: State,
-    n: u32,
     to: u32,
     answer: Answer,
 ) -> Visit<Answer>
     ensures { ((ls : List Package) (v : ℕ) (words f e : List ℕ) (o : More) →
         let b : Lent = lent slots.old f types.now.words.now diagnostics.old messages.old e o in
         let b' : Lent = lent slots.new f types.now.words.now diagnostics.new messages.new e o in
-        Visits (cast_end (ctx types.now.texts.now ls v) image.now.words n at to answer) 0 0 words st b b' result) }
+        Visits (cast_end (ctx types.now.texts.now ls v) node.now.image.now.words node.now.n node.now.at to answer) 0 0 words st b b' result) }
 {
     let Answer::Known(value) = answer else {
         return Ok((Answer::Poison, st));
     };
     let used = st.used;
-    let slot = image.word_after(at, 1);
-    let token = image.word_after(at, 2);
+    let slot = node.word(1);
+    let token = node.word(2);
     visit::answered(
         st,
         operators::cast(
@@ -202,7 +195,7 @@ pub fn cast_end(
             diagnostics,
             messages,
             used,
-            n,
+            node.n,
             slot,
             token,
             value,

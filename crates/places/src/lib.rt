@@ -4,11 +4,12 @@
 
 ghost use Rattle.std.specs.Prelude.{◌≡◌, ◌+◌, ◌-◌, ◌*◌, ◌/◌, ◌<◌, ◌^◌, get_or};
 ghost use Rattle.tok.specs.Word.{payload_of};
-ghost use Rattle.ast.specs.Image.{slot_count};
+ghost use Rattle.ast.specs.Image.{slot_count, record_kind, record_length};
+ghost use Rattle.ast.specs.Kinds.{kind_of_node};
 ghost use Rattle.places.specs.Image.{Image, image_of};
 ghost use Rattle.places.specs.Places.{clipped, place_after, Filled, most_in, levels_inside, levels_at, fill_levels, places_in};
 
-use ast::{ExprKind, MOST_NODES, MOST_TYPES};
+use ast::{ExprKind, MOST_NODES, MOST_TYPES, NodeKind};
 use std::marker::Model;
 use tok::{item_at, set_item};
 
@@ -23,6 +24,14 @@ impl<'a> Model for Image<'a> {
     ghost Value = { Image };
 
     ghost view = { λ i. image_of i.words.now i.places.now };
+}
+
+// A node of an image, and where its record stands.
+#[derive(Clone, Copy)]
+pub struct NodeAt<'a> {
+    pub image: &'a Image<'a>,
+    pub n: u32,
+    pub at: usize,
 }
 
 // The index of type 0's place.
@@ -69,6 +78,20 @@ impl<'a> Image<'a> {
         item_at(self.places, n as usize, 0) as usize
     }
 
+    // Node n, and where its record stands; word 0 where the array has no place for it.
+    #[inline]
+    pub fn node(&'a self, n: u32) -> NodeAt<'a>
+        ensures same { result.image.now ≡ self.now }
+        ensures number { result.n ≡ n }
+        ensures place { result.at ≡ get_or self.now.places n 0 }
+    {
+        NodeAt {
+            image: self,
+            n,
+            at: self.node_place(n),
+        }
+    }
+
     // Where type t's record stands; 0 where the array has no place for it.
     pub fn type_place(&self, t: u32) -> usize
         ensures { result ≡ get_or self.now.places (2048 + t) 0 }
@@ -81,6 +104,32 @@ impl<'a> Image<'a> {
         ensures { result ≡ get_or self.now.places (2560 + t) 0 }
     {
         levels(self.places, t) as usize
+    }
+}
+
+impl<'a> NodeAt<'a> {
+    // The node's kind.
+    #[inline]
+    pub fn kind(&self) -> NodeKind
+        ensures { result ≡ kind_of_node (record_kind self.now.image.now.words self.now.at) }
+    {
+        NodeKind::of(self.image.word_at(self.at))
+    }
+
+    // How many words its record has.
+    #[inline]
+    pub fn length(&self) -> usize
+        ensures { result ≡ record_length self.now.image.now.words self.now.at }
+    {
+        tok::payload(self.image.word_at(self.at))
+    }
+
+    // The word that stands k after the node's place; 0 past the end.
+    #[inline]
+    pub fn word(&self, k: usize) -> u32
+        ensures { result ≡ get_or self.now.image.now.words (self.now.at + k) 0 }
+    {
+        self.image.word_after(self.at, k)
     }
 }
 

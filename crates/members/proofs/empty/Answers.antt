@@ -4,4 +4,4 @@ use Rattle.members.proofs.empty.Goals as goal
 
 -- src/lib.rt:36:1
 pub returns : goal.returns
-returns c = empty-told c.args.n c.args.st c.word_after.ensures c.empty_array-step.ensures c.answered.ensures
+returns c = empty-told c.args.node.now.n c.args.st c.word.ensures c.empty_array-step.ensures c.answered.ensures

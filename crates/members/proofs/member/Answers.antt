@@ -8,7 +8,7 @@ use Rattle.members.proofs.member.Goals.{in-Alike, in-Silent, in-Differs}
 
 pub returns-in_err-compared : goal.returns-in_err-compared
 returns-in_err-compared c = λ ls v words f e o. passed_on c.from_residual.ensures.1
-    (turn-refused c.args.types.now.texts.now c.args.n c.args.first c.args.second c.args.poisoned c.args.st c.span_of-span.ensures c.member.ensures c.in_err-compared.was ls v words f e o)
+    (turn-refused c.args.types.now.texts.now c.args.node.now.n c.args.first c.args.second c.args.poisoned c.args.st c.span_of-span.ensures c.member.ensures c.in_err-compared.was ls v words f e o)
 
 pub returns : goal.returns
 unfolding turn_of
@@ -18,4 +18,4 @@ returns c =
       | in-Silent w ↦ w.turn-is ∙ sym (ap (λ m. turn_of m c.args.poisoned) w.in-Silent.is)
       | in-Differs w ↦ w.turn-is ∙ sym (ap (λ m. turn_of m c.args.poisoned) w.in-Differs.is)
     ] in
-    turned c.args.types.now.texts.now c.args.n c.args.first c.args.second c.args.poisoned c.args.st c.span_of-span.ensures c.member.ensures c.in_ok-compared.was turn
+    turned c.args.types.now.texts.now c.args.node.now.n c.args.first c.args.second c.args.poisoned c.args.st c.span_of-span.ensures c.member.ensures c.in_ok-compared.was turn

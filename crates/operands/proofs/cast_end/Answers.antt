@@ -4,8 +4,8 @@ use Rattle.operands.proofs.cast_end.Goals as goal
 
 -- src/lib.rt:231:9
 pub returns-in_default : goal.returns-in_default
-returns-in_default c = λ ls v words f e o. cast-poisoned _ c.args.image.now.words c.args.n c.args.at c.args.st c.args.to c.args.answer c.in_default.is ls v words _ f _ _ _ e o
+returns-in_default c = λ ls v words f e o. cast-poisoned _ _ _ _ _ _ _ c.in_default.is ls v words _ f _ _ _ e o
 
 -- src/lib.rt:212:1
 pub returns : goal.returns
-returns c = cast-done _ c.args.image.now.words c.args.n c.args.at c.args.st c.args.to c.args.answer c.in-Known.is c.word_after-slot.ensures c.word_after-token.ensures c.cast.ensures c.answered.ensures
+returns c = cast-done _ _ _ _ _ _ _ c.in-Known.is c.word-slot.ensures c.word-token.ensures c.cast.ensures c.answered.ensures
