@@ -1,6 +1,5 @@
 -- Laws that the proofs of the functions share.
 pub mod Copying
-pub mod Picking
 pub mod DigitLaws
 pub mod ShownLaws
 pub mod EveryLaws

@@ -1,6 +1,6 @@
 -- Writing to a sink: where a `?` leaves, and what a loop still owes. Assumes nothing.
 use Rattle.std.specs.Prelude.{ℕ, List, ◌++◌, Result, Ok, Err, ⊤}
-use mathlib.Core.Path.{◌≡◌, refl}
+use mathlib.Core.Path.{◌≡◌}
 use Rattle.std.specs.Result.{IsErrAnd}
 use Rattle.std.proofs.lemmas.Result.{err_from_is_err_and}
 use Rattle.display.specs.declared.Full.{Full}

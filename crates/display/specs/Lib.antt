@@ -8,7 +8,6 @@ pub mod Signature
 pub mod NamesWellFormed
 pub mod Leaf
 pub mod Every
-pub mod Pieces
 pub mod WriteLaws
 pub mod WritingLaws
 pub mod JoinedLaws

@@ -3,7 +3,7 @@ use Rattle.std.specs.Prelude.{ℕ, List, ◌++◌, Result, Ok, Err, ⊤}
 use Rattle.std.proofs.Common.{sym, ap, ◌∙◌}
 use Rattle.display.specs.declared.Full.{Full}
 use Rattle.display.specs.declared.Writer.{Writer}
-use Rattle.display.specs.Writing.{written, Writes}
+use Rattle.display.specs.Writing.{Writes}
 use Rattle.display.specs.WritingLaws.{written_next, written_append, next_ok, next_full}
 use Rattle.display.specs.Sink.{SinkLaws}
 

@@ -17,7 +17,6 @@ ghost use Rattle.display.specs.Behind.{behind_of};
 ghost use Rattle.display.specs.Leaf.{Leaf};
 ghost use Rattle.display.specs.Joined.{separated, sig};
 ghost use Rattle.display.specs.Every.{every};
-ghost use Rattle.display.specs.Pieces.{one_of};
 ghost use Rattle.display.specs.Signature.{show_signature, arg_types, args_of, ret_of};
 
 use ptype::{LEVELS, TypeKind, Types};
@@ -114,28 +113,6 @@ impl<'a> Sink for Writer<'a> {
     fn write(&mut self, piece: &[u8]) -> Result<(), Full> {
         self.put(piece)
     }
-}
-
-// What stands between two of several pieces in one text.
-const BAR: u8 = b'|';
-
-// One of several pieces that stand in one text with a bar between two: the k-th, from 0 on, or the last where k is past it. One text costs the check
-// less than a text and a call in each of many branches.
-pub fn one_of(pieces: &[u8], k: usize) -> &[u8]
-    ensures { result.now ≡ one_of pieces.now k }
-{
-    let mut start = 0;
-    let mut left = k;
-    for (end, b) in pieces.iter().enumerate() {
-        if *b == BAR {
-            if left == 0 {
-                return &pieces[start..end];
-            }
-            left -= 1;
-            start = end + 1;
-        }
-    }
-    &pieces[start..]
 }
 
 // Numbers.

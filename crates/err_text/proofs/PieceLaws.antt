@@ -1,13 +1,14 @@
 -- The pieces of messages by the branches that write them. Assumes nothing.
 use Prim.Native.Nat.{ℕ}
-use mathlib.Core.Path.{◌≡◌, refl, sym}
-use mathlib.Core.List.{List, [], ◌++◌, map}
+use mathlib.Core.Path.{◌≡◌, refl, sym, ap, ◌∙◌}
+use mathlib.Core.List.{List, ◌++◌, map}
 use lib.ListN.{get_or, get_or-map}
+use Rattle.std.specs.Borrow.{Bor}
 use Rattle.tok.specs.Text.{Texts, name_bytes, text}
 use Rattle.display.specs.Writing.{written}
 use Rattle.display.specs.WritingLaws.{written_next, written_append}
 use Rattle.err.specs.declared.CallName.TheVariants.{Own, OfPackage}
-use Rattle.err.specs.Message.{operators, quoted, pkg_name, call_name}
+use Rattle.err.specs.Message.{pkg_name, call_name}
 
 -- ---- names
 pub own_call : (t : Texts) (name : ℕ) → call_name t (Own name) ≡ name_bytes t name
@@ -23,11 +24,6 @@ backquote o n s = written_append o n (text "`") s
 
 pub ruleset calls = (own_call, package_call, backquote)
 
--- ---- operators
-abbrev pub in_quotes : List ℕ → List ℕ
-in_quotes s = text "\"" ++ s ++ text "\""
-
--- one of all in quotes, or the quotes alone
-pub quoted-one : (op : ℕ) → quoted op ≡ get_or (map in_quotes operators) op (in_quotes [])
-unfolding quoted
-quoted-one op = sym (get_or-map in_quotes operators op [])
+-- ---- wording in a list: what is behind the reference at an index
+pub behind : (pieces : List (Bor (List ℕ))) (i : ℕ) (none : Bor (List ℕ)) {r : Bor (List ℕ)} → r ≡ get_or pieces i none → r.now ≡ get_or (map (λ p. p.now) pieces) i none.now
+behind pieces i none e = ap (λ p. p.now) e ∙ sym (get_or-map (λ p. p.now) pieces i none)

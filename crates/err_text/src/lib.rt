@@ -1,7 +1,7 @@
 // A diagnostic's record, and the pieces that messages are made of (err.rs; typedefs.rs, `CallName`).
 #![tactic(auto, using(display::specs::WritingLaws::writing))]
 
-ghost use Rattle.std.specs.Prelude.{◌≡◌, ◌++◌, ◌+◌, length};
+ghost use Rattle.std.specs.Prelude.{[], map, get_or, ◌≡◌, ◌++◌, ◌+◌, length};
 ghost use Rattle.std.specs.Borrow.{sem, LendsBoth, Array, u8};
 ghost use Rattle.tok.specs.Text.{name_bytes};
 ghost use Rattle.tok.specs.Span.{token_span};
@@ -138,29 +138,48 @@ pub fn class_of(op: u32) -> usize
     classes.get(op as usize).copied().unwrap_or(0)
 }
 
+// The wording at an index of a list, and none past the end.
+fn wording_at<'a>(all: &[&'a [u8]], i: usize) -> &'a [u8]
+    ensures { result.now ≡ get_or (map (λ wording. wording.now) all.now) i [] }
+{
+    tok::item_at(all, i, b"")
+}
+
 // Writes the operator of a number in double quotes; for a number that no operator has, the quotes alone.
+#[tactic(auto, unfolding(err::specs::Message::operators, err::specs::Message::quoted, tok::specs::Text::text))]
 pub fn put_operator(out: &mut Writer, op: u32) -> Result<(), Full>
     ensures { Writes out.old out.new result (quoted op) }
 {
-    let operators = b"\"+\"|\"-\"|\"*\"|\"/\"|\"%\"|\"==\"|\"!=\"|\"<\"|\">\"|\"\"";
-    out.put(display::one_of(operators, op as usize))
+    let operators: [&[u8]; 9] = [b"+", b"-", b"*", b"/", b"%", b"==", b"!=", b"<", b">"];
+    out.put_around(b"\"", wording_at(&operators, op as usize), b"\"")
 }
 
 // Writes what an operator of a class wants, after `Unsupported type ..`.
+#[tactic(auto, unfolding(err::specs::Message::wanted, tok::specs::Text::text))]
 pub fn put_wanted(out: &mut Writer, class: usize) -> Result<(), Full>
     ensures { Writes out.old out.new result (wanted class) }
 {
-    let all =
-        b", want Int or Double|, want Int|, want Int, Bool or Str|, want Int or Double for both sides|";
-    out.put(display::one_of(all, class))
+    let all: [&[u8]; 4] = [
+        b", want Int or Double",
+        b", want Int",
+        b", want Int, Bool or Str",
+        b", want Int or Double for both sides",
+    ];
+    out.put(wording_at(&all, class))
 }
 
 // And after `Incompatible types ..`.
+#[tactic(auto, unfolding(err::specs::Message::wanted_both, tok::specs::Text::text))]
 pub fn put_wanted_both(out: &mut Writer, class: usize) -> Result<(), Full>
     ensures { Writes out.old out.new result (wanted_both class) }
 {
-    let all = b"|, want both sides Int|, want both sides Int, Bool or Str||";
-    out.put(display::one_of(all, class))
+    let both: [&[u8]; 4] = [
+        b"",
+        b", want both sides Int",
+        b", want both sides Int, Bool or Str",
+        b"",
+    ];
+    out.put(wording_at(&both, class))
 }
 
 // What a message is made of.

@@ -32,13 +32,6 @@ module _ (image : List ℕ) (at : ℕ) (h : length image ≤ at) where
   pub past_after : at ≡ at + record_length image at
   past_after = rw (get_or-eq_default image 0 h) (sym (add-zero at))
 
-  pub past-arguments : 0 ≡ arguments_at image at
-  unfolding arguments_at
-  past-arguments = rw (get_or-eq_default image 0 h) refl
-
-  pub past-slot : 0 ≡ word_at image (at + 1)
-  past-slot = sym (get_or-eq_default image 0 (omega arith))
-
   pub past-run : RunHere image at (run 0 0 1)
   unfolding run_at runs_by_kind
   past-run = record { is = rw (get_or-eq_default image 0 h) refl; near = omega arith; small = omega arith }

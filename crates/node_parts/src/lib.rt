@@ -7,7 +7,7 @@ ghost use Rattle.image_laws.specs.OutlineAt.{arguments_at};
 ghost use Rattle.node_parts.specs.Runs.{run, place_of, RunHere, PartsHere};
 
 use ast::NodeKind;
-use tok::{payload, word_at};
+use tok::{payload, word_after, word_at};
 
 // Words of an image that hold parts: `count` of them, each `step` after the one before.
 #[derive(Clone, Copy)]
@@ -57,21 +57,15 @@ pub fn after(words: &[u32], at: usize) -> usize
 pub fn slot(words: &[u32], at: usize) -> u32
     ensures { result ≡ word_at words.now (at + 1) }
 {
-    if at >= words.len() {
-        return 0;
-    }
-    word_at(words, at + 1)
+    word_after(words, at, 1)
 }
 
 // How many arguments the node at a place has, if it is an Fn, else 0.
 pub fn arguments(words: &[u32], at: usize) -> u32
     ensures { result ≡ arguments_at words.now at }
 {
-    if at >= words.len() {
-        return 0;
-    }
     match NodeKind::of(word_at(words, at)) {
-        NodeKind::Fn => word_at(words, at + 4),
+        NodeKind::Fn => word_after(words, at, 4),
         _ => 0,
     }
 }

@@ -60,7 +60,7 @@ impl<'a> Image<'a> {
     pub fn word_after(&self, at: usize, k: usize) -> u32
         ensures { result ≡ get_or self.now.words (at + k) 0 }
     {
-        tok::word_at(self.words, at.saturating_add(k))
+        tok::word_after(self.words, at, k)
     }
 
     // V, the number of slots.

@@ -1,7 +1,7 @@
 // Words, names and tokens in the script text and the library text, and spans (lex/tok.rs, diagnostic.rs, ast.rs).
 #![tactic(auto)]
 
-ghost use Rattle.std.specs.Prelude.{◌≡◌, not, ◌<◌, ◌≤◌, ◌^◌, length, get_or, set};
+ghost use Rattle.std.specs.Prelude.{◌≡◌, not, ◌<◌, ◌≤◌, ◌^◌, ◌+◌, length, get_or, set};
 ghost use Rattle.tok.specs.LittleEndian.{little_endian, ByteAt};
 ghost use Rattle.tok.specs.Word.{kind_of, payload_of, name_length, name_start, name_bit, word_of};
 ghost use Rattle.tok.specs.Text.{Texts, texts_of, bytes_in, name_bytes, same_bytes, same_name};
@@ -64,6 +64,14 @@ pub fn word_at(words: &[u32], i: usize) -> u32
     ensures { result ≡ get_or words.now i 0 }
 {
     item_at(words, i, 0)
+}
+
+// The word that stands k after an index, and 0 past the end.
+#[inline]
+pub fn word_after(words: &[u32], at: usize, k: usize) -> u32
+    ensures { result ≡ get_or words.now (at + k) 0 }
+{
+    word_at(words, at.saturating_add(k))
 }
 
 // The byte at an index, and 0 past the end.
