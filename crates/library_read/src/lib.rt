@@ -238,7 +238,7 @@ pub fn library_fault(texts: &Texts, words: &[u32]) -> Result<(), Fault>
     let mut sums = [0u16; MOST_WORDS + 1];
     library_slots::slot_sums(pool, &mut sums);
     let mut places = [0u16; MOST_WORDS];
-    let n = library_slots::named_slots(texts, words, pool, &sums, &mut places);
+    let n = library_slots::named_slots(texts, words, pool, &sums, &mut places).unwrap_or(0);
     let pool = Pool {
         texts,
         words: pool,
