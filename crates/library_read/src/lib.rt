@@ -177,8 +177,7 @@ impl<'a> Pool<'a> {
         let start = from.at;
         let end = count as usize;
         let kept = library_groups::kept_up_to(self.texts, words, start, end);
-        let mut to = from;
-        for k in 0..end {
+        from.many(end, |to, k| {
             let before = Entries {
                 words,
                 flagged: true,
@@ -186,9 +185,8 @@ impl<'a> Pool<'a> {
                 count: k,
             };
             let known = to.at < kept;
-            to = self.function_record(&before, known, to)?;
-        }
-        Ok(to)
+            self.function_record(&before, known, to)
+        })
     }
 
     // A package.
