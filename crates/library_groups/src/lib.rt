@@ -8,6 +8,7 @@ ghost use Rattle.library_groups.specs.Kept.{GroupsKept, FunctionsListed, ListedE
 ghost use Rattle.name_order.specs.Order.{Grouped};
 
 use library::Function;
+use name_order::NamedWords;
 use reader::MOST_WORDS;
 use tok::Texts;
 
@@ -114,7 +115,7 @@ pub fn kept_up_to(texts: &Texts, words: &[u32], from: usize, count: usize) -> us
     if none_slotted(words, listed) {
         return end;
     }
-    if name_order::group_names(texts, words, listed) {
+    if (NamedWords { texts, words }).group_names(listed) {
         return first_fault(words, listed, end);
     }
     from

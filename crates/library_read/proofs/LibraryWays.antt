@@ -10,7 +10,7 @@ use native.Mathlib.Decide.{dec_lt}
 use lib.ListN.{length, get_or, take, drop, length-take, length-drop}
 use lib.Seq.{get_or-take, get_or-drop}
 use lib.Dec.{ltb}
-use Rattle.std.specs.Prelude.{Result, Ok, Err}
+use Rattle.std.specs.Prelude.{Option, Some, None, Result, Ok, Err, IfSome, unwrap_or}
 use Rattle.std.proofs.Common.{length-take-le}
 use Rattle.tok.specs.Text.{Texts}
 use Rattle.tok.specs.Step.{◌>>=◌, return}
@@ -42,7 +42,12 @@ begins-as n least words from e = by (ltb most_bytes n) e
 pub sums_long : (types : List ℕ) (i : ℕ) {sums : List ℕ} → sums ≡ sums_to types i → 8193 ≡ length sums
 sums_long types i e = sym (ap length e ∙ length-sums_to types i)
 
--- The slots by name, cut to as many as there are.
+-- The slots by name, where there are any, and no slots where there are none.
+pub slots_found : {t : Texts} {words order : List ℕ} (found : Option ℕ) {n : ℕ} → IfSome found (SlotsNamed t words order) → n ≡ unwrap_or found 0 → 0 < n → SlotsNamed t words order n
+slots_found (Some k) h e l = rw e h
+slots_found None h e l = absurd (omega arith)
+
+-- Cut to as many as there are.
 module _ {t : Texts} {words order : List ℕ} {n : ℕ} (named : 0 < n → SlotsNamed t words order n) where
   pub slots_few : n ≤ 8192
   slots_few = elim (dec_lt 0 n) [

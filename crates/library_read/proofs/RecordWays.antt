@@ -306,8 +306,20 @@ module _ {p : Pool} {from : Reader} where
         → to.at < r → GroupFine p (entries_from from.words 1 from.at k) (function_at to.words to.at)
     functions-kept t types r ep g l = rw (entries-library from.words k from.at, h.same, h.place, ep) (g.each types k (omega (arith, h.place)))
 
-    pub functions-done : (count : ℕ) → k ≡ count → Comes from (function_records p count []) (functions_from from.words from.at count) (Ok to)
+    functions-done : (count : ℕ) → k ≡ count → Comes from (function_records p count []) (functions_from from.words from.at count) (Ok to)
     functions-done count e = rw (← e) (h.so_far, h.same)
+
+  -- all that are left, where each turn reads the one after those before it
+  module _ {one : Reader → ℕ → rust.Result Reader Fault → Type 0}
+      (turn : (mid : Reader) (k : ℕ) (to : rust.Result Reader Fault) → FunctionsRead p from mid k → one mid k to
+      → Comes mid (function_record p (entries_from from.words 1 from.at k)) (function_at mid.words mid.at) to) where
+    pub functions-all : {k n : ℕ} {mid : Reader} {to : rust.Result Reader Fault} (count : ℕ) → k + n ≡ count → FunctionsRead p from mid k → Repeated one k n mid to
+        → Comes from (function_records p count []) (functions_from from.words from.at count) to
+    functions-all count e h none_left = functions-done h count (omega arith)
+    functions-all {k = k} {mid = mid} count e h (turn_more {mid = next} t rest) =
+        functions-all count (omega arith) (functions-turn h (function_at mid.words mid.at) next (turn mid k (Ok next) h t)) rest
+    functions-all {k = k} {mid = mid} count e h (one_stops {fault = fault} t) =
+        functions-faulted h (function_at mid.words mid.at) fault count (omega arith) (turn mid k (Err fault) h t)
 
 -- ── Packages ──
 

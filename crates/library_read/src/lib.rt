@@ -177,8 +177,7 @@ impl<'a> Pool<'a> {
         let start = from.at;
         let end = count as usize;
         let kept = library_groups::kept_up_to(self.texts, words, start, end);
-        let mut to = from;
-        for k in 0..end {
+        from.many(end, |to, k| {
             let before = Entries {
                 words,
                 flagged: true,
@@ -186,9 +185,8 @@ impl<'a> Pool<'a> {
                 count: k,
             };
             let known = to.at < kept;
-            to = self.function_record(&before, known, to)?;
-        }
-        Ok(to)
+            self.function_record(&before, known, to)
+        })
     }
 
     // A package.
@@ -238,7 +236,7 @@ pub fn library_fault(texts: &Texts, words: &[u32]) -> Result<(), Fault>
     let mut sums = [0u16; MOST_WORDS + 1];
     library_slots::slot_sums(pool, &mut sums);
     let mut places = [0u16; MOST_WORDS];
-    let n = library_slots::named_slots(texts, words, pool, &sums, &mut places);
+    let n = library_slots::named_slots(texts, words, pool, &sums, &mut places).unwrap_or(0);
     let pool = Pool {
         texts,
         words: pool,

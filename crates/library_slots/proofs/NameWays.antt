@@ -1,11 +1,12 @@
 -- Slots by name as the code looks for them, one law for each way out. Assumes nothing.
-use Prim.Native.Nat.{ℕ, suc, ◌-◌, ◌≤◌, ◌<◌}
+use Prim.Native.Nat.{ℕ, zero, suc, ◌+◌, ◌<◌}
 use mathlib.Core.Path.{◌≡◌, refl, sym, ap, ap₂, ◌∙◌}
-use mathlib.Core.Bool.{Bool, true, false, not, ◌&&◌, ◌||◌, or-true, and-false}
+use mathlib.Core.Bool.{Bool, true, false, not, ◌&&◌, ◌||◌, or-true, or-false}
 use mathlib.Core.List.{List, ◌++◌}
 use native.Mathlib.Omega.{arith}
 use lib.ListN.{length, get_or}
 use lib.Dec.{eqb}
+use Rattle.std.specs.List.{list_any, range_with_len}
 use borrow.Author.Tests.{ne_eqb}
 use Rattle.tok.specs.Word.{kind_of}
 use Rattle.tok.specs.Text.{Texts, name_bytes}
@@ -33,33 +34,42 @@ module _ (t : Texts) (name pairs left : List ℕ) (h : any_slot_of t name (types
 
 -- ── Among marks ──
 
--- none from index i on is marked and passes the test
-module _ (marks : List Bool) (test : ℕ → Bool) (n i : ℕ) (h : any_marked marks test n ≡ any_marked marks test i) where
-  marked_next : 0 < i → any_marked marks test i ≡ (get_or marks (i - 1) false && test (i - 1) || any_marked marks test (i - 1))
+or_assoc : (x y z : Bool) → (x || (y || z)) ≡ ((x || y) || z)
+or_assoc true y z = refl
+or_assoc false y z = refl
+
+or_swap : (x y : Bool) → (x || y) ≡ (y || x)
+or_swap true true = refl
+or_swap true false = refl
+or_swap false true = refl
+or_swap false false = refl
+
+-- one index more at the end
+any-more : (p : ℕ → Bool) (n a : ℕ) → list_any p (range_with_len a (suc n)) ≡ (list_any p (range_with_len a n) || p (a + n))
+any-more p zero a =
+    let e : a + 0 ≡ a = omega arith in
+    rw (e, or-false (p a)) refl
+any-more p (suc n) a =
+    let e : a + 1 + n ≡ a + suc n = omega arith in
+    ap (λ b. p a || b) (any-more p n (a + 1) ∙ ap (λ m. list_any p (range_with_len (a + 1) n) || p m) e)
+    ∙ or_assoc (p a) (list_any p (range_with_len (a + 1) n)) (p (a + suc n))
+
+-- The marked indices gone through; where they are, the code's test may be another that comes to the same.
+module _ (marks : List Bool) (test tried : ℕ → Bool) where
+  last_same : (n : ℕ) (m : Bool) → get_or marks n false ≡ m → (get_or marks n false ≡ true → tried n ≡ test n) → (m && tried n) ≡ (m && test n)
+  last_same n true e h = h e
+  last_same n false e h = refl
+
+  pub marked-any : (n : ℕ) → ((i : ℕ) → i < n → get_or marks i false ≡ true → tried i ≡ test i)
+      → list_any (λ i. get_or marks i false && tried i) (range_with_len 0 n) ≡ any_marked marks test n
   unfolding any_marked
-  marked_next l =
-      let s : i ≡ suc (i - 1) = omega arith in
-      ap (any_marked marks test) s
-
-  module _ (l : 0 < i) {m : Bool} (em : m ≡ get_or marks (i - 1) false) where
-    pub marks-found : {r : Bool} → m ≡ true → r ≡ test (i - 1) → r ≡ true → true ≡ any_marked marks test n
-    marks-found e er y = sym (h ∙ marked_next l ∙ rw (← em, e, sym er ∙ y) refl)
-
-    pub marks-fails : {r : Bool} → m ≡ true → r ≡ test (i - 1) → r ≡ false → any_marked marks test n ≡ any_marked marks test (i - 1)
-    marks-fails e er f = h ∙ marked_next l ∙ rw (← em, e, sym er ∙ f) refl
-
-    pub marks-past : m ≡ false → any_marked marks test n ≡ any_marked marks test (i - 1)
-    marks-past d = h ∙ marked_next l ∙ rw (← em, d) refl
-
-    -- a word that fails the test
-    pub marks-not : test (i - 1) ≡ false → any_marked marks test n ≡ any_marked marks test (i - 1)
-    marks-not f = h ∙ marked_next l ∙ rw (f, and-false (get_or marks (i - 1) false)) refl
-
-  pub marks-none : i ≤ 0 → false ≡ any_marked marks test n
-  unfolding any_marked
-  marks-none l =
-      let s : i ≡ 0 = omega arith in
-      sym (h ∙ ap (any_marked marks test) s)
+  marked-any zero h = refl
+  marked-any (suc n) h =
+      let e : 0 + n ≡ n = omega arith in
+      any-more (λ i. get_or marks i false && tried i) n 0
+      ∙ ap₂ (λ a b. a || b) (marked-any n (λ i l. h i (omega arith)))
+      (ap (λ i. get_or marks i false && tried i) e ∙ last_same n (get_or marks n false) refl (h n (omega arith)))
+      ∙ or_swap (any_marked marks test n) (get_or marks n false && test n)
 
 -- ── The arguments' slots and the return type's ──
 
@@ -76,13 +86,22 @@ self-marked t types ws marks i l e k =
     }))
     (or-true (any_slot_of t (name_bytes t (get_or types i 0)) ws))
 
-pub not-missing : (t : Texts) (types ws : List ℕ) (marks : List Bool) (i : ℕ) {m : Bool} → i < length types → m ≡ get_or marks i false → m ≡ true → missing t types ws marks (get_or types i 0) ≡ false
+reached-out : (t : Texts) (types ws : List ℕ) (marks : List Bool) (i : ℕ) → i < length types → get_or marks i false ≡ true → missing t types ws marks (get_or types i 0) ≡ false
 unfolding missing
-not-missing t types ws marks i l em e = by (eqb (kind_of (get_or types i 0)) 10) refl
+reached-out t types ws marks i l e = by (eqb (kind_of (get_or types i 0)) 10) refl
   where
     by : (b : Bool) → eqb (kind_of (get_or types i 0)) 10 ≡ b → (b && not (among_marked t types ws marks (name_bytes t (get_or types i 0)))) ≡ false
-    by true k = rw (self-marked t types ws marks i l (sym em ∙ e) k) refl
+    by true k = rw (self-marked t types ws marks i l e k) refl
     by false k = refl
+
+-- so that a word that they reach need not be looked for
+pub not-missing : (t : Texts) (types ws : List ℕ) (marks : List Bool) (i : ℕ) → i < length types
+    → (not (get_or marks i false) && missing t types ws marks (get_or types i 0)) ≡ missing t types ws marks (get_or types i 0)
+not-missing t types ws marks i l = by (get_or marks i false) refl
+  where
+    by : (m : Bool) → get_or marks i false ≡ m → (not m && missing t types ws marks (get_or types i 0)) ≡ missing t types ws marks (get_or types i 0)
+    by true e = sym (reached-out t types ws marks i l e)
+    by false e = refl
 
 module _ (t : Texts) (types args : List ℕ) (ret : ℕ) {k : ℕ} (ek : k ≡ kind_of ret) {none marked reached : List Bool}
     (e0 : none ≡ unmarked 8192) (e1 : marked ≡ mark_all types args none) (e2 : reached ≡ spread types (length types) marked) where

@@ -21,11 +21,6 @@ argued size args first end p = of_pairs first end p || in_pool size args p
 unfoldable pub wanted : (size : ℕ) → (marks : List Bool) → (end p : ℕ) → Bool
 wanted size marks end p = eqb p end || in_pool size marks p
 
--- the one or the other
-abbrev pub reached : (returned : Bool) → (size : ℕ) → (marks : List Bool) → (first end p : ℕ) → Bool
-reached true size marks first end p = wanted size marks end p
-reached false size marks first end p = argued size marks first end p
-
 -- a test holds at the place of a rank from `from` up to `to`
 pub record Found (test : ℕ → Bool) (order : List ℕ) (from to : ℕ) : Type 0 where
   pub rank : ℕ

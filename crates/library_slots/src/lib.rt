@@ -3,15 +3,16 @@
 // with every level.
 #![tactic(auto)]
 
-ghost use Rattle.std.specs.Prelude.{◌≡◌, true, false, cond, List, ℕ, ◌+◌, ◌*◌, ◌≤◌, ◌<◌, ◌^◌, min, length, get_or, eqb};
+ghost use Rattle.std.specs.Prelude.{◌≡◌, Bool, true, false, cond, List, ℕ, ◌+◌, ◌*◌, ◌≤◌, ◌<◌, ◌^◌, min, length, get_or, eqb, IfSome};
 ghost use Rattle.tok.specs.Word.{kind_of};
 ghost use Rattle.tok.specs.Text.{Texts, name_bytes};
 ghost use Rattle.library.specs.SlotSums.{slot_by, zeros, sums_to};
 ghost use Rattle.library.specs.SlotMarks.{mark_fields, mark_inside, mark_all, spread, any_marked, is_slot, any_slot_of, types_in};
 ghost use Rattle.library.specs.ReturnSlots.{among_marked, missing};
 ghost use Rattle.name_order.specs.Order.{Grouped};
-ghost use Rattle.library_slots.specs.Named.{of_pairs, in_pool, argued, wanted, reached, Told, NamesStand, ReturnAsked, SlotsListed, SlotsNamed};
+ghost use Rattle.library_slots.specs.Named.{of_pairs, in_pool, argued, wanted, Told, NamesStand, ReturnAsked, SlotsListed, SlotsNamed};
 
+use name_order::NamedWords;
 use ptype::TypeKind;
 use reader::MOST_WORDS;
 use tok::{Texts, item_at, set_item};
@@ -119,60 +120,66 @@ fn is_slot(texts: &Texts, named: u32, w: u32) -> bool
     slot_kind(w) && tok::same_name(texts, named, w)
 }
 
-// Whether one of the types of some pairs is.
-fn among_types(texts: &Texts, pairs: &[u32], named: u32) -> bool
-    ensures { result ≡ any_slot_of texts.now (name_bytes texts.now named) (types_in pairs.now) }
-{
-    for pair in pairs.chunks_exact(2) {
-        if is_slot(texts, named, pair[1]) {
-            return true;
+// What the arguments of a function reach: the types of their pairs, and marked words of the pool.
+#[derive(Clone, Copy)]
+struct Arguments<'a> {
+    texts: &'a Texts<'a>,
+    pool: &'a [u32],
+    pairs: &'a [u32],
+    marks: &'a [bool],
+}
+
+impl<'a> Arguments<'a> {
+    // Whether one of the types of the pairs is the slot that a word names.
+    fn among_types(&self, named: u32) -> bool
+        ensures { let t : Texts = self.now.texts.now in result ≡ any_slot_of t (name_bytes t named) (types_in self.now.pairs.now) }
+    {
+        for pair in self.pairs.chunks_exact(2) {
+            if is_slot(self.texts, named, pair[1]) {
+                return true;
+            }
         }
+        false
     }
-    false
-}
 
-// Whether a marked pool word is.
-fn among_marks(texts: &Texts, pool: &[u32], marks: &[bool], named: u32) -> bool
-    ensures { result ≡ any_marked marks.now (λ i. is_slot texts.now (name_bytes texts.now named) (get_or pool.now i 0)) (length pool.now) }
-{
-    for i in (0..pool.len()).rev() {
-        if item_at(marks, i, false) && is_slot(texts, named, pool[i]) {
-            return true;
-        }
+    // Whether a marked pool word is.
+    fn among_marks(&self, named: u32) -> bool
+        ensures { let t : Texts = self.now.texts.now in
+            result ≡ any_marked self.now.marks.now (λ i. is_slot t (name_bytes t named) (get_or self.now.pool.now i 0)) (length self.now.pool.now) }
+    {
+        (0..self.pool.len()).any(|i| {
+            item_at(self.marks, i, false) && is_slot(self.texts, named, tok::word_at(self.pool, i))
+        })
     }
-    false
-}
 
-// Whether a slot's name is that of a slot of the arguments.
-#[tactic(auto, unfolding(library::specs::ReturnSlots::among_marked))]
-fn among(texts: &Texts, pool: &[u32], pairs: &[u32], marks: &[bool], named: u32) -> bool
-    ensures { result ≡ among_marked texts.now pool.now (types_in pairs.now) marks.now (name_bytes texts.now named) }
-{
-    among_types(texts, pairs, named) || among_marks(texts, pool, marks, named)
-}
-
-// Whether a word is a slot that no argument has.
-#[tactic(auto, unfolding(library::specs::ReturnSlots::missing))]
-fn missing(texts: &Texts, pool: &[u32], pairs: &[u32], marks: &[bool], w: u32) -> bool
-    ensures { result ≡ missing texts.now pool.now (types_in pairs.now) marks.now w }
-{
-    slot_kind(w) && !among(texts, pool, pairs, marks, w)
-}
-
-// Whether a marked pool word is one. A word that the arguments reach too is none.
-fn any_missing(texts: &Texts, pool: &[u32], pairs: &[u32], args: &[bool], marks: &[bool]) -> bool
-    ensures { result ≡ any_marked marks.now (λ i. missing texts.now pool.now (types_in pairs.now) args.now (get_or pool.now i 0))
-        (length pool.now) }
-{
-    for i in (0..pool.len()).rev() {
-        if item_at(marks, i, false)
-            && !item_at(args, i, false)
-            && missing(texts, pool, pairs, args, pool[i])
-        {
-            return true;
-        }
+    // Whether a slot's name is that of a slot of theirs.
+    #[tactic(auto, unfolding(library::specs::ReturnSlots::among_marked))]
+    fn among(&self, named: u32) -> bool
+        ensures { let t : Texts = self.now.texts.now in
+            result ≡ among_marked t self.now.pool.now (types_in self.now.pairs.now) self.now.marks.now (name_bytes t named) }
+    {
+        self.among_types(named) || self.among_marks(named)
     }
-    false
+
+    // Whether a word is a slot that none of them has.
+    #[tactic(auto, unfolding(library::specs::ReturnSlots::missing))]
+    fn missing(&self, w: u32) -> bool
+        ensures { result ≡ missing self.now.texts.now self.now.pool.now (types_in self.now.pairs.now) self.now.marks.now w }
+    {
+        slot_kind(w) && !self.among(w)
+    }
+
+    // Whether a word of the pool that is marked elsewhere is one. A word that they reach too is none.
+    fn any_missing(&self, marks: &[bool]) -> bool
+        ensures { let test : ℕ → Bool = λ i. missing self.now.texts.now self.now.pool.now (types_in self.now.pairs.now) self.now.marks.now (get_or self.now.pool.now i 0) in
+            result ≡ any_marked marks.now test (length self.now.pool.now) }
+    {
+        (0..self.pool.len()).any(|i| {
+            item_at(marks, i, false)
+                && !item_at(self.marks, i, false)
+                && self.missing(tok::word_at(self.pool, i))
+        })
+    }
 }
 
 // Names in order: slots are compared once for a library, and not for each function.
@@ -220,22 +227,22 @@ impl<'a> Reach<'a> {
         p == self.end || self.in_pool(p)
     }
 
-    // The one or the other, whose marks are lent.
-    fn reached(&self, returned: bool, p: usize) -> bool
-        ensures { result ≡ reached returned self.now.size self.now.marks.now self.now.first self.now.end p }
+    // Whether an argument reaches one of a group.
+    fn argues_any(&self, group: &[u16]) -> bool
+        ensures { Told (argued self.now.size self.now.marks.now self.now.first self.now.end) group.now 0 (length group.now) result }
     {
-        if returned {
-            self.wanted(p)
-        } else {
-            self.argued(p)
-        }
+        group
+            .iter()
+            .any(|entry| self.argued(name_order::place_of(*entry)))
     }
 
-    // Whether it reaches one of a group.
-    fn any_reached(&self, group: &[u16], returned: bool) -> bool
-        ensures { Told (reached returned self.now.size self.now.marks.now self.now.first self.now.end) group.now 0 (length group.now) result }
+    // Whether the return type does.
+    fn wants_any(&self, group: &[u16]) -> bool
+        ensures { Told (wanted self.now.size self.now.marks.now self.now.end) group.now 0 (length group.now) result }
     {
-        group.iter().any(|entry| self.reached(returned, name_order::place_of(*entry)))
+        group
+            .iter()
+            .any(|entry| self.wanted(name_order::place_of(*entry)))
     }
 }
 
@@ -249,7 +256,7 @@ fn names_stand(order: &[u16], args: &Reach, ret: &Reach) -> bool
     while at < order.len() {
         let next = name_order::group_end(order, at);
         let group = &order[at..next];
-        if ret.any_reached(group, true) && !args.any_reached(group, false) {
+        if ret.wants_any(group) && !args.argues_any(group) {
             return false;
         }
         at = next;
@@ -277,6 +284,12 @@ pub fn return_stands(
     let mut marks = [false; MOST_WORDS];
     mark_inside(pool, ret, &mut marks);
     spread(pool, &mut marks);
+    let arguments = Arguments {
+        texts,
+        pool,
+        pairs,
+        marks: &args,
+    };
     if order.len() > 0 {
         let args = Reach {
             size: pool.len(),
@@ -290,9 +303,9 @@ pub fn return_stands(
         };
         names_stand(order, &args, &ret)
     } else if slot_kind(ret) {
-        among(texts, pool, pairs, &args, ret)
+        arguments.among(ret)
     } else {
-        !any_missing(texts, pool, pairs, &args, &marks)
+        !arguments.any_missing(&marks)
     }
 }
 
@@ -310,23 +323,24 @@ fn slot_places(words: &[u32], order: &mut [u16]) -> usize
     n
 }
 
-// These in the order of their names, and how many there are; none where no slot stands in the pool.
+// These in the order of their names, and how many there are; none where no slot stands in the pool, or no order was found.
 pub fn named_slots(
     texts: &Texts,
     words: &[u32],
     pool: &[u32],
     sums: &[u16],
     order: &mut [u16],
-) -> usize
-    ensures { (8192 ≤ length order.old → 0 < result → SlotsNamed texts.now words.now order.new result) }
+) -> Option<usize>
+    ensures { (8192 ≤ length order.old → IfSome result (λ n. SlotsNamed texts.now words.now order.new n)) }
 {
     if item_at(sums, pool.len(), 0) == 0 {
-        return 0;
+        return None;
     }
     let n = slot_places(words, order).min(order.len());
-    if name_order::group_names(texts, words, &mut order[..n]) {
-        n
+    let named = NamedWords { texts, words };
+    if named.group_names(&mut order[..n]) {
+        Some(n)
     } else {
-        0
+        None
     }
 }

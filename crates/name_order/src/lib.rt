@@ -10,19 +10,7 @@ ghost use Rattle.name_order.specs.Order.{place_in, new_in, Rearranged, Split, Gr
 
 use tok::{Texts, item_at, set_item};
 
-// Names.
-
-// Whether the name of a word comes before that of another: by the first byte that differs, else the shorter one.
-fn name_before(texts: &Texts, a: u32, b: u32) -> bool
-    ensures { result ≡ bytes_before (name_bytes texts.now a) (name_bytes texts.now b) }
-{
-    a != b
-        && tok::name_bytes(texts, a)
-            .cmp(tok::name_bytes(texts, b))
-            .is_lt()
-}
-
-// Places in a row.
+// Entries of places.
 
 // The place that an entry keeps.
 pub fn place_of(entry: u16) -> usize
@@ -38,13 +26,6 @@ pub fn place_at(order: &[u16], i: usize) -> usize
     place_of(item_at(order, i, 0))
 }
 
-// The word of rank i.
-fn word_of(words: &[u32], order: &[u16], i: usize) -> u32
-    ensures { result ≡ get_or words.now (place_in (get_or order.now i 0)) 0 }
-{
-    tok::word_at(words, place_at(order, i))
-}
-
 // Two entries change places.
 fn swap(order: &mut [u16], i: usize, j: usize)
     ensures { Rearranged order.old order.new (length order.old) }
@@ -53,62 +34,6 @@ fn swap(order: &mut [u16], i: usize, j: usize)
         order.swap(i, j);
     }
 }
-
-// The sort: a heap of the entries, the last name on top.
-
-// The one of two children of an entry whose name comes last.
-fn later_child(texts: &Texts, words: &[u32], order: &[u16], at: usize) -> usize
-    requires { 2 * at + 1 < length order.now }
-    ensures { (at < result) × (result < length order.now) }
-{
-    let child = 2 * at + 1;
-    if child + 1 >= order.len() {
-        return child;
-    }
-    let a = word_of(words, order, child);
-    let b = word_of(words, order, child + 1);
-    if name_before(texts, a, b) {
-        return child + 1;
-    }
-    child
-}
-
-// An entry goes down until no child comes after it.
-fn sift(texts: &Texts, words: &[u32], order: &mut [u16], root: usize)
-    ensures { Rearranged order.old order.new (length order.old) }
-{
-    let mut at = root;
-    while at < order.len() / 2 {
-        let child = later_child(texts, words, order, at);
-        let a = word_of(words, order, at);
-        let b = word_of(words, order, child);
-        if !name_before(texts, a, b) {
-            return;
-        }
-        swap(order, at, child);
-        at = child;
-    }
-}
-
-fn make_heap(texts: &Texts, words: &[u32], order: &mut [u16])
-    ensures { Rearranged order.old order.new (length order.old) }
-{
-    for i in (0..order.len() / 2).rev() {
-        sift(texts, words, order, i);
-    }
-}
-
-// The last name of the heap goes behind it, again and again.
-fn take_heap(texts: &Texts, words: &[u32], order: &mut [u16])
-    ensures { Rearranged order.old order.new (length order.old) }
-{
-    for left in (1..order.len()).rev() {
-        swap(order, 0, left);
-        sift(texts, words, &mut order[..left], 0);
-    }
-}
-
-// Groups.
 
 // An entry told whether a new name begins with it.
 fn told(entry: u16, new: bool) -> u16
@@ -126,31 +51,113 @@ pub fn enter(order: &mut [u16], rank: usize, place: usize)
     set_item(order, rank, (2 * place) as u16);
 }
 
-// Each entry is told whether its name is that of the one before it; false where the names are not in order.
-fn split(texts: &Texts, words: &[u32], order: &mut [u16]) -> bool
-    ensures { Split texts.now words.now order.old order.new (length order.old) result }
-{
-    for i in 1..order.len() {
-        let a = word_of(words, order, i - 1);
-        let b = word_of(words, order, i);
-        let new = name_before(texts, a, b);
-        if !new && !tok::same_name(texts, a, b) {
-            return false;
-        }
-        let entry = told(item_at(order, i, 0), new);
-        set_item(order, i, entry);
-    }
-    true
+// The words that entries stand for by their places, and the texts that hold their names.
+#[derive(Clone, Copy)]
+pub struct NamedWords<'a> {
+    pub texts: &'a Texts<'a>,
+    pub words: &'a [u32],
 }
 
-// The entries sorted by name and grouped; false where that did not succeed.
-pub fn group_names(texts: &Texts, words: &[u32], order: &mut [u16]) -> bool
-    ensures { Grouping texts.now words.now order.old order.new (length order.old) result }
-{
-    make_heap(texts, words, order);
-    take_heap(texts, words, order);
-    split(texts, words, order)
+impl<'a> NamedWords<'a> {
+    // Whether the name of a word comes before that of another: by the first byte that differs, else the shorter one.
+    fn name_before(&self, a: u32, b: u32) -> bool
+        ensures { result ≡ bytes_before (name_bytes self.now.texts.now a) (name_bytes self.now.texts.now b) }
+    {
+        a != b
+            && tok::name_bytes(self.texts, a)
+                .cmp(tok::name_bytes(self.texts, b))
+                .is_lt()
+    }
+
+    // The word of rank i.
+    fn word_of(&self, order: &[u16], i: usize) -> u32
+        ensures { result ≡ get_or self.now.words.now (place_in (get_or order.now i 0)) 0 }
+    {
+        tok::word_at(self.words, place_at(order, i))
+    }
+
+    // The sort: a heap of the entries, the last name on top.
+
+    // The one of two children of an entry whose name comes last.
+    fn later_child(&self, order: &[u16], at: usize) -> usize
+        requires { 2 * at + 1 < length order.now }
+        ensures { (at < result) × (result < length order.now) }
+    {
+        let child = 2 * at + 1;
+        if child + 1 >= order.len() {
+            return child;
+        }
+        let a = self.word_of(order, child);
+        let b = self.word_of(order, child + 1);
+        if self.name_before(a, b) {
+            return child + 1;
+        }
+        child
+    }
+
+    // An entry goes down until no child comes after it.
+    fn sift(&self, order: &mut [u16], root: usize)
+        ensures { Rearranged order.old order.new (length order.old) }
+    {
+        let mut at = root;
+        while at < order.len() / 2 {
+            let child = self.later_child(order, at);
+            let a = self.word_of(order, at);
+            let b = self.word_of(order, child);
+            if !self.name_before(a, b) {
+                return;
+            }
+            swap(order, at, child);
+            at = child;
+        }
+    }
+
+    fn make_heap(&self, order: &mut [u16])
+        ensures { Rearranged order.old order.new (length order.old) }
+    {
+        for i in (0..order.len() / 2).rev() {
+            self.sift(order, i);
+        }
+    }
+
+    // The last name of the heap goes behind it, again and again.
+    fn take_heap(&self, order: &mut [u16])
+        ensures { Rearranged order.old order.new (length order.old) }
+    {
+        for left in (1..order.len()).rev() {
+            swap(order, 0, left);
+            self.sift(&mut order[..left], 0);
+        }
+    }
+
+    // Each entry is told whether its name is that of the one before it; false where the names are not in order.
+    fn split(&self, order: &mut [u16]) -> bool
+        ensures { Split self.now.texts.now self.now.words.now order.old order.new (length order.old) result }
+    {
+        for i in 1..order.len() {
+            let a = self.word_of(order, i - 1);
+            let b = self.word_of(order, i);
+            let new = self.name_before(a, b);
+            if !new && !tok::same_name(self.texts, a, b) {
+                return false;
+            }
+            let entry = told(item_at(order, i, 0), new);
+            set_item(order, i, entry);
+        }
+        true
+    }
+
+    // The entries sorted by name and grouped; false where that did not succeed.
+    pub fn group_names(&self, order: &mut [u16]) -> bool
+        ensures { Grouping self.now.texts.now self.now.words.now order.old order.new (length order.old) result }
+    {
+        self.make_heap(order);
+        self.take_heap(order);
+        self.split(order)
+    }
 }
+
+// Groups.
 
 // How many entries stand before the first with which a new name begins; all, where none does.
 fn before_new(entries: &[u16]) -> usize

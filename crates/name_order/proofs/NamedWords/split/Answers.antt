@@ -3,8 +3,8 @@ use mathlib.Core.Bool.{true≢false}
 use native.Mathlib.Omega.{arith}
 use Rattle.name_order.specs.Order.{place_in}
 use Rattle.name_order.proofs.SplitWays.{telling_more, split-true}
-use Rattle.name_order.proofs.split.Goals as goal
-use Rattle.name_order.proofs.split.Goals.{else-not-new-via-then-not-new+else-not-same_name, else-not-new-via-else-not-new}
+use Rattle.name_order.proofs.NamedWords.split.Goals as goal
+use Rattle.name_order.proofs.NamedWords.split.Goals.{else-not-new-via-then-not-new+else-not-same_name, else-not-new-via-else-not-new}
 
 pub loop-i-preserved : goal.loop-i-preserved
 loop-i-preserved c =

@@ -1,7 +1,7 @@
--- `name_order::name_before` meets its contract: std's order of bytes, and no name comes before itself. Assumes nothing.
+-- `name_order::NamedWords::name_before` meets its contract: std's order of bytes, and no name comes before itself. Assumes nothing.
 use Rattle.std.proofs.Common.{eq-eqb, ◌∙◌}
 use Rattle.name_order.proofs.BytesWays.{before-is, none-before-same}
-use Rattle.name_order.proofs.name_before.Goals as goal
+use Rattle.name_order.proofs.NamedWords.name_before.Goals as goal
 
 pub returns-then-a-b : goal.returns-then-a-b
 returns-then-a-b c = c.is_lt.ensures ∙ rw (← c.name_bytes.ensures, ← c.name_bytes-then-a-b.ensures) (before-is _ _ _ c.cmp.ensures)

@@ -1,6 +1,6 @@
 use Rattle.std.proofs.Common.{◌∙◌, arith}
 use Rattle.library_slots.proofs.NameWays.{types-found, types-past, types-none}
-use Rattle.library_slots.proofs.among_types.Goals as goal
+use Rattle.library_slots.proofs.Arguments.among_types.Goals as goal
 
 pub returns-then-is_slot : goal.returns-then-is_slot
 returns-then-is_slot c =

@@ -1,6 +1,6 @@
 use native.Mathlib.Omega.{arith}
 use Rattle.name_order.proofs.SwapWays.{all_rearranged, front_rearranged}
-use Rattle.name_order.proofs.take_heap.Goals as goal
+use Rattle.name_order.proofs.NamedWords.take_heap.Goals as goal
 
 pub loop-left-preserved : goal.loop-left-preserved
 loop-left-preserved c =

@@ -1,7 +1,7 @@
--- `name_order::group_names` meets its contract: two steps of the sort, and the entries told. Assumes nothing.
+-- `name_order::NamedWords::group_names` meets its contract: two steps of the sort, and the entries told. Assumes nothing.
 use mathlib.Core.Path.{◌∙◌}
 use Rattle.name_order.proofs.SplitWays.{grouping_is}
-use Rattle.name_order.proofs.group_names.Goals as goal
+use Rattle.name_order.proofs.NamedWords.group_names.Goals as goal
 
 pub returns : goal.returns
 returns c =
