@@ -17,7 +17,7 @@ ghost use Rattle.branches.specs.Branches.{is_field, node_answer, body_answer, br
 
 use ast::NodeKind;
 use call_args::slot_of;
-use places::Image;
+use places::{Image, NodeAt};
 use ptype::{TypeKind, Types};
 use rules::Answer;
 use state::{Step, Used};
@@ -62,10 +62,7 @@ fn is_field(image: &Image, n: u32) -> bool
     requires { NodeReady image.now.words image.now.places n }
     ensures { result ≡ is_field image.now.words n }
 {
-    matches!(
-        NodeKind::of(image.word_at(image.node_place(n))),
-        NodeKind::Field
-    )
+    matches!(image.node(n).kind(), NodeKind::Field)
 }
 
 // Whether a type's word is Unknown's.
@@ -92,50 +89,51 @@ fn node_answer(slots: &[u32], image: &Image, n: u32) -> Answer
     Answer::Known(slot)
 }
 
-// What a body of the node n has answered: its last node's answer, or slot V where it is empty.
+// What a body of a node has answered: its last node's answer, or slot V where it is empty.
 #[tactic(auto, unfolding(crate::specs::Branches::body_answer))]
-fn body_answer(slots: &[u32], image: &Image, n: u32, at: usize, count: usize) -> Answer
-    requires { NodesReady image.now.words image.now.places n at count }
-    ensures { result ≡ body_answer image.now.words slots.now at count }
+fn body_answer(slots: &[u32], node: &NodeAt, at: usize, count: usize) -> Answer
+    requires { NodesReady node.now.image.now.words node.now.image.now.places node.now.n at count }
+    ensures { result ≡ body_answer node.now.image.now.words slots.now at count }
 {
     if count == 0 {
-        return Answer::Known(image.slot_count());
+        return Answer::Known(node.image.slot_count());
     }
-    node_answer(slots, image, image.word_after(at, count - 1))
+    node_answer(slots, node.image, node.image.word_after(at, count - 1))
 }
 
-// The branches of the Match n, whose cases stand from word `at` on, against the default's slot, in order: 24 for each that differs.
+// The branches of a Match against the default's slot, in order: 24 for each that differs.
 fn compare_branches(
     slots: &[u32],
     types: &Types,
     diagnostics: &mut [u32],
     messages: &mut [u8],
-    image: &Image,
-    at: usize,
-    count: usize,
+    node: &NodeAt,
     used: Used,
-    n: u32,
     default: u32,
 ) -> Step<()>
-    requires { CasesReady image.now.words image.now.places n at count }
-    ensures { ((ls : List Package) (v : ℕ) → Steps (compare_branches (ctx types.now.texts.now ls v) n default (branches_from image.now.words slots.now at count)) slots.now
-        types.now.words.now diagnostics.old messages.old used slots.now types.now.words.now diagnostics.new messages.new result) }
+    requires { CasesReady node.now.image.now.words node.now.image.now.places node.now.n (node.now.at + 3) (word_at node.now.image.now.words (node.now.at + 2)) }
+    ensures { let I : List ℕ = node.now.image.now.words in
+        let at : ℕ = node.now.at in
+        ((ls : List Package) (v : ℕ) →
+        Steps (compare_branches (ctx types.now.texts.now ls v) node.now.n default (branches_from I slots.now (at + 3) (word_at I (at + 2)))) slots.now types.now.words.now
+        diagnostics.old messages.old used slots.now types.now.words.now diagnostics.new messages.new result) }
 {
+    let count = node.word(2) as usize;
     let mut here = used;
-    let mut place = at;
+    let mut place = node.at + 3;
     for _ in 0..count {
-        let nodes = image.word_after(place, 2) as usize;
+        let nodes = node.image.word_after(place, 2) as usize;
         let body = place + 3;
-        let answer = body_answer(slots, image, n, body, nodes);
+        let answer = body_answer(slots, node, body, nodes);
         let (_, after) = values::compare_branch(
             slots,
             types,
             diagnostics,
             messages,
             here,
-            n,
+            node.n,
             default,
-            image.word_at(place),
+            node.image.word_at(place),
             answer,
         )?;
         here = after;
@@ -144,42 +142,29 @@ fn compare_branches(
     Ok(((), here))
 }
 
-// The end of the Match n, whose record stands at `at`, of what the default's body answered: "self.alias(*id, first_type)".
+// The end of a Match, of what the default's body answered: "self.alias(*id, first_type)".
 pub fn end(
     slots: &mut [u32],
     types: &Types,
     diagnostics: &mut [u32],
     messages: &mut [u8],
-    image: &Image,
-    at: usize,
+    node: &NodeAt,
     st: State,
-    n: u32,
     default: Answer,
 ) -> Visit<Answer>
-    requires { CasesReady image.now.words image.now.places n (at + 3) (word_at image.now.words (at + 2)) }
-    ensures { let I : List ℕ = image.now.words in
+    requires { CasesReady node.now.image.now.words node.now.image.now.places node.now.n (node.now.at + 3) (word_at node.now.image.now.words (node.now.at + 2)) }
+    ensures { let I : List ℕ = node.now.image.now.words in
+        let at : ℕ = node.now.at in
         ((ls : List Package) (v : ℕ) (words f e : List ℕ) (o : More) →
         let b : Lent = lent slots.old f types.now.words.now diagnostics.old messages.old e o in
         let b' : Lent = lent slots.new f types.now.words.now diagnostics.new messages.new e o in
-        Visits (matched (ctx types.now.texts.now ls v) n (word_at I (at + 1)) (branches_from I slots.old (at + 3) (word_at I (at + 2))) default) 0 0 words st b b' result) }
+        Visits (matched (ctx types.now.texts.now ls v) node.now.n (word_at I (at + 1)) (branches_from I slots.old (at + 3) (word_at I (at + 2))) default) 0 0 words st b b' result) }
 {
     let Answer::Known(slot) = default else {
         return Ok((Answer::Poison, st));
     };
     let used = st.used;
-    let count = image.word_after(at, 2) as usize;
-    let (_, after) = compare_branches(
-        &slots[..],
-        types,
-        diagnostics,
-        messages,
-        image,
-        at + 3,
-        count,
-        used,
-        n,
-        slot,
-    )?;
-    let own = image.word_after(at, 1);
+    let (_, after) = compare_branches(&slots[..], types, diagnostics, messages, node, used, slot)?;
+    let own = node.word(1);
     visit::answered(st, values::alias(slots, after, own, slot))
 }

@@ -30,9 +30,6 @@ use Rattle.err.specs.declared.Counts.{Counts}
 
 -- ── The target ──
 
-pub call-low : {image places : List ℕ} {at : ℕ} → CallAt image places at → at ≤ 8192
-call-low c = omega (arith, record_room c.ready c.place)
-
 pub is-field : {f : Callee} {name : ℕ} → f ≡ through_field name → is_through_field f ≡ true
 unfolding is_through_field
 is-field e = rw e refl

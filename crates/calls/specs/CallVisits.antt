@@ -5,7 +5,7 @@ use Rattle.std.specs.Prelude.{ℕ, ◌+◌, ◌*◌, ◌-◌, ◌<◌, ◌≤◌
 use Rattle.std.proofs.Math.Path.{refl, ap}
 use Rattle.std.proofs.Common.{sym, ◌∙◌}
 use native.Mathlib.Omega.{arith}
-use Rattle.tok.specs.Word.{kind_of, payload_of}
+use Rattle.tok.specs.Word.{kind_of}
 use Rattle.tok.specs.Text.{Texts}
 use Rattle.tok.specs.Step.{◌>>=◌}
 use Rattle.ast.specs.Image.{node_count, record_length}
@@ -21,7 +21,7 @@ use Rattle.rules.specs.Calls.{call}
 use Rattle.onerun.specs.Claim.{NameAt}
 use Rattle.onerun.proofs.Functions.{Below}
 use Rattle.onerun.specs.Proper.{ProperCallee, Proper}
-use Rattle.places.specs.NodesAt.{counts_of, record_room, length-there, node_call, words-call}
+use Rattle.places.specs.NodesAt.{counts_of, record_room, node_call, words-call}
 use Rattle.room_laws.specs.Room.{room, rooms, call_room, rows, rows_all}
 use Rattle.call_args.specs.Given.{given_from}
 use Rattle.visit.specs.declared.State.{State}
@@ -169,10 +169,7 @@ module _ {T : Texts} {image places words : List ℕ} {n : ℕ} {st : State} {b :
   pub call-low : at ≤ 8192
   call-low = omega (arith, record_room (node-ready y.visit) ea)
 
-  module _ {h l : ℕ} (eh : h ≡ get_or image at 0) (el : l ≡ payload_of h) where
-    long : l ≡ record_length image at
-    long = length-there (node-ready y.visit) ea eh refl el
-
+  module _ {l : ℕ} (long : l ≡ record_length image at) where
     tree : tree_of image n ≡ Call n (get_or image (at + 1) 0) (tree_of image (get_or image (at + 2) 0)) (nodes_at image (at + 3) (l - 3))
     tree =
         node_call (node-ready y.visit) ea refl refl call_at.kind

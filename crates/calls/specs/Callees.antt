@@ -99,51 +99,44 @@ second-kind k d h = eqb-true k 8 (rest (eqb k 1) (ne_eqb k 1 d) h)
     rest true e f = absurd (true≢false e)
     rest false e f = f
 
--- The target t, whose record begins at p with the word h, of kind k.
-module _ {image places : List ℕ} {at : ℕ} (c : CallAt image places at) {t p h k : ℕ}
-    (et : t ≡ get_or image (at + 2) 0) (ep : p ≡ get_or places t 0) (eh : h ≡ get_or image p 0) (ek : k ≡ kind_of h) where
+-- The target t, whose record begins at p.
+module _ {image places : List ℕ} {at : ℕ} (c : CallAt image places at) {t p : ℕ} (et : t ≡ get_or image (at + 2) 0) (ep : p ≡ get_or places t 0) where
   words-here : CallWords (counts_of c.ready) image c.node at
   words-here = words-call c.ready c.place refl refl c.kind
 
   target : NodeReady image places t
   target = (part-ready c.ready words-here.target et).ready
 
-  pub target-low : p ≤ 8192
-  target-low = omega (arith, record_room target ep)
-
   -- an Ident
-  pub callee_own : k ≡ 1 → callee_at image at ≡ own_function (get_or image (p + 2) 0)
+  pub callee_own : record_kind image p ≡ 1 → callee_at image at ≡ own_function (get_or image (p + 2) 0)
   unfolding callee_of
-  callee_own q = ap (λ i. callee_of (tree_of image i)) (sym et) ∙ ap callee_of (node-ident target ep eh ek q)
+  callee_own q = ap (λ i. callee_of (tree_of image i)) (sym et) ∙ ap callee_of (node-ident target ep refl refl q)
 
-  module _ (d : k ≡ 1 → ⊥) where
+  module _ (d : record_kind image p ≡ 1 → ⊥) where
     -- "target (Ident or Field)"
-    is_field : k ≡ 8
+    is_field : record_kind image p ≡ 8
     unfolding outline_at
     is_field =
-        let e : record_kind image (node_place image t) ≡ k = ap (record_kind image) (sym (node-there target.readable target.below ep)) ∙ ap kind_of (sym eh) ∙ sym ek in
+        let e : node_place image t ≡ p = sym (node-there target.readable target.below ep) in
         let w : (eqb (record_kind image (node_place image t)) 1 || eqb (record_kind image (node_place image t)) 8) ≡ true = rw (← et) at words-here.callable in
-        second-kind k d (rw e at w)
+        second-kind (record_kind image p) d (rw e at w)
 
     of_field : callee_at image at ≡ field_callee (get_or image (p + 3) 0) (tree_of image (get_or image (p + 2) 0))
     unfolding callee_of
-    of_field = ap (λ i. callee_of (tree_of image i)) (sym et) ∙ ap callee_of (node-field target ep eh ek is_field)
+    of_field = ap (λ i. callee_of (tree_of image i)) (sym et) ∙ ap callee_of (node-field target ep refl refl is_field)
 
-    -- a Field of the node x, whose record begins at q with the word g, of kind j
-    module _ {x q g j : ℕ} (ex : x ≡ get_or image (p + 2) 0) (eq : q ≡ get_or places x 0) (eg : g ≡ get_or image q 0) (ej : j ≡ kind_of g) where
+    -- a Field of the node x, whose record begins at q
+    module _ {x q : ℕ} (ex : x ≡ get_or image (p + 2) 0) (eq : q ≡ get_or places x 0) where
       inner : NodeReady image places x
-      inner = (part-ready target (words-field target ep eh ek is_field).target ex).ready
+      inner = (part-ready target (words-field target ep refl refl is_field).target ex).ready
 
-      pub inner-low : q ≤ 8192
-      inner-low = omega (arith, record_room inner eq)
-
-      pub callee_package : j ≡ 1 → callee_at image at ≡ package_function (get_or image (q + 2) 0) (get_or image (p + 3) 0)
+      pub callee_package : record_kind image q ≡ 1 → callee_at image at ≡ package_function (get_or image (q + 2) 0) (get_or image (p + 3) 0)
       unfolding field_callee
-      callee_package i = of_field ∙ ap (λ m. field_callee (get_or image (p + 3) 0) (tree_of image m)) (sym ex) ∙ ap (field_callee (get_or image (p + 3) 0)) (node-ident inner eq eg ej i)
+      callee_package i = of_field ∙ ap (λ m. field_callee (get_or image (p + 3) 0) (tree_of image m)) (sym ex) ∙ ap (field_callee (get_or image (p + 3) 0)) (node-ident inner eq refl refl i)
 
-      pub callee_field : (j ≡ 1 → ⊥) → callee_at image at ≡ through_field (get_or image (p + 3) 0)
+      pub callee_field : (record_kind image q ≡ 1 → ⊥) → callee_at image at ≡ through_field (get_or image (p + 3) 0)
       callee_field i =
-          let e : record_kind image (node_place image x) ≡ j = ap (record_kind image) (sym (node-there inner.readable inner.below eq)) ∙ ap kind_of (sym eg) ∙ sym ej in
+          let e : q ≡ node_place image x = node-there inner.readable inner.below eq in
           of_field
           ∙ ap (λ m. field_callee (get_or image (p + 3) 0) (tree_of image m)) (sym ex)
-          ∙ field-of-other image (get_or image (p + 3) 0) x (λ z. i (sym e ∙ z))
+          ∙ field-of-other image (get_or image (p + 3) 0) x (λ z. i (ap (record_kind image) e ∙ z))

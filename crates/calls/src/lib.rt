@@ -19,7 +19,7 @@ ghost use Rattle.calls.specs.CallVisits.{Resolvable};
 
 use ast::NodeKind;
 use call_args::{Call, PackageCall};
-use places::Image;
+use places::{Image, NodeAt};
 use ptype::Types;
 use rules::Answer;
 use scope::Own;
@@ -34,19 +34,19 @@ enum Target {
     Field(u32),
 }
 
-// The target of the call at a word.
-fn target_at(image: &Image, at: usize) -> Target
-    requires { CallAt image.now.words image.now.places at }
-    ensures { callee_at image.now.words at ≡ target_callee result }
+// The target of a call.
+fn target_at(node: &NodeAt) -> Target
+    requires { CallAt node.now.image.now.words node.now.image.now.places node.now.at }
+    ensures { callee_at node.now.image.now.words node.now.at ≡ target_callee result }
 {
-    let target = image.node_place(image.word_at(at + 2));
-    match NodeKind::of(image.word_at(target)) {
-        NodeKind::Ident => Target::Own(image.word_at(target + 2)),
+    let target = node.image.node(node.word(2));
+    match target.kind() {
+        NodeKind::Ident => Target::Own(target.word(2)),
         _ => {
-            let of = image.node_place(image.word_at(target + 2));
-            let name = image.word_at(target + 3);
-            match NodeKind::of(image.word_at(of)) {
-                NodeKind::Ident => Target::OfPackage(image.word_at(of + 2), name),
+            let of = node.image.node(target.word(2));
+            let name = target.word(3);
+            match of.kind() {
+                NodeKind::Ident => Target::OfPackage(of.word(2), name),
                 _ => Target::Field(name),
             }
         }
@@ -55,11 +55,11 @@ fn target_at(image: &Image, at: usize) -> Target
 
 // Is the target a Field of what is no Ident? Such a call visits none of its arguments.
 #[tactic(auto, unfolding(crate::specs::Callees::is_through_field))]
-pub fn through_field(image: &Image, at: usize) -> bool
-    requires { CallAt image.now.words image.now.places at }
-    ensures { result ≡ is_through_field (callee_at image.now.words at) }
+pub fn through_field(node: &NodeAt) -> bool
+    requires { CallAt node.now.image.now.words node.now.image.now.places node.now.at }
+    ensures { result ≡ is_through_field (callee_at node.now.image.now.words node.now.at) }
 {
-    match target_at(image, at) {
+    match target_at(node) {
         Target::Own(_) | Target::OfPackage(_, _) => false,
         Target::Field(_) => true,
     }
@@ -69,23 +69,21 @@ pub fn through_field(image: &Image, at: usize) -> bool
 pub fn report_field(
     diagnostics: &mut [u32],
     messages: &mut [u8],
-    image: &Image,
-    at: usize,
+    node: &NodeAt,
     st: State,
-    n: u32,
 ) -> Visit<Answer>
-    requires { FieldCall image.now.words image.now.places at }
+    requires { FieldCall node.now.image.now.words node.now.image.now.places node.now.at }
     ensures { ((c : Ctx) (slot : ℕ) (given : List Provided) (visits : Walk Bool) (words s f t e : List ℕ) (o : More) →
         let b : Lent = lent s f t diagnostics.old messages.old e o in
         let b' : Lent = lent s f t diagnostics.new messages.new e o in
-        Visits (call c n slot (callee_at image.now.words at) given visits) 0 0 words st b b' result) }
+        Visits (call c node.now.n slot (callee_at node.now.image.now.words node.now.at) given visits) 0 0 words st b b' result) }
 {
-    let Target::Field(name) = target_at(image, at) else {
+    let Target::Field(name) = target_at(node) else {
         unreachable!();
     };
     let used = st.used;
     let r = err_calls::call_through_field(diagnostics, messages, used.told, name);
-    visit::answered(st, state::told(n, used, r, Answer::Poison))
+    visit::answered(st, state::told(node.n, used, r, Answer::Poison))
 }
 
 // Is an argument poisoned, this one or one before it?
@@ -132,7 +130,7 @@ fn resolve_own(
     visit::answered(st, step)
 }
 
-// The call at word `at`, whose `count` arguments are visited: of an own function, or of a package's.
+// A call whose `count` arguments are visited: of an own function, or of a package's.
 pub fn resolve(
     slots: &mut [u32],
     functions: &[u32],
@@ -141,30 +139,28 @@ pub fn resolve(
     messages: &mut [u8],
     scratch: &mut [u32],
     texts: &Texts,
-    image: &Image,
+    node: &NodeAt,
     library: &[u32],
-    at: usize,
     count: usize,
     st: State,
-    n: u32,
     poisoned: bool,
 ) -> Visit<Answer>
     requires { let b : Lent = lent slots.old functions.now types.old diagnostics.old messages.old scratch.old no_more in
-        Resolvable texts.now image.now.words image.now.places library.now n at count st b }
+        Resolvable texts.now node.now.image.now.words node.now.image.now.places library.now node.now.n node.now.at count st b }
     ensures { let b : Lent = lent slots.old functions.now types.old diagnostics.old messages.old scratch.old no_more in
         ((ls : List Package) (v : ℕ) →
         let b' : Lent = lent slots.new functions.now types.new diagnostics.new messages.new scratch.new no_more in
-        let image : List ℕ = image.now.words in
-        Visits (call_end (ctx texts.now ls v) n (get_or image (at + 1) 0) (callee_at image at) (given_from image (at + 3) count) poisoned) count 0 library.now st b b' result) }
+        let image : List ℕ = node.now.image.now.words in
+        let at : ℕ = node.now.at in
+        Visits (call_end (ctx texts.now ls v) node.now.n (get_or image (at + 1) 0) (callee_at image at) (given_from image (at + 3) count) poisoned) count 0 library.now st b b' result) }
 {
-    let slot = image.word_at(at + 1);
     let call = Call {
-        n,
-        slot,
-        args: at + 3,
+        n: node.n,
+        slot: node.word(1),
+        args: node.at + 3,
         count,
     };
-    match target_at(image, at) {
+    match target_at(node) {
         Target::Own(name) => resolve_own(
             slots,
             functions,
@@ -174,7 +170,7 @@ pub fn resolve(
             },
             diagnostics,
             messages,
-            image,
+            node.image,
             st,
             call,
             name,
@@ -193,7 +189,7 @@ pub fn resolve(
                 messages,
                 scratch,
                 texts,
-                image,
+                node.image,
                 library,
                 st,
                 call,

@@ -4,10 +4,9 @@ use Rattle.std.specs.Prelude.{ℕ, zero, suc, ◌+◌, ◌*◌, ◌-◌, ◌/◌
 use Rattle.std.proofs.Math.Path.{sym, ap}
 use Rattle.std.proofs.Common.{◌∙◌}
 use native.Mathlib.Omega.{arith}
-use Rattle.tok.specs.Word.{kind_of, payload_of}
 use Rattle.tok.specs.Text.{Texts}
 use Rattle.tok.specs.Step.{ok, next, ◌>>=◌}
-use Rattle.ast.specs.Image.{node_count, record_length, word_at}
+use Rattle.ast.specs.Image.{node_count, record_kind, record_length, word_at}
 use Rattle.ast.specs.Node.{Node, Values, Record, value, no_value, tree_of, slot_of, values_from}
 use Rattle.image_laws.specs.RecordWords.{RecordWords}
 use Rattle.laws.specs.Told.{Reads, Tells}
@@ -19,7 +18,7 @@ use Rattle.accepts.specs.Count as N
 use Rattle.accepts.specs.Count.{total, total-append}
 use Rattle.accepts.proofs.OtherSlots.{owned}
 use Rattle.accepts.proofs.Fresh.{visited_from, Fresh, fresh-first, fresh-rest, node-tells}
-use Rattle.places.specs.NodesAt.{NodeReady, counts_of, record_room, length-there, node_record, words_record}
+use Rattle.places.specs.NodesAt.{NodeReady, counts_of, record_room, node_record, words_record}
 use Rattle.spans.specs.Ready.{ValuesReady}
 use Rattle.room_laws.specs.Room.{room, rows, value_rooms, value_rows}
 use Rattle.state.specs.declared.Refusal.{Refusal}
@@ -213,25 +212,22 @@ module _ {T : Texts} {image places words : List ℕ} {n at count : ℕ} {st : St
 
 -- ── Node::Record ──
 
-module _ {T : Texts} {image places words : List ℕ} {n : ℕ} {st : State} {b : Lent} (y : ClassVisit (Is 12) T image places words n st b) {at h l : ℕ}
-    (ea : at ≡ get_or places n 0) (eh : h ≡ get_or image at 0) (el : l ≡ payload_of h) where
+module _ {T : Texts} {image places words : List ℕ} {n : ℕ} {st : State} {b : Lent} (y : ClassVisit (Is 12) T image places words n st b) {at l : ℕ}
+    (ea : at ≡ get_or places n 0) (long : l ≡ record_length image at) where
   there : NodeReady image places n
   there = node-ready y.visit
 
-  kind : kind_of h ≡ 12
-  kind = ap kind_of (eh ∙ ap (λ a. get_or image a 0) ea) ∙ y.kind
-
-  long : l ≡ record_length image at
-  long = length-there there ea eh refl el
+  kind : record_kind image at ≡ 12
+  kind = ap (record_kind image) ea ∙ y.kind
 
   facts : RecordWords (counts_of there) image n at
-  facts = words_record there ea eh refl kind
+  facts = words_record there ea refl refl kind
 
   abbrev fields : Values
   fields = values_at image (at + 3) ((l - 3) / 2)
 
   tree : tree_of image n ≡ Record n (get_or image (at + 1) 0) (get_or image (at + 2) 0) fields
-  tree = node_record there ea eh refl kind ∙ ap (λ j. Record n (get_or image (at + 1) 0) (get_or image (at + 2) 0) (values_at image (at + 3) ((j - 3) / 2))) (sym long)
+  tree = node_record there ea refl refl kind ∙ ap (λ j. Record n (get_or image (at + 1) 0) (get_or image (at + 2) 0) (values_at image (at + 3) ((j - 3) / 2))) (sym long)
 
   -- the record's words
   pub record_length_lem : 3 ≤ l

@@ -15,7 +15,7 @@ ghost use Rattle.fields.specs.Read.{node_value, pairs_read};
 ghost use Rattle.fields.specs.Parts.{record_of};
 
 use add::{AddError, Arena};
-use places::Image;
+use places::{Image, NodeAt};
 use ptype::UNKNOWN_WORD;
 use rules::Answer;
 use visit::{State, Visit};
@@ -33,68 +33,55 @@ fn node_value(slots: &[u32], image: &Image, n: u32) -> u32
     w
 }
 
-// The pairs of a Record of node n, whose names and values stand from word `at` of the image on, into the types from `to` on.
-fn set_pairs(
-    slots: &[u32],
-    types: &mut [u32],
-    image: &Image,
-    n: u32,
-    at: usize,
-    count: usize,
-    to: usize,
-)
-    requires { (to ≤ 268435456) × ValuesReady image.now.words image.now.places n at count }
-    ensures { types.new ≡ write types.old to (pairs_read image.now.words slots.now at count) }
+// The pairs of a Record of `count` names and values, into the types from `to` on.
+fn set_pairs(slots: &[u32], types: &mut [u32], node: &NodeAt, count: usize, to: usize)
+    requires { (to ≤ 268435456) × ValuesReady node.now.image.now.words node.now.image.now.places node.now.n (node.now.at + 3) count }
+    ensures { types.new ≡ write types.old to (pairs_read node.now.image.now.words slots.now (node.now.at + 3) count) }
 {
     for i in 0..count {
-        let pair = at + 2 * i;
-        let name = image.word_at(pair);
-        let value = image.word_after(pair, 1);
-        let ty = node_value(slots, image, value);
+        let pair = node.at + 3 + 2 * i;
+        let name = node.image.word_at(pair);
+        let value = node.image.word_after(pair, 1);
+        let ty = node_value(slots, node.image, value);
         add::set_pair(types, to + 2 * i, name, ty);
     }
 }
 
-// Adds the Record of `count` fields of the node n, whose names and values stand from word `at` of the image on: room for all of it first,
-// then its pairs, then the measure.
+// Adds the type of a Record of `count` fields: room for all of it first, then its pairs, then the measure.
 fn add_record(
     arena: &mut Arena,
     slots: &[u32],
-    image: &Image,
-    n: u32,
-    at: usize,
+    node: &NodeAt,
     count: usize,
 ) -> Result<u32, AddError>
-    requires { ValuesReady image.now.words image.now.places n at count }
-    ensures { Allocates (λ t n. add_record t n (pairs_read image.now.words slots.now at count)) arena.old result arena.new }
+    requires { ValuesReady node.now.image.now.words node.now.image.now.places node.now.n (node.now.at + 3) count }
+    ensures { Allocates (λ t n. add_record t n (pairs_read node.now.image.now.words slots.now (node.now.at + 3) count)) arena.old result arena.new }
 {
     let word = arena.open_record(count)?;
     let to = tok::payload(word) + 1;
-    set_pairs(slots, arena.words, image, n, at, count, to);
+    set_pairs(slots, arena.words, node, count, to);
     arena.close_record(word)
 }
 
-// Node::Record after the visits of its `count` values; its record stands at `at`.
+// Node::Record after the visits of its `count` values.
 pub fn make(
     slots: &mut [u32],
     types: &mut [u32],
-    image: &Image,
-    at: usize,
+    node: &NodeAt,
     count: usize,
     st: State,
-    n: u32,
 ) -> Visit<Answer>
-    requires { ValuesReady image.now.words image.now.places n (at + 3) count }
-    ensures { let I : List ℕ = image.now.words in
+    requires { ValuesReady node.now.image.now.words node.now.image.now.places node.now.n (node.now.at + 3) count }
+    ensures { let I : List ℕ = node.now.image.now.words in
         ((T : Texts) (words f d m e : List ℕ) (o : More) →
         let b : Lent = lent slots.old f types.old d m e o in
         let b' : Lent = lent slots.new f types.new d m e o in
-        Visits (record_of T n (get_or I (at + 1) 0) (pairs_read I slots.old (at + 3) count)) 0 0 words st b b' result) }
+        Visits (record_of T node.now.n (get_or I (node.now.at + 1) 0) (pairs_read I slots.old (node.now.at + 3) count)) 0 0 words st b b' result) }
 {
     let used = st.used;
     let mut arena = Arena::new(types, used.types);
-    let added = add_record(&mut arena, &slots[..], image, n, at + 3, count);
-    let (word, used) = state::added(n, used, arena.answer(added))?;
-    let step = operators::set_known(slots, used, image.word_after(at, 1), word);
+    let added = add_record(&mut arena, &slots[..], node, count);
+    let (word, used) = state::added(node.n, used, arena.answer(added))?;
+    let step = operators::set_known(slots, used, node.word(1), word);
     visit::answered(st, step)
 }

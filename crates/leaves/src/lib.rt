@@ -11,7 +11,7 @@ use ast::NodeKind;
 use places::Image;
 use ptype::TypeKind;
 use rules::Answer;
-use tok::{Texts, payload};
+use tok::Texts;
 use visit::{State, Visit};
 
 // A node of such a kind.
@@ -33,14 +33,13 @@ pub fn leaf(
         let b' : Lent = lent slots.new f types.new diagnostics.new messages.new scratch.new o in
         NodeVisited texts.now image.now.words library.now n st b b' result) }
 {
-    let at = image.node_place(n);
-    let head = image.word_at(at);
-    let slot = image.word_after(at, 1);
-    let first = image.word_after(at, 2);
-    match NodeKind::of(head) {
+    let node = image.node(n);
+    let slot = node.word(1);
+    let first = node.word(2);
+    match node.kind() {
         NodeKind::Atom => {
             let used = st.used;
-            let w = TypeKind::from(image.word_after(at, 3)).word(0);
+            let w = TypeKind::from(node.word(3)).word(0);
             visit::answered(st, operators::set_known(slots, used, slot, w))
         }
         NodeKind::Ident => names::ident(
@@ -66,8 +65,8 @@ pub fn leaf(
             n,
             slot,
             first,
-            at + 3,
-            payload(head) - 3,
+            node.at + 3,
+            node.length() - 3,
         ),
         // Extern, which is left
         _ => extern_package::extern_package(
@@ -78,10 +77,10 @@ pub fn leaf(
             st,
             n,
             slot,
-            image.word_after(at, 3),
-            at + 5,
-            at + payload(head),
-            image.word_after(at, 4),
+            node.word(3),
+            node.at + 5,
+            node.at + node.length(),
+            node.word(4),
         ),
     }
 }

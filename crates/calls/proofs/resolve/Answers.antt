@@ -18,8 +18,8 @@ unreachable-requires c = true≢false (sym (is-field c.in-Field.ensures) ∙ c.r
 pub returns-in-Own : goal.returns-in-Own
 returns-in-Own c =
     let own = c.resolve_own.ensures in
-    own-resolved c.requires c.word_at-slot.ensures c.args.poisoned c.in-Own.ensures (λ ls v. own ls v _ _ no_more)
+    own-resolved c.requires c.word.ensures c.args.poisoned c.in-Own.ensures (λ ls v. own ls v _ _ no_more)
 
 pub returns-in-OfPackage : goal.returns-in-OfPackage
 returns-in-OfPackage c =
-    package_resolved c.requires c.word_at-slot.ensures c.args.poisoned c.in-OfPackage.ensures (λ ls v. c.resolve_pkg_call.ensures ls v _ no_more)
+    package_resolved c.requires c.word.ensures c.args.poisoned c.in-OfPackage.ensures (λ ls v. c.resolve_pkg_call.ensures ls v _ no_more)

@@ -7,9 +7,9 @@ use Rattle.fields.proofs.make.Goals as goal
 pub returns-in_err-word : goal.returns-in_err-word
 returns-in_err-word c =
     let added = allocates_made c.new-arena.ensures.as_used c.add_record-added.ensures c.answer.ensures (search rules) in
-    made-refused c.args.n _ _ c.args.st _ added (sym c.added.ensures ∙ c.in_err-word.was) c.from_residual.ensures.1
+    made-refused c.args.node.now.n _ _ c.args.st _ added (sym c.added.ensures ∙ c.in_err-word.was) c.from_residual.ensures.1
 
 pub returns : goal.returns
 returns c =
     let added = allocates_made c.new-arena.ensures.as_used c.add_record-added.ensures c.answer.ensures (search rules) in
-    made-set c.args.n _ _ c.args.st _ added (sym c.added.ensures ∙ c.in_ok-word.was) c.word_after.ensures c.set_known-step.ensures c.answered.ensures
+    made-set c.args.node.now.n _ _ c.args.st _ added (sym c.added.ensures ∙ c.in_ok-word.was) c.word.ensures c.set_known-step.ensures c.answered.ensures

@@ -6,6 +6,9 @@ use Rattle.fields.proofs.set_pairs.Goals as goal
 pub loop-i-init : goal.loop-i-init
 loop-i-init c = (none-set _ _ _ _ _, omega arith, refl)
 
+pub overflow_add-pair : goal.overflow_add-pair
+overflow_add-pair c = omega (arith, c.requires.1.room)
+
 pub overflow_mul-i : goal.overflow_mul-i
 overflow_mul-i c = omega (arith, c.requires.1.room)
 
