@@ -2,10 +2,11 @@
 // `walk_first`). Only slots and types are written; `words` are the library's.
 #![tactic(auto)]
 
-ghost use Rattle.std.specs.Prelude.{◌≡◌, [], ◌∷◌, ◌≤◌};
+ghost use Rattle.std.specs.Prelude.{◌≡◌, List, ℕ, [], ◌∷◌};
 ghost use Rattle.tok.specs.Text.{Texts};
 ghost use Rattle.library.specs.Package.{function_at, functions_from, packages_of};
 ghost use Rattle.ptype.specs.Marks.{Depths};
+ghost use Rattle.add.specs.Parts.{shallow};
 ghost use Rattle.add.specs.Pool.{all_shallow};
 ghost use Rattle.rules.specs.Walk.{empty_slots, param_types, function_types, package_types};
 ghost use Rattle.tworuns.specs.Accepted.{library_types};
@@ -15,6 +16,7 @@ use err::Counts;
 use ptype::{MOST_WORDS, VOID_WORD};
 use scope::Names;
 use state::{HELD_TOP, Kept, Refusal, Used};
+use std::marker::Model;
 use visit::{State, Visit};
 
 // "slot words (0 where none; slot V is Void)"
@@ -25,79 +27,93 @@ pub fn empty_slots(slots: &mut [u32], void: usize)
     operators::store(slots, void, VOID_WORD);
 }
 
-// Whether the types of the arguments of the function at a word are at most 32 deep; `known` has what was found of field lists (crate `ptype`).
-fn arguments_are_shallow(types: &[u32], words: &[u32], at: usize, known: &mut [u8]) -> bool
-    requires { Depths types.now known.old }
-    ensures { let D : Type 0 = Depths types.now known.new in
-        ((t : Texts) → result ≡ all_shallow t types.now (param_types (function_at words.now at).sig.params)) × D }
-{
-    let count = library::argument_count(words, at);
-    for i in 0..count {
-        if !add::is_shallow_known(types, library::argument_type(words, at, i), known) {
-            return false;
-        }
-    }
-    true
+// The types buffer, with what was found of the depths of its field lists (crate `ptype`): every mark is right. Its value is the buffer's words.
+#[derive(Drop)]
+struct Measured<'a, 'b> {
+    types: &'a [u32],
+    known: &'b mut [u8],
 }
 
-// The same, of all types of that function.
-fn function_is_shallow(types: &[u32], words: &[u32], at: usize, known: &mut [u8]) -> bool
-    requires { Depths types.now known.old }
-    ensures { ((t : Texts) → result ≡ all_shallow t types.now (function_types (function_at words.now at ∷ []))) × Depths types.now known.new }
-{
-    if !arguments_are_shallow(types, words, at, known) {
-        return false;
-    }
-    add::is_shallow_known(types, library::return_type(words, at), known)
+impl<'a, 'b> Model for Measured<'a, 'b> {
+    ghost Value = { List ℕ };
+
+    ghost view = { λ m. m.types.now };
+
+    ghost invariant = { λ m. Depths m.types.now m.known.now };
 }
 
-// The same, of k functions from a word on.
-fn functions_are_shallow(
-    types: &[u32],
-    words: &[u32],
-    from: usize,
-    k: usize,
-    known: &mut [u8],
-) -> bool
-    requires { Depths types.now known.old }
-    ensures { ((t : Texts) → result ≡ all_shallow t types.now (function_types (functions_from words.now from k))) × Depths types.now known.new }
-{
-    let mut at = from;
-    for _ in 0..k {
-        if !function_is_shallow(types, words, at, known) {
-            return false;
-        }
-        at = library::function_end(words, at);
+impl<'a, 'b> Measured<'a, 'b> {
+    // Whether a type is at most 32 deep.
+    fn is_shallow(&mut self, w: u32) -> bool
+        ensures { ((t : Texts) → result ≡ shallow t self.old w) × (self.new ≡ self.old) }
+    {
+        add::is_shallow_known(self.types, w, &mut self.known[..])
     }
-    true
-}
 
-// The same, of all packages.
-fn packages_are_shallow(types: &[u32], words: &[u32], known: &mut [u8]) -> bool
-    requires { Depths types.now known.old }
-    ensures { ((t : Texts) → result ≡ all_shallow t types.now (package_types (packages_of words.now))) × Depths types.now known.new }
-{
-    let mut at = library::packages_place(words);
-    let count = library::package_count(words);
-    for _ in 0..count {
-        let k = library::function_count(words, at);
-        if !functions_are_shallow(types, words, at + 2, k, known) {
+    // Whether the types of the arguments of the function at a word are at most 32 deep.
+    fn arguments_are_shallow(&mut self, words: &[u32], at: usize) -> bool
+        ensures { ((t : Texts) → result ≡ all_shallow t self.old (param_types (function_at words.now at).sig.params)) × (self.new ≡ self.old) }
+    {
+        let count = library::argument_count(words, at);
+        for i in 0..count {
+            if !self.is_shallow(library::argument_type(words, at, i)) {
+                return false;
+            }
+        }
+        true
+    }
+
+    // The same, of all types of that function.
+    fn function_is_shallow(&mut self, words: &[u32], at: usize) -> bool
+        ensures { ((t : Texts) → result ≡ all_shallow t self.old (function_types (function_at words.now at ∷ []))) × (self.new ≡ self.old) }
+    {
+        if !self.arguments_are_shallow(words, at) {
             return false;
         }
-        at = library::package_end(words, at);
+        self.is_shallow(library::return_type(words, at))
     }
-    true
+
+    // The same, of k functions from a word on.
+    fn functions_are_shallow(&mut self, words: &[u32], from: usize, k: usize) -> bool
+        ensures { ((t : Texts) → result ≡ all_shallow t self.old (function_types (functions_from words.now from k))) × (self.new ≡ self.old) }
+    {
+        let mut at = from;
+        for _ in 0..k {
+            if !self.function_is_shallow(words, at) {
+                return false;
+            }
+            at = library::function_end(words, at);
+        }
+        true
+    }
+
+    // The same, of all packages.
+    fn packages_are_shallow(&mut self, words: &[u32]) -> bool
+        ensures { ((t : Texts) → result ≡ all_shallow t self.old (package_types (packages_of words.now))) × (self.new ≡ self.old) }
+    {
+        let mut at = library::packages_place(words);
+        let count = library::package_count(words);
+        for _ in 0..count {
+            let k = library::function_count(words, at);
+            if !self.functions_are_shallow(words, at + 2, k) {
+                return false;
+            }
+            at = library::package_end(words, at);
+        }
+        true
+    }
 }
 
 // Whether every type of the library is at most 32 deep, where its pool stands at the front of the types buffer.
 pub fn library_is_shallow(types: &[u32], words: &[u32]) -> bool
     ensures { (t : Texts) → result ≡ all_shallow t types.now (library_types words.now) }
 {
-    let mut known = [0; MOST_WORDS];
-    if !add::pool_is_shallow(types, library::pool(words), &mut known) {
+    let known = &mut [0; MOST_WORDS];
+    if !add::pool_is_shallow(types, library::pool(words), known) {
         return false;
     }
-    packages_are_shallow(types, words, &mut known)
+    let mut measured = Measured { types, known };
+    measured.packages_are_shallow(words)
 }
 
 // The state before the first root: the pool is used; nothing is in scope, no package is held, no own function is met.
