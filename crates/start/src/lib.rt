@@ -2,10 +2,11 @@
 // `walk_first`). Only slots and types are written; `words` are the library's.
 #![tactic(auto)]
 
-ghost use Rattle.std.specs.Prelude.{◌≡◌, [], ◌∷◌, ◌≤◌};
+ghost use Rattle.std.specs.Prelude.{◌≡◌, List, ℕ, [], ◌∷◌};
 ghost use Rattle.tok.specs.Text.{Texts};
 ghost use Rattle.library.specs.Package.{function_at, functions_from, packages_of};
 ghost use Rattle.ptype.specs.Marks.{Depths};
+ghost use Rattle.add.specs.Parts.{shallow};
 ghost use Rattle.add.specs.Pool.{all_shallow};
 ghost use Rattle.rules.specs.Walk.{empty_slots, param_types, function_types, package_types};
 ghost use Rattle.tworuns.specs.Accepted.{library_types};
@@ -16,6 +17,7 @@ use library::{Function, Package, Signature};
 use ptype::{MOST_WORDS, VOID_WORD};
 use scope::Names;
 use state::{HELD_TOP, Kept, Refusal, Used};
+use std::marker::Model;
 use visit::{State, Visit};
 
 // "slot words (0 where none; slot V is Void)"
@@ -26,80 +28,94 @@ pub fn empty_slots(slots: &mut [u32], void: usize)
     operators::store(slots, void, VOID_WORD);
 }
 
-// Whether the types of the arguments of a signature are at most 32 deep; `known` has what was found of field lists (crate `ptype`).
-fn arguments_are_shallow(types: &[u32], signature: &Signature, known: &mut [u8]) -> bool
-    requires { Depths types.now known.old }
-    ensures { let D : Type 0 = Depths types.now known.new in
-        ((t : Texts) → result ≡ all_shallow t types.now (param_types signature.now.params)) × D }
-{
-    for i in 0..signature.argument_count() {
-        if !add::is_shallow_known(types, signature.argument_type(i), known) {
-            return false;
-        }
-    }
-    true
+// The types buffer, with what was found of the depths of its field lists (crate `ptype`): every mark is right. Its value is the buffer's words.
+#[derive(Drop)]
+struct Measured<'a, 'b> {
+    types: &'a [u32],
+    known: &'b mut [u8],
 }
 
-// The same, of all types of a function of the library.
-fn function_is_shallow(types: &[u32], function: &Function, known: &mut [u8]) -> bool
-    requires { Depths types.now known.old }
-    ensures { ((t : Texts) → result ≡ all_shallow t types.now (function_types (function_at function.now.words.now function.now.at ∷ []))) × Depths types.now known.new }
-{
-    let signature = function.signature();
-    if !arguments_are_shallow(types, &signature, known) {
-        return false;
-    }
-    add::is_shallow_known(types, signature.return_type(), known)
+impl<'a, 'b> Model for Measured<'a, 'b> {
+    ghost Value = { List ℕ };
+
+    ghost view = { λ m. m.types.now };
+
+    ghost invariant = { λ m. Depths m.types.now m.known.now };
 }
 
-// The same, of k functions from a word on.
-fn functions_are_shallow(
-    types: &[u32],
-    words: &[u32],
-    from: usize,
-    k: usize,
-    known: &mut [u8],
-) -> bool
-    requires { Depths types.now known.old }
-    ensures { ((t : Texts) → result ≡ all_shallow t types.now (function_types (functions_from words.now from k))) × Depths types.now known.new }
-{
-    let mut at = from;
-    for _ in 0..k {
-        let function = Function { words, at };
-        if !function_is_shallow(types, &function, known) {
-            return false;
-        }
-        at = function.end();
+impl<'a, 'b> Measured<'a, 'b> {
+    // Whether a type is at most 32 deep.
+    fn is_shallow(&mut self, w: u32) -> bool
+        ensures { ((t : Texts) → result ≡ shallow t self.old w) × (self.new ≡ self.old) }
+    {
+        add::is_shallow_known(self.types, w, &mut self.known[..])
     }
-    true
-}
 
-// The same, of all packages.
-fn packages_are_shallow(types: &[u32], words: &[u32], known: &mut [u8]) -> bool
-    requires { Depths types.now known.old }
-    ensures { ((t : Texts) → result ≡ all_shallow t types.now (package_types (packages_of words.now))) × Depths types.now known.new }
-{
-    let mut at = library::packages_place(words);
-    let count = library::package_count(words);
-    for _ in 0..count {
-        let package = Package { words, at };
-        if !functions_are_shallow(types, words, at + 2, package.function_count(), known) {
+    // Whether the types of the arguments of a signature are at most 32 deep.
+    fn arguments_are_shallow(&mut self, signature: &Signature) -> bool
+        ensures { ((t : Texts) → result ≡ all_shallow t self.old (param_types signature.now.params)) × (self.new ≡ self.old) }
+    {
+        for i in 0..signature.argument_count() {
+            if !self.is_shallow(signature.argument_type(i)) {
+                return false;
+            }
+        }
+        true
+    }
+
+    // The same, of all types of a function.
+    fn function_is_shallow(&mut self, function: &Function) -> bool
+        ensures { ((t : Texts) → result ≡ all_shallow t self.old (function_types (function_at function.now.words.now function.now.at ∷ []))) × (self.new ≡ self.old) }
+    {
+        let signature = function.signature();
+        if !self.arguments_are_shallow(&signature) {
             return false;
         }
-        at = package.end();
+        self.is_shallow(signature.return_type())
     }
-    true
+
+    // The same, of k functions from a word on.
+    fn functions_are_shallow(&mut self, words: &[u32], from: usize, k: usize) -> bool
+        ensures { ((t : Texts) → result ≡ all_shallow t self.old (function_types (functions_from words.now from k))) × (self.new ≡ self.old) }
+    {
+        let mut at = from;
+        for _ in 0..k {
+            let function = Function { words, at };
+            if !self.function_is_shallow(&function) {
+                return false;
+            }
+            at = function.end();
+        }
+        true
+    }
+
+    // The same, of all packages.
+    fn packages_are_shallow(&mut self, words: &[u32]) -> bool
+        ensures { ((t : Texts) → result ≡ all_shallow t self.old (package_types (packages_of words.now))) × (self.new ≡ self.old) }
+    {
+        let mut at = library::packages_place(words);
+        let count = library::package_count(words);
+        for _ in 0..count {
+            let package = Package { words, at };
+            if !self.functions_are_shallow(words, at + 2, package.function_count()) {
+                return false;
+            }
+            at = package.end();
+        }
+        true
+    }
 }
 
 // Whether every type of the library is at most 32 deep, where its pool stands at the front of the types buffer.
 pub fn library_is_shallow(types: &[u32], words: &[u32]) -> bool
     ensures { (t : Texts) → result ≡ all_shallow t types.now (library_types words.now) }
 {
-    let mut known = [0; MOST_WORDS];
-    if !add::pool_is_shallow(types, library::pool(words), &mut known) {
+    let known = &mut [0; MOST_WORDS];
+    if !add::pool_is_shallow(types, library::pool(words), known) {
         return false;
     }
-    packages_are_shallow(types, words, &mut known)
+    let mut measured = Measured { types, known };
+    measured.packages_are_shallow(words)
 }
 
 // The state before the first root: the pool is used; nothing is in scope, no package is held, no own function is met.

@@ -6,9 +6,6 @@ pub returns-then-not-pool_is_shallow : goal.returns-then-not-pool_is_shallow
 returns-then-not-pool_is_shallow c =
     λ t. library-deep t c.args.types.now c.args.words.now c.pool.ensures (c.pool_is_shallow.ensures.1 t) c.if-not-pool_is_shallow.true
 
-pub packages_are_shallow-requires : goal.packages_are_shallow-requires
-packages_are_shallow-requires c = c.pool_is_shallow.ensures.2
-
 pub returns : goal.returns
 returns c =
     λ t. library-by t c.args.types.now c.args.words.now c.pool.ensures (c.pool_is_shallow.ensures.1 t) c.if-not-pool_is_shallow.false
