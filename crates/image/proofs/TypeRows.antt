@@ -1,5 +1,5 @@
 -- The type records, as the code reads them: the rows of the table of kinds, and one record after the other. Assumes nothing.
-use Prim.Native.Nat.{ℕ, suc, ◌+◌, ◌-◌, ◌%◌, ◌≤◌, ◌<◌}
+use Prim.Native.Nat.{ℕ, suc, ◌-◌, ◌%◌, ◌≤◌}
 use mathlib.Core.Bool.{false, ◌&&◌}
 use mathlib.Core.List.{List}
 use mathlib.Core.Path.{◌≡◌, refl, sym, ap, ◌∙◌}
@@ -10,7 +10,6 @@ use Rattle.std.proofs.Math.Decide.{dec_lt}
 use Rattle.std.specs.Prelude.{Result, Ok, Err, ◌⊎◌}
 use Rattle.std.proofs.Common.{inl, inr}
 use Rattle.tok.specs.Word.{kind_of, payload_of}
-use Rattle.tok.specs.Step.{◌>>=◌, return}
 use Rattle.reader.specs.declared.Fault.{Fault}
 use Rattle.reader.specs.Reading.{Reader, gave}
 use Rattle.reader.specs.Repeated.{Repeated, none_left, one_more, one_stops}
@@ -18,7 +17,6 @@ use Rattle.ast.specs.declared.ExprKind.{ExprKind}
 use Rattle.ast.specs.declared.ExprKind.TheVariants as expr
 use Rattle.ast.specs.Kinds.{kind_of_expr}
 use Rattle.ast.specs.KindLaws.{expr-number}
-use Rattle.ast.specs.Outline.{Counts}
 use Rattle.ast.specs.TypeRecords.{type_inner, type_kinds, type_kind, good_type_head, type_expression, type_expressions}
 use Rattle.image_words.specs.Leads.{unanswered}
 use Rattle.image_words.specs.LeadLaws.{leads_then, leads_stops, same_on}
