@@ -77,8 +77,10 @@ no-rest from text head number left h = let s = beyond (kind_of head) h in (λ n 
 
 -- ── One record after the other ──
 
-module _ {one : Reader → ℕ → Result Reader Fault → Type 0} (text : List ℕ) (turn : (from : Reader) (i : ℕ) (to : Result Reader Fault) → one from i to → LeadsFor from text (λ c. type_expression c i) to) where
-  pub types_lead : {i count : ℕ} {from : Reader} {to : Result Reader Fault} → Repeated one i count from to → LeadsFor from text (λ c. type_expressions c count i) to
+module _ {one : Reader → ℕ → Result Reader Fault → Type 0} (text : List ℕ)
+    (turn : (from : Reader) (i : ℕ) (to : Result Reader Fault) → one from i to → LeadsFor from text (λ c. type_expression c i) to) where
+  pub types_lead : {i count : ℕ} {from : Reader} {to : Result Reader Fault} → Repeated one i count from to
+      → LeadsFor from text (λ c. type_expressions c count i) to
   unfolding type_expressions unanswered gave
   types_lead none_left = (λ n t v. refl, refl)
   types_lead {from = from} {to = to} (one_more {i = i} {mid = mid} h rest) =
