@@ -135,7 +135,7 @@ pub fn class_of(op: u32) -> usize
     ensures { result ≡ class_of op }
 {
     let classes = [0, 0, 0, 0, 1, 2, 2, 3, 3];
-    classes.get(op as usize).copied().unwrap_or(0)
+    tok::item_at(&classes, op as usize, 0)
 }
 
 // The wording at an index of a list, and none past the end.

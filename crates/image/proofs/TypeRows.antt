@@ -1,5 +1,5 @@
 -- The type records, as the code reads them: the rows of the table of kinds, and one record after the other. Assumes nothing.
-use Prim.Native.Nat.{ℕ, suc, ◌+◌, ◌-◌, ◌%◌, ◌≤◌, ◌<◌}
+use Prim.Native.Nat.{ℕ, suc, ◌-◌, ◌%◌, ◌≤◌}
 use mathlib.Core.Bool.{false, ◌&&◌}
 use mathlib.Core.List.{List}
 use mathlib.Core.Path.{◌≡◌, refl, sym, ap, ◌∙◌}
@@ -10,7 +10,6 @@ use Rattle.std.proofs.Math.Decide.{dec_lt}
 use Rattle.std.specs.Prelude.{Result, Ok, Err, ◌⊎◌}
 use Rattle.std.proofs.Common.{inl, inr}
 use Rattle.tok.specs.Word.{kind_of, payload_of}
-use Rattle.tok.specs.Step.{◌>>=◌, return}
 use Rattle.reader.specs.declared.Fault.{Fault}
 use Rattle.reader.specs.Reading.{Reader, gave}
 use Rattle.reader.specs.Repeated.{Repeated, none_left, one_more, one_stops}
@@ -18,7 +17,6 @@ use Rattle.ast.specs.declared.ExprKind.{ExprKind}
 use Rattle.ast.specs.declared.ExprKind.TheVariants as expr
 use Rattle.ast.specs.Kinds.{kind_of_expr}
 use Rattle.ast.specs.KindLaws.{expr-number}
-use Rattle.ast.specs.Outline.{Counts}
 use Rattle.ast.specs.TypeRecords.{type_inner, type_kinds, type_kind, good_type_head, type_expression, type_expressions}
 use Rattle.image_words.specs.Leads.{unanswered}
 use Rattle.image_words.specs.LeadLaws.{leads_then, leads_stops, same_on}
@@ -79,8 +77,10 @@ no-rest from text head number left h = let s = beyond (kind_of head) h in (λ n 
 
 -- ── One record after the other ──
 
-module _ {one : Reader → ℕ → Result Reader Fault → Type 0} (text : List ℕ) (turn : (from : Reader) (i : ℕ) (to : Result Reader Fault) → one from i to → LeadsFor from text (λ c. type_expression c i) to) where
-  pub types_lead : {i count : ℕ} {from : Reader} {to : Result Reader Fault} → Repeated one i count from to → LeadsFor from text (λ c. type_expressions c count i) to
+module _ {one : Reader → ℕ → Result Reader Fault → Type 0} (text : List ℕ)
+    (turn : (from : Reader) (i : ℕ) (to : Result Reader Fault) → one from i to → LeadsFor from text (λ c. type_expression c i) to) where
+  pub types_lead : {i count : ℕ} {from : Reader} {to : Result Reader Fault} → Repeated one i count from to
+      → LeadsFor from text (λ c. type_expressions c count i) to
   unfolding type_expressions unanswered gave
   types_lead none_left = (λ n t v. refl, refl)
   types_lead {from = from} {to = to} (one_more {i = i} {mid = mid} h rest) =

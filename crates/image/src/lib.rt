@@ -13,7 +13,7 @@ ghost use Rattle.image_nodes.specs.Site.{counts_of};
 ghost use Rattle.image.specs.Counted.{LeadsFor};
 
 use ast::{ExprKind, MOST_NODES, MOST_ROOTS, MOST_SLOTS, MOST_TYPES, NodeKind};
-use image_nodes::Sizes;
+use image_nodes::Counts;
 use image_words::{and_pairs, between, numbers, pairs, token};
 use reader::{Fault, Reader};
 
@@ -124,18 +124,17 @@ fn callable_there(from: &Reader) -> bool
 
 // All node records. Which of those before may be called is kept in `callable`, for a call's target.
 fn nodes_by<'a>(
-    script: &[u8],
     callable: &mut [bool],
     from: Reader<'a>,
-    sizes: Sizes,
+    counts: Counts,
 ) -> Result<Reader<'a>, Fault>
-    requires { sizes.nodes ≤ length callable.old }
-    ensures { Leads from.entry (nodes (counts_of script.now sizes) sizes.nodes 0 []) result }
+    requires { counts.nodes ≤ length callable.old }
+    ensures { Leads from.entry (nodes (counts_of counts.entry) counts.entry.nodes 0 []) result }
 {
     let mut to = from;
-    for i in 0..sizes.nodes {
+    for i in 0..counts.nodes {
         let called = callable_there(&to);
-        to = image_nodes::node(script, callable, to, sizes, i)?;
+        to = image_nodes::node(callable, to, counts, i)?;
         callable[i] = called;
     }
     Ok(to)
@@ -158,13 +157,14 @@ fn whole<'a>(script: &[u8], from: Reader<'a>) -> Result<Reader<'a>, Fault>
     let v = at.next_word() as usize;
     let at = at.word(v <= MOST_SLOTS)?;
     let at = numbers(at, r, n)?;
-    let sizes = Sizes {
+    let counts = Counts {
+        text: script,
         nodes: n,
         types: t,
         slots: v,
     };
     let mut callable = [false; MOST_NODES];
-    let at = nodes_by(script, &mut callable, at, sizes)?;
+    let at = nodes_by(&mut callable, at, counts)?;
     let at = type_expressions(script, at, t)?;
     at.ends()
 }

@@ -6,11 +6,11 @@ use Rattle.reader.specs.Reading.{Reader, onward, gave, Same}
 use Rattle.ast.specs.Outline.{Outline, Counts, Here}
 use Rattle.ast.specs.NodeRecords.{no_node, callable}
 use Rattle.image_words.specs.Leads.{unanswered}
-use Rattle.image_nodes.specs.declared.Sizes.{Sizes}
+use Rattle.image_nodes.specs.declared.Counts as code
 
 -- the script text and the counts
-abbrev pub counts_of : (text : List ℕ) → Sizes → Counts
-counts_of text n = record { text = text; nodes = n.nodes; types = n.types; slots = n.slots }
+abbrev pub counts_of : code.Counts → Counts
+counts_of c = record { text = c.text.now; nodes = c.nodes; types = c.types; slots = c.slots }
 
 -- What contracts see of a place where a node record is read: the script text and the counts, the node's number and slot, and how many words
 -- follow the slot.

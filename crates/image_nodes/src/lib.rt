@@ -3,7 +3,9 @@
 
 ghost use Rattle.std.specs.Prelude.{◌≡◌, false, ◌&&◌, List, ℕ, ◌+◌, ◌*◌, ◌-◌, ◌%◌, get_or, leb, ltb, eqb};
 ghost use Rattle.tok.specs.Word.{kind_of};
-ghost use Rattle.reader.specs.Reading.{Comes};
+ghost use Rattle.tok.specs.Name.{good_name, in_script};
+ghost use Rattle.tok.specs.Reader.{word};
+ghost use Rattle.reader.specs.Reading.{next_word, Comes};
 ghost use Rattle.ast.specs.Outline.{Outline};
 ghost use Rattle.ast.specs.NodeRecords.{atom, ident, bin, unary, binding, fn, cases, match, call, field, cast, imports, extern_functions, extern, record_node, array};
 ghost use Rattle.ast.specs.NodeRecords.{good_arguments, good_extern_count, good_function_count};
@@ -17,9 +19,10 @@ use image_words::{and_pairs, between, names, numbers, pairs, token};
 use reader::{Fault, Reader};
 use std::marker::Model;
 
-// The counts of an image that its records go by.
+// The script text of an image, and its counts, that its records go by.
 #[derive(Clone, Copy)]
-pub struct Sizes {
+pub struct Counts<'a> {
+    pub text: &'a [u8],
     pub nodes: usize,
     pub types: usize,
     pub slots: usize,
@@ -28,8 +31,7 @@ pub struct Sizes {
 // Where a node record is read: the script text and the counts of the image, the node's number and slot, and how many words follow the slot.
 #[derive(Drop)]
 pub struct Site<'a> {
-    pub script: &'a [u8],
-    pub sizes: Sizes,
+    pub counts: Counts<'a>,
     pub number: usize,
     pub slot: usize,
     pub left: usize,
@@ -38,7 +40,16 @@ pub struct Site<'a> {
 impl<'a> Model for Site<'a> {
     ghost Value = { Site };
 
-    ghost view = { λ s. site_of (counts_of s.script.now s.sizes) s.number s.slot s.left };
+    ghost view = { λ s. site_of (counts_of s.counts) s.number s.slot s.left };
+}
+
+impl<'a> Site<'a> {
+    // A name or token of the script text.
+    fn token<'b>(&self, from: Reader<'b>) -> Result<Reader<'b>, Fault>
+        ensures { Comes from.entry (word (good_name in_script self.now.counts.text)) (next_word from.entry) result }
+    {
+        token(self.counts.text, from)
+    }
 }
 
 // The kinds: the words after the slot, in the order of document 01's table.
@@ -51,7 +62,7 @@ const OPERATORS: usize = 9;
 fn atom<'a>(from: Reader<'a>, site: &Site) -> Result<Reader<'a>, Fault>
     ensures { LeadsAt from.entry site.now atom result }
 {
-    let at = token(site.script, from)?;
+    let at = site.token(from)?;
     let kind = at.next_word() as usize;
     at.word(between(2, 5, kind))
 }
@@ -61,7 +72,7 @@ fn atom<'a>(from: Reader<'a>, site: &Site) -> Result<Reader<'a>, Fault>
 fn ident<'a>(from: Reader<'a>, site: &Site) -> Result<Reader<'a>, Fault>
     ensures { LeadsAt from.entry site.now ident result }
 {
-    token(site.script, from)
+    site.token(from)
 }
 
 // 2 Bin: token, operator, left, right.
@@ -69,7 +80,7 @@ fn ident<'a>(from: Reader<'a>, site: &Site) -> Result<Reader<'a>, Fault>
 fn bin<'a>(from: Reader<'a>, site: &Site) -> Result<Reader<'a>, Fault>
     ensures { LeadsAt from.entry site.now bin result }
 {
-    token(site.script, from)?
+    site.token(from)?
         .below(OPERATORS)?
         .below(site.number)?
         .below(site.number)
@@ -80,9 +91,7 @@ fn bin<'a>(from: Reader<'a>, site: &Site) -> Result<Reader<'a>, Fault>
 fn unary<'a>(from: Reader<'a>, site: &Site) -> Result<Reader<'a>, Fault>
     ensures { LeadsAt from.entry site.now unary result }
 {
-    token(site.script, from)?
-        .below(OPERATORS)?
-        .below(site.number)
+    site.token(from)?.below(OPERATORS)?.below(site.number)
 }
 
 // 4 Let: name, right.
@@ -90,14 +99,14 @@ fn unary<'a>(from: Reader<'a>, site: &Site) -> Result<Reader<'a>, Fault>
 fn binding<'a>(from: Reader<'a>, site: &Site) -> Result<Reader<'a>, Fault>
     ensures { LeadsAt from.entry site.now binding result }
 {
-    token(site.script, from)?.below(site.number)
+    site.token(from)?.below(site.number)
 }
 
 // Whether n arguments of an Fn lie within its record, and their slots below V.
 fn arguments_fit(site: &Site, n: usize) -> bool
     ensures { (kind : ℕ) (before : List Outline) → result ≡ good_arguments (here_of site.now kind before) n }
 {
-    n <= site.left.saturating_sub(3) / 2 && n < site.sizes.slots.saturating_sub(site.slot)
+    n <= site.left.saturating_sub(3) / 2 && n < site.counts.slots.saturating_sub(site.slot)
 }
 
 // 5 Fn: name, return type, argument count, name and type of each, body.
@@ -105,10 +114,10 @@ fn arguments_fit(site: &Site, n: usize) -> bool
 fn function<'a>(from: Reader<'a>, site: &Site) -> Result<Reader<'a>, Fault>
     ensures { LeadsAt from.entry site.now fn result }
 {
-    let at = token(site.script, from)?.below(site.sizes.types)?;
+    let at = site.token(from)?.below(site.counts.types)?;
     let n = at.next_word() as usize;
     let at = at.word(arguments_fit(site, n))?;
-    let at = pairs(site.script, at, n, site.sizes.types)?;
+    let at = pairs(site.counts.text, at, n, site.counts.types)?;
     let body = site.left.saturating_sub(3).saturating_sub(2 * n);
     numbers(at, body, site.number)
 }
@@ -128,14 +137,14 @@ fn cases<'a>(from: Reader<'a>, site: &Site, count: usize, left: usize) -> Result
     let mut to = from;
     let mut room = left;
     for others in (0..count).rev() {
-        to = token(site.script, to)?.below(site.number)?;
+        to = site.token(to)?.below(site.number)?;
         let n = to.next_word() as usize;
         room = room.saturating_sub(3);
         to = to.word(cases_fit(n, others, room))?;
         to = numbers(to, n, site.number)?;
         room = room.saturating_sub(n);
     }
-    let at = token(site.script, to)?;
+    let at = site.token(to)?;
     numbers(at, room.saturating_sub(1), site.number)
 }
 
@@ -154,7 +163,7 @@ fn matching<'a>(from: Reader<'a>, site: &Site) -> Result<Reader<'a>, Fault>
 fn good_target(callable: &[bool], p: usize, n: usize) -> bool
     ensures { result ≡ (ltb p n && get_or callable.now p false) }
 {
-    p < n && callable.get(p).copied().unwrap_or(false)
+    p < n && tok::item_at(callable, p, false)
 }
 
 // 7 Call: target (Ident or Field), arguments.
@@ -172,7 +181,7 @@ fn call<'a>(from: Reader<'a>, site: &Site, callable: &[bool]) -> Result<Reader<'
 fn field<'a>(from: Reader<'a>, site: &Site) -> Result<Reader<'a>, Fault>
     ensures { LeadsAt from.entry site.now field result }
 {
-    token(site.script, from.below(site.number)?)
+    site.token(from.below(site.number)?)
 }
 
 // 9 Cast: token, left, type.
@@ -180,9 +189,9 @@ fn field<'a>(from: Reader<'a>, site: &Site) -> Result<Reader<'a>, Fault>
 fn cast<'a>(from: Reader<'a>, site: &Site) -> Result<Reader<'a>, Fault>
     ensures { LeadsAt from.entry site.now cast result }
 {
-    token(site.script, from)?
+    site.token(from)?
         .below(site.number)?
-        .below(site.sizes.types)
+        .below(site.counts.types)
 }
 
 // 10 Import: token, paths.
@@ -190,8 +199,8 @@ fn cast<'a>(from: Reader<'a>, site: &Site) -> Result<Reader<'a>, Fault>
 fn imports<'a>(from: Reader<'a>, site: &Site) -> Result<Reader<'a>, Fault>
     ensures { LeadsAt from.entry site.now imports result }
 {
-    let at = token(site.script, from)?;
-    names(site.script, at, site.left.saturating_sub(1))
+    let at = site.token(from)?;
+    names(site.counts.text, at, site.left.saturating_sub(1))
 }
 
 // Whether n arguments and `others` functions of three words at least lie within `room` words; the last function's use them up.
@@ -222,11 +231,11 @@ fn functions<'a>(
     let mut to = from;
     let mut room = left;
     for others in (0..count).rev() {
-        to = token(site.script, to)?.below(site.sizes.types)?;
+        to = site.token(to)?.below(site.counts.types)?;
         let n = to.next_word() as usize;
         room = room.saturating_sub(3);
         to = to.word(function_fits(n, others, room))?;
-        to = pairs(site.script, to, n, site.sizes.types)?;
+        to = pairs(site.counts.text, to, n, site.counts.types)?;
         room = room.saturating_sub(2 * n);
     }
     Ok(to)
@@ -248,8 +257,8 @@ fn functions_fit(count: usize, room: usize) -> bool
 fn externs<'a>(from: Reader<'a>, site: &Site) -> Result<Reader<'a>, Fault>
     ensures { LeadsAt from.entry site.now extern result }
 {
-    let at = token(site.script, from)?;
-    let at = token(site.script, at)?;
+    let at = site.token(from)?;
+    let at = site.token(at)?;
     let count = at.next_word() as usize;
     let room = site.left.saturating_sub(3);
     let at = at.word(functions_fit(count, room))?;
@@ -261,9 +270,9 @@ fn externs<'a>(from: Reader<'a>, site: &Site) -> Result<Reader<'a>, Fault>
 fn record_node<'a>(from: Reader<'a>, site: &Site) -> Result<Reader<'a>, Fault>
     ensures { LeadsAt from.entry site.now record_node result }
 {
-    let at = token(site.script, from)?;
+    let at = site.token(from)?;
     pairs(
-        site.script,
+        site.counts.text,
         at,
         site.left.saturating_sub(1) / 2,
         site.number,
@@ -275,7 +284,7 @@ fn record_node<'a>(from: Reader<'a>, site: &Site) -> Result<Reader<'a>, Fault>
 fn array<'a>(from: Reader<'a>, site: &Site) -> Result<Reader<'a>, Fault>
     ensures { LeadsAt from.entry site.now array result }
 {
-    let at = token(site.script, from)?;
+    let at = site.token(from)?;
     numbers(at, site.left.saturating_sub(1), site.number)
 }
 
@@ -339,23 +348,21 @@ fn rest<'a>(
 // The record of a node: its first word, its slot, and the rest by kind. `callable`: whether each node before it may be called.
 #[tactic(auto, unfolding(ast::specs::Nodes::node, reader::specs::Reading::gave), using(reader::specs::Laws::by_rule))]
 pub fn node<'a>(
-    script: &[u8],
     callable: &[bool],
     from: Reader<'a>,
-    sizes: Sizes,
+    counts: Counts,
     number: usize,
 ) -> Result<Reader<'a>, Fault>
-    ensures { (before : List Outline) → Kept callable.now before number → Comes from.entry (node (counts_of script.now sizes) before number)
+    ensures { (before : List Outline) → Kept callable.now before number → Comes from.entry (node (counts_of counts.entry) before number)
         (outline_from from.entry.words from.entry.at) result }
 {
     let head = from.next_word();
     let long = tok::payload(head);
     let at = from.owing(good_head(head), long.saturating_sub(3))?;
     let slot = at.next_word() as usize;
-    let at = at.below(sizes.slots)?;
+    let at = at.below(counts.slots)?;
     let site = Site {
-        script,
-        sizes,
+        counts,
         number,
         slot,
         left: long.saturating_sub(2),

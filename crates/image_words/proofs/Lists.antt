@@ -10,7 +10,8 @@ use Rattle.reader.specs.Repeated.{Repeated, none_left, one_more, one_stops}
 use Rattle.image_words.specs.Leads.{unanswered, Leads}
 use Rattle.image_words.specs.LeadLaws.{leads_word, leads_then, leads_stops, leads_last, same_on}
 
-module _ {A : Type 0} {one : Reader → ℕ → Result Reader Fault → Type 0} (m : Read A) (turn : (from : Reader) (i : ℕ) (to : Result Reader Fault) → one from i to → Leads from m to) where
+module _ {A : Type 0} {one : Reader → ℕ → Result Reader Fault → Type 0} (m : Read A)
+    (turn : (from : Reader) (i : ℕ) (to : Result Reader Fault) → one from i to → Leads from m to) where
   pub many_leads : {i n : ℕ} {from : Reader} {to : Result Reader Fault} → Repeated one i n from to → Leads from (many n m) to
   unfolding many unanswered gave
   many_leads none_left = (refl, refl)

@@ -6,4 +6,4 @@ use Rattle.image.proofs.NodeRows.{Before}
 use Rattle.image.proofs.nodes_by.Given as goal
 
 abbrev pub invariant-loop-i : goal.invariant-loop-i
-invariant-loop-i l = (length l.callable ≡ length l.initial.callable) × Before l.initial.to (counts_of l.script l.sizes) l.sizes.nodes l.callable l.to l.i
+invariant-loop-i l = (length l.callable ≡ length l.initial.callable) × Before l.initial.to (counts_of l.counts) l.counts.nodes l.callable l.to l.i

@@ -19,7 +19,7 @@ returns c = λ before kept.
     c.next_word-head.ensures c.good_head.ensures (c.saturating_sub.ensures ∙ ap (λ n. n - 3) c.payload-long.ensures) c.in_ok-at.ensures.0 in
     let left = c.saturating_sub-2.ensures ∙ ap (λ n. n - 2) c.payload-long.ensures in
     let rest = c.rest.ensures before kept in (
-      leads_there _ _ _ _ _ (any_node (counts_of c.args.script.now c.args.sizes) before c.args.from.words c.args.number c.args.from.at c.args.from.least)
+      leads_there _ _ _ _ _ (any_node (counts_of c.args.counts) before c.args.from.words c.args.number c.args.from.at c.args.from.least)
           (rw (head, c.in_ok-at-2.ensures.0, ← c.next_word-slot.ensures) (rw left at rest.0)),
       same_on c.args.from c.in_ok-at-2.at _ (c.in_ok-at-2.ensures.1 ∙ c.in_ok-at.ensures.1) rest.1,
     )
