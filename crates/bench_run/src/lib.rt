@@ -74,9 +74,9 @@ fn begin(
     let library_length = rows_input::library_length(bytes);
     run(
         rows_input::script(bytes),
-        rows_begin::first_words(&image, image_length),
+        slices::front(&image, image_length),
         rows_input::library_text(bytes),
-        rows_begin::first_words(&library, library_length),
+        slices::front(&library, library_length),
         slots,
         functions,
         types,

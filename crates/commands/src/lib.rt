@@ -114,7 +114,7 @@ pub fn next_command(rt: &impl Input) -> io::Result<Command>
 // Writing into lists.
 
 // What an element of a list holds of a value.
-trait Element: Copy {
+pub trait Element: Copy {
     ghost held: { ℕ → Self };
 
     fn of(w: u32) -> Self
@@ -156,35 +156,27 @@ fn put_bytes(out: &mut [u8], at: usize, w: u32)
 }
 
 // Every `stride`-th element from `start` on, `count` of them: `value`, `value + step`, ..
-fn fill_items<T: Element>(
-    out: &mut [T],
-    stride: usize,
-    start: usize,
-    count: usize,
-    value: u32,
-    step: u32,
-)
-    ensures { out.new ≡ filled T.held out.old stride start count value step }
-{
-    let mut at = start;
-    let mut w = value;
-    for _ in 0..count {
-        set_item(out, at, T::of(w));
-        at = at.wrapping_add(stride);
-        w = w.wrapping_add(step);
+#[derive(Clone, Copy)]
+pub struct Fill {
+    pub stride: usize,
+    pub start: usize,
+    pub count: usize,
+    pub value: u32,
+    pub step: u32,
+}
+
+impl Fill {
+    pub fn apply<T: Element>(self, out: &mut [T])
+        ensures { out.new ≡ filled T.held out.old self.stride self.start self.count self.value self.step }
+    {
+        let mut at = self.start;
+        let mut w = self.value;
+        for _ in 0..self.count {
+            set_item(out, at, T::of(w));
+            at = at.wrapping_add(self.stride);
+            w = w.wrapping_add(self.step);
+        }
     }
-}
-
-pub fn fill_words(out: &mut [u32], stride: usize, start: usize, count: usize, value: u32, step: u32)
-    ensures { out.new ≡ filled whole out.old stride start count value step }
-{
-    fill_items(out, stride, start, count, value, step);
-}
-
-pub fn fill_bytes(out: &mut [u8], stride: usize, start: usize, count: usize, value: u32, step: u32)
-    ensures { out.new ≡ filled low_byte out.old stride start count value step }
-{
-    fill_items(out, stride, start, count, value, step);
 }
 
 // What the registers hold.
@@ -211,22 +203,10 @@ pub fn lent(registers: &[u32], which: usize, most: usize) -> usize
 }
 
 // As much of a list as its length says.
-fn front<'a, T>(list: &'a [T], registers: &[u32], which: usize) -> &'a [T]
+pub fn front<'a, T>(list: &'a [T], registers: &[u32], which: usize) -> &'a [T]
     ensures { result.now ≡ take (slice_index registers.now which) list.now }
 {
-    &list[..lent(registers, which, list.len())]
-}
-
-pub fn bytes_of<'a>(bytes: &'a [u8], registers: &[u32], which: usize) -> &'a [u8]
-    ensures { result.now ≡ take (slice_index registers.now which) bytes.now }
-{
-    front(bytes, registers, which)
-}
-
-pub fn words_of<'a>(words: &'a [u32], registers: &[u32], which: usize) -> &'a [u32]
-    ensures { result.now ≡ take (slice_index registers.now which) words.now }
-{
-    front(words, registers, which)
+    slices::front(list, register(registers, which))
 }
 
 // What commands do.
@@ -266,14 +246,18 @@ impl<'a> Lists<'a> {
         ensures { Becomes self.old self.new (fill_of c.a c.b (lists_of self.old)) }
     {
         let list = self.register(LIST);
-        let stride = list / 4;
-        let start = self.register(START);
-        let count = self.register(COUNT);
+        let fill = Fill {
+            stride: list / 4,
+            start: self.register(START),
+            count: self.register(COUNT),
+            value: c.a,
+            step: c.b,
+        };
         match list % 4 {
-            SCRIPT => fill_bytes(self.script, stride, start, count, c.a, c.b),
-            IMAGE => fill_words(self.image, stride, start, count, c.a, c.b),
-            TEXT => fill_bytes(self.text, stride, start, count, c.a, c.b),
-            _ => fill_words(self.library, stride, start, count, c.a, c.b),
+            SCRIPT => fill.apply(self.script),
+            IMAGE => fill.apply(self.image),
+            TEXT => fill.apply(self.text),
+            _ => fill.apply(self.library),
         }
     }
 

@@ -16,6 +16,7 @@ use err_values::{
     redundant_cast, unsupported,
 };
 use ptype::Types;
+use slices::part;
 use std::io;
 use tok::{Span, Texts, little_endian};
 
@@ -32,12 +33,6 @@ fn fill(out: &mut [u32], s: &[u8]) {
     for (w, bytes) in out.iter_mut().zip(s.chunks_exact(4)) {
         *w = little_endian(bytes, 0);
     }
-}
-
-// The part of a slice that starts at a place, as long as told or as there is.
-fn part<T>(s: &[T], at: usize, len: usize) -> &[T] {
-    let rest = &s[at.min(s.len())..];
-    &rest[..len.min(rest.len())]
 }
 
 // Cases.

@@ -67,7 +67,7 @@ module _ (before ds rest : List ℕ) (c : Counts) (code : ℕ) (span : Span) (me
 -- What is known of a writer of a diagnostic: it wrote both texts from the rest's start on, what was lent came back, the span was asked for, and the record
 -- was written.
 module _ {o ds ds' rest rest₁ rest' back : List ℕ} {n m end code : ℕ} {c : Counts} {span span' : Span} {r texts : Answered ⊤ Full} {answer : Option Counts} where
-  tells-said :
+  pub tells-said :
       (message primary : List ℕ) → 0 < length message → (o ≡ rest) × (n ≡ 0) → (r, (rest₁, m)) ≡ written o n message → (texts, (rest', end)) ≡ written o n (message ++ primary) →
       back ≡ rest' → span' ≡ span →
       (ds' ≡ placed ds c code span' texts (c.bytes + m) (c.bytes + end)) × (answer ≡ placed_answer ds c texts (c.bytes + m) (c.bytes + end)) →
@@ -78,18 +78,9 @@ module _ {o ds ds' rest rest₁ rest' back : List ℕ} {n m end code : ℕ} {c :
         rw (p.0, p.1, f, l) (told-in-rest before ds rest c code span message primary g all m (rw (s.0, s.1) at d) texts rest' end (rw (s.0, s.1) at e));
   }
 
-  -- a message that begins with fixed text
-  pub tells-rest :
-      {x : ℕ} {message primary : List ℕ} → (o ≡ rest) × (n ≡ 0) → (r, (rest₁, m)) ≡ written o n (x ∷ message) →
-      (texts, (rest', end)) ≡ written o n ((x ∷ message) ++ primary) →
-      back ≡ rest' → span' ≡ span →
-      (ds' ≡ placed ds c code span' texts (c.bytes + m) (c.bytes + end)) × (answer ≡ placed_answer ds c texts (c.bytes + m) (c.bytes + end)) →
-      ReportsIn (told code span (x ∷ message) primary) ds rest c ds' back answer
-  tells-rest {x} {message} {primary} s d e l f p = tells-said (x ∷ message) primary (omega arith) s d e l f p
-
 module _ {o ds ds' rest rest' back : List ℕ} {n end code : ℕ} {c : Counts} {span span' : Span} {texts : Answered ⊤ Full} {answer : Option Counts} where
   -- and no primary message
-  tells-alone :
+  pub tells-alone :
       (message : List ℕ) → 0 < length message → (o ≡ rest) × (n ≡ 0) → (texts, (rest', end)) ≡ written o n message → back ≡ rest' → span' ≡ span →
       (ds' ≡ placed ds c code span' texts (c.bytes + end) (c.bytes + end)) × (answer ≡ placed_answer ds c texts (c.bytes + end) (c.bytes + end)) →
       ReportsIn (told code span message []) ds rest c ds' back answer
@@ -100,22 +91,6 @@ module _ {o ds ds' rest rest' back : List ℕ} {n end code : ℕ} {c : Counts} {
       (ds' ≡ placed ds c code span' texts (c.bytes + end) (c.bytes + end)) × (answer ≡ placed_answer ds c texts (c.bytes + end) (c.bytes + end)) →
       ReportsIn (told code span (x ∷ message) []) ds rest c ds' back answer
   tells-rest-alone {x} {message} s e l f p = tells-alone (x ∷ message) (omega arith) s e l f p
-
-  -- a message that begins with a type and goes on with fixed text
-  pub tells-shown :
-      (shown : List ℕ) (x : ℕ) (fixed : List ℕ) → (o ≡ rest) × (n ≡ 0) → (texts, (rest', end)) ≡ written o n (shown ++ (x ∷ fixed)) → back ≡ rest' → span' ≡ span →
-      (ds' ≡ placed ds c code span' texts (c.bytes + end) (c.bytes + end)) × (answer ≡ placed_answer ds c texts (c.bytes + end) (c.bytes + end)) →
-      ReportsIn (told code span (shown ++ (x ∷ fixed)) []) ds rest c ds' back answer
-  tells-shown shown x fixed s e l f p = tells-alone (shown ++ (x ∷ fixed)) (omega (arith, length-append shown (x ∷ fixed))) s e l f p
-
-  -- and ends with a name
-  pub tells-shown-name :
-      (shown : List ℕ) (x : ℕ) (fixed name : List ℕ) → (o ≡ rest) × (n ≡ 0) →
-      (texts, (rest', end)) ≡ written o n (shown ++ (x ∷ fixed) ++ name) → back ≡ rest' → span' ≡ span →
-      (ds' ≡ placed ds c code span' texts (c.bytes + end) (c.bytes + end)) × (answer ≡ placed_answer ds c texts (c.bytes + end) (c.bytes + end)) →
-      ReportsIn (told code span (shown ++ (x ∷ fixed) ++ name) []) ds rest c ds' back answer
-  tells-shown-name shown x fixed name s e l f p =
-      tells-alone (shown ++ (x ∷ fixed) ++ name) (omega (arith, length-append (shown ++ (x ∷ fixed)) name, length-append shown (x ∷ fixed))) s e l f p
 
 -- ---- the rest that was lent came back behind the bytes before it: what was told in it was told in the whole
 pub told_in_whole :

@@ -45,7 +45,7 @@ fn print_primary(rt: &impl Print, answer: &Answer, k: u32) -> io::Result<()> {
         return Ok(());
     }
     rt.write_all(b"primary ")?;
-    rt.write_all(rows_input::bytes_in(answer.messages, from, size))?;
+    rt.write_all(slices::part(answer.messages, from, size))?;
     rt.write_all(b"\n")
 }
 

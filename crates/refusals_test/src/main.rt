@@ -16,16 +16,16 @@ const AGREE: usize = 14;
 fn found(lists: &Lists, words: &[u32], bytes: &[u8]) -> Result<(), Refused> {
     let registers: &[u32] = lists.registers;
     refuse::refuse(
-        commands::bytes_of(lists.script, registers, commands::SCRIPT),
-        commands::words_of(lists.image, registers, commands::IMAGE),
-        commands::bytes_of(lists.text, registers, commands::TEXT),
-        commands::words_of(lists.library, registers, commands::LIBRARY),
-        commands::words_of(words, registers, commands::SLOTS),
-        commands::words_of(words, registers, commands::FUNCTIONS),
-        commands::words_of(words, registers, commands::TYPES),
-        commands::words_of(words, registers, commands::DIAGNOSTICS),
-        commands::bytes_of(bytes, registers, commands::MESSAGES),
-        commands::words_of(words, registers, commands::SCRATCH),
+        commands::front(lists.script, registers, commands::SCRIPT),
+        commands::front(lists.image, registers, commands::IMAGE),
+        commands::front(lists.text, registers, commands::TEXT),
+        commands::front(lists.library, registers, commands::LIBRARY),
+        commands::front(words, registers, commands::SLOTS),
+        commands::front(words, registers, commands::FUNCTIONS),
+        commands::front(words, registers, commands::TYPES),
+        commands::front(words, registers, commands::DIAGNOSTICS),
+        commands::front(bytes, registers, commands::MESSAGES),
+        commands::front(words, registers, commands::SCRATCH),
     )?;
     Ok(())
 }

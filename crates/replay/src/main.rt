@@ -25,7 +25,7 @@ fn read_case(rt: &impl Input, input: &mut [u8], length: usize) -> io::Result<usi
 fn one_case(rt: &(impl Input + Print), length: usize) -> io::Result<()> {
     let mut input = [0u8; LONGEST];
     let n = read_case(rt, &mut input, length)?;
-    bench_run::bench(rt, rows_input::bytes_in(&input, 0, n), true)?;
+    bench_run::bench(rt, slices::front(&input, n), true)?;
     Ok(())
 }
 

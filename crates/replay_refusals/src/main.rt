@@ -5,7 +5,7 @@
 
 ghost use Rattle.std.specs.Prelude.{◌<◌};
 
-use commands::{Command, Lists};
+use commands::{Command, Element, Fill, Lists};
 use ending::Checked;
 use std::io;
 
@@ -75,9 +75,12 @@ fn print_answer(rt: &impl Print, checked: Checked) -> io::Result<()> {
 
 // Cases.
 
-fn fill(words: &mut [u32], value: u32, step: u32) {
-    let n = words.len();
-    commands::fill_words(words, 1, 0, n, value, step);
+fn fill<T: Element>(items: &mut [T], held: Fill) {
+    let fill = Fill {
+        count: items.len(),
+        ..held
+    };
+    fill.apply(items);
 }
 
 // What the lent buffers hold beforehand, so that what the check leaves alone is seen.
@@ -88,34 +91,35 @@ fn fill_lent(
     diagnostics: &mut [u32],
     messages: &mut [u8],
     scratch: &mut [u32],
-    value: u32,
-    step: u32,
+    held: Fill,
 ) {
-    fill(slots, value, step);
-    fill(functions, value, step);
-    fill(types, value, step);
-    fill(diagnostics, value, step);
-    let n = messages.len();
-    commands::fill_bytes(messages, 1, 0, n, value, step);
-    fill(scratch, value, step);
+    fill(slots, held);
+    fill(functions, held);
+    fill(types, held);
+    fill(diagnostics, held);
+    fill(messages, held);
+    fill(scratch, held);
 }
 
-// One case, with all that it is given and lent: its answer, and the sums of what is left.
-fn case<'a>(
+// One case, of as much of the lists as the registers tell, with all that it is lent: its answer, and the sums of what is left.
+fn case(
     rt: &impl Print,
-    script: &'a [u8],
-    image: &[u32],
-    text: &'a [u8],
-    library: &[u32],
+    lists: &Lists,
     slots: &mut [u32],
     functions: &mut [u32],
     types: &mut [u32],
     diagnostics: &mut [u32],
     messages: &mut [u8],
     scratch: &mut [u32],
-    value: u32,
-    step: u32,
 ) -> io::Result<()> {
+    let registers: &[u32] = lists.registers;
+    let held = Fill {
+        stride: 1,
+        start: 0,
+        count: 0,
+        value: tok::word_at(registers, VALUE),
+        step: tok::word_at(registers, STEP),
+    };
     fill_lent(
         slots,
         functions,
@@ -123,14 +127,13 @@ fn case<'a>(
         diagnostics,
         messages,
         scratch,
-        value,
-        step,
+        held,
     );
     let checked = checker::check(
-        script,
-        image,
-        text,
-        library,
+        commands::front(lists.script, registers, commands::SCRIPT),
+        commands::front(lists.image, registers, commands::IMAGE),
+        commands::front(lists.text, registers, commands::TEXT),
+        commands::front(lists.library, registers, commands::LIBRARY),
         slots,
         functions,
         types,
@@ -142,7 +145,7 @@ fn case<'a>(
     print_sums(rt, slots, functions, types, diagnostics, messages, scratch)
 }
 
-// The case that the registers tell: as much of the lists and of buffers of its own as they say.
+// The case that the registers tell, with buffers of its own as long as they say.
 fn told_case(rt: &impl Print, lists: &Lists) -> io::Result<()> {
     let mut slots = [0u32; 4_112];
     let mut functions = [0u32; 8_208];
@@ -159,18 +162,13 @@ fn told_case(rt: &impl Print, lists: &Lists) -> io::Result<()> {
     let f = commands::lent(registers, commands::SCRATCH, scratch.len());
     case(
         rt,
-        commands::bytes_of(lists.script, registers, commands::SCRIPT),
-        commands::words_of(lists.image, registers, commands::IMAGE),
-        commands::bytes_of(lists.text, registers, commands::TEXT),
-        commands::words_of(lists.library, registers, commands::LIBRARY),
-        &mut slots[0..a],
-        &mut functions[0..b],
-        &mut types[0..c],
-        &mut diagnostics[0..d],
-        &mut messages[0..e],
-        &mut scratch[0..f],
-        tok::word_at(registers, VALUE),
-        tok::word_at(registers, STEP),
+        lists,
+        &mut slots[..a],
+        &mut functions[..b],
+        &mut types[..c],
+        &mut diagnostics[..d],
+        &mut messages[..e],
+        &mut scratch[..f],
     )
 }
 

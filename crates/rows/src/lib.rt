@@ -6,12 +6,12 @@ ghost use Rattle.tok.specs.Text.{text};
 ghost use Rattle.ptype.specs.Show.{decimal};
 ghost use Rattle.rules.specs.Rows.{fn_row};
 ghost use Rattle.rows_window.specs.Showing.{Shows};
-ghost use Rattle.rows.specs.Lines.{slot_row, fn_line, diag_line, diag_row, end_row, refused_row, input_row};
+ghost use Rattle.rows.specs.Lines.{slot_row, diag_row, end_row, refused_row, input_row};
 
 use ptype::Types;
-use rows_input::bytes_in;
 use rows_types::{show_arguments, show_type};
 use rows_window::Window;
+use slices::part;
 use tok::{name_bytes, word_at};
 
 // A number, and a blank behind it.
@@ -36,26 +36,6 @@ pub fn slot_row(w: &mut Window, types: &Types, slot: usize, word: u32)
     w.put(b"\n");
 }
 
-// A function's row from its name, its n arguments from a place on, and its return type.
-fn put_fn(
-    w: &mut Window,
-    types: &Types,
-    functions: &[u32],
-    name: u32,
-    at: usize,
-    n: usize,
-    ret: u32,
-)
-    ensures { Shows w.old w.new (fn_line types.now.texts.now types.now.words.now functions.now name at n ret) }
-{
-    w.put(b"fn ");
-    w.put(name_bytes(types.texts, name));
-    w.put(b" (");
-    show_arguments(w, types, functions, at, n, b") -> ");
-    show_type(w, types, ret);
-    w.put(b"\n");
-}
-
 // "`fn` lines with name and `Display` of the signature": the entry at a place of the functions buffer.
 pub fn fn_row(w: &mut Window, types: &Types, functions: &[u32], at: u32)
     ensures { let F : List ℕ = functions.now in
@@ -65,18 +45,11 @@ pub fn fn_row(w: &mut Window, types: &Types, functions: &[u32], at: u32)
     let name = word_at(functions, i);
     let n = word_at(functions, i + 1) as usize;
     let ret = word_at(functions, i + 2 + 2 * n);
-    put_fn(w, types, functions, name, i + 2, n, ret);
-}
-
-// A diagnostic's row from its code, its span and its message.
-fn put_diag(w: &mut Window, code: usize, start: usize, len: usize, message: &[u8])
-    ensures { Shows w.old w.new (diag_line code start len message.now) }
-{
-    w.put(b"diag ");
-    put_number(w, code);
-    put_number(w, start);
-    put_number(w, len);
-    w.put(message);
+    w.put(b"fn ");
+    w.put(name_bytes(types.texts, name));
+    w.put(b" (");
+    show_arguments(w, types, functions, i + 2, n, b") -> ");
+    show_type(w, types, ret);
     w.put(b"\n");
 }
 
@@ -90,7 +63,12 @@ pub fn diag_row(w: &mut Window, diagnostics: &[u32], messages: &[u8], k: u32)
     let len = word_at(diagnostics, at + 2) as usize;
     let from = word_at(diagnostics, at + 3) as usize;
     let size = word_at(diagnostics, at + 4) as usize;
-    put_diag(w, code, start, len, bytes_in(messages, from, size));
+    w.put(b"diag ");
+    put_number(w, code);
+    put_number(w, start);
+    put_number(w, len);
+    w.put(part(messages, from, size));
+    w.put(b"\n");
 }
 
 // "and `end` with the diagnostic count".

@@ -1,7 +1,7 @@
 // What the rows are printed from (document 01, "Bench rows"): the first of them and the counts, from what the check answered.
 #![tactic(auto)]
 
-ghost use Rattle.std.specs.Prelude.{◌≡◌, take};
+ghost use Rattle.std.specs.Prelude.{◌≡◌};
 ghost use Rattle.rows_begin.specs.Beginning.{alone, narrowed, begun_of};
 
 use ending::Checked;
@@ -17,13 +17,6 @@ pub struct Begun {
     pub types: usize,
     pub count: u32,
     pub bytes: usize,
-}
-
-// The first n words, or all.
-pub fn first_words<'a>(words: &'a [u32], n: usize) -> &'a [u32]
-    ensures { result.now ≡ take n words.now }
-{
-    &words[..n.min(words.len())]
 }
 
 // A row alone, of no answer.

@@ -3,7 +3,9 @@
 
 ghost use Rattle.std.specs.Prelude.{◌≡◌, ◌+◌, ◌*◌, ◌^◌, ◌<◌, length};
 ghost use Rattle.ptype.specs.Add.{overwrite};
-ghost use Rattle.bench_rows.specs.Bench.{word_in, words_in, bytes_in, image_start, text_start, library_start, fits, inputs_in};
+ghost use Rattle.bench_rows.specs.Bench.{word_in, words_in, image_start, text_start, library_start, fits, inputs_in};
+
+use slices::part;
 
 // Words.
 
@@ -23,14 +25,6 @@ fn words(out: &mut [u32], bytes: &[u8], at: usize, k: usize)
     for i in 0..k.min(out.len()) {
         out[i] = word(bytes, at + 4 * i);
     }
-}
-
-// The part of a slice from byte `at` on, k bytes or as many as there are.
-pub fn bytes_in<'a>(bytes: &'a [u8], at: usize, k: usize) -> &'a [u8]
-    ensures { result.now ≡ bytes_in bytes.now at k }
-{
-    let rest = &bytes[at.min(bytes.len())..];
-    &rest[..k.min(rest.len())]
 }
 
 // Lengths and places.
@@ -85,7 +79,7 @@ pub fn fits(bytes: &[u8]) -> bool
 pub fn script<'a>(bytes: &'a [u8]) -> &'a [u8]
     ensures { result.now ≡ (inputs_in bytes.now).script }
 {
-    bytes_in(bytes, 16, word(bytes, 0) as usize)
+    part(bytes, 16, word(bytes, 0) as usize)
 }
 
 // Writes the image's words into the front of a buffer.
@@ -100,7 +94,7 @@ pub fn image(out: &mut [u32], bytes: &[u8])
 pub fn library_text<'a>(bytes: &'a [u8]) -> &'a [u8]
     ensures { result.now ≡ (inputs_in bytes.now).library_text }
 {
-    bytes_in(bytes, text_start(bytes), word(bytes, 8) as usize)
+    part(bytes, text_start(bytes), word(bytes, 8) as usize)
 }
 
 // Writes the library's words into the front of a buffer.

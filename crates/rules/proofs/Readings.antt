@@ -1,6 +1,6 @@
 -- Document 01's "wrong readings", each with a row that tells it from the right one, as a table beside rows (a) to (k). Assumes nothing.
 use mathlib.Core.Path.{◌≡◌, refl}
-use mathlib.Core.List.{List, [], ◌∷◌, map}
+use mathlib.Core.List.{List, [], ◌∷◌, map, ◌++◌}
 use Rattle.tok.specs.Text.{text}
 use Rattle.rules.specs.Run.{rows_run}
 use Rattle.rules.proofs.Row.{Row, computed, expected_of}
@@ -56,7 +56,8 @@ field-order-row = record {
       ∷ 0xD0000005 ∷ 6 ∷ 0xC0000001 ∷ 2 ∷ 5
       ∷ []);
   expected =
-      text "slot 0 Int\nslot 1 Double\nslot 2 Record<a: Int b: Double>\nslot 3 Double\nslot 4 Int\nslot 5 Record<b: Double a: Int>\nslot 7 Void\ndiag 2 19 14 Array members must all have the same type, expected Record<a: Int b: Double> but got Record<b: Double a: Int>\nend 1\n";
+      text "slot 0 Int\nslot 1 Double\nslot 2 Record<a: Int b: Double>\nslot 3 Double\nslot 4 Int\nslot 5 Record<b: Double a: Int>\nslot 7 Void\n"
+      ++ text "diag 2 19 14 Array members must all have the same type, expected Record<a: Int b: Double> but got Record<b: Double a: Int>\nend 1\n";
 }
 
 -- "A cast to the same type poisons" is wrong: it is Int, and so is the sum

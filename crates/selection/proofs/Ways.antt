@@ -81,13 +81,6 @@ module _ (U : ℕ → Ty) (provided : List ℕ) (fs left : List Signature) (inv 
 -- ── The common return type ──
 
 module _ (texts : Texts) (slot : ℕ) (s t : List ℕ) (u : Used) {fs : List Signature} where
-  pub common_none : fs ≡ [] → CommonReturn texts slot fs s t u s (Ok (Poison, u))
-  common_none e = record {
-    of = λ f others p library void d m.
-        let z : ◌≡◌ {A = ℕ} 0 1 = cc in
-        absurd (omega arith);
-  }
-
   module _ {first : Signature} {rest : List Signature} (e : fs ≡ first ∷ rest) {q : Bool}
       (eq : q ≡ all_return_of (ty_of texts t) (ty_of texts t first.ret) rest) where
     pub common_known : {s' : List ℕ} {r : Step Answer} → q ≡ true → ((t d m : List ℕ) → Steps (set_known slot first.ret) s t d m u s' t d m r)

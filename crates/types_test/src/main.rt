@@ -58,6 +58,72 @@ impl From<u32> for Operation {
     }
 }
 
+// What a word that is shown stands for.
+#[derive(Clone, Copy)]
+enum Shown {
+    Type,
+    Number,
+    Signature,
+    Arguments,
+    Types,
+}
+
+impl From<u32> for Shown {
+    fn from(k: u32) -> Shown {
+        match k {
+            0 => Shown::Type,
+            1 => Shown::Number,
+            2 => Shown::Signature,
+            3 => Shown::Arguments,
+            _ => Shown::Types,
+        }
+    }
+}
+
+// What is printed of what was written: the text itself, or where it is long as much as by Sum; its length, a number that any single wrong byte
+// changes, and its front; its length alone; or the first bytes of the buffer, whatever was written.
+#[derive(Clone, Copy)]
+enum Printed {
+    Text,
+    Sum,
+    Length,
+    Buffer,
+}
+
+impl From<u32> for Printed {
+    fn from(k: u32) -> Printed {
+        match k {
+            1 => Printed::Sum,
+            2 => Printed::Length,
+            3 => Printed::Buffer,
+            _ => Printed::Text,
+        }
+    }
+}
+
+// What is asked of types: whether Unknown or a slot stands in one, whether two are equal, whether two fields have the same word as type, whether the
+// types of a part of the words are shallow.
+#[derive(Clone, Copy)]
+enum Question {
+    HasUnknown,
+    HasSlot,
+    Same,
+    SameField,
+    Shallow,
+}
+
+impl From<u32> for Question {
+    fn from(k: u32) -> Question {
+        match k {
+            0 => Question::HasUnknown,
+            1 => Question::HasSlot,
+            2 => Question::Same,
+            3 => Question::SameField,
+            _ => Question::Shallow,
+        }
+    }
+}
+
 // What is answered: names in the library text, so that no function here has a text of its own.
 const DONE: u32 = 0xC1011005;
 
@@ -84,15 +150,17 @@ const ROOM: usize = 100_000;
 // Parts and numbers.
 
 // A part of a list, told as names are: where it starts, in 16 bits, and in the low 8 its length.
-fn part<'a>(words: &'a [u32], told: u32) -> &'a [u32] {
-    let start = ((told / 0x100 % 0x1_0000) as usize).min(words.len());
-    let end = start + ((told % 0x100) as usize).min(words.len() - start);
-    &words[start..end]
+fn part(words: &[u32], told: u32) -> &[u32] {
+    slices::part(
+        words,
+        (told / 0x100 % 0x1_0000) as usize,
+        (told % 0x100) as usize,
+    )
 }
 
-fn sum(text: &[u8], n: usize) -> usize {
+fn sum(text: &[u8]) -> usize {
     let mut s = 0usize;
-    for b in &text[..n.min(text.len())] {
+    for b in text {
         s = s % 4294967291 * 31 + *b as usize;
     }
     s
@@ -112,60 +180,68 @@ fn number(rt: &impl Print, n: usize) -> io::Result<()> {
 // A blank and the first n bytes.
 fn front(rt: &impl Print, text: &[u8], n: usize) -> io::Result<()> {
     print!(rt; " ")?;
-    rt.write_all(&text[..n.min(text.len())])
+    rt.write_all(slices::front(text, n))
 }
 
-// How many bytes are told of: the first 50 of the buffer, or those written, or more than there are.
-fn length(written: Option<usize>, how: u32) -> usize {
-    if how == 3 {
-        return 50;
+// Tells of a buffer of which so many bytes were written, or none as there was no room for all.
+fn told(
+    rt: &impl Print,
+    out: &[u8; ROOM],
+    texts: &Texts,
+    written: Option<usize>,
+    printed: Printed,
+) -> io::Result<()> {
+    if let Printed::Buffer = printed {
+        return front(rt, out, 50);
     }
-    written.unwrap_or(ROOM + 1)
-}
-
-// Bytes of the buffer, as told: the text itself up to 640 bytes; else its length, a number that any single wrong byte changes, and its front; or only
-// its length.
-fn told(rt: &impl Print, out: &[u8; ROOM], texts: &Texts, n: usize, how: u32) -> io::Result<()> {
-    if n > ROOM {
-        say(rt, texts, FULL)
-    } else if how == 2 {
-        number(rt, n)
-    } else if how == 1 || n > 640 {
-        number(rt, n)?;
-        number(rt, sum(out, n))?;
-        front(rt, out, n.min(64))
-    } else {
-        front(rt, out, n)
+    let Some(n) = written else {
+        return say(rt, texts, FULL);
+    };
+    match printed {
+        Printed::Length => number(rt, n),
+        Printed::Text if n <= 640 => front(rt, out, n),
+        _ => {
+            number(rt, n)?;
+            number(rt, sum(slices::front(out, n)))?;
+            front(rt, out, n.min(64))
+        }
     }
 }
 
 // Writes what a word stands for: a type, or a number, or a list that stands behind the types.
-fn write(out: &mut Writer, types: &Types, what: u32, w: u32) -> Result<(), Full> {
-    match what {
-        0 => display::show_type(out, types, w),
-        1 => out.put_decimal(w as usize),
-        2 => display::show_signature(out, types, part(types.words, w)),
-        3 => display::show_arg_types(out, types, part(types.words, w)),
-        _ => display::show_types(out, types, part(types.words, w)),
+fn write(out: &mut Writer, types: &Types, shown: Shown, w: u32) -> Result<(), Full> {
+    match shown {
+        Shown::Type => display::show_type(out, types, w),
+        Shown::Number => out.put_decimal(w as usize),
+        Shown::Signature => display::show_signature(out, types, part(types.words, w)),
+        Shown::Arguments => display::show_arg_types(out, types, part(types.words, w)),
+        Shown::Types => display::show_types(out, types, part(types.words, w)),
     }
 }
 
 // How many bytes it wrote, where all had room.
-fn written(out: &mut [u8], types: &Types, what: u32, w: u32) -> Option<usize> {
+fn written(out: &mut [u8], types: &Types, shown: Shown, w: u32) -> Option<usize> {
     let mut writer = Writer::new(out);
-    write(&mut writer, types, what, w).ok()?;
+    write(&mut writer, types, shown, w).ok()?;
     Some(writer.at)
 }
 
 // Writes into so many bytes of a buffer of dots, and tells of it.
-fn show(rt: &impl Print, types: &Types, form: u32, room: usize, w: u32) -> io::Result<()> {
+fn show(
+    rt: &impl Print,
+    types: &Types,
+    shown: Shown,
+    printed: Printed,
+    room: usize,
+    w: u32,
+) -> io::Result<()> {
     let mut out = [b'.'; ROOM];
-    let n = written(&mut out[..room.min(ROOM)], types, form % 8, w);
-    told(rt, &out, types.texts, length(n, form / 8), form / 8)
+    let n = written(&mut out[..room.min(ROOM)], types, shown, w);
+    told(rt, &out, types.texts, n, printed)
 }
 
 fn text(rt: &impl Print, types: &Types, w: u32) -> io::Result<()> {
-    show(rt, types, 0, ROOM, w)
+    show(rt, types, Shown::Type, Printed::Text, ROOM, w)
 }
 
 // Commands that write nothing.
@@ -183,14 +259,16 @@ fn shallow(types: &[u32], pool: &[u32]) -> bool {
     add::pool_is_shallow(types, pool, &mut known)
 }
 
-fn whether(types: &Types, a: u32, b: u32, what: u32) -> bool {
+fn holds(types: &Types, question: Question, a: u32, b: u32) -> bool {
     let words = types.words;
-    match what {
-        0 => ptype::contains_unknown(words, a),
-        1 => ptype::contains_slot(words, a),
-        2 => ptype::same_type(types, a, b),
-        3 => ptype::field_type(words, a as usize) == ptype::field_type(words, b as usize),
-        _ => shallow(words, part(words, a)),
+    match question {
+        Question::HasUnknown => ptype::contains_unknown(words, a),
+        Question::HasSlot => ptype::contains_slot(words, a),
+        Question::Same => ptype::same_type(types, a, b),
+        Question::SameField => {
+            ptype::field_type(words, a as usize) == ptype::field_type(words, b as usize)
+        }
+        Question::Shallow => shallow(words, part(words, a)),
     }
 }
 
@@ -330,9 +408,16 @@ fn tell(
 ) -> io::Result<()> {
     match operation {
         Operation::Bound => bound(rt, types, lists, c.a),
-        Operation::Show => show(rt, types, c.a, c.b as usize, c.c),
+        Operation::Show => show(
+            rt,
+            types,
+            Shown::from(c.a % 8),
+            Printed::from(c.a / 8),
+            c.b as usize,
+            c.c,
+        ),
         Operation::Depth => print!(rt; "{}", ptype::depth(types.words, c.a)),
-        Operation::Ask => print!(rt; "{}", u8::from(whether(types, c.a, c.b, c.c))),
+        Operation::Ask => print!(rt; "{}", u8::from(holds(types, Question::from(c.c), c.a, c.b))),
         _ => Ok(()),
     }
 }

@@ -8,4 +8,4 @@ use Rattle.bench_run.proofs.begin.Goals as goal
 pub returns : goal.returns
 returns c =
     begins-runs _ _ _ (sym c.fits.ensures ∙ c.if-not-fits.false) c.image.ensures c.library.ensures c.image_length-image_length.ensures c.library_length-library_length.ensures
-    c.first_words.ensures c.first_words-2.ensures c.script.ensures c.library_text.ensures c.run.ensures
+    c.front.ensures c.front-2.ensures c.script.ensures c.library_text.ensures c.run.ensures

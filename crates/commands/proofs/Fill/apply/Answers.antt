@@ -1,6 +1,6 @@
 use Rattle.std.proofs.Common.{refl, ap, set, ◌∙◌}
 use Rattle.commands.proofs.Changing.{fill_begins, fill-next, fill-ends}
-use Rattle.commands.proofs.fill_items.Goals as goal
+use Rattle.commands.proofs.Fill.apply.Goals as goal
 
 pub loop-init : goal.loop-init
 loop-init g c = fill_begins g.T.Element.held _ _ _ _ _ _

@@ -1,0 +1,18 @@
+// Parts of slices, cut to what there is.
+#![tactic(auto)]
+
+ghost use Rattle.std.specs.Prelude.{◌≡◌, take, drop};
+
+// The first `n` items, or all where there are fewer.
+pub fn front<T>(items: &[T], n: usize) -> &[T]
+    ensures { result.now ≡ take n items.now }
+{
+    &items[..n.min(items.len())]
+}
+
+// The `n` items from an index on, or as many as there are.
+pub fn part<T>(items: &[T], at: usize, n: usize) -> &[T]
+    ensures { result.now ≡ take n (drop at items.now) }
+{
+    front(&items[at.min(items.len())..], n)
+}
