@@ -4,7 +4,7 @@ use Rattle.start.specs.Measured.{arguments-over, argument-next, argument-deep}
 use Rattle.start.proofs.arguments_are_shallow.Goals as goal
 
 pub loop-i-init : goal.loop-i-init
-loop-i-init c = ((λ t. refl), c.argument_count-end.ensures, c.requires, refl)
+loop-i-init c = ((λ t. refl), c.argument_count-i-end.ensures, c.requires, refl)
 
 pub returns-then-not-is_shallow_known : goal.returns-then-not-is_shallow_known
 returns-then-not-is_shallow_known c = (

@@ -9,4 +9,4 @@ use Rattle.start.proofs.arguments_are_shallow.Given as goal
 
 abbrev pub invariant-loop-i : goal.invariant-loop-i
 invariant-loop-i l = ((t : Texts) → all_shallow t l.types (param_types l.signature.params) ≡ all_shallow t l.types (param_types (drop l.i l.signature.params)))
-    × (l.end ≡ length l.signature.params) × Depths l.types l.known × (length l.known ≡ length l.initial.known)
+    × (l.i-end ≡ length l.signature.params) × Depths l.types l.known × (length l.known ≡ length l.initial.known)
