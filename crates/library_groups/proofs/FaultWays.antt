@@ -6,10 +6,11 @@ use mathlib.Core.Bool.{true}
 use mathlib.Core.List.{List}
 use native.Mathlib.Omega.{arith}
 use native.Mathlib.Decide.{dec_lt, ℕ_discrete}
-use lib.ListN.{length, get_or, take, drop}
+use lib.ListN.{length, get_or, drop}
 use Rattle.std.proofs.Common.{get_or-take, get_or-drop, length-take-le, length-drop}
 use Rattle.tok.specs.Text.{Texts}
 use Rattle.name_order.specs.Order.{place_in, name_of, Grouped, GroupEnd}
+use Rattle.name_order.specs.Groups.{GroupAt}
 use Rattle.name_order.specs.OrderLaws.{Begins, begins-first, begins-next, group-is}
 use Rattle.library_groups.specs.Kept.{slotted, Lowest, FaultAt, FaultsFrom, FirstFault}
 
@@ -50,17 +51,15 @@ module _ (words order : List ℕ) (at low most : ℕ) where
   faults-done end i best l h = record { limit = h.limit; found = λ j m o. h.found j m (omega arith) }
 
 -- The same, found in the group's own ranks.
-module _ (order : List ℕ) (at end : ℕ) (l : at ≤ end) (within : end ≤ length order) where
-  abbrev group : List ℕ
-  group = take (end - at) (drop at order)
-
+module _ {order group : List ℕ} {at end : ℕ} (g : GroupAt order at group end) where
   long : length group ≡ end - at
-  long = length-take-le (end - at) (drop at order) (omega (arith, length-drop at order))
+  long = ap length g.entries ∙ length-take-le (end - at) (drop at order) (omega (arith, length-drop at order, g.ends.within))
 
   there : (i : ℕ) → at ≤ i → i < end → get_or group (i - at) 0 ≡ get_or order i 0
   there i m o =
       let back : at + (i - at) ≡ i = omega arith in
-      get_or-take (end - at) (drop at order) (i - at) 0 (omega arith) ∙ get_or-drop at order (i - at) 0 ∙ ap (λ j. get_or order j 0) back
+      ap (λ es. get_or es (i - at) 0) g.entries
+      ∙ get_or-take (end - at) (drop at order) (i - at) 0 (omega arith) ∙ get_or-drop at order (i - at) 0 ∙ ap (λ j. get_or order j 0) back
 
   pub lowest_there : {low : ℕ} → Lowest group 0 (length group) low → Lowest order at end low
   lowest_there h = record { each = λ i m o. omega (arith, h.each (i - at) (omega arith) (omega (arith, long)), ap place_in (there i m o)) }

@@ -8,7 +8,7 @@ ghost use Rattle.library_groups.specs.Kept.{GroupsKept, FunctionsListed, ListedE
 ghost use Rattle.name_order.specs.Order.{Grouped};
 
 use library::Function;
-use name_order::NamedWords;
+use name_order::{Groups, NamedWords};
 use reader::MOST_WORDS;
 use tok::Texts;
 
@@ -94,12 +94,8 @@ fn first_fault(words: &[u32], order: &[u16], most: usize) -> usize
         (t : Texts) → Grouped t words.now order.now n → FirstFault t words.now order.now n most result }
 {
     let mut best = most;
-    let mut at = 0;
-    while at < order.len() {
-        let end = name_order::group_end(order, at);
-        let group = &order[at..end];
+    for group in Groups::of(order) {
         best = fault_in(words, group, lowest(group), best);
-        at = end;
     }
     best
 }

@@ -2,7 +2,7 @@
 // said of the packages holds where it was accepted and its slots are counted: `Ready`, the invariant of `Pool`.
 #![tactic(auto)]
 
-ghost use Rattle.std.specs.Prelude.{◌≡◌, true, false, ◌&&◌, List, [], ℕ, ◌+◌, ◌*◌, length, get_or, take, drop, eqb};
+ghost use Rattle.std.specs.Prelude.{◌≡◌, true, false, ◌&&◌, List, [], ℕ, ◌+◌, ◌*◌, length, get_or, eqb};
 ghost use Rattle.tok.specs.Reader.{many};
 ghost use Rattle.reader.specs.Reading.{next_word, Comes, offending};
 ghost use Rattle.library.specs.Pool.{pool_at};
@@ -58,15 +58,6 @@ fn good_flag(texts: &Texts, before: &Entries, kept: bool, group: u32, flag: u32)
         → result ≡ good_flag (pool_at texts.now size types) (functions_in before.now) group flag) }
 {
     flag == 0 || flag == 1 && (kept || !group_met(texts, before, group))
-}
-
-// The words of `count` pairs from a place on, as far as the list goes.
-fn pairs_at(words: &[u32], at: usize, count: u32) -> &[u32]
-    ensures { result.now ≡ take (2 * count) (drop at words.now) }
-{
-    let start = at.min(words.len());
-    let end = (start + 2 * count as usize).min(words.len());
-    &words[start..end]
 }
 
 // What the packages are read with: the texts, the words of the pool, which is accepted, how many of them hold a slot before each index, and
@@ -160,7 +151,7 @@ impl<'a> Pool<'a> {
         let count = at.next_word();
         let args = at.owing(true, 2 * count as usize)?;
         let first = args.at;
-        let pairs = pairs_at(args.words, first, count);
+        let pairs = library::words_at(args.words, first, 2 * count as usize);
         let slotted = flag == 1;
         let end = self.arguments(slotted, count, args)?;
         let w = end.next_word();

@@ -1,5 +1,6 @@
 -- Marking as the code does it, one law for each way out. Assumes nothing.
-use Prim.Native.Nat.{ℕ, zero, suc, ◌+◌, ◌*◌, ◌-◌, ◌≤◌, ◌<◌}
+use Prim.Native.Nat.{ℕ, zero, suc, ◌+◌, ◌*◌, ◌-◌, ◌≤◌, ◌<◌, min}
+use native.Mathlib.Decide.{dec_le}
 use mathlib.Core.Path.{◌≡◌, refl, sym, ap, ◌∙◌}
 use mathlib.Core.Bool.{Bool, true, false, cond}
 use mathlib.Core.List.{List, [], ◌∷◌, ◌++◌}
@@ -36,14 +37,21 @@ module _ {before marks : List Bool} {at n i left : ℕ} (h : FieldsToMark before
   }
 
   -- past the end of the marks nothing is set
-  pub marked-past : length marks ≤ i → marks ≡ mark_fields before at n
+  marked-past : length marks ≤ i → marks ≡ mark_fields before at n
   marked-past l = sym (h.rest ∙ nothing-past left marks i l)
 
-  pub all-marked : left ≤ 0 → marks ≡ mark_fields before at n
+  all-marked : left ≤ 0 → marks ≡ mark_fields before at n
   unfolding mark_fields
   all-marked l =
       let s : left ≡ 0 = omega arith in
       sym (h.rest ∙ ap (mark_fields marks i) s)
+
+  -- no field is left among the marks
+  pub marked-over : min (at + 2 * n) (length marks) ≤ i → marks ≡ mark_fields before at n
+  marked-over l = elim (dec_le (length marks) i) [
+    | yes p ↦ marked-past p
+    | no d ↦ all-marked (omega (arith, h.place))
+  ]
 
 -- one step of the spread keeps the number of marks
 pub length_from : (types : List ℕ) (marks marks' : List Bool) (i : ℕ)

@@ -13,6 +13,7 @@ use Rattle.library.specs.SlotMarks.{unmarked, mark_inside, mark_all, spread, any
 use Rattle.library.specs.ReturnSlots.{among_marked, missing, reached_from}
 use Rattle.library_slots.proofs.NameWays.{return-slot, return-other}
 use Rattle.name_order.specs.Order.{place_in, Listed, Grouped, Grouping, GroupEnd}
+use Rattle.name_order.specs.Groups.{GroupAt}
 use Rattle.name_order.specs.OrderLaws.{Begins, begins-first, begins-next, group-is}
 use Rattle.library_slots.specs.Named.{argued, wanted, Told, Had, NamesStand, ReturnAsked, SlotsListed, SlotsNamed}
 use Rattle.library_slots.specs.NamedLaws.{listed_same, named-same}
@@ -82,7 +83,7 @@ module _ {order : List ℕ} {n : ℕ} {have want : ℕ → Bool} where
           }
 
 -- what is told of a group, found in its own ranks
-pub told_there : {test : ℕ → Bool} {order : List ℕ} {at end : ℕ} {r : Bool} → at ≤ end → end ≤ length order
+told_there : {test : ℕ → Bool} {order : List ℕ} {at end : ℕ} {r : Bool} → at ≤ end → end ≤ length order
     → Told test (take (end - at) (drop at order)) 0 (length (take (end - at) (drop at order))) r → Told test order at end r
 told_there {test} {order} {at} {end} {r} l m h = record {
   yes = λ y. let f = h.yes y in record {
@@ -102,6 +103,11 @@ told_there {test} {order} {at} {end} {r} l m h = record {
 
     there : (i : ℕ) → i < end - at → get_or (take (end - at) (drop at order)) i 0 ≡ get_or order (at + i) 0
     there i o = get_or-take (end - at) (drop at order) i 0 o ∙ get_or-drop at order i 0
+
+pub told_in : {test : ℕ → Bool} {order group : List ℕ} {at end : ℕ} {r : Bool} → GroupAt order at group end → Told test group 0 (length group) r → Told test order at end r
+told_in {at = at} {end = end} g h =
+    let after = g.ends.after in
+    told_there (omega arith) g.ends.within (rw g.entries at h)
 
 -- ── The return type ──
 

@@ -12,7 +12,7 @@ ghost use Rattle.library.specs.ReturnSlots.{among_marked, missing};
 ghost use Rattle.name_order.specs.Order.{Grouped};
 ghost use Rattle.library_slots.specs.Named.{of_pairs, in_pool, argued, wanted, Told, NamesStand, ReturnAsked, SlotsListed, SlotsNamed};
 
-use name_order::NamedWords;
+use name_order::{Groups, NamedWords};
 use ptype::TypeKind;
 use reader::MOST_WORDS;
 use tok::{Texts, item_at, set_item};
@@ -61,11 +61,8 @@ fn mark_fields(marks: &mut [bool], at: usize, n: usize)
     requires { at + 2 * n < 2 ^ 40 }
     ensures { marks.new ≡ mark_fields marks.old at n }
 {
-    for k in 0..n {
-        let i = at + 2 * k;
-        if i >= marks.len() {
-            return;
-        }
+    let end = (at + 2 * n).min(marks.len());
+    for i in (at..end).step_by(2) {
         set_item(marks, i, true);
     }
 }
@@ -252,14 +249,10 @@ fn names_stand(order: &[u16], args: &Reach, ret: &Reach) -> bool
         (t : Texts) (words : List ℕ) → Grouped t words order.now n
         → NamesStand t words order.now n (argued args.now.size args.now.marks.now args.now.first args.now.end) (wanted ret.now.size ret.now.marks.now ret.now.end) result }
 {
-    let mut at = 0;
-    while at < order.len() {
-        let next = name_order::group_end(order, at);
-        let group = &order[at..next];
+    for group in Groups::of(order) {
         if ret.wants_any(group) && !args.argues_any(group) {
             return false;
         }
-        at = next;
     }
     true
 }

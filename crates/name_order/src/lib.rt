@@ -3,11 +3,14 @@
 // what is proved is that no place is lost, and that where `group_names` answers true the names are grouped.
 #![tactic(auto)]
 
-ghost use Rattle.std.specs.Prelude.{◌≡◌, true, false, ℕ, ◌+◌, ◌*◌, ◌<◌, ◌≤◌, ◌^◌, length, get_or, set};
+ghost use Rattle.std.specs.Prelude.{◌≡◌, true, false, ℕ, ◌+◌, ◌*◌, ◌<◌, ◌≤◌, ◌-◌, ◌^◌, length, get_or, set};
+ghost use Rattle.std.specs.Iterator.{at_most};
 ghost use Rattle.tok.specs.Text.{name_bytes};
 ghost use Rattle.name_order.specs.Bytes.{bytes_before};
 ghost use Rattle.name_order.specs.Order.{place_in, new_in, Rearranged, Split, Grouping, GroupEnd};
+ghost use Rattle.name_order.specs.Groups.{GroupsFrom, groups_from, GivesGroup};
 
+use std::marker::Model;
 use tok::{Texts, item_at, set_item};
 
 // Entries of places.
@@ -177,4 +180,43 @@ pub fn group_end(order: &[u16], at: usize) -> usize
     ensures { GroupEnd order.now at (length order.now) result }
 {
     at + 1 + before_new(&order[at + 1..])
+}
+
+// The groups of entries from a rank on, in order.
+#[derive(Drop)]
+pub struct Groups<'a> {
+    order: &'a [u16],
+    at: usize,
+}
+
+impl<'a> Model for Groups<'a> {
+    ghost Value = { GroupsFrom };
+
+    ghost view = { λ g. groups_from g.order.now g.at };
+}
+
+impl<'a> Groups<'a> {
+    // Those of all entries.
+    pub fn of(order: &'a [u16]) -> Groups<'a>
+        ensures { result ≡ groups_from order.now 0 }
+    {
+        Groups { order, at: 0 }
+    }
+}
+
+impl<'a> Iterator for Groups<'a> {
+    type Item = &'a [u16];
+
+    ghost next_gives = { GivesGroup };
+
+    ghost remaining = { λ g. at_most (length g.order - g.at) };
+
+    fn next(&mut self) -> Option<&'a [u16]> {
+        if self.at >= self.order.len() {
+            return None;
+        }
+        let start = self.at;
+        self.at = group_end(self.order, start);
+        Some(&self.order[start..self.at])
+    }
 }

@@ -46,5 +46,5 @@ returns c =
     _ c.in_ok-at.ensures _ _ c.next_word-flag.ensures
     (c.good_flag-good.ensures _ _ (own-kept _ _ c.args.from h _ c.next_word-group.ensures _ _ _ c.in_ok-at.ensures c.next_word-flag.ensures))
     _ c.in_ok-at-2.ensures _ _ c.next_word-count.ensures refl _ c.in_ok-args.ensures
-    _ (rw (← c.self.view_is) at (c.in_ok-end.ensures _ refl)) _ _ _ _ c.next_word-w.ensures (rw (first, words) at c.pairs_at-pairs.ensures)
+    _ (rw (← c.self.view_is) at (c.in_ok-end.ensures _ refl)) _ _ _ _ c.next_word-w.ensures (rw (first, words) at c.words_at-pairs.ensures)
     (λ f q. (rw (first, last, ← c.self.view_is) at (c.good_return-good.ensures _ c.args.from.words refl)) o f q) c.word-3.ensures)

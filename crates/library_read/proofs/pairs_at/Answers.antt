@@ -1,6 +1,0 @@
--- `library_read::pairs_at` meets its contract: start and end are held to the end of the list. Assumes nothing.
-use Rattle.library.proofs.AccessWays.{part_held}
-use Rattle.library_read.proofs.pairs_at.Goals as goal
-
-pub returns : goal.returns
-returns c = part_held _ _ _ c.min-start.ensures c.min-end.ensures
