@@ -82,8 +82,5 @@ pub fn refuse<'a>(
     if let Err(Fault(node)) = depth::depth(image) {
         return Err(Cause::Depth(node));
     }
-    if let Err(_) = room::room(image, slots.len(), functions.len()) {
-        return Err(Cause::Room);
-    }
-    Ok(())
+    room::room(image, slots.len(), functions.len()).or(Err(Cause::Room))
 }

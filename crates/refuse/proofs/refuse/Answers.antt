@@ -1,5 +1,7 @@
 -- `refuse::refuse` meets its contract: a law for each way out (`Ways`). Assumes nothing.
-use Rattle.refuse.proofs.Ways.{scratch-short, library-refused, image-refused, claims-refused, depth-refused, room-short, room-enough}
+use mathlib.Core.Path.{ap, ◌∙◌}
+use Rattle.refuse.specs.Answer.{refusal_in}
+use Rattle.refuse.proofs.Ways.{scratch-short, library-refused, image-refused, claims-refused, depth-refused, room-last}
 use Rattle.refuse.proofs.refuse.Goals as goal
 
 pub returns-then-scratch-lt-SCRATCH_WORDS : goal.returns-then-scratch-lt-SCRATCH_WORDS
@@ -17,12 +19,8 @@ returns-in-Err-claims c = claims-refused _ _ c.if-scratch-lt-SCRATCH_WORDS.false
 pub returns-in-Err-depth : goal.returns-in-Err-depth
 returns-in-Err-depth c = depth-refused _ _ c.if-scratch-lt-SCRATCH_WORDS.false c.in_default.ensures (c.in_default-read.ensures _) c.in_default-claims.ensures _ c.in-Err-depth.ensures
 
-pub returns-in-Err-room : goal.returns-in-Err-room
-returns-in-Err-room c =
-    room-short _ _ c.if-scratch-lt-SCRATCH_WORDS.false c.in_default.ensures (c.in_default-read.ensures _) c.in_default-claims.ensures c.in_default-depth.ensures _
-    c.in-Err-room.ensures
-
 pub returns : goal.returns
 returns c =
-    room-enough _ _ c.if-scratch-lt-SCRATCH_WORDS.false c.in_default.ensures (c.in_default-read.ensures _) c.in_default-claims.ensures c.in_default-depth.ensures
-    c.in_default-room.ensures
+    ap refusal_in c.or.ensures
+    ∙ room-last _ _ c.if-scratch-lt-SCRATCH_WORDS.false c.in_default.ensures (c.in_default-read.ensures _) c.in_default-claims.ensures c.in_default-depth.ensures
+    c.room.result c.room.ensures
