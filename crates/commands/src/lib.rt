@@ -149,10 +149,11 @@ fn put_bytes(out: &mut [u8], at: usize, w: u32)
     requires { at < 2 ^ 33 }
     ensures { out.new ≡ four_bytes out.old at w }
 {
-    set_item(out, at, u8::of(w));
-    set_item(out, at + 1, u8::of(w / 0x100));
-    set_item(out, at + 2, u8::of(w / 0x1_0000));
-    set_item(out, at + 3, u8::of(w / 0x100_0000));
+    let [a, b, c, d] = w.to_le_bytes();
+    set_item(out, at, a);
+    set_item(out, at + 1, b);
+    set_item(out, at + 2, c);
+    set_item(out, at + 3, d);
 }
 
 // Every `stride`-th element from `start` on, `count` of them: `value`, `value + step`, ..

@@ -7,7 +7,11 @@ use mathlib.Core.List.{List}
 use lib.ListN.{length}
 use lib.Dec.{ltb}
 use borrow.Author.Tests.{lt-ltb, le-ltb}
+use Rattle.std.specs.Prelude.{Result, Ok, Err, ⊤}
+use Rattle.std.specs.Result.{result_or}
 use Rattle.tok.specs.Step.{Refusal, refusal}
+use Rattle.reader.specs.declared.Fault.{Fault}
+use Rattle.reader.specs.Reading.{offending}
 use Rattle.library.specs.LibraryFault.{library_fault}
 use Rattle.ast.specs.ImageFault.{image_read, image_fault}
 use Rattle.ast.specs.Image.{node_count, slot_count}
@@ -20,7 +24,8 @@ use Rattle.depth.specs.Depths.{depth_in}
 use Rattle.depth.specs.DepthLaws.{depth-accepted}
 use Rattle.refusals.specs.Inputs.{Inputs, Buffers, texts_in}
 use Rattle.refusals.specs.Refusals.{or_else, scratch_fault, refusal_of_outlines, refusal_of_image, refusal_of}
-use Rattle.refuse.specs.Answer.{room_in}
+use Rattle.refuse.specs.declared.Cause.TheVariants.{Room}
+use Rattle.refuse.specs.Answer.{refusal_in, room_in}
 
 -- refusal 6 has place 0 only
 room-place : (slots functions : ℕ) (words : List ℕ) (place : ℕ) → room_in slots functions words ≡ some place → place ≡ 0
@@ -94,12 +99,17 @@ module _ (i : Inputs) (b : Buffers) where
             unfolding or_else
             after-depth = after-claims ∙ ap (λ f. or_else 5 f by-room) (sym shallow)
 
-            pub room-short : (place : ℕ) → some place ≡ room_in (length b.slots) (length b.functions) i.image → some (refusal 6 0) ≡ refusal_of i b
+            room-short : (place : ℕ) → some place ≡ room_in (length b.slots) (length b.functions) i.image → some (refusal 6 0) ≡ refusal_of i b
             unfolding or_else
             room-short place e =
                 ap (λ k. some (refusal 6 k)) (sym (room-place (length b.slots) (length b.functions) i.image place (sym e)))
                 ∙ sym (after-depth ∙ ap (λ f. or_else 6 f none) (sym e))
 
-            pub room-enough : none ≡ room_in (length b.slots) (length b.functions) i.image → none ≡ refusal_of i b
+            room-enough : none ≡ room_in (length b.slots) (length b.functions) i.image → none ≡ refusal_of i b
             unfolding or_else
             room-enough e = sym (after-depth ∙ ap (λ f. or_else 6 f none) (sym e))
+
+            pub room-last : (r : Result ⊤ Fault) → offending r ≡ room_in (length b.slots) (length b.functions) i.image
+                → refusal_in (result_or r (Err Room)) ≡ refusal_of i b
+            room-last (Ok passed) e = room-enough e
+            room-last (Err fault) e = room-short fault.0 e

@@ -11,7 +11,6 @@ ghost use Rattle.claims.specs.Marks.{claims_in};
 ghost use Rattle.depth.specs.Depths.{depth_in};
 ghost use Rattle.refuse.specs.Answer.{refusal_in, room_in, inputs_of, buffers_of};
 
-use reader::Fault;
 use std::marker::Model;
 use tok::Texts;
 
@@ -70,20 +69,9 @@ pub fn refuse<'a>(
         script,
         library: text,
     };
-    if let Err(Fault(word)) = library_read::library_fault(&texts, library) {
-        return Err(Cause::Library(word));
-    }
-    if let Err(Fault(word)) = image::read(script, image) {
-        return Err(Cause::Image(word));
-    }
-    if let Err(Fault(node)) = claims::claims(image) {
-        return Err(Cause::Claims(node));
-    }
-    if let Err(Fault(node)) = depth::depth(image) {
-        return Err(Cause::Depth(node));
-    }
-    if let Err(_) = room::room(image, slots.len(), functions.len()) {
-        return Err(Cause::Room);
-    }
-    Ok(())
+    library_read::library_fault(&texts, library).map_err(|fault| Cause::Library(fault.0))?;
+    image::read(script, image).map_err(|fault| Cause::Image(fault.0))?;
+    claims::claims(image).map_err(|fault| Cause::Claims(fault.0))?;
+    depth::depth(image).map_err(|fault| Cause::Depth(fault.0))?;
+    room::room(image, slots.len(), functions.len()).or(Err(Cause::Room))
 }

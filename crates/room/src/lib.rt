@@ -33,11 +33,7 @@ pub fn room(words: &[u32], slots: usize, functions: usize) -> Result<(), Fault>
     let mut at = 4 + ast::root_count(words) as usize;
     let mut left = functions;
     for _ in 0..n {
-        let need = entry_words(words, at);
-        if left < need {
-            return Err(Fault(0));
-        }
-        left -= need;
+        left = left.checked_sub(entry_words(words, at)).ok_or(Fault(0))?;
         at = node_parts::after(words, at);
     }
     Ok(())
