@@ -143,7 +143,7 @@ pub fn put_digits(out: &mut Writer, most: usize, n: usize) -> Result<(), Full>
 }
 
 // How many digits a number of 32 bits can have.
-const MOST_DIGITS: usize = 10;
+pub const MOST_DIGITS: usize = 10;
 
 // Types.
 

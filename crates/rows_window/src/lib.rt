@@ -6,7 +6,7 @@ ghost use Rattle.ptype.specs.Show.{decimal};
 ghost use Rattle.rows_window.specs.Showing.{Shows, is_full, Shown};
 ghost use Rattle.rows_window.specs.ShowingLaws.{window_laws};
 
-use display::{Full, Sink, Writer};
+use display::{Full, MOST_DIGITS, Sink, Writer};
 
 // The buffer that is lent to be written into, how many bytes of the text are still passed over, and where the next byte goes.
 #[derive(Drop)]
@@ -15,9 +15,6 @@ pub struct Window<'a> {
     pub skip: usize,
     pub at: usize,
 }
-
-// How many digits a number can have.
-const MOST_DIGITS: usize = 10;
 
 impl<'a> Window<'a> {
     // Whether nothing more is written, whatever the text.
