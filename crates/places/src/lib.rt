@@ -28,8 +28,8 @@ impl<'a> Model for Image<'a> {
 
 // A node of an image, and where its record stands.
 #[derive(Clone, Copy)]
-pub struct NodeAt<'a> {
-    pub image: &'a Image<'a>,
+pub struct NodeAt<'i, 'a> {
+    pub image: &'i Image<'a>,
     pub n: u32,
     pub at: usize,
 }
@@ -80,7 +80,7 @@ impl<'a> Image<'a> {
 
     // Node n, and where its record stands; word 0 where the array has no place for it.
     #[inline]
-    pub fn node(&'a self, n: u32) -> NodeAt<'a>
+    pub fn node<'i>(&'i self, n: u32) -> NodeAt<'i, 'a>
         ensures same { result.image.now ≡ self.now }
         ensures number { result.n ≡ n }
         ensures place { result.at ≡ get_or self.now.places n 0 }
@@ -107,7 +107,7 @@ impl<'a> Image<'a> {
     }
 }
 
-impl<'a> NodeAt<'a> {
+impl<'i, 'a> NodeAt<'i, 'a> {
     // The node's kind.
     #[inline]
     pub fn kind(&self) -> NodeKind

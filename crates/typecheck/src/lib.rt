@@ -14,7 +14,7 @@ use ast::NodeKind;
 use places::Image;
 use ptype::Types;
 use rules::Answer;
-use tok::{Texts, payload};
+use tok::Texts;
 use visit::{State, Visit};
 
 // Typechecker::node: a node, by its kind.
@@ -38,7 +38,7 @@ pub fn node(
         let b' : Lent = lent slots.new functions.new types.new diagnostics.new messages.new scratch.new no_more in
         NodeVisited texts.now image.now.words library.now n st b b' result }
 {
-    match NodeKind::of(image.word_at(image.node_place(n))) {
+    match (&*image).node(n).kind() {
         NodeKind::Atom | NodeKind::Ident | NodeKind::Import | NodeKind::Extern => leaves::leaf(
             slots,
             types,
@@ -217,7 +217,7 @@ fn bin(
         let b' : Lent = lent slots.new functions.new types.new diagnostics.new messages.new scratch.new no_more in
         NodeVisited texts.now image.now.words library.now n st b b' result }
 {
-    let at = image.node_place(n);
+    let node = (&*image).node(n);
     let (l, between) = part(
         slots,
         functions,
@@ -229,7 +229,7 @@ fn bin(
         image,
         library,
         st,
-        image.word_after(at, 4),
+        node.word(4),
     )?;
     let (r, end) = part(
         slots,
@@ -242,7 +242,7 @@ fn bin(
         image,
         library,
         between,
-        image.word_after(at, 5),
+        node.word(5),
     )?;
     operands::bin_end(
         slots,
@@ -252,10 +252,8 @@ fn bin(
         },
         diagnostics,
         messages,
-        image,
-        at,
+        &node,
         end,
-        n,
         l,
         r,
     )
@@ -282,8 +280,8 @@ fn one(
         let b' : Lent = lent slots.new functions.new types.new diagnostics.new messages.new scratch.new no_more in
         NodeVisited texts.now image.now.words library.now n st b b' result }
 {
-    let at = image.node_place(n);
-    let value = operands::operand_of(image, at);
+    let node = (&*image).node(n);
+    let value = operands::operand_of(&node);
     let (a, end) = part(
         slots,
         functions,
@@ -306,10 +304,8 @@ fn one(
         diagnostics,
         messages,
         scratch,
-        image,
-        at,
+        &node,
         end,
-        n,
         a,
     )
 }
@@ -335,8 +331,8 @@ fn cast(
         let b' : Lent = lent slots.new functions.new types.new diagnostics.new messages.new scratch.new no_more in
         NodeVisited texts.now image.now.words library.now n st b b' result }
 {
-    let at = image.node_place(n);
-    let (to, begun) = operands::cast_begin(types, image, at, st, n)?;
+    let node = (&*image).node(n);
+    let (to, begun) = operands::cast_begin(types, &node, st)?;
     let (a, end) = part(
         slots,
         functions,
@@ -348,7 +344,7 @@ fn cast(
         image,
         library,
         begun,
-        image.word_after(at, 3),
+        node.word(3),
     )?;
     operands::cast_end(
         slots,
@@ -358,10 +354,8 @@ fn cast(
         },
         diagnostics,
         messages,
-        image,
-        at,
+        &node,
         end,
-        n,
         to,
         a,
     )
@@ -478,8 +472,8 @@ fn func(
         let b' : Lent = lent slots.new functions.new types.new diagnostics.new messages.new scratch.new no_more in
         NodeVisited texts.now image.now.words library.now n st b b' result }
 {
-    let at = image.node_place(n);
-    let count = image.word_after(at, 4) as usize;
+    let node = (&*image).node(n);
+    let count = node.word(4) as usize;
     let (begun, inner) = bodies::begin(
         slots,
         functions,
@@ -488,15 +482,13 @@ fn func(
         messages,
         scratch,
         texts,
-        image,
-        at,
+        &node,
         st,
-        n,
     )?;
     let Some(ret) = begun else {
         return Ok((Answer::Poison, inner));
     };
-    let long = payload(image.word_at(at));
+    let long = node.length();
     let (computed, inside) = block(
         slots,
         functions,
@@ -509,7 +501,7 @@ fn func(
         library,
         inner,
         n,
-        at + 5 + 2 * count,
+        node.at + 5 + 2 * count,
         long - (5 + 2 * count),
     )?;
     bodies::end(
@@ -520,11 +512,9 @@ fn func(
         },
         diagnostics,
         messages,
-        image,
-        at,
+        &node,
         inside,
         st,
-        n,
         ret,
         computed,
     )
@@ -623,10 +613,10 @@ fn cases(
         let b' : Lent = lent slots.new functions.new types.new diagnostics.new messages.new scratch.new no_more in
         NodeVisited texts.now image.now.words library.now n st b b' result }
 {
-    let at = image.node_place(n);
-    let count = image.word_after(at, 2) as usize;
+    let node = (&*image).node(n);
+    let count = node.word(2) as usize;
     let mut here = st;
-    let mut place = at + 3;
+    let mut place = node.at + 3;
     for _ in 0..count {
         let (_, next) = case(
             slots,
@@ -646,7 +636,7 @@ fn cases(
         place = branches::case_end(image, place);
     }
     let next = place + 1;
-    let left = at + payload(image.word_at(at)) - next;
+    let left = node.at + node.length() - next;
     let mut default = Answer::Known(image.slot_count());
     let mut end = here;
     for i in 0..left {
@@ -674,10 +664,8 @@ fn cases(
         },
         diagnostics,
         messages,
-        image,
-        at,
+        &node,
         visiting::left(end, here),
-        n,
         default,
     )
 }
@@ -703,11 +691,11 @@ fn call(
         let b' : Lent = lent slots.new functions.new types.new diagnostics.new messages.new scratch.new no_more in
         NodeVisited texts.now image.now.words library.now n st b b' result }
 {
-    let at = image.node_place(n);
-    if calls::through_field(image, at) {
-        return calls::report_field(diagnostics, messages, image, at, st, n);
+    let node = (&*image).node(n);
+    if calls::through_field(&node) {
+        return calls::report_field(diagnostics, messages, &node, st);
     }
-    let count = payload(image.word_at(at)) - 3;
+    let count = node.length() - 3;
     let mut poisoned = false;
     let mut here = st;
     for i in 0..count {
@@ -722,7 +710,7 @@ fn call(
             image,
             library,
             here,
-            image.word_after(at + 3, i),
+            image.word_after(node.at + 3, i),
         )?;
         poisoned = calls::or_poison(poisoned, a);
         here = next;
@@ -735,12 +723,10 @@ fn call(
         messages,
         scratch,
         texts,
-        image,
+        &node,
         library,
-        at,
         count,
         here,
-        n,
         poisoned,
     )
 }
@@ -766,8 +752,8 @@ fn record_node(
         let b' : Lent = lent slots.new functions.new types.new diagnostics.new messages.new scratch.new no_more in
         NodeVisited texts.now image.now.words library.now n st b b' result }
 {
-    let at = image.node_place(n);
-    let count = (payload(image.word_at(at)) - 3) / 2;
+    let node = (&*image).node(n);
+    let count = (node.length() - 3) / 2;
     let mut here = st;
     for i in 0..count {
         let (_, next) = part(
@@ -781,11 +767,11 @@ fn record_node(
             image,
             library,
             here,
-            image.word_after(at + 4, 2 * i),
+            image.word_after(node.at + 4, 2 * i),
         )?;
         here = next;
     }
-    fields::make(slots, types, image, at, count, here, n)
+    fields::make(slots, types, &node, count, here)
 }
 
 // Node::Array: the members are compared with the first, each when it is visited; one that differs ends the visits.
@@ -809,10 +795,10 @@ fn array(
         let b' : Lent = lent slots.new functions.new types.new diagnostics.new messages.new scratch.new no_more in
         NodeVisited texts.now image.now.words library.now n st b b' result }
 {
-    let at = image.node_place(n);
-    let count = payload(image.word_at(at)) - 3;
+    let node = (&*image).node(n);
+    let count = node.length() - 3;
     if count == 0 {
-        return members::empty(diagnostics, messages, image, at, st, n);
+        return members::empty(diagnostics, messages, &node, st);
     }
     let (first, begun) = part(
         slots,
@@ -825,12 +811,12 @@ fn array(
         image,
         library,
         st,
-        image.word_after(at, 3),
+        node.word(3),
     )?;
     let mut poisoned = false;
     let mut here = begun;
     for i in 1..count {
-        let member = image.word_after(at + 3, i);
+        let member = image.word_after(node.at + 3, i);
         let (a, next) = part(
             slots,
             functions,
@@ -852,9 +838,8 @@ fn array(
             },
             diagnostics,
             messages,
-            image,
+            &node,
             next,
-            n,
             member,
             first,
             a,
@@ -866,5 +851,5 @@ fn array(
         poisoned = p;
         here = on;
     }
-    members::end(slots, types, image, at, here, n, first, poisoned)
+    members::end(slots, types, &node, here, first, poisoned)
 }

@@ -3,7 +3,6 @@
 use mathlib.Core.Path.{refl, sym, ap, ◌≡◌, ◌∙◌}
 use native.Mathlib.Omega.{arith}
 use Prim.Native.Nat.{ℕ, ◌+◌, ◌-◌}
-use Rattle.tok.specs.Word.{payload_of}
 use Rattle.state.specs.World.{no_more}
 use Rattle.visiting.specs.Then.{passed_on}
 use Rattle.operand_visits.specs.Bin as Bin
@@ -23,34 +22,34 @@ use Rattle.typecheck.proofs.+array_bin_block_call_case_cases_cast_func_node_one_
 -- ── A node, by its kind ──
 
 pub node-leaf-requires : goal.node-leaf-requires
-node-leaf-requires t c = to-leaf c.node_place.ensures c.word_at.ensures c.requires c.of.ensures c.in-Atom.is
+node-leaf-requires t c = to-leaf c.node.ensures.place c.requires (rw c.node.ensures.same at c.kind.ensures) c.in-Atom.is
 
 pub node-bin-requires : goal.node-bin-requires
-node-bin-requires t c = (omega (arith, c.decreases), to_rule c.node_place.ensures c.word_at.ensures c.requires (node-number _ c.in-Bin.ensures))
+node-bin-requires t c = (omega (arith, c.decreases), to_rule c.node.ensures.place c.requires (rw c.node.ensures.same at (node-number _ c.in-Bin.ensures)))
 
 pub node-cast-requires : goal.node-cast-requires
-node-cast-requires t c = (omega (arith, c.decreases), to_rule c.node_place.ensures c.word_at.ensures c.requires (node-number _ c.in-Cast.ensures))
+node-cast-requires t c = (omega (arith, c.decreases), to_rule c.node.ensures.place c.requires (rw c.node.ensures.same at (node-number _ c.in-Cast.ensures)))
 
 pub node-func-requires : goal.node-func-requires
-node-func-requires t c = (omega (arith, c.decreases), to_rule c.node_place.ensures c.word_at.ensures c.requires (node-number _ c.in-Fn.ensures))
+node-func-requires t c = (omega (arith, c.decreases), to_rule c.node.ensures.place c.requires (rw c.node.ensures.same at (node-number _ c.in-Fn.ensures)))
 
 pub node-cases-requires : goal.node-cases-requires
-node-cases-requires t c = (omega (arith, c.decreases), to_rule c.node_place.ensures c.word_at.ensures c.requires (node-number _ c.in-Match.ensures))
+node-cases-requires t c = (omega (arith, c.decreases), to_rule c.node.ensures.place c.requires (rw c.node.ensures.same at (node-number _ c.in-Match.ensures)))
 
 pub node-call-requires : goal.node-call-requires
-node-call-requires t c = (omega (arith, c.decreases), to_rule c.node_place.ensures c.word_at.ensures c.requires (node-number _ c.in-Call.ensures))
+node-call-requires t c = (omega (arith, c.decreases), to_rule c.node.ensures.place c.requires (rw c.node.ensures.same at (node-number _ c.in-Call.ensures)))
 
 pub node-record_node-requires : goal.node-record_node-requires
-node-record_node-requires t c = (omega (arith, c.decreases), to_rule c.node_place.ensures c.word_at.ensures c.requires (node-number _ c.in-Record.ensures))
+node-record_node-requires t c = (omega (arith, c.decreases), to_rule c.node.ensures.place c.requires (rw c.node.ensures.same at (node-number _ c.in-Record.ensures)))
 
 pub node-array-requires : goal.node-array-requires
-node-array-requires t c = (omega (arith, c.decreases), to_rule c.node_place.ensures c.word_at.ensures c.requires (node-number _ c.in-Array.ensures))
+node-array-requires t c = (omega (arith, c.decreases), to_rule c.node.ensures.place c.requires (rw c.node.ensures.same at (node-number _ c.in-Array.ensures)))
 
 pub node-one-requires : goal.node-one-requires
-node-one-requires t c = (omega (arith, c.decreases), to_one c.node_place.ensures c.word_at.ensures c.requires c.of.ensures c.in-Unary.is)
+node-one-requires t c = (omega (arith, c.decreases), to_one c.node.ensures.place c.requires (rw c.node.ensures.same at c.kind.ensures) c.in-Unary.is)
 
 pub node-unreachable-requires : goal.node-unreachable-requires
-node-unreachable-requires t c = a-kind c.node_place.ensures c.word_at.ensures c.requires c.of.ensures c.in-None.is
+node-unreachable-requires t c = a-kind c.node.ensures.place c.requires (rw c.node.ensures.same at c.kind.ensures) c.in-None.is
 
 pub node-returns-in-Atom : goal.node-returns-in-Atom
 node-returns-in-Atom t c = c.leaf.ensures _ no_more
@@ -58,62 +57,62 @@ node-returns-in-Atom t c = c.leaf.ensures _ no_more
 -- ── Node::Bin ──
 
 pub bin-part-requires : goal.bin-part-requires
-bin-part-requires t c = (omega (arith, c.decreases, Bin.left-under c.requires c.node_place-at.ensures c.word_after.ensures), Bin.left-visit c.requires c.node_place-at.ensures c.word_after.ensures)
+bin-part-requires t c = (omega (arith, c.decreases, Bin.left-under c.requires c.node-node.ensures.place (rw c.node-node.ensures.same at c.word.ensures)), Bin.left-visit c.requires c.node-node.ensures.place (rw c.node-node.ensures.same at c.word.ensures))
 
 pub bin-returns-in_err-l : goal.bin-returns-in_err-l
-bin-returns-in_err-l t c = passed_on c.from_residual.ensures.1 (Bin.left-stops c.requires c.node_place-at.ensures c.word_after.ensures c.in_err-l.ensures)
+bin-returns-in_err-l t c = passed_on c.from_residual.ensures.1 (Bin.left-stops c.requires c.node-node.ensures.place (rw c.node-node.ensures.same at c.word.ensures) c.in_err-l.ensures)
 
 pub bin-part-requires-2 : goal.bin-part-requires-2
 bin-part-requires-2 t c = (
-  omega (arith, c.decreases, Bin.right-under c.requires c.node_place-at.ensures c.word_after-2.ensures),
-  Bin.right-visit c.requires c.node_place-at.ensures c.word_after.ensures c.in_ok-l.ensures c.word_after-2.ensures,
+  omega (arith, c.decreases, Bin.right-under c.requires c.node-node.ensures.place (rw c.node-node.ensures.same at c.word-2.ensures)),
+  Bin.right-visit c.requires c.node-node.ensures.place (rw c.node-node.ensures.same at c.word.ensures) c.in_ok-l.ensures (rw c.node-node.ensures.same at c.word-2.ensures),
 )
 
 pub bin-returns-in_err-r : goal.bin-returns-in_err-r
 bin-returns-in_err-r t c =
-    passed_on c.from_residual-in_err-r.ensures.1 (Bin.right-stops c.requires c.node_place-at.ensures c.word_after.ensures c.in_ok-l.ensures c.word_after-2.ensures c.in_err-r.ensures)
+    passed_on c.from_residual-in_err-r.ensures.1 (Bin.right-stops c.requires c.node-node.ensures.place (rw c.node-node.ensures.same at c.word.ensures) c.in_ok-l.ensures (rw c.node-node.ensures.same at c.word-2.ensures) c.in_err-r.ensures)
 
 pub bin-returns : goal.bin-returns
-bin-returns t c = Bin.bin-ends c.requires c.node_place-at.ensures c.word_after.ensures c.in_ok-l.ensures c.word_after-2.ensures c.in_ok-r.ensures (c.bin_end.ensures _ _ _ _ _ no_more)
+bin-returns t c = Bin.bin-ends c.requires c.node-node.ensures.place (rw c.node-node.ensures.same at c.word.ensures) c.in_ok-l.ensures (rw c.node-node.ensures.same at c.word-2.ensures) c.in_ok-r.ensures ((rw (c.node-node.ensures.same, c.node-node.ensures.number) at c.bin_end.ensures) _ _ _ _ _ no_more)
 
 -- ── Node::Unary, Node::Let, Node::Field ──
 
 pub one-part-requires : goal.one-part-requires
 one-part-requires t c = (
-  omega (arith, c.decreases, One.operand-under c.requires c.node_place-at.ensures c.operand_of-value.ensures),
-  One.operand-visit c.requires c.node_place-at.ensures c.operand_of-value.ensures,
+  omega (arith, c.decreases, One.operand-under c.requires c.node-node.ensures.place (rw c.node-node.ensures.same at c.operand_of-value.ensures)),
+  One.operand-visit c.requires c.node-node.ensures.place (rw c.node-node.ensures.same at c.operand_of-value.ensures),
 )
 
 pub one-returns-in_err-a : goal.one-returns-in_err-a
-one-returns-in_err-a t c = passed_on c.from_residual.ensures.1 (One.operand-stops c.requires c.node_place-at.ensures c.operand_of-value.ensures c.in_err-a.ensures)
+one-returns-in_err-a t c = passed_on c.from_residual.ensures.1 (One.operand-stops c.requires c.node-node.ensures.place (rw c.node-node.ensures.same at c.operand_of-value.ensures) c.in_err-a.ensures)
 
 pub one-one_end-requires : goal.one-one_end-requires
-one-one_end-requires t c = One.end-ready c.requires c.node_place-at.ensures c.operand_of-value.ensures c.in_ok-a.ensures
+one-one_end-requires t c = rw c.node-node.ensures.same (One.end-ready c.requires c.node-node.ensures.place (rw c.node-node.ensures.same at c.operand_of-value.ensures) c.in_ok-a.ensures)
 
 pub one-returns : goal.one-returns
-one-returns t c = One.one-ends c.requires c.node_place-at.ensures c.operand_of-value.ensures c.in_ok-a.ensures (c.one_end.ensures _ _ _ _ no_more)
+one-returns t c = One.one-ends c.requires c.node-node.ensures.place (rw c.node-node.ensures.same at c.operand_of-value.ensures) c.in_ok-a.ensures ((rw (c.node-node.ensures.same, c.node-node.ensures.number) at c.one_end.ensures) _ _ _ _ no_more)
 
 -- ── Node::Cast ──
 
 pub cast-cast_begin-requires : goal.cast-cast_begin-requires
-cast-cast_begin-requires t c = Cast.cast-ready c.requires c.node_place-at.ensures
+cast-cast_begin-requires t c = rw c.node-node.ensures.same (Cast.cast-ready c.requires c.node-node.ensures.place)
 
 pub cast-returns-in_err-to : goal.cast-returns-in_err-to
-cast-returns-in_err-to t c = passed_on c.from_residual.ensures.1 (Cast.type-stops c.requires c.node_place-at.ensures (c.in_err-to.ensures _ _ _ _ _ _ _ _ _ no_more))
+cast-returns-in_err-to t c = passed_on c.from_residual.ensures.1 (Cast.type-stops c.requires c.node-node.ensures.place ((rw (c.node-node.ensures.same, c.node-node.ensures.number) at c.in_err-to.ensures) _ _ _ _ _ _ _ _ _ no_more))
 
 pub cast-part-requires : goal.cast-part-requires
 cast-part-requires t c = (
-  omega (arith, c.decreases, Cast.operand-under c.requires c.node_place-at.ensures c.word_after.ensures),
-  Cast.operand-visit c.requires c.node_place-at.ensures (c.in_ok-to.ensures _ _ _ _ _ _ _ _ _ no_more) c.word_after.ensures,
+  omega (arith, c.decreases, Cast.operand-under c.requires c.node-node.ensures.place (rw c.node-node.ensures.same at c.word.ensures)),
+  Cast.operand-visit c.requires c.node-node.ensures.place ((rw (c.node-node.ensures.same, c.node-node.ensures.number) at c.in_ok-to.ensures) _ _ _ _ _ _ _ _ _ no_more) (rw c.node-node.ensures.same at c.word.ensures),
 )
 
 pub cast-returns-in_err-a : goal.cast-returns-in_err-a
 cast-returns-in_err-a t c =
-    passed_on c.from_residual-in_err-a.ensures.1 (Cast.operand-stops c.requires c.node_place-at.ensures (c.in_ok-to.ensures _ _ _ _ _ _ _ _ _ no_more) c.word_after.ensures c.in_err-a.ensures)
+    passed_on c.from_residual-in_err-a.ensures.1 (Cast.operand-stops c.requires c.node-node.ensures.place ((rw (c.node-node.ensures.same, c.node-node.ensures.number) at c.in_ok-to.ensures) _ _ _ _ _ _ _ _ _ no_more) (rw c.node-node.ensures.same at c.word.ensures) c.in_err-a.ensures)
 
 pub cast-returns : goal.cast-returns
 cast-returns t c =
-    Cast.cast_ends c.requires c.node_place-at.ensures (c.in_ok-to.ensures _ _ _ _ _ _ _ _ _ no_more) c.word_after.ensures c.in_ok-a.ensures (c.cast_end.ensures _ _ _ _ _ no_more)
+    Cast.cast_ends c.requires c.node-node.ensures.place ((rw (c.node-node.ensures.same, c.node-node.ensures.number) at c.in_ok-to.ensures) _ _ _ _ _ _ _ _ _ no_more) (rw c.node-node.ensures.same at c.word.ensures) c.in_ok-a.ensures ((rw (c.node-node.ensures.same, c.node-node.ensures.number) at c.cast_end.ensures) _ _ _ _ _ no_more)
 
 -- ── Nodes one after the other ──
 
@@ -138,36 +137,36 @@ block-returns t c = List.turn_end c.loop-place.invariant (omega arith)
 -- ── Node::Fn ──
 
 pub func-begin-requires : goal.func-begin-requires
-func-begin-requires t c = Body.begin-ready c.requires c.node_place-at.ensures
+func-begin-requires t c = rw c.node-node.ensures.same (Body.begin-ready c.requires c.node-node.ensures.place)
 
 pub func-returns-in_err-begun : goal.func-returns-in_err-begun
-func-returns-in_err-begun t c = passed_on c.from_residual.ensures.1 (Body.fn-refused c.requires c.node_place-at.ensures (c.in_err-begun.ensures _ _ _ no_more))
+func-returns-in_err-begun t c = passed_on c.from_residual.ensures.1 (Body.fn-refused c.requires c.node-node.ensures.place ((rw (c.node-node.ensures.same, c.node-node.ensures.number) at c.in_err-begun.ensures) _ _ _ no_more))
 
 pub func-returns-in_default : goal.func-returns-in_default
-func-returns-in_default t c = Body.fn-ends c.requires c.node_place-at.ensures (c.in_ok-begun.ensures _ _ _ no_more) c.in_default.is
+func-returns-in_default t c = Body.fn-ends c.requires c.node-node.ensures.place ((rw (c.node-node.ensures.same, c.node-node.ensures.number) at c.in_ok-begun.ensures) _ _ _ no_more) c.in_default.is
 
 pub func-overflow_sub-long : goal.func-overflow_sub-long
-func-overflow_sub-long t c = Body.body-inside c.requires c.node_place-at.ensures (c.payload-long.ensures ∙ ap payload_of c.word_at.ensures) c.word_after-count.ensures
+func-overflow_sub-long t c = Body.body-inside c.requires c.node-node.ensures.place (rw c.node-node.ensures.same at c.length-long.ensures) (rw c.node-node.ensures.same at c.word-count.ensures)
 
 pub func-block-requires : goal.func-block-requires
 func-block-requires t c = (
   omega (arith, c.decreases),
-  Body.body-visit c.requires c.node_place-at.ensures (c.in_ok-begun.ensures _ _ _ no_more) c.in-Some.is c.word_after-count.ensures (c.payload-long.ensures ∙ ap payload_of c.word_at.ensures),
+  Body.body-visit c.requires c.node-node.ensures.place ((rw (c.node-node.ensures.same, c.node-node.ensures.number) at c.in_ok-begun.ensures) _ _ _ no_more) c.in-Some.is (rw c.node-node.ensures.same at c.word-count.ensures) (rw c.node-node.ensures.same at c.length-long.ensures),
 )
 
 pub func-returns-in_err-computed : goal.func-returns-in_err-computed
 func-returns-in_err-computed t c =
     passed_on c.from_residual-in_err-computed.ensures.1
-    (Body.fn-stops c.requires c.node_place-at.ensures (c.in_ok-begun.ensures _ _ _ no_more) c.in-Some.is c.word_after-count.ensures
-    (c.payload-long.ensures ∙ ap payload_of c.word_at.ensures) c.in_err-computed.ensures)
+    (Body.fn-stops c.requires c.node-node.ensures.place ((rw (c.node-node.ensures.same, c.node-node.ensures.number) at c.in_ok-begun.ensures) _ _ _ no_more) c.in-Some.is (rw c.node-node.ensures.same at c.word-count.ensures)
+    (rw c.node-node.ensures.same at c.length-long.ensures) c.in_err-computed.ensures)
 
 pub func-end-requires : goal.func-end-requires
-func-end-requires t c = Body.end-ready c.requires c.node_place-at.ensures
+func-end-requires t c = rw c.node-node.ensures.same (Body.end-ready c.requires c.node-node.ensures.place)
 
 pub func-returns : goal.func-returns
 func-returns t c =
-    Body.fn-done c.requires c.node_place-at.ensures (c.in_ok-begun.ensures _ _ _ no_more) c.in-Some.is c.word_after-count.ensures (c.payload-long.ensures ∙ ap payload_of c.word_at.ensures)
-    c.in_ok-computed.ensures (c.end.ensures _ _ _ _ _ no_more)
+    Body.fn-done c.requires c.node-node.ensures.place ((rw (c.node-node.ensures.same, c.node-node.ensures.number) at c.in_ok-begun.ensures) _ _ _ no_more) c.in-Some.is (rw c.node-node.ensures.same at c.word-count.ensures) (rw c.node-node.ensures.same at c.length-long.ensures)
+    c.in_ok-computed.ensures ((rw (c.node-node.ensures.same, c.node-node.ensures.number) at c.end.ensures) _ _ _ _ _ no_more)
 
 -- ── A case of a Match ──
 
@@ -208,7 +207,7 @@ case-returns t c =
 -- ── Node::Match ──
 
 pub cases-loop-init : goal.cases-loop-init
-cases-loop-init t c = Cases.turn-begin c.requires c.node_place-at.ensures c.word_after-count.ensures
+cases-loop-init t c = Cases.turn-begin c.requires c.node-node.ensures.place (rw c.node-node.ensures.same at c.word-count.ensures)
 
 pub cases-case-requires : goal.cases-case-requires
 cases-case-requires t c = (omega (arith, c.decreases), Cases.turn-case c.loop.invariant (omega arith))
@@ -226,16 +225,16 @@ pub cases-overflow_add-next : goal.cases-overflow_add-next
 cases-overflow_add-next t c = omega (arith, Cases.default_inside c.loop.invariant (omega arith), Cases.record_inside c.loop.invariant (omega arith))
 
 pub cases-overflow_sub-left : goal.cases-overflow_sub-left
-cases-overflow_sub-left t c = omega (arith, Cases.default_inside c.loop.invariant (omega arith), c.payload.ensures ∙ ap payload_of c.word_at.ensures)
+cases-overflow_sub-left t c = omega (arith, Cases.default_inside c.loop.invariant (omega arith), rw c.node-node.ensures.same at c.length.ensures)
 
 pub cases-loop-i-init : goal.cases-loop-i-init
 cases-loop-i-init t c =
-    let left : ℕ = c.node_place-at.result + c.payload.result - (c.loop.place + 1) in
+    let left : ℕ = c.node-node.result.at + c.length.result - (c.loop.place + 1) in
     let e : c.loop.place + 1 + 0 ≡ c.loop.place + 1 = omega arith in
     let f : left - 0 ≡ left = omega arith in
     rw (e, f)
     (List.turn-begin
-    (Cases.default_visit c.loop.invariant (omega arith) (ap (λ x. c.node_place-at.result + x - (c.loop.place + 1)) (c.payload.ensures ∙ ap payload_of c.word_at.ensures)))
+    (Cases.default_visit c.loop.invariant (omega arith) (ap (λ x. c.node-node.result.at + x - (c.loop.place + 1)) (rw c.node-node.ensures.same at c.length.ensures)))
     c.slot_count.ensures)
 
 pub cases-part-requires : goal.cases-part-requires
@@ -247,73 +246,81 @@ cases-part-requires t c = (
 pub cases-returns-in_err-a : goal.cases-returns-in_err-a
 cases-returns-in_err-a t c =
     passed_on c.from_residual-in_err-a.ensures.1
-    (Cases.default_stops c.loop.invariant (omega arith) (ap (λ x. c.node_place-at.result + x - (c.loop.place + 1)) (c.payload.ensures ∙ ap payload_of c.word_at.ensures))
+    (Cases.default_stops c.loop.invariant (omega arith) (ap (λ x. c.node-node.result.at + x - (c.loop.place + 1)) (rw c.node-node.ensures.same at c.length.ensures))
     (List.turn-stops c.loop-i.invariant (omega arith) c.word_after.ensures c.in_err-a.ensures))
 
 pub cases-loop-i-preserved : goal.cases-loop-i-preserved
 cases-loop-i-preserved t c =
-    let left : ℕ = c.node_place-at.result + c.payload.result - (c.loop.place + 1) in
+    let left : ℕ = c.node-node.result.at + c.length.result - (c.loop.place + 1) in
     let e : c.loop.place + 1 + (c.loop-i.i + 1) ≡ c.loop.place + 1 + c.loop-i.i + 1 = omega arith in
     let f : left - (c.loop-i.i + 1) ≡ left - c.loop-i.i - 1 = omega arith in
     rw (e, f) (List.turn-next c.loop-i.invariant (omega arith) c.word_after.ensures c.in_ok-a.ensures)
 
 pub cases-end-requires : goal.cases-end-requires
-cases-end-requires t c = Cases.end-cases c.loop.invariant (omega arith)
+cases-end-requires t c = rw (c.node-node.ensures.same, c.node-node.ensures.number) (Cases.end-cases c.loop.invariant (omega arith))
 
 pub cases-returns : goal.cases-returns
 cases-returns t c =
-    Cases.match-ends c.loop.invariant (omega arith) (ap (λ x. c.node_place-at.result + x - (c.loop.place + 1)) (c.payload.ensures ∙ ap payload_of c.word_at.ensures))
-    (List.turn_end c.loop-i.invariant (omega arith)) c.left.ensures (c.end.ensures _ _ _ _ _ no_more)
+    Cases.match-ends c.loop.invariant (omega arith) (ap (λ x. c.node-node.result.at + x - (c.loop.place + 1)) (rw c.node-node.ensures.same at c.length.ensures))
+    (List.turn_end c.loop-i.invariant (omega arith)) c.left.ensures ((rw (c.node-node.ensures.same, c.node-node.ensures.number) at c.end.ensures) _ _ _ _ _ no_more)
 
 -- ── Node::Call ──
 
+pub call-through_field-requires : goal.call-through_field-requires
+call-through_field-requires t c = rw c.node-node.ensures.same (Call.call_at c.requires c.node-node.ensures.place)
+
+pub call-report_field-requires : goal.call-report_field-requires
+call-report_field-requires t c =
+    rw c.node-node.ensures.same (Call.field-call c.requires c.node-node.ensures.place (rw c.node-node.ensures.same at (sym c.through_field.ensures ∙ c.if-through_field.true)))
+
 pub call-returns-then-through_field : goal.call-returns-then-through_field
-call-returns-then-through_field t c = Call.call-field c.requires c.node_place-at.ensures (λ ctx slot given visits. c.report_field.ensures ctx slot given visits _ _ _ _ _ no_more)
+call-returns-then-through_field t c = Call.call-field c.requires c.node-node.ensures.place (λ ctx slot given visits. (rw (c.node-node.ensures.same, c.node-node.ensures.number) at c.report_field.ensures) ctx slot given visits _ _ _ _ _ no_more)
 
 pub call-overflow_sub-count : goal.call-overflow_sub-count
-call-overflow_sub-count t c = Call.call_length c.requires c.node_place-at.ensures c.word_at.ensures c.payload-count.ensures
+call-overflow_sub-count t c = Call.call_length c.requires c.node-node.ensures.place (rw c.node-node.ensures.same at c.length-count.ensures)
 
 pub call-part-requires : goal.call-part-requires
 call-part-requires t c = (
-  omega (arith, c.decreases, Call.argument-under c.requires c.node_place-at.ensures c.word_at.ensures c.payload-count.ensures (omega arith) c.word_after.ensures),
+  omega (arith, c.decreases, Call.argument-under c.requires c.node-node.ensures.place (rw c.node-node.ensures.same at c.length-count.ensures) (omega arith) c.word_after.ensures),
   Call.argument-visit
-      (c.loop-i.invariant.on _ _ (Call.arguing_first c.requires c.node_place-at.ensures c.word_at.ensures c.payload-count.ensures (sym c.through_field.ensures ∙ c.if-through_field.false)))
+      (c.loop-i.invariant.on _ _ (Call.arguing_first c.requires c.node-node.ensures.place (rw c.node-node.ensures.same at c.length-count.ensures) (rw c.node-node.ensures.same at (sym c.through_field.ensures ∙ c.if-through_field.false))))
       (Call.some_left (omega arith)) c.word_after.ensures
-      (Call.argument-below c.requires c.node_place-at.ensures c.word_at.ensures c.payload-count.ensures (omega arith) c.word_after.ensures),
+      (Call.argument-below c.requires c.node-node.ensures.place (rw c.node-node.ensures.same at c.length-count.ensures) (omega arith) c.word_after.ensures),
 )
 
 pub call-returns-in_err-a : goal.call-returns-in_err-a
 call-returns-in_err-a t c =
     passed_on c.from_residual.ensures.1
     (Call.argument-stopped
-    (c.loop-i.invariant.on _ _ (Call.arguing_first c.requires c.node_place-at.ensures c.word_at.ensures c.payload-count.ensures (sym c.through_field.ensures ∙ c.if-through_field.false)))
+    (c.loop-i.invariant.on _ _ (Call.arguing_first c.requires c.node-node.ensures.place (rw c.node-node.ensures.same at c.length-count.ensures) (rw c.node-node.ensures.same at (sym c.through_field.ensures ∙ c.if-through_field.false))))
     (Call.some_left (omega arith)) c.word_after.ensures c.in_err-a.ensures)
 
 pub call-loop-i-preserved : goal.call-loop-i-preserved
 call-loop-i-preserved t c =
     Call.argued-next c.loop-i.invariant (omega arith) c.word_after.ensures
-    (Call.argument-below c.requires c.node_place-at.ensures c.word_at.ensures c.payload-count.ensures (omega arith) c.word_after.ensures) c.in_ok-a.ensures c.or_poison-poisoned.ensures
+    (Call.argument-below c.requires c.node-node.ensures.place (rw c.node-node.ensures.same at c.length-count.ensures) (omega arith) c.word_after.ensures) c.in_ok-a.ensures c.or_poison-poisoned.ensures
 
 pub call-resolve-requires : goal.call-resolve-requires
 call-resolve-requires t c =
-    Call.resolvable c.requires c.node_place-at.ensures c.word_at.ensures c.payload-count.ensures (sym c.through_field.ensures ∙ c.if-through_field.false)
+    rw (c.node-node.ensures.same, c.node-node.ensures.number)
+    (Call.resolvable c.requires c.node-node.ensures.place (rw c.node-node.ensures.same at c.length-count.ensures) (rw c.node-node.ensures.same at (sym c.through_field.ensures ∙ c.if-through_field.false))
     (Call.arguments-ready
-    (c.loop-i.invariant.on _ _ (Call.arguing_first c.requires c.node_place-at.ensures c.word_at.ensures c.payload-count.ensures (sym c.through_field.ensures ∙ c.if-through_field.false)))
-    (Call.none_left_lem (omega arith)))
+    (c.loop-i.invariant.on _ _ (Call.arguing_first c.requires c.node-node.ensures.place (rw c.node-node.ensures.same at c.length-count.ensures) (rw c.node-node.ensures.same at (sym c.through_field.ensures ∙ c.if-through_field.false))))
+    (Call.none_left_lem (omega arith))))
 
 pub call-returns : goal.call-returns
 call-returns t c =
     Call.arguments-done
-    (c.loop-i.invariant.on _ _ (Call.arguing_first c.requires c.node_place-at.ensures c.word_at.ensures c.payload-count.ensures (sym c.through_field.ensures ∙ c.if-through_field.false)))
-    (Call.none_left_lem (omega arith)) (c.resolve.ensures _ _)
+    (c.loop-i.invariant.on _ _ (Call.arguing_first c.requires c.node-node.ensures.place (rw c.node-node.ensures.same at c.length-count.ensures) (rw c.node-node.ensures.same at (sym c.through_field.ensures ∙ c.if-through_field.false))))
+    (Call.none_left_lem (omega arith)) ((rw (c.node-node.ensures.same, c.node-node.ensures.number) at c.resolve.ensures) _ _)
 
 -- ── Node::Record ──
 
 pub record_node-overflow_sub-count : goal.record_node-overflow_sub-count
-record_node-overflow_sub-count t c = Record.record_length_lem c.requires c.node_place-at.ensures c.word_at.ensures c.payload.ensures
+record_node-overflow_sub-count t c = Record.record_length_lem c.requires c.node-node.ensures.place (rw c.node-node.ensures.same at c.length.ensures)
 
 pub record_node-loop-i-init : goal.record_node-loop-i-init
-record_node-loop-i-init t c = Record.turn-begin c.requires c.node_place-at.ensures c.word_at.ensures c.payload.ensures refl
+record_node-loop-i-init t c = Record.turn-begin c.requires c.node-node.ensures.place (rw c.node-node.ensures.same at c.length.ensures) refl
 
 pub record_node-part-requires : goal.record_node-part-requires
 record_node-part-requires t c = (
@@ -327,72 +334,75 @@ record_node-returns-in_err-next t c = passed_on c.from_residual.ensures.1 (Recor
 pub record_node-loop-i-preserved : goal.record_node-loop-i-preserved
 record_node-loop-i-preserved t c = Record.turn-next c.loop-i.invariant (omega arith) c.word_after.ensures c.in_ok-next.ensures
 
+pub record_node-make-requires : goal.record_node-make-requires
+record_node-make-requires t c = rw (c.node-node.ensures.same, c.node-node.ensures.number) c.loop-i.invariant.values
+
 pub record_node-returns : goal.record_node-returns
-record_node-returns t c = Record.record_made c.loop-i.invariant (omega arith) (c.make.ensures c.args.texts.now _ _ _ _ _ no_more)
+record_node-returns t c = Record.record_made c.loop-i.invariant (omega arith) ((rw (c.node-node.ensures.same, c.node-node.ensures.number) at c.make.ensures) c.args.texts.now _ _ _ _ _ no_more)
 
 -- ── Node::Array ──
 
 pub array-overflow_sub-count : goal.array-overflow_sub-count
-array-overflow_sub-count t c = Array.array-length c.requires c.node_place-at.ensures c.word_at.ensures c.payload-count.ensures
+array-overflow_sub-count t c = Array.array-length c.requires c.node-node.ensures.place (rw c.node-node.ensures.same at c.length-count.ensures)
 
 pub array-returns-then-count-eq0 : goal.array-returns-then-count-eq0
-array-returns-then-count-eq0 t c = Array.array-empty c.requires c.node_place-at.ensures c.word_at.ensures c.payload-count.ensures c.if-count-eq0.true (c.empty.ensures _ _ _ _ _ no_more)
+array-returns-then-count-eq0 t c = Array.array-empty c.requires c.node-node.ensures.place (rw c.node-node.ensures.same at c.length-count.ensures) c.if-count-eq0.true ((rw (c.node-node.ensures.same, c.node-node.ensures.number) at c.empty.ensures) _ _ _ _ _ no_more)
 
 pub array-part-requires : goal.array-part-requires
 array-part-requires t c = (
-  omega (arith, c.decreases, Array.first_under c.requires c.node_place-at.ensures c.word_at.ensures c.payload-count.ensures c.if-count-eq0.false c.word_after.ensures),
-  Array.first-visit c.requires c.node_place-at.ensures c.word_at.ensures c.payload-count.ensures c.if-count-eq0.false c.word_after.ensures,
+  omega (arith, c.decreases, Array.first_under c.requires c.node-node.ensures.place (rw c.node-node.ensures.same at c.length-count.ensures) c.if-count-eq0.false (rw c.node-node.ensures.same at c.word.ensures)),
+  Array.first-visit c.requires c.node-node.ensures.place (rw c.node-node.ensures.same at c.length-count.ensures) c.if-count-eq0.false (rw c.node-node.ensures.same at c.word.ensures),
 )
 
 pub array-returns-in_err-first : goal.array-returns-in_err-first
 array-returns-in_err-first t c =
     passed_on c.from_residual.ensures.1
-    (Array.first-stopped c.requires c.node_place-at.ensures c.word_at.ensures c.payload-count.ensures c.if-count-eq0.false c.word_after.ensures c.in_err-first.ensures)
+    (Array.first-stopped c.requires c.node-node.ensures.place (rw c.node-node.ensures.same at c.length-count.ensures) c.if-count-eq0.false (rw c.node-node.ensures.same at c.word.ensures) c.in_err-first.ensures)
 
 pub array-part-requires-in-loop-i : goal.array-part-requires-in-loop-i
 array-part-requires-in-loop-i t c = (
-  omega (arith, c.decreases, Array.member-under c.requires c.node_place-at.ensures c.word_at.ensures c.payload-count.ensures (omega arith) c.word_after-member.ensures),
+  omega (arith, c.decreases, Array.member-under c.requires c.node-node.ensures.place (rw c.node-node.ensures.same at c.length-count.ensures) (omega arith) c.word_after-member.ensures),
   Array.member-visit
-      (c.loop-i.invariant.on _ _ (Array.first-passed c.requires c.node_place-at.ensures c.word_at.ensures c.payload-count.ensures c.if-count-eq0.false c.word_after.ensures c.in_ok-first.ensures))
+      (c.loop-i.invariant.on _ _ (Array.first-passed c.requires c.node-node.ensures.place (rw c.node-node.ensures.same at c.length-count.ensures) c.if-count-eq0.false (rw c.node-node.ensures.same at c.word.ensures) c.in_ok-first.ensures))
       (Array.some_left (omega arith)) c.word_after-member.ensures
-      (Array.member_below c.requires c.node_place-at.ensures c.word_at.ensures c.payload-count.ensures (omega arith) c.word_after-member.ensures),
+      (Array.member_below c.requires c.node-node.ensures.place (rw c.node-node.ensures.same at c.length-count.ensures) (omega arith) c.word_after-member.ensures),
 )
 
 pub array-returns-in_err-a : goal.array-returns-in_err-a
 array-returns-in_err-a t c =
     passed_on c.from_residual-in_err-a.ensures.1
     (Array.member-stopped
-    (c.loop-i.invariant.on _ _ (Array.first-passed c.requires c.node_place-at.ensures c.word_at.ensures c.payload-count.ensures c.if-count-eq0.false c.word_after.ensures c.in_ok-first.ensures))
+    (c.loop-i.invariant.on _ _ (Array.first-passed c.requires c.node-node.ensures.place (rw c.node-node.ensures.same at c.length-count.ensures) c.if-count-eq0.false (rw c.node-node.ensures.same at c.word.ensures) c.in_ok-first.ensures))
     (Array.some_left (omega arith)) c.word_after-member.ensures c.in_err-a.ensures)
 
 pub array-member-requires : goal.array-member-requires
-array-member-requires t c = Array.member-there c.requires c.node_place-at.ensures c.word_at.ensures c.payload-count.ensures (omega arith) c.word_after-member.ensures
+array-member-requires t c = rw c.node-node.ensures.same (Array.member-there c.requires c.node-node.ensures.place (rw c.node-node.ensures.same at c.length-count.ensures) (omega arith) c.word_after-member.ensures)
 
 pub array-returns-in_err-turn : goal.array-returns-in_err-turn
 array-returns-in_err-turn t c =
     passed_on c.from_residual-in_err-turn.ensures.1
     (Array.turn-stopped
-    (c.loop-i.invariant.on _ _ (Array.first-passed c.requires c.node_place-at.ensures c.word_at.ensures c.payload-count.ensures c.if-count-eq0.false c.word_after.ensures c.in_ok-first.ensures))
+    (c.loop-i.invariant.on _ _ (Array.first-passed c.requires c.node-node.ensures.place (rw c.node-node.ensures.same at c.length-count.ensures) c.if-count-eq0.false (rw c.node-node.ensures.same at c.word.ensures) c.in_ok-first.ensures))
     (Array.some_left (omega arith)) c.word_after-member.ensures
-    (Array.member_below c.requires c.node_place-at.ensures c.word_at.ensures c.payload-count.ensures (omega arith) c.word_after-member.ensures) c.in_ok-a.ensures
-    (c.in_err-turn.ensures _ _ _ _ _ no_more))
+    (Array.member_below c.requires c.node-node.ensures.place (rw c.node-node.ensures.same at c.length-count.ensures) (omega arith) c.word_after-member.ensures) c.in_ok-a.ensures
+    ((rw (c.node-node.ensures.same, c.node-node.ensures.number) at c.in_err-turn.ensures) _ _ _ _ _ no_more))
 
 pub array-returns-in_default : goal.array-returns-in_default
 array-returns-in_default t c =
     Array.member-differs
-    (c.loop-i.invariant.on _ _ (Array.first-passed c.requires c.node_place-at.ensures c.word_at.ensures c.payload-count.ensures c.if-count-eq0.false c.word_after.ensures c.in_ok-first.ensures))
+    (c.loop-i.invariant.on _ _ (Array.first-passed c.requires c.node-node.ensures.place (rw c.node-node.ensures.same at c.length-count.ensures) c.if-count-eq0.false (rw c.node-node.ensures.same at c.word.ensures) c.in_ok-first.ensures))
     (Array.some_left (omega arith)) c.word_after-member.ensures
-    (Array.member_below c.requires c.node_place-at.ensures c.word_at.ensures c.payload-count.ensures (omega arith) c.word_after-member.ensures) c.in_ok-a.ensures
-    (c.in_ok-turn.ensures _ _ _ _ _ no_more) c.in_default.is
+    (Array.member_below c.requires c.node-node.ensures.place (rw c.node-node.ensures.same at c.length-count.ensures) (omega arith) c.word_after-member.ensures) c.in_ok-a.ensures
+    ((rw (c.node-node.ensures.same, c.node-node.ensures.number) at c.in_ok-turn.ensures) _ _ _ _ _ no_more) c.in_default.is
 
 pub array-loop-i-preserved : goal.array-loop-i-preserved
 array-loop-i-preserved t c =
     Array.turned-next c.loop-i.invariant (omega arith) c.word_after-member.ensures
-    (Array.member_below c.requires c.node_place-at.ensures c.word_at.ensures c.payload-count.ensures (omega arith) c.word_after-member.ensures) c.in_ok-a.ensures
-    (c.in_ok-turn.ensures _ _ _ _ _ no_more) c.in-Some.is
+    (Array.member_below c.requires c.node-node.ensures.place (rw c.node-node.ensures.same at c.length-count.ensures) (omega arith) c.word_after-member.ensures) c.in_ok-a.ensures
+    ((rw (c.node-node.ensures.same, c.node-node.ensures.number) at c.in_ok-turn.ensures) _ _ _ _ _ no_more) c.in-Some.is
 
 pub array-returns : goal.array-returns
 array-returns t c =
     Array.array-ended
-    (c.loop-i.invariant.on _ _ (Array.first-passed c.requires c.node_place-at.ensures c.word_at.ensures c.payload-count.ensures c.if-count-eq0.false c.word_after.ensures c.in_ok-first.ensures))
-    (Array.none_left_lem (omega arith)) (c.end.ensures c.args.texts.now _ _ _ _ _ _ _ no_more)
+    (c.loop-i.invariant.on _ _ (Array.first-passed c.requires c.node-node.ensures.place (rw c.node-node.ensures.same at c.length-count.ensures) c.if-count-eq0.false (rw c.node-node.ensures.same at c.word.ensures) c.in_ok-first.ensures))
+    (Array.none_left_lem (omega arith)) ((rw (c.node-node.ensures.same, c.node-node.ensures.number) at c.end.ensures) c.args.texts.now _ _ _ _ _ _ _ no_more)
