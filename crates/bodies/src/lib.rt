@@ -13,8 +13,7 @@ ghost use Rattle.bodies.specs.Bodies.{BeginReady, EndReady, Begins, end_at};
 use places::Image;
 use ptype::Types;
 use rules::Answer;
-use tok::Texts;
-use visit::{State, Visit};
+use visit::{Sources, State, Visit};
 
 // Up to the body, of the Fn whose record stands at a word of the image: the return type's word, and the state in which the body begins;
 // or none, where the name was met already, which poisons.
@@ -25,24 +24,24 @@ pub fn begin(
     diagnostics: &mut [u32],
     messages: &mut [u8],
     scratch: &mut [u32],
-    texts: &Texts,
-    image: &Image,
+    sources: &Sources,
     at: usize,
     st: State,
     n: u32,
 ) -> Visit<Option<u32>>
-    requires { BeginReady image.now.words image.now.places at st functions.old scratch.old }
+    requires { BeginReady sources.now.image.now.words sources.now.image.now.places at st functions.old scratch.old }
     ensures { ((ls : List Package) (v : ℕ) (words : List ℕ) (o : More) →
         let b : Lent = lent slots.old functions.old types.old diagnostics.old messages.old scratch.old o in
         let b' : Lent = lent slots.new functions.new types.new diagnostics.new messages.new scratch.new o in
-        Begins (ctx texts.now ls v) image.now.words at n words st b b' result) }
+        Begins (ctx sources.now.texts.now ls v) sources.now.image.now.words at n words st b b' result) }
 {
+    let image = sources.image;
     let name = image.word_after(at, 2);
     let (is_new, used) = functions::unless_defined(
         &functions[..],
         diagnostics,
         messages,
-        texts,
+        sources.texts,
         st,
         n,
         name,

@@ -23,8 +23,7 @@ use places::Image;
 use ptype::Types;
 use rules::Answer;
 use scope::Own;
-use tok::Texts;
-use visit::{State, Visit};
+use visit::{Sources, State, Visit};
 
 // What the target of a call is: an own function, a package's function by the names of both, or a Field of what is no Ident.
 #[derive(Clone, Copy)]
@@ -140,9 +139,7 @@ pub fn resolve(
     diagnostics: &mut [u32],
     messages: &mut [u8],
     scratch: &mut [u32],
-    texts: &Texts,
-    image: &Image,
-    library: &[u32],
+    sources: &Sources,
     at: usize,
     count: usize,
     st: State,
@@ -150,31 +147,31 @@ pub fn resolve(
     poisoned: bool,
 ) -> Visit<Answer>
     requires { let b : Lent = lent slots.old functions.now types.old diagnostics.old messages.old scratch.old no_more in
-        Resolvable texts.now image.now.words image.now.places library.now n at count st b }
+        Resolvable sources.now.texts.now sources.now.image.now.words sources.now.image.now.places sources.now.library.now n at count st b }
     ensures { let b : Lent = lent slots.old functions.now types.old diagnostics.old messages.old scratch.old no_more in
         ((ls : List Package) (v : ℕ) →
         let b' : Lent = lent slots.new functions.now types.new diagnostics.new messages.new scratch.new no_more in
-        let image : List ℕ = image.now.words in
-        Visits (call_end (ctx texts.now ls v) n (get_or image (at + 1) 0) (callee_at image at) (given_from image (at + 3) count) poisoned) count 0 library.now st b b' result) }
+        let image : List ℕ = sources.now.image.now.words in
+        Visits (call_end (ctx sources.now.texts.now ls v) n (get_or image (at + 1) 0) (callee_at image at) (given_from image (at + 3) count) poisoned) count 0 sources.now.library.now st b b' result) }
 {
-    let slot = image.word_at(at + 1);
+    let slot = sources.image.word_at(at + 1);
     let call = Call {
         n,
         slot,
         args: at + 3,
         count,
     };
-    match target_at(image, at) {
+    match target_at(sources.image, at) {
         Target::Own(name) => resolve_own(
             slots,
             functions,
             &Types {
                 words: &types[..],
-                texts: &*texts,
+                texts: sources.texts,
             },
             diagnostics,
             messages,
-            image,
+            sources.image,
             st,
             call,
             name,
@@ -192,9 +189,7 @@ pub fn resolve(
                 diagnostics,
                 messages,
                 scratch,
-                texts,
-                image,
-                library,
+                sources,
                 st,
                 call,
             )

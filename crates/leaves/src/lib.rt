@@ -8,11 +8,10 @@ ghost use Rattle.walking.specs.Visited.{NodeVisited};
 ghost use Rattle.leaves.specs.Leaves.{LeafReady};
 
 use ast::NodeKind;
-use places::Image;
 use ptype::TypeKind;
 use rules::Answer;
-use tok::{Texts, payload};
-use visit::{State, Visit};
+use tok::payload;
+use visit::{Sources, State, Visit};
 
 // A node of such a kind.
 pub fn leaf(
@@ -21,18 +20,17 @@ pub fn leaf(
     diagnostics: &mut [u32],
     messages: &mut [u8],
     scratch: &mut [u32],
-    texts: &Texts,
-    image: &Image,
-    library: &[u32],
+    sources: &Sources,
     st: State,
     n: u32,
 ) -> Visit<Answer>
-    requires { LeafReady texts.now image.now.words image.now.places library.now n st scratch.old }
+    requires { LeafReady sources.now.texts.now sources.now.image.now.words sources.now.image.now.places sources.now.library.now n st scratch.old }
     ensures { ((f : List ℕ) (o : More) →
         let b : Lent = lent slots.old f types.old diagnostics.old messages.old scratch.old o in
         let b' : Lent = lent slots.new f types.new diagnostics.new messages.new scratch.new o in
-        NodeVisited texts.now image.now.words library.now n st b b' result) }
+        NodeVisited sources.now.texts.now sources.now.image.now.words sources.now.library.now n st b b' result) }
 {
+    let image = sources.image;
     let at = image.node_place(n);
     let head = image.word_at(at);
     let slot = image.word_after(at, 1);
@@ -48,7 +46,7 @@ pub fn leaf(
             diagnostics,
             messages,
             &scratch[..],
-            texts,
+            sources.texts,
             st,
             n,
             slot,
@@ -59,9 +57,7 @@ pub fn leaf(
             diagnostics,
             messages,
             scratch,
-            texts,
-            library,
-            image.words,
+            sources,
             st,
             n,
             slot,

@@ -1,7 +1,6 @@
 // The walk (typecheck/lib.rs, `Typechecker::node`): the functions that visit. They call each other, and the node number falls: "A part's
 // number is smaller than its owner's". Each visits and hands over; what a rule does beside visiting is in the crates below.
-// The buffers are lent in one order: slots, functions, types, diagnostics, messages, scratch; then the texts, the image, the library's
-// words, the state.
+// The buffers are lent in one order: slots, functions, types, diagnostics, messages, scratch; then what the walk reads, and the state.
 #![tactic(auto)]
 
 ghost use Rattle.state.specs.World.{no_more};
@@ -11,11 +10,10 @@ ghost use Rattle.walking.specs.Kinds.{OneOperand, Is};
 ghost use Rattle.walking.specs.Visited.{ClassVisit, ListVisit, CaseVisit, NodeVisited, ListVisited, CaseVisited};
 
 use ast::NodeKind;
-use places::Image;
 use ptype::Types;
 use rules::Answer;
-use tok::{Texts, payload};
-use visit::{State, Visit};
+use tok::payload;
+use visit::{Sources, State, Visit};
 
 // Typechecker::node: a node, by its kind.
 #[cycle(array_bin_block_call_case_cases_cast_func_node_one_part_record_node)]
@@ -26,28 +24,24 @@ pub fn node(
     diagnostics: &mut [u32],
     messages: &mut [u8],
     scratch: &mut [u32],
-    texts: &Texts,
-    image: &Image,
-    library: &[u32],
+    sources: &Sources,
     st: State,
     n: u32,
 ) -> Visit<Answer>
     requires { let b : Lent = lent slots.old functions.old types.old diagnostics.old messages.old scratch.old no_more in
-        NodeVisit texts.now image.now.words image.now.places library.now n st b }
+        NodeVisit sources.now.texts.now sources.now.image.now.words sources.now.image.now.places sources.now.library.now n st b }
     ensures { let b : Lent = lent slots.old functions.old types.old diagnostics.old messages.old scratch.old no_more in
         let b' : Lent = lent slots.new functions.new types.new diagnostics.new messages.new scratch.new no_more in
-        NodeVisited texts.now image.now.words library.now n st b b' result }
+        NodeVisited sources.now.texts.now sources.now.image.now.words sources.now.library.now n st b b' result }
 {
-    match NodeKind::of(image.word_at(image.node_place(n))) {
+    match NodeKind::of(sources.image.word_at(sources.image.node_place(n))) {
         NodeKind::Atom | NodeKind::Ident | NodeKind::Import | NodeKind::Extern => leaves::leaf(
             slots,
             types,
             diagnostics,
             messages,
             scratch,
-            texts,
-            image,
-            library,
+            sources,
             st,
             n,
         ),
@@ -58,9 +52,7 @@ pub fn node(
             diagnostics,
             messages,
             scratch,
-            texts,
-            image,
-            library,
+            sources,
             st,
             n,
         ),
@@ -71,9 +63,7 @@ pub fn node(
             diagnostics,
             messages,
             scratch,
-            texts,
-            image,
-            library,
+            sources,
             st,
             n,
         ),
@@ -84,9 +74,7 @@ pub fn node(
             diagnostics,
             messages,
             scratch,
-            texts,
-            image,
-            library,
+            sources,
             st,
             n,
         ),
@@ -97,9 +85,7 @@ pub fn node(
             diagnostics,
             messages,
             scratch,
-            texts,
-            image,
-            library,
+            sources,
             st,
             n,
         ),
@@ -110,9 +96,7 @@ pub fn node(
             diagnostics,
             messages,
             scratch,
-            texts,
-            image,
-            library,
+            sources,
             st,
             n,
         ),
@@ -123,9 +107,7 @@ pub fn node(
             diagnostics,
             messages,
             scratch,
-            texts,
-            image,
-            library,
+            sources,
             st,
             n,
         ),
@@ -136,9 +118,7 @@ pub fn node(
             diagnostics,
             messages,
             scratch,
-            texts,
-            image,
-            library,
+            sources,
             st,
             n,
         ),
@@ -149,9 +129,7 @@ pub fn node(
             diagnostics,
             messages,
             scratch,
-            texts,
-            image,
-            library,
+            sources,
             st,
             n,
         ),
@@ -169,17 +147,15 @@ fn part(
     diagnostics: &mut [u32],
     messages: &mut [u8],
     scratch: &mut [u32],
-    texts: &Texts,
-    image: &Image,
-    library: &[u32],
+    sources: &Sources,
     st: State,
     n: u32,
 ) -> Visit<Answer>
     requires { let b : Lent = lent slots.old functions.old types.old diagnostics.old messages.old scratch.old no_more in
-        NodeVisit texts.now image.now.words image.now.places library.now n st b }
+        NodeVisit sources.now.texts.now sources.now.image.now.words sources.now.image.now.places sources.now.library.now n st b }
     ensures { let b : Lent = lent slots.old functions.old types.old diagnostics.old messages.old scratch.old no_more in
         let b' : Lent = lent slots.new functions.new types.new diagnostics.new messages.new scratch.new no_more in
-        NodeVisited texts.now image.now.words library.now n st b b' result }
+        NodeVisited sources.now.texts.now sources.now.image.now.words sources.now.library.now n st b b' result }
 {
     node(
         slots,
@@ -188,9 +164,7 @@ fn part(
         diagnostics,
         messages,
         scratch,
-        texts,
-        image,
-        library,
+        sources,
         st,
         n,
     )
@@ -205,19 +179,17 @@ fn bin(
     diagnostics: &mut [u32],
     messages: &mut [u8],
     scratch: &mut [u32],
-    texts: &Texts,
-    image: &Image,
-    library: &[u32],
+    sources: &Sources,
     st: State,
     n: u32,
 ) -> Visit<Answer>
     requires { let b : Lent = lent slots.old functions.old types.old diagnostics.old messages.old scratch.old no_more in
-        ClassVisit (Is 2) texts.now image.now.words image.now.places library.now n st b }
+        ClassVisit (Is 2) sources.now.texts.now sources.now.image.now.words sources.now.image.now.places sources.now.library.now n st b }
     ensures { let b : Lent = lent slots.old functions.old types.old diagnostics.old messages.old scratch.old no_more in
         let b' : Lent = lent slots.new functions.new types.new diagnostics.new messages.new scratch.new no_more in
-        NodeVisited texts.now image.now.words library.now n st b b' result }
+        NodeVisited sources.now.texts.now sources.now.image.now.words sources.now.library.now n st b b' result }
 {
-    let at = image.node_place(n);
+    let at = sources.image.node_place(n);
     let (l, between) = part(
         slots,
         functions,
@@ -225,11 +197,9 @@ fn bin(
         diagnostics,
         messages,
         scratch,
-        texts,
-        image,
-        library,
+        sources,
         st,
-        image.word_after(at, 4),
+        sources.image.word_after(at, 4),
     )?;
     let (r, end) = part(
         slots,
@@ -238,21 +208,19 @@ fn bin(
         diagnostics,
         messages,
         scratch,
-        texts,
-        image,
-        library,
+        sources,
         between,
-        image.word_after(at, 5),
+        sources.image.word_after(at, 5),
     )?;
     operands::bin_end(
         slots,
         &Types {
             words: &types[..],
-            texts: &*texts,
+            texts: sources.texts,
         },
         diagnostics,
         messages,
-        image,
+        sources.image,
         at,
         end,
         n,
@@ -270,20 +238,18 @@ fn one(
     diagnostics: &mut [u32],
     messages: &mut [u8],
     scratch: &mut [u32],
-    texts: &Texts,
-    image: &Image,
-    library: &[u32],
+    sources: &Sources,
     st: State,
     n: u32,
 ) -> Visit<Answer>
     requires { let b : Lent = lent slots.old functions.old types.old diagnostics.old messages.old scratch.old no_more in
-        ClassVisit OneOperand texts.now image.now.words image.now.places library.now n st b }
+        ClassVisit OneOperand sources.now.texts.now sources.now.image.now.words sources.now.image.now.places sources.now.library.now n st b }
     ensures { let b : Lent = lent slots.old functions.old types.old diagnostics.old messages.old scratch.old no_more in
         let b' : Lent = lent slots.new functions.new types.new diagnostics.new messages.new scratch.new no_more in
-        NodeVisited texts.now image.now.words library.now n st b b' result }
+        NodeVisited sources.now.texts.now sources.now.image.now.words sources.now.library.now n st b b' result }
 {
-    let at = image.node_place(n);
-    let value = operands::operand_of(image, at);
+    let at = sources.image.node_place(n);
+    let value = operands::operand_of(sources.image, at);
     let (a, end) = part(
         slots,
         functions,
@@ -291,9 +257,7 @@ fn one(
         diagnostics,
         messages,
         scratch,
-        texts,
-        image,
-        library,
+        sources,
         st,
         value,
     )?;
@@ -301,12 +265,12 @@ fn one(
         slots,
         &Types {
             words: &types[..],
-            texts: &*texts,
+            texts: sources.texts,
         },
         diagnostics,
         messages,
         scratch,
-        image,
+        sources.image,
         at,
         end,
         n,
@@ -323,20 +287,18 @@ fn cast(
     diagnostics: &mut [u32],
     messages: &mut [u8],
     scratch: &mut [u32],
-    texts: &Texts,
-    image: &Image,
-    library: &[u32],
+    sources: &Sources,
     st: State,
     n: u32,
 ) -> Visit<Answer>
     requires { let b : Lent = lent slots.old functions.old types.old diagnostics.old messages.old scratch.old no_more in
-        ClassVisit (Is 9) texts.now image.now.words image.now.places library.now n st b }
+        ClassVisit (Is 9) sources.now.texts.now sources.now.image.now.words sources.now.image.now.places sources.now.library.now n st b }
     ensures { let b : Lent = lent slots.old functions.old types.old diagnostics.old messages.old scratch.old no_more in
         let b' : Lent = lent slots.new functions.new types.new diagnostics.new messages.new scratch.new no_more in
-        NodeVisited texts.now image.now.words library.now n st b b' result }
+        NodeVisited sources.now.texts.now sources.now.image.now.words sources.now.library.now n st b b' result }
 {
-    let at = image.node_place(n);
-    let (to, begun) = operands::cast_begin(types, image, at, st, n)?;
+    let at = sources.image.node_place(n);
+    let (to, begun) = operands::cast_begin(types, sources.image, at, st, n)?;
     let (a, end) = part(
         slots,
         functions,
@@ -344,21 +306,19 @@ fn cast(
         diagnostics,
         messages,
         scratch,
-        texts,
-        image,
-        library,
+        sources,
         begun,
-        image.word_after(at, 3),
+        sources.image.word_after(at, 3),
     )?;
     operands::cast_end(
         slots,
         &Types {
             words: &types[..],
-            texts: &*texts,
+            texts: sources.texts,
         },
         diagnostics,
         messages,
-        image,
+        sources.image,
         at,
         end,
         n,
@@ -376,21 +336,19 @@ pub fn nodes(
     diagnostics: &mut [u32],
     messages: &mut [u8],
     scratch: &mut [u32],
-    texts: &Texts,
-    image: &Image,
-    library: &[u32],
+    sources: &Sources,
     st: State,
     owner: u32,
     at: usize,
     k: usize,
 ) -> Visit<Answer>
     requires { let b : Lent = lent slots.old functions.old types.old diagnostics.old messages.old scratch.old no_more in
-        ListVisit texts.now image.now.words image.now.places library.now owner at k st b }
+        ListVisit sources.now.texts.now sources.now.image.now.words sources.now.image.now.places sources.now.library.now owner at k st b }
     ensures { let b : Lent = lent slots.old functions.old types.old diagnostics.old messages.old scratch.old no_more in
         let b' : Lent = lent slots.new functions.new types.new diagnostics.new messages.new scratch.new no_more in
-        ListVisited texts.now image.now.words library.now at k st b b' result }
+        ListVisited sources.now.texts.now sources.now.image.now.words sources.now.library.now at k st b b' result }
 {
-    let mut answer = Answer::Known(image.slot_count());
+    let mut answer = Answer::Known(sources.image.slot_count());
     let mut here = st;
     for place in at..at + k {
         let (a, next) = node(
@@ -400,11 +358,9 @@ pub fn nodes(
             diagnostics,
             messages,
             scratch,
-            texts,
-            image,
-            library,
+            sources,
             here,
-            image.word_at(place),
+            sources.image.word_at(place),
         )?;
         answer = a;
         here = next;
@@ -421,21 +377,19 @@ fn block(
     diagnostics: &mut [u32],
     messages: &mut [u8],
     scratch: &mut [u32],
-    texts: &Texts,
-    image: &Image,
-    library: &[u32],
+    sources: &Sources,
     st: State,
     owner: u32,
     at: usize,
     k: usize,
 ) -> Visit<Answer>
     requires { let b : Lent = lent slots.old functions.old types.old diagnostics.old messages.old scratch.old no_more in
-        ListVisit texts.now image.now.words image.now.places library.now owner at k st b }
+        ListVisit sources.now.texts.now sources.now.image.now.words sources.now.image.now.places sources.now.library.now owner at k st b }
     ensures { let b : Lent = lent slots.old functions.old types.old diagnostics.old messages.old scratch.old no_more in
         let b' : Lent = lent slots.new functions.new types.new diagnostics.new messages.new scratch.new no_more in
-        ListVisited texts.now image.now.words library.now at k st b b' result }
+        ListVisited sources.now.texts.now sources.now.image.now.words sources.now.library.now at k st b b' result }
 {
-    let mut answer = Answer::Known(image.slot_count());
+    let mut answer = Answer::Known(sources.image.slot_count());
     let mut here = st;
     for place in at..at + k {
         let (a, next) = part(
@@ -445,11 +399,9 @@ fn block(
             diagnostics,
             messages,
             scratch,
-            texts,
-            image,
-            library,
+            sources,
             here,
-            image.word_at(place),
+            sources.image.word_at(place),
         )?;
         answer = a;
         here = next;
@@ -466,20 +418,18 @@ fn func(
     diagnostics: &mut [u32],
     messages: &mut [u8],
     scratch: &mut [u32],
-    texts: &Texts,
-    image: &Image,
-    library: &[u32],
+    sources: &Sources,
     st: State,
     n: u32,
 ) -> Visit<Answer>
     requires { let b : Lent = lent slots.old functions.old types.old diagnostics.old messages.old scratch.old no_more in
-        ClassVisit (Is 5) texts.now image.now.words image.now.places library.now n st b }
+        ClassVisit (Is 5) sources.now.texts.now sources.now.image.now.words sources.now.image.now.places sources.now.library.now n st b }
     ensures { let b : Lent = lent slots.old functions.old types.old diagnostics.old messages.old scratch.old no_more in
         let b' : Lent = lent slots.new functions.new types.new diagnostics.new messages.new scratch.new no_more in
-        NodeVisited texts.now image.now.words library.now n st b b' result }
+        NodeVisited sources.now.texts.now sources.now.image.now.words sources.now.library.now n st b b' result }
 {
-    let at = image.node_place(n);
-    let count = image.word_after(at, 4) as usize;
+    let at = sources.image.node_place(n);
+    let count = sources.image.word_after(at, 4) as usize;
     let (begun, inner) = bodies::begin(
         slots,
         functions,
@@ -487,8 +437,7 @@ fn func(
         diagnostics,
         messages,
         scratch,
-        texts,
-        image,
+        sources,
         at,
         st,
         n,
@@ -496,7 +445,7 @@ fn func(
     let Some(ret) = begun else {
         return Ok((Answer::Poison, inner));
     };
-    let long = payload(image.word_at(at));
+    let long = payload(sources.image.word_at(at));
     let (computed, inside) = block(
         slots,
         functions,
@@ -504,9 +453,7 @@ fn func(
         diagnostics,
         messages,
         scratch,
-        texts,
-        image,
-        library,
+        sources,
         inner,
         n,
         at + 5 + 2 * count,
@@ -516,11 +463,11 @@ fn func(
         slots,
         &Types {
             words: &types[..],
-            texts: &*texts,
+            texts: sources.texts,
         },
         diagnostics,
         messages,
-        image,
+        sources.image,
         at,
         inside,
         st,
@@ -539,18 +486,16 @@ fn case(
     diagnostics: &mut [u32],
     messages: &mut [u8],
     scratch: &mut [u32],
-    texts: &Texts,
-    image: &Image,
-    library: &[u32],
+    sources: &Sources,
     st: State,
     n: u32,
     at: usize,
 ) -> Visit<Answer>
     requires { let b : Lent = lent slots.old functions.old types.old diagnostics.old messages.old scratch.old no_more in
-        CaseVisit texts.now image.now.words image.now.places library.now n at st b }
+        CaseVisit sources.now.texts.now sources.now.image.now.words sources.now.image.now.places sources.now.library.now n at st b }
     ensures { let b : Lent = lent slots.old functions.old types.old diagnostics.old messages.old scratch.old no_more in
         let b' : Lent = lent slots.new functions.new types.new diagnostics.new messages.new scratch.new no_more in
-        CaseVisited texts.now image.now.words library.now n at st b b' result }
+        CaseVisited sources.now.texts.now sources.now.image.now.words sources.now.library.now n at st b b' result }
 {
     let (a, tested) = part(
         slots,
@@ -559,29 +504,27 @@ fn case(
         diagnostics,
         messages,
         scratch,
-        texts,
-        image,
-        library,
+        sources,
         st,
-        image.word_after(at, 1),
+        sources.image.word_after(at, 1),
     )?;
     let (_, begun) = branches::condition(
         &slots[..],
         &Types {
             words: &types[..],
-            texts: &*texts,
+            texts: sources.texts,
         },
         diagnostics,
         messages,
-        image,
+        sources.image,
         at,
         tested,
         n,
         a,
     )?;
-    let mut answer = Answer::Known(image.slot_count());
+    let mut answer = Answer::Known(sources.image.slot_count());
     let mut here = begun;
-    let left = image.word_after(at, 2) as usize;
+    let left = sources.image.word_after(at, 2) as usize;
     for place in at + 3..at + 3 + left {
         let (a, next) = part(
             slots,
@@ -590,11 +533,9 @@ fn case(
             diagnostics,
             messages,
             scratch,
-            texts,
-            image,
-            library,
+            sources,
             here,
-            image.word_at(place),
+            sources.image.word_at(place),
         )?;
         answer = a;
         here = next;
@@ -611,20 +552,18 @@ fn cases(
     diagnostics: &mut [u32],
     messages: &mut [u8],
     scratch: &mut [u32],
-    texts: &Texts,
-    image: &Image,
-    library: &[u32],
+    sources: &Sources,
     st: State,
     n: u32,
 ) -> Visit<Answer>
     requires { let b : Lent = lent slots.old functions.old types.old diagnostics.old messages.old scratch.old no_more in
-        ClassVisit (Is 6) texts.now image.now.words image.now.places library.now n st b }
+        ClassVisit (Is 6) sources.now.texts.now sources.now.image.now.words sources.now.image.now.places sources.now.library.now n st b }
     ensures { let b : Lent = lent slots.old functions.old types.old diagnostics.old messages.old scratch.old no_more in
         let b' : Lent = lent slots.new functions.new types.new diagnostics.new messages.new scratch.new no_more in
-        NodeVisited texts.now image.now.words library.now n st b b' result }
+        NodeVisited sources.now.texts.now sources.now.image.now.words sources.now.library.now n st b b' result }
 {
-    let at = image.node_place(n);
-    let count = image.word_after(at, 2) as usize;
+    let at = sources.image.node_place(n);
+    let count = sources.image.word_after(at, 2) as usize;
     let mut here = st;
     let mut place = at + 3;
     for _ in 0..count {
@@ -635,19 +574,17 @@ fn cases(
             diagnostics,
             messages,
             scratch,
-            texts,
-            image,
-            library,
+            sources,
             here,
             n,
             place,
         )?;
         here = next;
-        place = branches::case_end(image, place);
+        place = branches::case_end(sources.image, place);
     }
     let next = place + 1;
-    let left = at + payload(image.word_at(at)) - next;
-    let mut default = Answer::Known(image.slot_count());
+    let left = at + payload(sources.image.word_at(at)) - next;
+    let mut default = Answer::Known(sources.image.slot_count());
     let mut end = here;
     for i in 0..left {
         let (a, on) = part(
@@ -657,11 +594,9 @@ fn cases(
             diagnostics,
             messages,
             scratch,
-            texts,
-            image,
-            library,
+            sources,
             end,
-            image.word_after(next, i),
+            sources.image.word_after(next, i),
         )?;
         default = a;
         end = on;
@@ -670,11 +605,11 @@ fn cases(
         slots,
         &Types {
             words: &types[..],
-            texts: &*texts,
+            texts: sources.texts,
         },
         diagnostics,
         messages,
-        image,
+        sources.image,
         at,
         visiting::left(end, here),
         n,
@@ -691,23 +626,21 @@ fn call(
     diagnostics: &mut [u32],
     messages: &mut [u8],
     scratch: &mut [u32],
-    texts: &Texts,
-    image: &Image,
-    library: &[u32],
+    sources: &Sources,
     st: State,
     n: u32,
 ) -> Visit<Answer>
     requires { let b : Lent = lent slots.old functions.old types.old diagnostics.old messages.old scratch.old no_more in
-        ClassVisit (Is 7) texts.now image.now.words image.now.places library.now n st b }
+        ClassVisit (Is 7) sources.now.texts.now sources.now.image.now.words sources.now.image.now.places sources.now.library.now n st b }
     ensures { let b : Lent = lent slots.old functions.old types.old diagnostics.old messages.old scratch.old no_more in
         let b' : Lent = lent slots.new functions.new types.new diagnostics.new messages.new scratch.new no_more in
-        NodeVisited texts.now image.now.words library.now n st b b' result }
+        NodeVisited sources.now.texts.now sources.now.image.now.words sources.now.library.now n st b b' result }
 {
-    let at = image.node_place(n);
-    if calls::through_field(image, at) {
-        return calls::report_field(diagnostics, messages, image, at, st, n);
+    let at = sources.image.node_place(n);
+    if calls::through_field(sources.image, at) {
+        return calls::report_field(diagnostics, messages, sources.image, at, st, n);
     }
-    let count = payload(image.word_at(at)) - 3;
+    let count = payload(sources.image.word_at(at)) - 3;
     let mut poisoned = false;
     let mut here = st;
     for i in 0..count {
@@ -718,11 +651,9 @@ fn call(
             diagnostics,
             messages,
             scratch,
-            texts,
-            image,
-            library,
+            sources,
             here,
-            image.word_after(at + 3, i),
+            sources.image.word_after(at + 3, i),
         )?;
         poisoned = calls::or_poison(poisoned, a);
         here = next;
@@ -734,9 +665,7 @@ fn call(
         diagnostics,
         messages,
         scratch,
-        texts,
-        image,
-        library,
+        sources,
         at,
         count,
         here,
@@ -754,20 +683,18 @@ fn record_node(
     diagnostics: &mut [u32],
     messages: &mut [u8],
     scratch: &mut [u32],
-    texts: &Texts,
-    image: &Image,
-    library: &[u32],
+    sources: &Sources,
     st: State,
     n: u32,
 ) -> Visit<Answer>
     requires { let b : Lent = lent slots.old functions.old types.old diagnostics.old messages.old scratch.old no_more in
-        ClassVisit (Is 12) texts.now image.now.words image.now.places library.now n st b }
+        ClassVisit (Is 12) sources.now.texts.now sources.now.image.now.words sources.now.image.now.places sources.now.library.now n st b }
     ensures { let b : Lent = lent slots.old functions.old types.old diagnostics.old messages.old scratch.old no_more in
         let b' : Lent = lent slots.new functions.new types.new diagnostics.new messages.new scratch.new no_more in
-        NodeVisited texts.now image.now.words library.now n st b b' result }
+        NodeVisited sources.now.texts.now sources.now.image.now.words sources.now.library.now n st b b' result }
 {
-    let at = image.node_place(n);
-    let count = (payload(image.word_at(at)) - 3) / 2;
+    let at = sources.image.node_place(n);
+    let count = (payload(sources.image.word_at(at)) - 3) / 2;
     let mut here = st;
     for i in 0..count {
         let (_, next) = part(
@@ -777,15 +704,13 @@ fn record_node(
             diagnostics,
             messages,
             scratch,
-            texts,
-            image,
-            library,
+            sources,
             here,
-            image.word_after(at + 4, 2 * i),
+            sources.image.word_after(at + 4, 2 * i),
         )?;
         here = next;
     }
-    fields::make(slots, types, image, at, count, here, n)
+    fields::make(slots, types, sources.image, at, count, here, n)
 }
 
 // Node::Array: the members are compared with the first, each when it is visited; one that differs ends the visits.
@@ -797,22 +722,20 @@ fn array(
     diagnostics: &mut [u32],
     messages: &mut [u8],
     scratch: &mut [u32],
-    texts: &Texts,
-    image: &Image,
-    library: &[u32],
+    sources: &Sources,
     st: State,
     n: u32,
 ) -> Visit<Answer>
     requires { let b : Lent = lent slots.old functions.old types.old diagnostics.old messages.old scratch.old no_more in
-        ClassVisit (Is 13) texts.now image.now.words image.now.places library.now n st b }
+        ClassVisit (Is 13) sources.now.texts.now sources.now.image.now.words sources.now.image.now.places sources.now.library.now n st b }
     ensures { let b : Lent = lent slots.old functions.old types.old diagnostics.old messages.old scratch.old no_more in
         let b' : Lent = lent slots.new functions.new types.new diagnostics.new messages.new scratch.new no_more in
-        NodeVisited texts.now image.now.words library.now n st b b' result }
+        NodeVisited sources.now.texts.now sources.now.image.now.words sources.now.library.now n st b b' result }
 {
-    let at = image.node_place(n);
-    let count = payload(image.word_at(at)) - 3;
+    let at = sources.image.node_place(n);
+    let count = payload(sources.image.word_at(at)) - 3;
     if count == 0 {
-        return members::empty(diagnostics, messages, image, at, st, n);
+        return members::empty(diagnostics, messages, sources.image, at, st, n);
     }
     let (first, begun) = part(
         slots,
@@ -821,16 +744,14 @@ fn array(
         diagnostics,
         messages,
         scratch,
-        texts,
-        image,
-        library,
+        sources,
         st,
-        image.word_after(at, 3),
+        sources.image.word_after(at, 3),
     )?;
     let mut poisoned = false;
     let mut here = begun;
     for i in 1..count {
-        let member = image.word_after(at + 3, i);
+        let member = sources.image.word_after(at + 3, i);
         let (a, next) = part(
             slots,
             functions,
@@ -838,9 +759,7 @@ fn array(
             diagnostics,
             messages,
             scratch,
-            texts,
-            image,
-            library,
+            sources,
             here,
             member,
         )?;
@@ -848,11 +767,11 @@ fn array(
             &slots[..],
             &Types {
                 words: &types[..],
-                texts: &*texts,
+                texts: sources.texts,
             },
             diagnostics,
             messages,
-            image,
+            sources.image,
             next,
             n,
             member,
@@ -866,5 +785,5 @@ fn array(
         poisoned = p;
         here = on;
     }
-    members::end(slots, types, image, at, here, n, first, poisoned)
+    members::end(slots, types, sources.image, at, here, n, first, poisoned)
 }

@@ -7,18 +7,18 @@ fn_begin-requires c = fn-ready c.requires _ c.inner.ensures c.word_after.ensures
 
 pub returns-in_err-is_new : goal.returns-in_err-is_new
 returns-in_err-is_new c ls v words o =
-    begins-refused _ c.args.image.now.words c.args.at c.args.n words c.word_after-name.ensures (c.unless_defined.ensures ls v words _ _ _ o) c.in_err-is_new.was c.from_residual.ensures.1
+    begins-refused _ c.args.sources.now.image.now.words c.args.at c.args.n words c.word_after-name.ensures (c.unless_defined.ensures ls v words _ _ _ o) c.in_err-is_new.was c.from_residual.ensures.1
 
 pub returns-then-not-is_new : goal.returns-then-not-is_new
 returns-then-not-is_new c ls v words o =
-    begins-met _ c.args.image.now.words c.args.at c.args.n words c.word_after-name.ensures (c.unless_defined.ensures ls v words _ _ _ o) c.in_ok-is_new.was c.if-not-is_new.true
+    begins-met _ c.args.sources.now.image.now.words c.args.at c.args.n words c.word_after-name.ensures (c.unless_defined.ensures ls v words _ _ _ o) c.in_ok-is_new.was c.if-not-is_new.true
 
 pub returns-in_err-ret : goal.returns-in_err-ret
 returns-in_err-ret c ls v words o =
-    begins-stops _ c.args.image.now.words c.args.at c.args.n words c.word_after-name.ensures (c.unless_defined.ensures ls v words _ _ _ o) c.in_ok-is_new.was c.if-not-is_new.false
+    begins-stops _ c.args.sources.now.image.now.words c.args.at c.args.n words c.word_after-name.ensures (c.unless_defined.ensures ls v words _ _ _ o) c.in_ok-is_new.was c.if-not-is_new.false
     c.inner.ensures c.word_after.ensures c.word_after-2.ensures c.word_after-3.ensures (c.fn_begin.ensures _ ls v words _ _ o) c.in_err-ret.was c.from_residual-in_err-ret.ensures.1
 
 pub returns : goal.returns
 returns c ls v words o =
-    begins-due _ c.args.image.now.words c.args.at c.args.n words c.word_after-name.ensures (c.unless_defined.ensures ls v words _ _ _ o) c.in_ok-is_new.was c.if-not-is_new.false
+    begins-due _ c.args.sources.now.image.now.words c.args.at c.args.n words c.word_after-name.ensures (c.unless_defined.ensures ls v words _ _ _ o) c.in_ok-is_new.was c.if-not-is_new.false
     c.inner.ensures c.word_after.ensures c.word_after-2.ensures c.word_after-3.ensures (c.fn_begin.ensures _ ls v words _ _ o) c.in_ok-ret.was

@@ -1,5 +1,5 @@
--- `leaves::leaf` meets its contract: one law for each kind. An Import is lent the image's words alone. Assumes nothing.
-use Rattle.std.proofs.Common.{refl, ap}
+-- `leaves::leaf` meets its contract: one law for each kind. Assumes nothing.
+use Rattle.std.proofs.Common.{refl}
 use native.Mathlib.Omega.{arith}
 use Rattle.ast.specs.Image.{slot_count}
 use Rattle.ast.specs.KindLaws.{node-number}
@@ -34,9 +34,8 @@ import_node-requires c = import_ready c.requires c.node_place-at.ensures c.word_
 
 pub returns-in-Import : goal.returns-in-Import
 returns-in-Import c =
-    let m = ap (λ i. i.words) c.image.view_is in
     λ f o. import_visited _ _ c.requires.node c.node_place-at.ensures c.word_at-head.ensures (node-number _ c.in-Import.ensures) c.word_after-slot.ensures
-    c.word_after-first.ensures c.payload.ensures (rw m at (c.import_node.ensures (slot_count c.image.inside.words.now) f c.args.types.now o))
+    c.word_after-first.ensures c.payload.ensures (c.import_node.ensures (slot_count c.args.sources.now.image.now.words) f c.args.types.now o)
 
 pub overflow_add-at-in_default : goal.overflow_add-at-in_default
 overflow_add-at-in_default c = omega (arith, record_room c.requires.node c.node_place-at.ensures)

@@ -328,7 +328,7 @@ pub record_node-loop-i-preserved : goal.record_node-loop-i-preserved
 record_node-loop-i-preserved t c = Record.turn-next c.loop-i.invariant (omega arith) c.word_after.ensures c.in_ok-next.ensures
 
 pub record_node-returns : goal.record_node-returns
-record_node-returns t c = Record.record_made c.loop-i.invariant (omega arith) (c.make.ensures c.args.texts.now _ _ _ _ _ no_more)
+record_node-returns t c = Record.record_made c.loop-i.invariant (omega arith) (c.make.ensures c.args.sources.now.texts.now _ _ _ _ _ no_more)
 
 -- ── Node::Array ──
 
@@ -395,4 +395,4 @@ pub array-returns : goal.array-returns
 array-returns t c =
     Array.array-ended
     (c.loop-i.invariant.on _ _ (Array.first-passed c.requires c.node_place-at.ensures c.word_at.ensures c.payload-count.ensures c.if-count-eq0.false c.word_after.ensures c.in_ok-first.ensures))
-    (Array.none_left_lem (omega arith)) (c.end.ensures c.args.texts.now _ _ _ _ _ _ _ no_more)
+    (Array.none_left_lem (omega arith)) (c.end.ensures c.args.sources.now.texts.now _ _ _ _ _ _ _ no_more)
