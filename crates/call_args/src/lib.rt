@@ -5,6 +5,7 @@
 ghost use Rattle.std.specs.Prelude.{◌≡◌, ◌<◌, false, List, ℕ};
 ghost use Rattle.tok.specs.Text.{Texts};
 ghost use Rattle.ast.specs.Node.{tree_of, slot_of};
+ghost use Rattle.err.specs.declared.CallName.TheVariants.{OfPackage};
 ghost use Rattle.err.specs.Message.{argument_count, call_name};
 ghost use Rattle.library.specs.Package.{Package};
 ghost use Rattle.rules.specs.Steps.{report};
@@ -35,6 +36,13 @@ pub struct Call {
     pub count: usize,
 }
 
+// What a call names: the token that a diagnostic is told of, and how the call names its function.
+#[derive(Clone, Copy)]
+pub struct Callee {
+    pub token: u32,
+    pub name: CallName,
+}
+
 // A call of a package's function: the names of the package and of the function, and whether an argument is poisoned.
 #[derive(Clone, Copy)]
 pub struct PackageCall {
@@ -42,6 +50,19 @@ pub struct PackageCall {
     pub pkg: u32,
     pub name: u32,
     pub poisoned: bool,
+}
+
+impl PackageCall {
+    // What it names, by the token of the function's name.
+    pub fn callee(&self) -> Callee
+        ensures token { result.token ≡ self.now.name }
+        ensures name { result.name ≡ OfPackage self.now.pkg self.now.name }
+    {
+        Callee {
+            token: self.name,
+            name: CallName::OfPackage(self.pkg, self.name),
+        }
+    }
 }
 
 // The slot of a node.
@@ -74,11 +95,10 @@ pub fn report_count(
     texts: &Texts,
     used: Used,
     call: Call,
-    token: u32,
-    callee: CallName,
+    callee: Callee,
     required: usize,
 ) -> Step<()>
-    ensures { (s t : List ℕ) → Steps (report call.n (argument_count token (call_name texts.now callee) required call.count)) s t diagnostics.old messages.old used
+    ensures { (s t : List ℕ) → Steps (report call.n (argument_count callee.token (call_name texts.now callee.name) required call.count)) s t diagnostics.old messages.old used
         s t diagnostics.new messages.new result }
 {
     let reported = err_calls::argument_count(
@@ -86,8 +106,8 @@ pub fn report_count(
         messages,
         used.told,
         texts,
-        token,
-        callee,
+        callee.token,
+        callee.name,
         required,
         call.count,
     );
@@ -139,16 +159,15 @@ pub fn check_plain(
     image: &Image,
     used: Used,
     call: Call,
-    token: u32,
-    callee: CallName,
+    callee: Callee,
     signature: &Signature,
 ) -> Step<Answer>
     requires { NodesReady image.now.words image.now.places call.n call.args call.count }
     ensures { let T : Texts = types.now.texts.now in
         ((ls : List Package) (v : ℕ) →
         let given : List Provided = given_from image.now.words call.args call.count in
-        let name : List ℕ = call_name T callee in
-        Steps (check_call_args (ctx T ls v) call.n call.slot token name (as_plain signature.now) given) slots.old types.now.words.now
+        let name : List ℕ = call_name T callee.name in
+        Steps (check_call_args (ctx T ls v) call.n call.slot callee.token name (as_plain signature.now) given) slots.old types.now.words.now
         diagnostics.old messages.old used slots.new types.now.words.now diagnostics.new messages.new result) }
 {
     let required = signature.argument_count();
@@ -160,7 +179,6 @@ pub fn check_plain(
             types.texts,
             used,
             call,
-            token,
             callee,
             required,
         )?;
@@ -174,7 +192,7 @@ pub fn check_plain(
         image,
         used,
         call,
-        callee,
+        callee.name,
         signature,
     )?;
     operators::set_known(slots, used, call.slot, ret)

@@ -24,7 +24,7 @@ use ptype::Types;
 use rules::Answer;
 use scope::Own;
 use tok::Texts;
-use visit::{State, Visit};
+use visit::{Sources, State, Visit};
 
 // What the target of a call is: an own function, a package's function by the names of both, or a Field of what is no Ident.
 #[derive(Clone, Copy)]
@@ -188,9 +188,11 @@ pub fn resolve(
                 diagnostics,
                 messages,
                 scratch,
-                texts,
-                node.image,
-                library,
+                &Sources {
+                    texts: &*texts,
+                    image: node.image,
+                    library: &*library,
+                },
                 st,
                 call,
             )

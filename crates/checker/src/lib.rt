@@ -21,7 +21,7 @@ use places::Image;
 use refuse::Inputs;
 use rules::Answer;
 use tok::Texts;
-use visit::{State, Visit};
+use visit::{Sources, State, Visit};
 
 // The roots, in order. The places of the image's records are found here, once, and lent to all visits; the library is measured before, so
 // that the two arrays do not stand on the stack at the same time.
@@ -55,6 +55,11 @@ fn visit_roots(
         words: inputs.image,
         places: &places[..],
     };
+    let sources = Sources {
+        texts: &texts,
+        image: &image,
+        library: inputs.library,
+    };
     typecheck::nodes(
         slots,
         functions,
@@ -62,9 +67,7 @@ fn visit_roots(
         diagnostics,
         messages,
         scratch,
-        &texts,
-        &image,
-        inputs.library,
+        &sources,
         st,
         nodes,
         4,

@@ -11,9 +11,8 @@ ghost use Rattle.display.specs.Joined.{joined, sig};
 ghost use Rattle.err.specs.Message.{call_name};
 ghost use Rattle.group_select.specs.Selects.{candidate_types, NoneFits, Selects};
 
-use call_args::Call;
+use call_args::{Call, Callee};
 use display::{Full, Sink, Writer};
-use err::CallName;
 use ptype::Types;
 use rules::Answer;
 use signatures::Group;
@@ -42,12 +41,11 @@ fn none_fits(
     provided: &[u32],
     used: Used,
     call: Call,
-    token: u32,
-    callee: CallName,
+    callee: Callee,
     group: &Group,
 ) -> Step<Answer>
     ensures { let T : Texts = types.now.texts.now in
-        NoneFits T call.n call.slot token (call_name T callee) (map (type_at types.now) provided.now) group.now
+        NoneFits T call.n call.slot callee.token (call_name T callee.name) (map (type_at types.now) provided.now) group.now
         slots.old types.now.words.now diagnostics.old messages.old used slots.new diagnostics.new messages.new result }
 {
     let r = err_calls::no_specialisation(
@@ -55,8 +53,8 @@ fn none_fits(
         messages,
         used.told,
         types,
-        token,
-        callee,
+        callee.token,
+        callee.name,
         provided,
         |out: &mut Writer| put_candidates(out, types, group),
     );
@@ -73,13 +71,12 @@ pub fn select(
     provided: &[u32],
     used: Used,
     call: Call,
-    token: u32,
-    callee: CallName,
+    callee: Callee,
     poisoned: bool,
     group: &Group,
 ) -> Step<Answer>
     ensures { let T : Texts = types.now.texts.now in
-        Selects T call.n call.slot token (call_name T callee) provided.now poisoned group.now
+        Selects T call.n call.slot callee.token (call_name T callee.name) provided.now poisoned group.now
         slots.old types.now.words.now diagnostics.old messages.old used slots.new diagnostics.new messages.new result }
 {
     if poisoned {
@@ -94,7 +91,6 @@ pub fn select(
             provided,
             used,
             call,
-            token,
             callee,
             group,
         );

@@ -1,5 +1,5 @@
 // Node::Import: packages of the library are held (typecheck/lib.rs).
-// The buffers are lent in one order: diagnostics, messages, scratch; then the texts, and the words of the library.
+// The buffers are lent in one order: diagnostics, messages, scratch; then what the walk reads.
 #![tactic(auto)]
 
 ghost use Rattle.std.specs.Prelude.{◌≡◌, List, ℕ, ◌+◌, ◌≤◌, ◌<◌};
@@ -14,8 +14,7 @@ ghost use Rattle.imports.specs.Holding.{one_held, CanHold, CanHoldAll, import_ru
 
 use ptype::VOID_WORD;
 use rules::Answer;
-use tok::Texts;
-use visit::{State, Visit};
+use visit::{Sources, State, Visit};
 
 // The state with one more package of the library held.
 fn one_held(st: State) -> State
@@ -34,19 +33,20 @@ pub fn import_one(
     diagnostics: &mut [u32],
     messages: &mut [u8],
     scratch: &mut [u32],
-    texts: &Texts,
-    words: &[u32],
+    sources: &Sources,
     st: State,
     n: u32,
     path: u32,
 ) -> Visit<()>
-    requires { CanHold texts.now words.now st scratch.old }
-    ensures { let W : List ℕ = words.now in
+    requires { CanHold sources.now.texts.now sources.now.library.now st scratch.old }
+    ensures { let W : List ℕ = sources.now.library.now in
         ((v : ℕ) (s f t : List ℕ) (o : More) →
         let b : Lent = lent s f t diagnostics.old messages.old scratch.old o in
         let b' : Lent = lent s f t diagnostics.new messages.new scratch.new o in
-        Visits (import_one (ctx texts.now (packages_of W) v) n path) 1 0 W st b b' result) }
+        Visits (import_one (ctx sources.now.texts.now (packages_of W) v) n path) 1 0 W st b b' result) }
 {
+    let texts = sources.texts;
+    let words = sources.library;
     let held = scope::find_held(texts, words, &scratch[..], st.held, st.packages, path);
     if held.is_some() {
         return Ok(((), st));
@@ -66,21 +66,19 @@ pub fn import_all(
     diagnostics: &mut [u32],
     messages: &mut [u8],
     scratch: &mut [u32],
-    texts: &Texts,
-    words: &[u32],
-    image: &[u32],
+    sources: &Sources,
     st: State,
     n: u32,
     token: u32,
     at: usize,
     count: usize,
 ) -> Visit<()>
-    requires { CanHoldAll texts.now words.now st scratch.old at count }
-    ensures { let W : List ℕ = words.now in
+    requires { CanHoldAll sources.now.texts.now sources.now.library.now st scratch.old at count }
+    ensures { let W : List ℕ = sources.now.library.now in
         ((v : ℕ) (s f t : List ℕ) (o : More) →
         let b : Lent = lent s f t diagnostics.old messages.old scratch.old o in
         let b' : Lent = lent s f t diagnostics.new messages.new scratch.new o in
-        Visits (import_all (ctx texts.now (packages_of W) v) n token (words_from image.now at count)) count 0 W st b b' result) }
+        Visits (import_all (ctx sources.now.texts.now (packages_of W) v) n token (words_from sources.now.image.now.words at count)) count 0 W st b b' result) }
 {
     if count == 0 {
         let counts = st.used.told;
@@ -89,8 +87,8 @@ pub fn import_all(
     }
     let mut after = st;
     for k in 0..count {
-        let path = tok::word_at(image, at + k);
-        (_, after) = import_one(diagnostics, messages, scratch, texts, words, after, n, path)?;
+        let path = sources.image.word_after(at, k);
+        (_, after) = import_one(diagnostics, messages, scratch, sources, after, n, path)?;
     }
     Ok(((), after))
 }
@@ -101,9 +99,7 @@ pub fn import_node(
     diagnostics: &mut [u32],
     messages: &mut [u8],
     scratch: &mut [u32],
-    texts: &Texts,
-    words: &[u32],
-    image: &[u32],
+    sources: &Sources,
     st: State,
     n: u32,
     slot: u32,
@@ -111,20 +107,18 @@ pub fn import_node(
     at: usize,
     count: usize,
 ) -> Visit<Answer>
-    requires { CanHoldAll texts.now words.now st scratch.old at count }
-    ensures { let W : List ℕ = words.now in
+    requires { CanHoldAll sources.now.texts.now sources.now.library.now st scratch.old at count }
+    ensures { let W : List ℕ = sources.now.library.now in
         ((v : ℕ) (f t : List ℕ) (o : More) →
         let b : Lent = lent slots.old f t diagnostics.old messages.old scratch.old o in
         let b' : Lent = lent slots.new f t diagnostics.new messages.new scratch.new o in
-        Visits (import_rule (ctx texts.now (packages_of W) v) n slot token (words_from image.now at count)) count 0 W st b b' result) }
+        Visits (import_rule (ctx sources.now.texts.now (packages_of W) v) n slot token (words_from sources.now.image.now.words at count)) count 0 W st b b' result) }
 {
     let (_, after) = import_all(
         diagnostics,
         messages,
         scratch,
-        texts,
-        words,
-        image,
+        sources,
         st,
         n,
         token,

@@ -8,11 +8,9 @@ ghost use Rattle.walking.specs.Visited.{NodeVisited};
 ghost use Rattle.leaves.specs.Leaves.{LeafReady};
 
 use ast::NodeKind;
-use places::Image;
 use ptype::TypeKind;
 use rules::Answer;
-use tok::Texts;
-use visit::{State, Visit};
+use visit::{Sources, State, Visit};
 
 // A node of such a kind.
 pub fn leaf(
@@ -21,19 +19,17 @@ pub fn leaf(
     diagnostics: &mut [u32],
     messages: &mut [u8],
     scratch: &mut [u32],
-    texts: &Texts,
-    image: &Image,
-    library: &[u32],
+    sources: &Sources,
     st: State,
     n: u32,
 ) -> Visit<Answer>
-    requires { LeafReady texts.now image.now.words image.now.places library.now n st scratch.old }
+    requires { LeafReady sources.now.texts.now sources.now.image.now.words sources.now.image.now.places sources.now.library.now n st scratch.old }
     ensures { ((f : List ℕ) (o : More) →
         let b : Lent = lent slots.old f types.old diagnostics.old messages.old scratch.old o in
         let b' : Lent = lent slots.new f types.new diagnostics.new messages.new scratch.new o in
-        NodeVisited texts.now image.now.words library.now n st b b' result) }
+        NodeVisited sources.now.texts.now sources.now.image.now.words sources.now.library.now n st b b' result) }
 {
-    let node = image.node(n);
+    let node = sources.image.node(n);
     let slot = node.word(1);
     let first = node.word(2);
     match node.kind() {
@@ -47,7 +43,7 @@ pub fn leaf(
             diagnostics,
             messages,
             &scratch[..],
-            texts,
+            sources.texts,
             st,
             n,
             slot,
@@ -58,9 +54,7 @@ pub fn leaf(
             diagnostics,
             messages,
             scratch,
-            texts,
-            library,
-            image.words,
+            sources,
             st,
             n,
             slot,
@@ -73,7 +67,7 @@ pub fn leaf(
             slots,
             types,
             scratch,
-            image,
+            sources.image,
             st,
             n,
             slot,

@@ -6,7 +6,7 @@ ghost use Rattle.call_args.specs.Given.{given_from};
 ghost use Rattle.own_call.specs.OwnCalls.{OwnCalls};
 ghost use Rattle.spans.specs.Ready.{NodesReady};
 
-use call_args::Call;
+use call_args::{Call, Callee};
 use err::CallName;
 use places::Image;
 use ptype::Types;
@@ -40,8 +40,10 @@ pub fn resolve_call(
             image,
             used,
             call,
-            name,
-            CallName::Own(name),
+            Callee {
+                token: name,
+                name: CallName::Own(name),
+            },
             &Signature {
                 words: own.words,
                 at,

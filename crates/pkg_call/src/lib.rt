@@ -1,6 +1,5 @@
 // Typechecker::resolve_pkg_call, after the arguments are visited: a call of a package's function.
-// The buffers are lent in one order: slots, types, diagnostics, messages, scratch; then the texts, the image, and the words of the
-// library.
+// The buffers are lent in one order: slots, types, diagnostics, messages, scratch; then what the walk reads.
 #![tactic(auto)]
 
 ghost use Rattle.std.specs.Prelude.{◌≡◌, List, ℕ};
@@ -23,7 +22,6 @@ ghost use Rattle.pkg_call.specs.Ready.{GatheredReady, LibraryReady, HeldReady, P
 ghost use Rattle.pkg_call.specs.Calls.{LibraryCalls, HeldCalls};
 
 use call_args::PackageCall;
-use err::CallName;
 use library::Package;
 use pkg_group::{Candidates, in_group};
 use places::Image;
@@ -33,7 +31,7 @@ use scope::Held;
 use signatures::{Entries, Group};
 use state::{HELD_TOP, Step, Used};
 use tok::Texts;
-use visit::{State, Visit};
+use visit::{Sources, State, Visit};
 
 // The functions of a name in the package at a word, which stand after its own name and their count; past the end of the words there are none.
 fn candidates_at<'a>(
@@ -66,22 +64,20 @@ fn in_library(
     diagnostics: &mut [u32],
     messages: &mut [u8],
     scratch: &mut [u32],
-    texts: &Texts,
-    image: &Image,
-    library: &[u32],
+    sources: &Sources,
     used: Used,
     top: usize,
     call: PackageCall,
     at: usize,
 ) -> Step<Answer>
-    requires { let i : Image = image.now in
-        LibraryReady texts.now i.words i.places library.now scratch.old top call.site.n at call.site.args call.site.count slots.old types.old used.types }
-    ensures { let given : List Provided = given_from image.now.words call.site.args call.site.count in
-        LibraryCalls texts.now call.site.n call.site.slot call.pkg call.name given call.poisoned (package_at library.now at)
+    requires { let i : Image = sources.now.image.now in
+        LibraryReady sources.now.texts.now i.words i.places sources.now.library.now scratch.old top call.site.n at call.site.args call.site.count slots.old types.old used.types }
+    ensures { let given : List Provided = given_from sources.now.image.now.words call.site.args call.site.count in
+        LibraryCalls sources.now.texts.now call.site.n call.site.slot call.pkg call.name given call.poisoned (package_at sources.now.library.now at)
         scratch.old slots.old types.old diagnostics.old messages.old used
         scratch.new slots.new types.new diagnostics.new messages.new result }
 {
-    let group = candidates_at(texts, library, true, at, call.name);
+    let group = candidates_at(sources.texts, sources.library, true, at, call.name);
     let found = pkg_group::find_candidates(&group);
     let Candidates::Slotted(signature) = found else {
         let end = top + call.site.count;
@@ -89,12 +85,12 @@ fn in_library(
             slots,
             &Types {
                 words: &types[..],
-                texts: &*texts,
+                texts: sources.texts,
             },
             diagnostics,
             messages,
             &scratch[top..end],
-            image,
+            sources.image,
             used,
             call,
             &group,
@@ -107,12 +103,11 @@ fn in_library(
         diagnostics,
         messages,
         &mut scratch[HELD_TOP..],
-        texts,
-        image,
+        sources.texts,
+        sources.image,
         used,
         call.site,
-        call.name,
-        CallName::OfPackage(call.pkg, call.name),
+        call.callee(),
         &signature,
     )
 }
@@ -162,22 +157,22 @@ fn in_held(
     diagnostics: &mut [u32],
     messages: &mut [u8],
     scratch: &mut [u32],
-    texts: &Texts,
-    image: &Image,
-    library: &[u32],
+    sources: &Sources,
     st: State,
     top: usize,
     call: PackageCall,
 ) -> Step<Answer>
-    requires { let i : Image = image.now in
-        HeldReady texts.now i.words i.places library.now scratch.old st.held st.packages top call.site.n call.site.args call.site.count slots.old types.old
+    requires { let i : Image = sources.now.image.now in
+        HeldReady sources.now.texts.now i.words i.places sources.now.library.now scratch.old st.held st.packages top call.site.n call.site.args call.site.count slots.old types.old
         st.used.types }
-    ensures { let given : List Provided = given_from image.now.words call.site.args call.site.count in
-        HeldCalls texts.now call.site.n call.site.slot call.pkg call.name given call.poisoned library.now st.held st.packages
+    ensures { let given : List Provided = given_from sources.now.image.now.words call.site.args call.site.count in
+        HeldCalls sources.now.texts.now call.site.n call.site.slot call.pkg call.name given call.poisoned sources.now.library.now st.held st.packages
         scratch.old slots.old types.old diagnostics.old messages.old st.used
         scratch.new slots.new types.new diagnostics.new messages.new result }
 {
     let used = st.used;
+    let texts = sources.texts;
+    let library = sources.library;
     match scope::find_held(texts, library, &scratch[..], st.held, st.packages, call.pkg) {
         Some(Held::Library(at)) => in_library(
             slots,
@@ -185,9 +180,7 @@ fn in_held(
             diagnostics,
             messages,
             scratch,
-            texts,
-            image,
-            library,
+            sources,
             used,
             top,
             call,
@@ -197,12 +190,12 @@ fn in_held(
             slots,
             &Types {
                 words: &types[..],
-                texts: &*texts,
+                texts,
             },
             diagnostics,
             messages,
             &scratch[..],
-            image,
+            sources.image,
             used,
             top,
             call,
@@ -222,33 +215,29 @@ pub fn resolve_pkg_call(
     diagnostics: &mut [u32],
     messages: &mut [u8],
     scratch: &mut [u32],
-    texts: &Texts,
-    image: &Image,
-    library: &[u32],
+    sources: &Sources,
     st: State,
     call: PackageCall,
 ) -> Visit<Answer>
-    requires { let i : Image = image.now in
-        PkgReady texts.now i.words i.places library.now st scratch.old call.site.n call.site.args call.site.count slots.old types.old }
+    requires { let i : Image = sources.now.image.now in
+        PkgReady sources.now.texts.now i.words i.places sources.now.library.now st scratch.old call.site.n call.site.args call.site.count slots.old types.old }
     ensures { ((ls : List Package) (v : ℕ) (f : List ℕ) (o : More) →
         let b : Lent = lent slots.old f types.old diagnostics.old messages.old scratch.old o in
         let b' : Lent = lent slots.new f types.new diagnostics.new messages.new scratch.new o in
-        let given : List Provided = given_from image.now.words call.site.args call.site.count in
-        let rule : Walk Answer = resolve_pkg_call (ctx texts.now ls v) call.site.n call.site.slot call.pkg call.name given call.poisoned in
-        Visits rule call.site.count 0 library.now st b b' result) }
+        let given : List Provided = given_from sources.now.image.now.words call.site.args call.site.count in
+        let rule : Walk Answer = resolve_pkg_call (ctx sources.now.texts.now ls v) call.site.n call.site.slot call.pkg call.name given call.poisoned in
+        Visits rule call.site.count 0 sources.now.library.now st b b' result) }
 {
     let top = 2 * (st.names.base + st.names.depth);
     let end = top + call.site.count;
-    call_types::gather_types(&mut scratch[top..end], &slots[..], image, call.site);
+    call_types::gather_types(&mut scratch[top..end], &slots[..], sources.image, call.site);
     let step = in_held(
         slots,
         types,
         diagnostics,
         messages,
         scratch,
-        texts,
-        image,
-        library,
+        sources,
         st,
         top,
         call,

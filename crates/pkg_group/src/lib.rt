@@ -9,7 +9,6 @@ ghost use Rattle.pkg_group.specs.GroupSize.{group_size, size_found};
 ghost use Rattle.pkg_group.specs.Groups.{GroupReady, InGroup};
 
 use call_args::PackageCall;
-use err::CallName;
 use places::Image;
 use ptype::Types;
 use rules::Answer;
@@ -81,8 +80,7 @@ pub fn in_group(
             image,
             used,
             call.site,
-            call.name,
-            CallName::OfPackage(call.pkg, call.name),
+            call.callee(),
             &signature,
         ),
         // it is checked by itself, with its bindings
@@ -95,8 +93,7 @@ pub fn in_group(
             provided,
             used,
             call.site,
-            call.name,
-            CallName::OfPackage(call.pkg, call.name),
+            call.callee(),
             call.poisoned,
             group,
         ),

@@ -15,7 +15,7 @@ ghost use Rattle.slotted.specs.Meant.{Meant};
 ghost use Rattle.call_args.specs.Given.{given_from};
 ghost use Rattle.slotted_call.specs.Bindable.{SlottedReady, Counted, Arguments, known_return};
 
-use call_args::Call;
+use call_args::{Call, Callee};
 use err::CallName;
 use places::Image;
 use rules::Answer;
@@ -92,16 +92,15 @@ pub fn check_slotted(
     image: &Image,
     used: Used,
     call: Call,
-    token: u32,
-    callee: CallName,
+    callee: Callee,
     signature: &Signature,
 ) -> Step<Answer>
     requires { SlottedReady texts.now image.now.words image.now.places call.n call.args call.count slots.old types.old used.types signature.now
         pairs.old }
     ensures { ((ls : List Package) (v : ℕ) →
         let given : List Provided = given_from image.now.words call.args call.count in
-        let name : List ℕ = call_name texts.now callee in
-        Steps (check_call_args (ctx texts.now ls v) call.n call.slot token name (as_slotted signature.now) given) slots.old types.old
+        let name : List ℕ = call_name texts.now callee.name in
+        Steps (check_call_args (ctx texts.now ls v) call.n call.slot callee.token name (as_slotted signature.now) given) slots.old types.old
         diagnostics.old messages.old used slots.new types.new diagnostics.new messages.new result) }
 {
     let required = signature.argument_count();
@@ -112,7 +111,6 @@ pub fn check_slotted(
             texts,
             used,
             call,
-            token,
             callee,
             required,
         )?;
@@ -129,7 +127,7 @@ pub fn check_slotted(
         image,
         used,
         call,
-        callee,
+        callee.name,
         signature,
     )?;
     let ret = signature.return_type();

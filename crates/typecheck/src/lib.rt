@@ -1,7 +1,6 @@
 // The walk (typecheck/lib.rs, `Typechecker::node`): the functions that visit. They call each other, and the node number falls: "A part's
 // number is smaller than its owner's". Each visits and hands over; what a rule does beside visiting is in the crates below.
-// The buffers are lent in one order: slots, functions, types, diagnostics, messages, scratch; then the texts, the image, the library's
-// words, the state.
+// The buffers are lent in one order: slots, functions, types, diagnostics, messages, scratch; then what the walk reads, and the state.
 #![tactic(auto)]
 
 ghost use Rattle.state.specs.World.{no_more};
@@ -11,11 +10,9 @@ ghost use Rattle.walking.specs.Kinds.{OneOperand, Is};
 ghost use Rattle.walking.specs.Visited.{ClassVisit, ListVisit, CaseVisit, NodeVisited, ListVisited, CaseVisited};
 
 use ast::NodeKind;
-use places::Image;
 use ptype::Types;
 use rules::Answer;
-use tok::Texts;
-use visit::{State, Visit};
+use visit::{Sources, State, Visit};
 
 // Typechecker::node: a node, by its kind.
 #[cycle(array_bin_block_call_case_cases_cast_func_node_one_part_record_node)]
@@ -26,28 +23,24 @@ pub fn node(
     diagnostics: &mut [u32],
     messages: &mut [u8],
     scratch: &mut [u32],
-    texts: &Texts,
-    image: &Image,
-    library: &[u32],
+    sources: &Sources,
     st: State,
     n: u32,
 ) -> Visit<Answer>
     requires { let b : Lent = lent slots.old functions.old types.old diagnostics.old messages.old scratch.old no_more in
-        NodeVisit texts.now image.now.words image.now.places library.now n st b }
+        NodeVisit sources.now.texts.now sources.now.image.now.words sources.now.image.now.places sources.now.library.now n st b }
     ensures { let b : Lent = lent slots.old functions.old types.old diagnostics.old messages.old scratch.old no_more in
         let b' : Lent = lent slots.new functions.new types.new diagnostics.new messages.new scratch.new no_more in
-        NodeVisited texts.now image.now.words library.now n st b b' result }
+        NodeVisited sources.now.texts.now sources.now.image.now.words sources.now.library.now n st b b' result }
 {
-    match (&*image).node(n).kind() {
+    match sources.image.node(n).kind() {
         NodeKind::Atom | NodeKind::Ident | NodeKind::Import | NodeKind::Extern => leaves::leaf(
             slots,
             types,
             diagnostics,
             messages,
             scratch,
-            texts,
-            image,
-            library,
+            sources,
             st,
             n,
         ),
@@ -58,9 +51,7 @@ pub fn node(
             diagnostics,
             messages,
             scratch,
-            texts,
-            image,
-            library,
+            sources,
             st,
             n,
         ),
@@ -71,9 +62,7 @@ pub fn node(
             diagnostics,
             messages,
             scratch,
-            texts,
-            image,
-            library,
+            sources,
             st,
             n,
         ),
@@ -84,9 +73,7 @@ pub fn node(
             diagnostics,
             messages,
             scratch,
-            texts,
-            image,
-            library,
+            sources,
             st,
             n,
         ),
@@ -97,9 +84,7 @@ pub fn node(
             diagnostics,
             messages,
             scratch,
-            texts,
-            image,
-            library,
+            sources,
             st,
             n,
         ),
@@ -110,9 +95,7 @@ pub fn node(
             diagnostics,
             messages,
             scratch,
-            texts,
-            image,
-            library,
+            sources,
             st,
             n,
         ),
@@ -123,9 +106,7 @@ pub fn node(
             diagnostics,
             messages,
             scratch,
-            texts,
-            image,
-            library,
+            sources,
             st,
             n,
         ),
@@ -136,9 +117,7 @@ pub fn node(
             diagnostics,
             messages,
             scratch,
-            texts,
-            image,
-            library,
+            sources,
             st,
             n,
         ),
@@ -149,9 +128,7 @@ pub fn node(
             diagnostics,
             messages,
             scratch,
-            texts,
-            image,
-            library,
+            sources,
             st,
             n,
         ),
@@ -169,17 +146,15 @@ fn part(
     diagnostics: &mut [u32],
     messages: &mut [u8],
     scratch: &mut [u32],
-    texts: &Texts,
-    image: &Image,
-    library: &[u32],
+    sources: &Sources,
     st: State,
     n: u32,
 ) -> Visit<Answer>
     requires { let b : Lent = lent slots.old functions.old types.old diagnostics.old messages.old scratch.old no_more in
-        NodeVisit texts.now image.now.words image.now.places library.now n st b }
+        NodeVisit sources.now.texts.now sources.now.image.now.words sources.now.image.now.places sources.now.library.now n st b }
     ensures { let b : Lent = lent slots.old functions.old types.old diagnostics.old messages.old scratch.old no_more in
         let b' : Lent = lent slots.new functions.new types.new diagnostics.new messages.new scratch.new no_more in
-        NodeVisited texts.now image.now.words library.now n st b b' result }
+        NodeVisited sources.now.texts.now sources.now.image.now.words sources.now.library.now n st b b' result }
 {
     node(
         slots,
@@ -188,9 +163,7 @@ fn part(
         diagnostics,
         messages,
         scratch,
-        texts,
-        image,
-        library,
+        sources,
         st,
         n,
     )
@@ -205,19 +178,17 @@ fn bin(
     diagnostics: &mut [u32],
     messages: &mut [u8],
     scratch: &mut [u32],
-    texts: &Texts,
-    image: &Image,
-    library: &[u32],
+    sources: &Sources,
     st: State,
     n: u32,
 ) -> Visit<Answer>
     requires { let b : Lent = lent slots.old functions.old types.old diagnostics.old messages.old scratch.old no_more in
-        ClassVisit (Is 2) texts.now image.now.words image.now.places library.now n st b }
+        ClassVisit (Is 2) sources.now.texts.now sources.now.image.now.words sources.now.image.now.places sources.now.library.now n st b }
     ensures { let b : Lent = lent slots.old functions.old types.old diagnostics.old messages.old scratch.old no_more in
         let b' : Lent = lent slots.new functions.new types.new diagnostics.new messages.new scratch.new no_more in
-        NodeVisited texts.now image.now.words library.now n st b b' result }
+        NodeVisited sources.now.texts.now sources.now.image.now.words sources.now.library.now n st b b' result }
 {
-    let node = (&*image).node(n);
+    let node = sources.image.node(n);
     let (l, between) = part(
         slots,
         functions,
@@ -225,9 +196,7 @@ fn bin(
         diagnostics,
         messages,
         scratch,
-        texts,
-        image,
-        library,
+        sources,
         st,
         node.word(4),
     )?;
@@ -238,9 +207,7 @@ fn bin(
         diagnostics,
         messages,
         scratch,
-        texts,
-        image,
-        library,
+        sources,
         between,
         node.word(5),
     )?;
@@ -248,7 +215,7 @@ fn bin(
         slots,
         &Types {
             words: &types[..],
-            texts: &*texts,
+            texts: sources.texts,
         },
         diagnostics,
         messages,
@@ -268,19 +235,17 @@ fn one(
     diagnostics: &mut [u32],
     messages: &mut [u8],
     scratch: &mut [u32],
-    texts: &Texts,
-    image: &Image,
-    library: &[u32],
+    sources: &Sources,
     st: State,
     n: u32,
 ) -> Visit<Answer>
     requires { let b : Lent = lent slots.old functions.old types.old diagnostics.old messages.old scratch.old no_more in
-        ClassVisit OneOperand texts.now image.now.words image.now.places library.now n st b }
+        ClassVisit OneOperand sources.now.texts.now sources.now.image.now.words sources.now.image.now.places sources.now.library.now n st b }
     ensures { let b : Lent = lent slots.old functions.old types.old diagnostics.old messages.old scratch.old no_more in
         let b' : Lent = lent slots.new functions.new types.new diagnostics.new messages.new scratch.new no_more in
-        NodeVisited texts.now image.now.words library.now n st b b' result }
+        NodeVisited sources.now.texts.now sources.now.image.now.words sources.now.library.now n st b b' result }
 {
-    let node = (&*image).node(n);
+    let node = sources.image.node(n);
     let value = operands::operand_of(&node);
     let (a, end) = part(
         slots,
@@ -289,9 +254,7 @@ fn one(
         diagnostics,
         messages,
         scratch,
-        texts,
-        image,
-        library,
+        sources,
         st,
         value,
     )?;
@@ -299,7 +262,7 @@ fn one(
         slots,
         &Types {
             words: &types[..],
-            texts: &*texts,
+            texts: sources.texts,
         },
         diagnostics,
         messages,
@@ -319,19 +282,17 @@ fn cast(
     diagnostics: &mut [u32],
     messages: &mut [u8],
     scratch: &mut [u32],
-    texts: &Texts,
-    image: &Image,
-    library: &[u32],
+    sources: &Sources,
     st: State,
     n: u32,
 ) -> Visit<Answer>
     requires { let b : Lent = lent slots.old functions.old types.old diagnostics.old messages.old scratch.old no_more in
-        ClassVisit (Is 9) texts.now image.now.words image.now.places library.now n st b }
+        ClassVisit (Is 9) sources.now.texts.now sources.now.image.now.words sources.now.image.now.places sources.now.library.now n st b }
     ensures { let b : Lent = lent slots.old functions.old types.old diagnostics.old messages.old scratch.old no_more in
         let b' : Lent = lent slots.new functions.new types.new diagnostics.new messages.new scratch.new no_more in
-        NodeVisited texts.now image.now.words library.now n st b b' result }
+        NodeVisited sources.now.texts.now sources.now.image.now.words sources.now.library.now n st b b' result }
 {
-    let node = (&*image).node(n);
+    let node = sources.image.node(n);
     let (to, begun) = operands::cast_begin(types, &node, st)?;
     let (a, end) = part(
         slots,
@@ -340,9 +301,7 @@ fn cast(
         diagnostics,
         messages,
         scratch,
-        texts,
-        image,
-        library,
+        sources,
         begun,
         node.word(3),
     )?;
@@ -350,7 +309,7 @@ fn cast(
         slots,
         &Types {
             words: &types[..],
-            texts: &*texts,
+            texts: sources.texts,
         },
         diagnostics,
         messages,
@@ -370,21 +329,19 @@ pub fn nodes(
     diagnostics: &mut [u32],
     messages: &mut [u8],
     scratch: &mut [u32],
-    texts: &Texts,
-    image: &Image,
-    library: &[u32],
+    sources: &Sources,
     st: State,
     owner: u32,
     at: usize,
     k: usize,
 ) -> Visit<Answer>
     requires { let b : Lent = lent slots.old functions.old types.old diagnostics.old messages.old scratch.old no_more in
-        ListVisit texts.now image.now.words image.now.places library.now owner at k st b }
+        ListVisit sources.now.texts.now sources.now.image.now.words sources.now.image.now.places sources.now.library.now owner at k st b }
     ensures { let b : Lent = lent slots.old functions.old types.old diagnostics.old messages.old scratch.old no_more in
         let b' : Lent = lent slots.new functions.new types.new diagnostics.new messages.new scratch.new no_more in
-        ListVisited texts.now image.now.words library.now at k st b b' result }
+        ListVisited sources.now.texts.now sources.now.image.now.words sources.now.library.now at k st b b' result }
 {
-    let mut answer = Answer::Known(image.slot_count());
+    let mut answer = Answer::Known(sources.image.slot_count());
     let mut here = st;
     for place in at..at + k {
         let (a, next) = node(
@@ -394,11 +351,9 @@ pub fn nodes(
             diagnostics,
             messages,
             scratch,
-            texts,
-            image,
-            library,
+            sources,
             here,
-            image.word_at(place),
+            sources.image.word_at(place),
         )?;
         answer = a;
         here = next;
@@ -415,21 +370,19 @@ fn block(
     diagnostics: &mut [u32],
     messages: &mut [u8],
     scratch: &mut [u32],
-    texts: &Texts,
-    image: &Image,
-    library: &[u32],
+    sources: &Sources,
     st: State,
     owner: u32,
     at: usize,
     k: usize,
 ) -> Visit<Answer>
     requires { let b : Lent = lent slots.old functions.old types.old diagnostics.old messages.old scratch.old no_more in
-        ListVisit texts.now image.now.words image.now.places library.now owner at k st b }
+        ListVisit sources.now.texts.now sources.now.image.now.words sources.now.image.now.places sources.now.library.now owner at k st b }
     ensures { let b : Lent = lent slots.old functions.old types.old diagnostics.old messages.old scratch.old no_more in
         let b' : Lent = lent slots.new functions.new types.new diagnostics.new messages.new scratch.new no_more in
-        ListVisited texts.now image.now.words library.now at k st b b' result }
+        ListVisited sources.now.texts.now sources.now.image.now.words sources.now.library.now at k st b b' result }
 {
-    let mut answer = Answer::Known(image.slot_count());
+    let mut answer = Answer::Known(sources.image.slot_count());
     let mut here = st;
     for place in at..at + k {
         let (a, next) = part(
@@ -439,11 +392,9 @@ fn block(
             diagnostics,
             messages,
             scratch,
-            texts,
-            image,
-            library,
+            sources,
             here,
-            image.word_at(place),
+            sources.image.word_at(place),
         )?;
         answer = a;
         here = next;
@@ -460,19 +411,17 @@ fn func(
     diagnostics: &mut [u32],
     messages: &mut [u8],
     scratch: &mut [u32],
-    texts: &Texts,
-    image: &Image,
-    library: &[u32],
+    sources: &Sources,
     st: State,
     n: u32,
 ) -> Visit<Answer>
     requires { let b : Lent = lent slots.old functions.old types.old diagnostics.old messages.old scratch.old no_more in
-        ClassVisit (Is 5) texts.now image.now.words image.now.places library.now n st b }
+        ClassVisit (Is 5) sources.now.texts.now sources.now.image.now.words sources.now.image.now.places sources.now.library.now n st b }
     ensures { let b : Lent = lent slots.old functions.old types.old diagnostics.old messages.old scratch.old no_more in
         let b' : Lent = lent slots.new functions.new types.new diagnostics.new messages.new scratch.new no_more in
-        NodeVisited texts.now image.now.words library.now n st b b' result }
+        NodeVisited sources.now.texts.now sources.now.image.now.words sources.now.library.now n st b b' result }
 {
-    let node = (&*image).node(n);
+    let node = sources.image.node(n);
     let count = node.word(4) as usize;
     let (begun, inner) = bodies::begin(
         slots,
@@ -481,7 +430,7 @@ fn func(
         diagnostics,
         messages,
         scratch,
-        texts,
+        sources.texts,
         &node,
         st,
     )?;
@@ -496,9 +445,7 @@ fn func(
         diagnostics,
         messages,
         scratch,
-        texts,
-        image,
-        library,
+        sources,
         inner,
         n,
         node.at + 5 + 2 * count,
@@ -508,7 +455,7 @@ fn func(
         slots,
         &Types {
             words: &types[..],
-            texts: &*texts,
+            texts: sources.texts,
         },
         diagnostics,
         messages,
@@ -529,18 +476,16 @@ fn case(
     diagnostics: &mut [u32],
     messages: &mut [u8],
     scratch: &mut [u32],
-    texts: &Texts,
-    image: &Image,
-    library: &[u32],
+    sources: &Sources,
     st: State,
     n: u32,
     at: usize,
 ) -> Visit<Answer>
     requires { let b : Lent = lent slots.old functions.old types.old diagnostics.old messages.old scratch.old no_more in
-        CaseVisit texts.now image.now.words image.now.places library.now n at st b }
+        CaseVisit sources.now.texts.now sources.now.image.now.words sources.now.image.now.places sources.now.library.now n at st b }
     ensures { let b : Lent = lent slots.old functions.old types.old diagnostics.old messages.old scratch.old no_more in
         let b' : Lent = lent slots.new functions.new types.new diagnostics.new messages.new scratch.new no_more in
-        CaseVisited texts.now image.now.words library.now n at st b b' result }
+        CaseVisited sources.now.texts.now sources.now.image.now.words sources.now.library.now n at st b b' result }
 {
     let (a, tested) = part(
         slots,
@@ -549,29 +494,27 @@ fn case(
         diagnostics,
         messages,
         scratch,
-        texts,
-        image,
-        library,
+        sources,
         st,
-        image.word_after(at, 1),
+        sources.image.word_after(at, 1),
     )?;
     let (_, begun) = branches::condition(
         &slots[..],
         &Types {
             words: &types[..],
-            texts: &*texts,
+            texts: sources.texts,
         },
         diagnostics,
         messages,
-        image,
+        sources.image,
         at,
         tested,
         n,
         a,
     )?;
-    let mut answer = Answer::Known(image.slot_count());
+    let mut answer = Answer::Known(sources.image.slot_count());
     let mut here = begun;
-    let left = image.word_after(at, 2) as usize;
+    let left = sources.image.word_after(at, 2) as usize;
     for place in at + 3..at + 3 + left {
         let (a, next) = part(
             slots,
@@ -580,11 +523,9 @@ fn case(
             diagnostics,
             messages,
             scratch,
-            texts,
-            image,
-            library,
+            sources,
             here,
-            image.word_at(place),
+            sources.image.word_at(place),
         )?;
         answer = a;
         here = next;
@@ -601,19 +542,17 @@ fn cases(
     diagnostics: &mut [u32],
     messages: &mut [u8],
     scratch: &mut [u32],
-    texts: &Texts,
-    image: &Image,
-    library: &[u32],
+    sources: &Sources,
     st: State,
     n: u32,
 ) -> Visit<Answer>
     requires { let b : Lent = lent slots.old functions.old types.old diagnostics.old messages.old scratch.old no_more in
-        ClassVisit (Is 6) texts.now image.now.words image.now.places library.now n st b }
+        ClassVisit (Is 6) sources.now.texts.now sources.now.image.now.words sources.now.image.now.places sources.now.library.now n st b }
     ensures { let b : Lent = lent slots.old functions.old types.old diagnostics.old messages.old scratch.old no_more in
         let b' : Lent = lent slots.new functions.new types.new diagnostics.new messages.new scratch.new no_more in
-        NodeVisited texts.now image.now.words library.now n st b b' result }
+        NodeVisited sources.now.texts.now sources.now.image.now.words sources.now.library.now n st b b' result }
 {
-    let node = (&*image).node(n);
+    let node = sources.image.node(n);
     let count = node.word(2) as usize;
     let mut here = st;
     let mut place = node.at + 3;
@@ -625,19 +564,17 @@ fn cases(
             diagnostics,
             messages,
             scratch,
-            texts,
-            image,
-            library,
+            sources,
             here,
             n,
             place,
         )?;
         here = next;
-        place = branches::case_end(image, place);
+        place = branches::case_end(sources.image, place);
     }
     let next = place + 1;
     let left = node.at + node.length() - next;
-    let mut default = Answer::Known(image.slot_count());
+    let mut default = Answer::Known(sources.image.slot_count());
     let mut end = here;
     for i in 0..left {
         let (a, on) = part(
@@ -647,11 +584,9 @@ fn cases(
             diagnostics,
             messages,
             scratch,
-            texts,
-            image,
-            library,
+            sources,
             end,
-            image.word_after(next, i),
+            sources.image.word_after(next, i),
         )?;
         default = a;
         end = on;
@@ -660,7 +595,7 @@ fn cases(
         slots,
         &Types {
             words: &types[..],
-            texts: &*texts,
+            texts: sources.texts,
         },
         diagnostics,
         messages,
@@ -679,19 +614,17 @@ fn call(
     diagnostics: &mut [u32],
     messages: &mut [u8],
     scratch: &mut [u32],
-    texts: &Texts,
-    image: &Image,
-    library: &[u32],
+    sources: &Sources,
     st: State,
     n: u32,
 ) -> Visit<Answer>
     requires { let b : Lent = lent slots.old functions.old types.old diagnostics.old messages.old scratch.old no_more in
-        ClassVisit (Is 7) texts.now image.now.words image.now.places library.now n st b }
+        ClassVisit (Is 7) sources.now.texts.now sources.now.image.now.words sources.now.image.now.places sources.now.library.now n st b }
     ensures { let b : Lent = lent slots.old functions.old types.old diagnostics.old messages.old scratch.old no_more in
         let b' : Lent = lent slots.new functions.new types.new diagnostics.new messages.new scratch.new no_more in
-        NodeVisited texts.now image.now.words library.now n st b b' result }
+        NodeVisited sources.now.texts.now sources.now.image.now.words sources.now.library.now n st b b' result }
 {
-    let node = (&*image).node(n);
+    let node = sources.image.node(n);
     if calls::through_field(&node) {
         return calls::report_field(diagnostics, messages, &node, st);
     }
@@ -706,11 +639,9 @@ fn call(
             diagnostics,
             messages,
             scratch,
-            texts,
-            image,
-            library,
+            sources,
             here,
-            image.word_after(node.at + 3, i),
+            sources.image.word_after(node.at + 3, i),
         )?;
         poisoned = calls::or_poison(poisoned, a);
         here = next;
@@ -722,9 +653,9 @@ fn call(
         diagnostics,
         messages,
         scratch,
-        texts,
+        sources.texts,
         &node,
-        library,
+        sources.library,
         count,
         here,
         poisoned,
@@ -740,19 +671,17 @@ fn record_node(
     diagnostics: &mut [u32],
     messages: &mut [u8],
     scratch: &mut [u32],
-    texts: &Texts,
-    image: &Image,
-    library: &[u32],
+    sources: &Sources,
     st: State,
     n: u32,
 ) -> Visit<Answer>
     requires { let b : Lent = lent slots.old functions.old types.old diagnostics.old messages.old scratch.old no_more in
-        ClassVisit (Is 12) texts.now image.now.words image.now.places library.now n st b }
+        ClassVisit (Is 12) sources.now.texts.now sources.now.image.now.words sources.now.image.now.places sources.now.library.now n st b }
     ensures { let b : Lent = lent slots.old functions.old types.old diagnostics.old messages.old scratch.old no_more in
         let b' : Lent = lent slots.new functions.new types.new diagnostics.new messages.new scratch.new no_more in
-        NodeVisited texts.now image.now.words library.now n st b b' result }
+        NodeVisited sources.now.texts.now sources.now.image.now.words sources.now.library.now n st b b' result }
 {
-    let node = (&*image).node(n);
+    let node = sources.image.node(n);
     let count = (node.length() - 3) / 2;
     let mut here = st;
     for i in 0..count {
@@ -763,11 +692,9 @@ fn record_node(
             diagnostics,
             messages,
             scratch,
-            texts,
-            image,
-            library,
+            sources,
             here,
-            image.word_after(node.at + 4, 2 * i),
+            sources.image.word_after(node.at + 4, 2 * i),
         )?;
         here = next;
     }
@@ -783,19 +710,17 @@ fn array(
     diagnostics: &mut [u32],
     messages: &mut [u8],
     scratch: &mut [u32],
-    texts: &Texts,
-    image: &Image,
-    library: &[u32],
+    sources: &Sources,
     st: State,
     n: u32,
 ) -> Visit<Answer>
     requires { let b : Lent = lent slots.old functions.old types.old diagnostics.old messages.old scratch.old no_more in
-        ClassVisit (Is 13) texts.now image.now.words image.now.places library.now n st b }
+        ClassVisit (Is 13) sources.now.texts.now sources.now.image.now.words sources.now.image.now.places sources.now.library.now n st b }
     ensures { let b : Lent = lent slots.old functions.old types.old diagnostics.old messages.old scratch.old no_more in
         let b' : Lent = lent slots.new functions.new types.new diagnostics.new messages.new scratch.new no_more in
-        NodeVisited texts.now image.now.words library.now n st b b' result }
+        NodeVisited sources.now.texts.now sources.now.image.now.words sources.now.library.now n st b b' result }
 {
-    let node = (&*image).node(n);
+    let node = sources.image.node(n);
     let count = node.length() - 3;
     if count == 0 {
         return members::empty(diagnostics, messages, &node, st);
@@ -807,16 +732,14 @@ fn array(
         diagnostics,
         messages,
         scratch,
-        texts,
-        image,
-        library,
+        sources,
         st,
         node.word(3),
     )?;
     let mut poisoned = false;
     let mut here = begun;
     for i in 1..count {
-        let member = image.word_after(node.at + 3, i);
+        let member = sources.image.word_after(node.at + 3, i);
         let (a, next) = part(
             slots,
             functions,
@@ -824,9 +747,7 @@ fn array(
             diagnostics,
             messages,
             scratch,
-            texts,
-            image,
-            library,
+            sources,
             here,
             member,
         )?;
@@ -834,7 +755,7 @@ fn array(
             &slots[..],
             &Types {
                 words: &types[..],
-                texts: &*texts,
+                texts: sources.texts,
             },
             diagnostics,
             messages,

@@ -4,8 +4,18 @@
 ghost use Rattle.std.specs.Prelude.{◌≡◌};
 ghost use Rattle.visit.specs.Plain.{visit_of};
 
+use places::Image;
 use scope::Names;
 use state::{Refusal, Step, Used};
+use tok::Texts;
+
+// What the walk reads: the texts, the script's image with the places of its records, and the library's words.
+#[derive(Drop)]
+pub struct Sources<'a> {
+    pub texts: &'a Texts<'a>,
+    pub image: &'a Image<'a>,
+    pub library: &'a [u32],
+}
 
 // How much of each buffer is used, and what scratch holds: the names in scope, and the packages held, which are `packages` from word `held`
 // on; the functions buffer has `functions` entries.

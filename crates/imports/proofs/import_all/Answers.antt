@@ -16,11 +16,11 @@ import_one-requires c = import_room _ c.args.n c.args.token c.args.at c.args.cou
 
 pub returns-in_err-after : goal.returns-in_err-after
 returns-in_err-after c =
-    import_stops _ c.args.n c.args.token c.args.at c.args.count c.requires c.loop-k.invariant (omega arith) c.word_at-path.ensures c.import_one.ensures
+    import_stops _ c.args.n c.args.token c.args.at c.args.count c.requires c.loop-k.invariant (omega arith) c.word_after-path.ensures c.import_one.ensures
     c.in_err-after.was c.from_residual.ensures.1 c.if-count-eq0.false
 
 pub loop-k-preserved : goal.loop-k-preserved
-loop-k-preserved c = import_more _ c.args.n c.args.token c.args.at c.args.count c.requires c.loop-k.invariant (omega arith) c.word_at-path.ensures c.import_one.ensures c.in_ok-after.was
+loop-k-preserved c = import_more _ c.args.n c.args.token c.args.at c.args.count c.requires c.loop-k.invariant (omega arith) c.word_after-path.ensures c.import_one.ensures c.in_ok-after.was
 
 pub returns : goal.returns
 returns c = import_over _ c.args.n c.args.token c.args.at c.args.count c.requires c.loop-k.invariant (omega arith) c.if-count-eq0.false

@@ -1,5 +1,4 @@
--- `leaves::leaf` meets its contract: one law for each kind. An Import is lent the image's words alone. Assumes nothing.
-use Rattle.std.proofs.Common.{ap}
+-- `leaves::leaf` meets its contract: one law for each kind. Assumes nothing.
 use native.Mathlib.Omega.{arith}
 use Rattle.ast.specs.Image.{slot_count}
 use Rattle.ast.specs.KindLaws.{node-number}
@@ -41,10 +40,9 @@ import_node-requires c =
 
 pub returns-in-Import : goal.returns-in-Import
 returns-in-Import c =
-    let m = ap (λ i. i.words) c.image.view_is in
     let same = c.node-node.ensures.same in
     λ f o. import_visited _ _ c.requires.node c.node-node.ensures.place (rw same at (node-number _ c.in-Import.ensures)) (rw same at c.word-slot.ensures)
-    (rw same at c.word-first.ensures) (rw same at c.length.ensures) (rw m at (c.import_node.ensures (slot_count c.image.inside.words.now) f c.args.types.now o))
+    (rw same at c.word-first.ensures) (rw same at c.length.ensures) (c.import_node.ensures (slot_count c.args.sources.now.image.now.words) f c.args.types.now o)
 
 pub overflow_add-node-in_default : goal.overflow_add-node-in_default
 overflow_add-node-in_default c = omega (arith, record_room c.requires.node c.node-node.ensures.place)

@@ -21,4 +21,5 @@ check_slotted-requires c =
 pub returns : goal.returns
 returns c =
     let l = front-stays _ _ (omega (arith, c.requires.ready.long)) in
-    slotted-calls _ _ (sym (ap group_size c.candidates_at-group.ensures) ∙ c.find_candidates-found.ensures) c.in-Slotted.is c.check_slotted.ensures l
+    let named = c.callee.ensures in
+    slotted-calls _ _ (sym (ap group_size c.candidates_at-group.ensures) ∙ c.find_candidates-found.ensures) c.in-Slotted.is (rw (named.token, named.name) at c.check_slotted.ensures) l

@@ -8,11 +8,15 @@ returns-in-Nothing c =
     group-none c.requires c.in-Nothing.is c.undefined_in_package-r.ensures c.told.ensures
 
 pub returns-in-Plain : goal.returns-in-Plain
-returns-in-Plain c = group-plain c.requires c.in-Plain.is c.check_plain.ensures
+returns-in-Plain c =
+    let named = c.callee.ensures in
+    group-plain c.requires c.in-Plain.is (rw (named.token, named.name) at c.check_plain.ensures)
 
 pub unreachable-requires : goal.unreachable-requires
 unreachable-requires c = c.requires.other _ c.in-Slotted.is
 
 pub returns-in-Several : goal.returns-in-Several
 unfolding call_name
-returns-in-Several c = group_several c.requires c.in-Several.is c.select.ensures
+returns-in-Several c =
+    let named = c.callee-in-Several.ensures in
+    group_several c.requires c.in-Several.is (rw (named.token, named.name) at c.select.ensures)

@@ -25,7 +25,7 @@ returns-in_err-used-2 c =
 
 pub returned-requires : goal.returned-requires
 returned-requires c =
-    return-meant _ _ c.args.call.slot c.args.token _ c.args.signature.now _ _ _ _ _ _ _ _ c.argument_count-required.ensures c.if-call-required.false c.slotted_arguments.ensures c.in_ok-used-2.was
+    return-meant _ _ c.args.call.slot c.args.callee.token _ c.args.signature.now _ _ _ _ _ _ _ _ c.argument_count-required.ensures c.if-call-required.false c.slotted_arguments.ensures c.in_ok-used-2.was
     c.return_type-ret.ensures c.requires.ret
 
 pub returns : goal.returns

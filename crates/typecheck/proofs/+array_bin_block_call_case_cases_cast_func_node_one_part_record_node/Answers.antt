@@ -338,7 +338,7 @@ pub record_node-make-requires : goal.record_node-make-requires
 record_node-make-requires t c = rw (c.node-node.ensures.same, c.node-node.ensures.number) c.loop-i.invariant.values
 
 pub record_node-returns : goal.record_node-returns
-record_node-returns t c = Record.record_made c.loop-i.invariant (omega arith) ((rw (c.node-node.ensures.same, c.node-node.ensures.number) at c.make.ensures) c.args.texts.now _ _ _ _ _ no_more)
+record_node-returns t c = Record.record_made c.loop-i.invariant (omega arith) ((rw (c.node-node.ensures.same, c.node-node.ensures.number) at c.make.ensures) c.args.sources.now.texts.now _ _ _ _ _ no_more)
 
 -- ── Node::Array ──
 
@@ -405,4 +405,4 @@ pub array-returns : goal.array-returns
 array-returns t c =
     Array.array-ended
     (c.loop-i.invariant.on _ _ (Array.first-passed c.requires c.node-node.ensures.place (rw c.node-node.ensures.same at c.length-count.ensures) c.if-count-eq0.false (rw c.node-node.ensures.same at c.word.ensures) c.in_ok-first.ensures))
-    (Array.none_left_lem (omega arith)) ((rw (c.node-node.ensures.same, c.node-node.ensures.number) at c.end.ensures) c.args.texts.now _ _ _ _ _ _ _ no_more)
+    (Array.none_left_lem (omega arith)) ((rw (c.node-node.ensures.same, c.node-node.ensures.number) at c.end.ensures) c.args.sources.now.texts.now _ _ _ _ _ _ _ no_more)

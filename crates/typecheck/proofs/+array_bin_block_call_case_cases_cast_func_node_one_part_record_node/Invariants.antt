@@ -51,35 +51,35 @@ decreases-record_node l = M.μ-rule l.n
 -- A case of a Match: `typecheck::case` meets its contract, one law for each return (branches, `Case`). The loop over its body has the
 -- invariant of nodes one after the other (walk_laws, `Lists`); the measure is how many are left. Assumes nothing.
 abbrev pub invariant-case-loop-place : goal.invariant-case-loop-place
-invariant-case-loop-place l = ListsTurn l.texts l.image.words l.image.places l.library l.n (l.at + 3) l.left l.begun
+invariant-case-loop-place l = ListsTurn l.sources.texts.now l.sources.image.now.words l.sources.image.now.places l.sources.library.now l.n (l.at + 3) l.left l.begun
     (lent l.initial.slots l.initial.functions l.initial.types l.initial.diagnostics l.initial.messages l.initial.scratch no_more)
     l.place (l.at + 3 + l.left - l.place) l.answer l.here (lent l.slots l.functions l.types l.diagnostics l.messages l.scratch no_more)
 
 -- Node::Record: `typecheck::record_node` meets its contract (fields, `RecordVisits`). The loop's invariant, `ListsTurn`: i values are done, as their
 -- slots tell, and the others lead on to the whole rule; the measure is how many are left. Assumes nothing.
 abbrev pub invariant-record_node-loop-i : goal.invariant-record_node-loop-i
-invariant-record_node-loop-i l = RecordVisitsTurn l.texts l.image.words l.image.places l.library l.n l.node.at l.count l.initial.here
+invariant-record_node-loop-i l = RecordVisitsTurn l.sources.texts.now l.sources.image.now.words l.sources.image.now.places l.sources.library.now l.n l.node.at l.count l.initial.here
     (lent l.initial.slots l.initial.functions l.initial.types l.initial.diagnostics l.initial.messages l.initial.scratch no_more)
     l.here l.i (lent l.slots l.functions l.types l.diagnostics l.messages l.scratch no_more)
 
 -- `typecheck::array` meets its contract: one law for each return. The loop's invariant: `Turned`, wherever the first member led to, the members so
 -- far lead to here. Assumes nothing.
 abbrev pub invariant-array-loop-i : goal.invariant-array-loop-i
-invariant-array-loop-i l = Turned l.texts l.image.words l.image.places l.library l.n (get_or l.image.words (l.node.at + 1) 0) (l.node.at + 3) l.count l.first 1 l.initial.poisoned l.initial.here
+invariant-array-loop-i l = Turned l.sources.texts.now l.sources.image.now.words l.sources.image.now.places l.sources.library.now l.n (get_or l.sources.image.now.words (l.node.at + 1) 0) (l.node.at + 3) l.count l.first 1 l.initial.poisoned l.initial.here
     (lent l.initial.slots l.initial.functions l.initial.types l.initial.diagnostics l.initial.messages l.initial.scratch no_more)
     l.i l.poisoned l.here (lent l.slots l.functions l.types l.diagnostics l.messages l.scratch no_more)
 
 -- `typecheck::call` meets its contract: one law for each return. The loop's invariant: `Argued`, wherever the arguments before led to at its start,
 -- those so far lead to here. Assumes nothing.
 abbrev pub invariant-call-loop-i : goal.invariant-call-loop-i
-invariant-call-loop-i l = Argued l.texts l.image.words l.image.places l.library l.n l.node.at l.count 0 l.initial.poisoned l.initial.here
+invariant-call-loop-i l = Argued l.sources.texts.now l.sources.image.now.words l.sources.image.now.places l.sources.library.now l.n l.node.at l.count 0 l.initial.poisoned l.initial.here
     (lent l.initial.slots l.initial.functions l.initial.types l.initial.diagnostics l.initial.messages l.initial.scratch no_more)
     l.i l.poisoned l.here (lent l.slots l.functions l.types l.diagnostics l.messages l.scratch no_more)
 
 -- `typecheck::block` meets its contract. The loop's invariant, `Turn`: the nodes that are left lead on to the whole list; the measure is how
 -- many are left. Assumes nothing.
 abbrev pub invariant-block-loop-place : goal.invariant-block-loop-place
-invariant-block-loop-place l = ListsTurn l.texts l.image.words l.image.places l.library l.owner l.at l.k l.initial.here
+invariant-block-loop-place l = ListsTurn l.sources.texts.now l.sources.image.now.words l.sources.image.now.places l.sources.library.now l.owner l.at l.k l.initial.here
     (lent l.initial.slots l.initial.functions l.initial.types l.initial.diagnostics l.initial.messages l.initial.scratch no_more)
     l.place (l.at + l.k - l.place) l.answer l.here (lent l.slots l.functions l.types l.diagnostics l.messages l.scratch no_more)
 
@@ -87,11 +87,11 @@ invariant-block-loop-place l = ListsTurn l.texts l.image.words l.image.places l.
 -- tell, and the others lead on to the whole rule. The second loop, over the default's body, has that of nodes one after the other
 -- (walk_laws, `Lists`). The measures are how many are left. Assumes nothing.
 abbrev pub invariant-cases-loop : goal.invariant-cases-loop
-invariant-cases-loop l = CasesTurn l.texts l.image.words l.image.places l.library l.n l.node.at l.count l.initial.here
+invariant-cases-loop l = CasesTurn l.sources.texts.now l.sources.image.now.words l.sources.image.now.places l.sources.library.now l.n l.node.at l.count l.initial.here
     (lent l.initial.slots l.initial.functions l.initial.types l.initial.diagnostics l.initial.messages l.initial.scratch no_more)
     l.here l.place l.counter (lent l.slots l.functions l.types l.diagnostics l.messages l.scratch no_more)
 
 abbrev pub invariant-cases-loop-i : goal.invariant-cases-loop-i
-invariant-cases-loop-i l = ListsTurn l.texts l.image.words l.image.places l.library l.n l.next l.left l.initial.end
+invariant-cases-loop-i l = ListsTurn l.sources.texts.now l.sources.image.now.words l.sources.image.now.places l.sources.library.now l.n l.next l.left l.initial.end
     (lent l.initial.slots l.initial.functions l.initial.types l.initial.diagnostics l.initial.messages l.initial.scratch no_more)
     (l.next + l.i) (l.left - l.i) l.default l.end (lent l.slots l.functions l.types l.diagnostics l.messages l.scratch no_more)
