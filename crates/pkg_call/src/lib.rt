@@ -24,7 +24,6 @@ ghost use Rattle.pkg_call.specs.Calls.{LibraryCalls, HeldCalls};
 
 use call_args::PackageCall;
 use err::CallName;
-use library::Package;
 use pkg_group::{Candidates, in_group};
 use places::Image;
 use ptype::Types;
@@ -52,7 +51,7 @@ fn candidates_at<'a>(
             words,
             flagged,
             from: at.min(words.len()) + 2,
-            count: Package { words, at }.function_count(),
+            count: library::Package { words, at }.function_count(),
         },
     }
 }
