@@ -22,7 +22,6 @@ ghost use Rattle.pkg_call.specs.Ready.{GatheredReady, LibraryReady, HeldReady, P
 ghost use Rattle.pkg_call.specs.Calls.{LibraryCalls, HeldCalls};
 
 use call_args::PackageCall;
-use library::Package;
 use pkg_group::{Candidates, in_group};
 use places::Image;
 use ptype::Types;
@@ -50,7 +49,7 @@ fn candidates_at<'a>(
             words,
             flagged,
             from: at.min(words.len()) + 2,
-            count: Package { words, at }.function_count(),
+            count: library::Package { words, at }.function_count(),
         },
     }
 }
