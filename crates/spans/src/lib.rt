@@ -183,7 +183,7 @@ pub fn span_of(image: &Image, n: u32) -> Span
     requires { NodeReady image.now.words image.now.places n }
     ensures { result ≡ span_of (tree_of image.now.words n) }
 {
-    let node = (&*image).node(n);
+    let node = image.node(n);
     let first = token_span(node.word(2));
     match node.kind() {
         NodeKind::Atom | NodeKind::Ident => first,
