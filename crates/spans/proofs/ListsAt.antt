@@ -35,8 +35,8 @@ module _ {image places : List ℕ} {n at : ℕ} (r : NodeReady image places n) (
         record { ready = r; nodes = rw z at b; room = omega (arith, fn-long, room) }
 
   -- Match
-  pub match-ready : k ≡ 6 → MatchReady image places n at (at + long)
-  match-ready q = record { ready = r; place = e; kind = rw (← eh, ← ek) q; ends = rw (el, eh) refl }
+  pub match-ready : k ≡ 6 → MatchReady image places n at
+  match-ready q = record { ready = r; place = e; kind = rw (← eh, ← ek) q }
 
   -- Call: the target, then the arguments
   pub call-target : {i : ℕ} → k ≡ 7 → i ≡ get_or image (at + 2) 0 → PartReady image places n i
@@ -77,27 +77,27 @@ module _ {image places : List ℕ} {n at : ℕ} (r : NodeReady image places n) (
   pub array-ready : k ≡ 13 → NodesReady image places n (at + 3) (long - 3)
   array-ready q = record { ready = r; nodes = rw (← same) (words-array r e eh ek q).members; room = omega (arith, array_long q, room) }
 
--- The cases of a Match, and its default, whose token is word d.
-module _ {image places : List ℕ} {n at end : ℕ} (r : MatchReady image places n at end) where
+-- The cases of a Match, whose record is `long` words long, and its default, whose token is word d.
+module _ {image places : List ℕ} {n at : ℕ} (r : MatchReady image places n at) where
   words : MatchWords (counts_of r.ready) image n at
   words = words-match r.ready r.place refl refl r.kind
-
-  pub match-room : end ≤ 8192
-  match-room = rw r.ends (record_room r.ready r.place)
 
   pub match-long : at + 4 ≤ 8192
   match-long = omega (arith, words.long, record_room r.ready r.place)
 
   module _ {m : ℕ} (em : m ≡ get_or image (at + 2) 0) where
-    cases : CasesWords (counts_of r.ready) image n end (at + 3) m
-    cases = rw (em, r.ends) words.cases
+    cases : CasesWords (counts_of r.ready) image n (at + record_length image at) (at + 3) m
+    cases = rw em words.cases
 
     pub cases-ready : CasesReady image places n (at + 3) m
-    cases-ready = record { ready = r.ready; end = end; cases = cases; room = match-room }
+    cases-ready = record { ready = r.ready; end = at + record_length image at; cases = cases; room = record_room r.ready r.place }
 
-    module _ {d : ℕ} (ed : d ≡ cases_end image (at + 3) m) where
-      pub default_end : d + 1 ≤ end
-      default_end = rw ed (cases_end_lem cases)
+    module _ {d long : ℕ} (ed : d ≡ cases_end image (at + 3) m) (el : long ≡ record_length image at) where
+      pub match-room : at + long ≤ 8192
+      match-room = rw el (record_room r.ready r.place)
 
-      pub default_ready : NodesReady image places n (d + 1) (end - (d + 1))
-      default_ready = record { ready = r.ready; nodes = rw ed (cases_default cases); room = omega (arith, default_end, match-room) }
+      pub default_end : d + 1 ≤ at + long
+      default_end = rw (ed, el) (cases_end_lem cases)
+
+      pub default_ready : NodesReady image places n (d + 1) (at + long - (d + 1))
+      default_ready = record { ready = r.ready; nodes = rw (ed, el) (cases_default cases); room = omega (arith, default_end, match-room) }

@@ -115,10 +115,10 @@ module _ {image places : List ℕ} {n at : ℕ} (r : NodeReady image places n) (
       ∙ sym (ap span_of (node_call r e eh ek q)))
 
 -- A Match, whose default's token is word d.
-pub span-match : {image places : List ℕ} {n at end : ℕ} (r : MatchReady image places n at end) {m d w : ℕ} {first x y : Span}
+pub span-match : {image places : List ℕ} {n at : ℕ} (r : MatchReady image places n at) {m d w long : ℕ} {first x y : Span}
     → m ≡ get_or image (at + 2) 0 → d ≡ cases_end image (at + 3) m → w ≡ get_or image d 0 → first ≡ token_span w
-    → x ≡ cover_from first (case_spans_at image (at + 3) m) → y ≡ cover_from x (spans_at image (d + 1) (end - (d + 1))) → y ≡ span_of (tree_of image n)
+    → x ≡ cover_from first (case_spans_at image (at + 3) m) → long ≡ record_length image at → y ≡ cover_from x (spans_at image (d + 1) (at + long - (d + 1))) → y ≡ span_of (tree_of image n)
 unfolding span_of
-span-match r em ed ew ef ex ey =
-    rw (ey, ex, ef, ew, ed, em, r.ends)
+span-match r em ed ew ef ex el ey =
+    rw (ey, ex, ef, ew, ed, em, el)
     (sym (cover-append _ _ _) ∙ (cover-from _ _ (token-whole _) ∙ sym (ap span_of (node-match r.ready r.place refl refl r.kind))))

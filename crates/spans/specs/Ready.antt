@@ -1,8 +1,7 @@
 -- What the functions that cover lists ask for, and what it is of the items after the first. Assumes nothing.
 use Rattle.std.specs.Prelude.{ℕ, suc, ◌+◌, ◌*◌, ◌-◌, ◌≤◌, ◌<◌, ◌≡◌, List, get_or}
 use Rattle.std.proofs.Common.{arith}
-use Rattle.tok.specs.Word.{kind_of, payload_of}
-use Rattle.ast.specs.Image.{word_at, type_count}
+use Rattle.ast.specs.Image.{word_at, type_count, record_kind}
 use Rattle.ast.specs.Outline.{Counts}
 use Rattle.image_laws.specs.Many.{Each}
 use Rattle.image_laws.specs.RecordWords.{Under, Pair, CasesWords, case_words, FunctionsWords, function_words}
@@ -44,12 +43,11 @@ pub record ExternsReady (image places : List ℕ) (at k : ℕ) : Type 0 where
   pub functions : FunctionsWords (counts_in readable.text image) image end at k
   pub room : end ≤ 8192
 
--- A Match at a place, which ends at `end`.
-pub record MatchReady (image places : List ℕ) (n at end : ℕ) : Type 0 where
+-- A Match at a place.
+pub record MatchReady (image places : List ℕ) (n at : ℕ) : Type 0 where
   pub ready : NodeReady image places n
   pub place : at ≡ get_or places n 0
-  pub kind : kind_of (get_or image at 0) ≡ 6
-  pub ends : end ≡ at + payload_of (get_or image at 0)
+  pub kind : record_kind image at ≡ 6
 
 -- the kinds that have a list: 5 to 7, and 10 to 13
 pub record Listed (k : ℕ) : Type 0 where
@@ -58,12 +56,11 @@ pub record Listed (k : ℕ) : Type 0 where
   pub no_field : k ≡ 8 → ⊥
   pub no_cast : k ≡ 9 → ⊥
 
--- A node of such a kind at a place, with the record's first word.
-pub record ListReady (image places : List ℕ) (n at head : ℕ) : Type 0 where
+-- A node of such a kind at a place.
+pub record ListReady (image places : List ℕ) (n at : ℕ) : Type 0 where
   pub ready : NodeReady image places n
   pub place : at ≡ get_or places n 0
-  pub word : head ≡ get_or image at 0
-  pub listed : Listed (kind_of head)
+  pub listed : Listed (record_kind image at)
 
 past : (a : ℕ) {k : ℕ} → a ≤ k → (k ≡ a → ⊥) → a + 1 ≤ k
 past a l d = omega (arith, d)

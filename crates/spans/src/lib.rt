@@ -13,8 +13,8 @@ ghost use Rattle.spans.specs.Lists.{spans_at, value_spans_at, case_spans_at, tok
 ghost use Rattle.spans.specs.Ready.{NodesReady, ValuesReady, CasesReady, ArgsReady, ExternsReady, ListReady, MatchReady};
 
 use ast::NodeKind;
-use places::Image;
-use tok::{Span, cover_spans, payload, token_span};
+use places::{Image, NodeAt};
+use tok::{Span, cover_spans, token_span};
 
 // The span of a type expression: that of its token.
 pub fn type_span(image: &Image, t: u32) -> Span
@@ -71,59 +71,59 @@ fn cover_externs(image: &Image, span: Span, at: usize, k: usize) -> Span
 }
 
 // The word after the cases of a Match.
-fn cases_end(image: &Image, owner: u32, at: usize, k: usize) -> usize
-    requires { CasesReady image.now.words image.now.places owner at k }
-    ensures { result ≡ cases_end image.now.words at k }
+fn cases_end(node: &NodeAt, at: usize, k: usize) -> usize
+    requires { CasesReady node.now.image.now.words node.now.image.now.places node.now.n at k }
+    ensures { result ≡ cases_end node.now.image.now.words at k }
 {
     let mut i = at;
     for _ in 0..k {
-        i = i + 3 + image.word_after(i, 2) as usize;
+        i = i + 3 + node.image.word_after(i, 2) as usize;
     }
     i
 }
 
-// Nodes, parts of the node `owner`.
+// Nodes, parts of a node.
 #[cycle(cover_cases_cover_nodes_cover_values_list_span_match_span_span_of)]
-fn cover_nodes(image: &Image, owner: u32, span: Span, at: usize, k: usize) -> Span
-    requires { NodesReady image.now.words image.now.places owner at k }
-    ensures { result ≡ cover_from span (spans_at image.now.words at k) }
+fn cover_nodes(node: &NodeAt, span: Span, at: usize, k: usize) -> Span
+    requires { NodesReady node.now.image.now.words node.now.image.now.places node.now.n at k }
+    ensures { result ≡ cover_from span (spans_at node.now.image.now.words at k) }
 {
     let mut covered = span;
     for i in at..at + k {
-        covered = cover_spans(covered, span_of(image, image.word_at(i)));
+        covered = cover_spans(covered, span_of(node.image, node.image.word_at(i)));
     }
     covered
 }
 
 // Fields of a Record: name and value of each.
 #[cycle(cover_cases_cover_nodes_cover_values_list_span_match_span_span_of)]
-fn cover_values(image: &Image, owner: u32, span: Span, at: usize, k: usize) -> Span
-    requires { ValuesReady image.now.words image.now.places owner at k }
-    ensures { result ≡ cover_from span (value_spans_at image.now.words at k) }
+fn cover_values(node: &NodeAt, span: Span, at: usize, k: usize) -> Span
+    requires { ValuesReady node.now.image.now.words node.now.image.now.places node.now.n at k }
+    ensures { result ≡ cover_from span (value_spans_at node.now.image.now.words at k) }
 {
     let mut covered = span;
     for i in 0..k {
         let pair = at + 2 * i;
-        let named = cover_spans(covered, token_span(image.word_at(pair)));
-        covered = cover_spans(named, span_of(image, image.word_after(pair, 1)));
+        let named = cover_spans(covered, token_span(node.image.word_at(pair)));
+        covered = cover_spans(named, span_of(node.image, node.image.word_after(pair, 1)));
     }
     covered
 }
 
 // Cases of a Match: token, condition and body of each.
 #[cycle(cover_cases_cover_nodes_cover_values_list_span_match_span_span_of)]
-fn cover_cases(image: &Image, owner: u32, span: Span, at: usize, k: usize) -> Span
-    requires { CasesReady image.now.words image.now.places owner at k }
-    ensures { result ≡ cover_from span (case_spans_at image.now.words at k) }
+fn cover_cases(node: &NodeAt, span: Span, at: usize, k: usize) -> Span
+    requires { CasesReady node.now.image.now.words node.now.image.now.places node.now.n at k }
+    ensures { result ≡ cover_from span (case_spans_at node.now.image.now.words at k) }
 {
     let mut covered = span;
     let mut i = at;
     for _ in 0..k {
-        let count = image.word_after(i, 2) as usize;
-        let begun = cover_spans(covered, token_span(image.word_at(i)));
-        let tested = cover_spans(begun, span_of(image, image.word_after(i, 1)));
+        let count = node.image.word_after(i, 2) as usize;
+        let begun = cover_spans(covered, token_span(node.image.word_at(i)));
+        let tested = cover_spans(begun, span_of(node.image, node.image.word_after(i, 1)));
         let body = i + 3;
-        covered = cover_nodes(image, owner, tested, body, count);
+        covered = cover_nodes(node, tested, body, count);
         i = body + count;
     }
     covered
@@ -131,48 +131,49 @@ fn cover_cases(image: &Image, owner: u32, span: Span, at: usize, k: usize) -> Sp
 
 // Nodes.
 
-// The span of a Match, whose record stands at `at` and ends at `end`: from the default's token on, its cases and the default's body.
+// The span of a Match: from the default's token on, its cases and the default's body.
 #[cycle(cover_cases_cover_nodes_cover_values_list_span_match_span_span_of)]
-fn match_span(image: &Image, n: u32, at: usize, end: usize) -> Span
-    requires { MatchReady image.now.words image.now.places n at end }
-    ensures { result ≡ span_of (tree_of image.now.words n) }
+fn match_span(node: &NodeAt) -> Span
+    requires { MatchReady node.now.image.now.words node.now.image.now.places node.now.n node.now.at }
+    ensures { result ≡ span_of (tree_of node.now.image.now.words node.now.n) }
 {
-    let count = image.word_after(at, 2) as usize;
-    let begin = at + 3;
-    let default = cases_end(image, n, begin, count);
-    let first = token_span(image.word_at(default));
-    let cases = cover_cases(image, n, first, begin, count);
+    let count = node.word(2) as usize;
+    let begin = node.at + 3;
+    let default = cases_end(node, begin, count);
+    let first = token_span(node.image.word_at(default));
+    let cases = cover_cases(node, first, begin, count);
     let body = default + 1;
-    cover_nodes(image, n, cases, body, end - body)
+    let end = node.at + node.length();
+    cover_nodes(node, cases, body, end - body)
 }
 
-// The span of a node of a kind that has a list, whose record stands at `at` and begins with the word `head`.
+// The span of a node of a kind that has a list.
 #[cycle(cover_cases_cover_nodes_cover_values_list_span_match_span_span_of)]
 #[tactic(auto, using(crate::proofs::ListsAt::room))]
-fn list_span(image: &Image, n: u32, at: usize, head: u32) -> Span
-    requires { ListReady image.now.words image.now.places n at head }
-    ensures { result ≡ span_of (tree_of image.now.words n) }
+fn list_span(node: &NodeAt) -> Span
+    requires { ListReady node.now.image.now.words node.now.image.now.places node.now.n node.now.at }
+    ensures { result ≡ span_of (tree_of node.now.image.now.words node.now.n) }
 {
-    let long = payload(head);
-    let first = token_span(image.word_after(at, 2));
-    match NodeKind::of(head) {
+    let long = node.length();
+    let first = token_span(node.word(2));
+    match node.kind() {
         NodeKind::Fn => {
-            let words = 5 + 2 * (image.word_after(at, 4) as usize);
-            cover_nodes(image, n, first, at + words, long - words)
+            let words = 5 + 2 * (node.word(4) as usize);
+            cover_nodes(node, first, node.at + words, long - words)
         }
-        NodeKind::Match => match_span(image, n, at, at + long),
+        NodeKind::Match => match_span(node),
         NodeKind::Call => {
-            let target = span_of(image, image.word_after(at, 2));
-            cover_nodes(image, n, target, at + 3, long - 3)
+            let target = span_of(node.image, node.word(2));
+            cover_nodes(node, target, node.at + 3, long - 3)
         }
-        NodeKind::Import => cover_tokens(image, first, at + 3, long - 3),
+        NodeKind::Import => cover_tokens(node.image, first, node.at + 3, long - 3),
         NodeKind::Extern => {
-            let named = cover_spans(first, token_span(image.word_after(at, 3)));
-            cover_externs(image, named, at + 5, image.word_after(at, 4) as usize)
+            let named = cover_spans(first, token_span(node.word(3)));
+            cover_externs(node.image, named, node.at + 5, node.word(4) as usize)
         }
-        NodeKind::Record => cover_values(image, n, first, at + 3, (long - 3) / 2),
+        NodeKind::Record => cover_values(node, first, node.at + 3, (long - 3) / 2),
         // an Array: no other kind has a list
-        _ => cover_nodes(image, n, first, at + 3, long - 3),
+        _ => cover_nodes(node, first, node.at + 3, long - 3),
     }
 }
 
@@ -182,27 +183,26 @@ pub fn span_of(image: &Image, n: u32) -> Span
     requires { NodeReady image.now.words image.now.places n }
     ensures { result ≡ span_of (tree_of image.now.words n) }
 {
-    let at = image.node_place(n);
-    let head = image.word_at(at);
-    let first = token_span(image.word_after(at, 2));
-    match NodeKind::of(head) {
+    let node = image.node(n);
+    let first = token_span(node.word(2));
+    match node.kind() {
         NodeKind::Atom | NodeKind::Ident => first,
         NodeKind::Bin => {
-            let left = span_of(image, image.word_after(at, 4));
-            let right = span_of(image, image.word_after(at, 5));
+            let left = span_of(image, node.word(4));
+            let right = span_of(image, node.word(5));
             cover_spans(cover_spans(left, first), right)
         }
-        NodeKind::Unary => cover_spans(first, span_of(image, image.word_after(at, 4))),
-        NodeKind::Let => cover_spans(first, span_of(image, image.word_after(at, 3))),
+        NodeKind::Unary => cover_spans(first, span_of(image, node.word(4))),
+        NodeKind::Let => cover_spans(first, span_of(image, node.word(3))),
         NodeKind::Field => {
-            let target = span_of(image, image.word_after(at, 2));
-            cover_spans(target, token_span(image.word_after(at, 3)))
+            let target = span_of(image, node.word(2));
+            cover_spans(target, token_span(node.word(3)))
         }
         NodeKind::Cast => {
-            let left = span_of(image, image.word_after(at, 3));
-            let ty = type_span(image, image.word_after(at, 4));
+            let left = span_of(image, node.word(3));
+            let ty = type_span(image, node.word(4));
             cover_spans(cover_spans(left, first), ty)
         }
-        _ => list_span(image, n, at, head),
+        _ => list_span(&node),
     }
 }

@@ -4,4 +4,4 @@ use Rattle.spans.proofs.Loops.{EndLeft}
 use Rattle.spans.proofs.cases_end.Given as goal
 
 abbrev pub invariant-loop : goal.invariant-loop
-invariant-loop l = EndLeft l.image.words l.image.places l.owner l.at l.k l.i (l.k - l.counter)
+invariant-loop l = EndLeft l.node.image.now.words l.node.image.now.places l.node.n l.at l.k l.i (l.k - l.counter)
