@@ -38,7 +38,7 @@ pub fn node(
         let b' : Lent = lent slots.new functions.new types.new diagnostics.new messages.new scratch.new no_more in
         NodeVisited texts.now image.now.words library.now n st b b' result }
 {
-    match (&*image).node(n).kind() {
+    match image.node(n).kind() {
         NodeKind::Atom | NodeKind::Ident | NodeKind::Import | NodeKind::Extern => leaves::leaf(
             slots,
             types,
@@ -217,7 +217,7 @@ fn bin(
         let b' : Lent = lent slots.new functions.new types.new diagnostics.new messages.new scratch.new no_more in
         NodeVisited texts.now image.now.words library.now n st b b' result }
 {
-    let node = (&*image).node(n);
+    let node = image.node(n);
     let (l, between) = part(
         slots,
         functions,
@@ -280,7 +280,7 @@ fn one(
         let b' : Lent = lent slots.new functions.new types.new diagnostics.new messages.new scratch.new no_more in
         NodeVisited texts.now image.now.words library.now n st b b' result }
 {
-    let node = (&*image).node(n);
+    let node = image.node(n);
     let value = operands::operand_of(&node);
     let (a, end) = part(
         slots,
@@ -331,7 +331,7 @@ fn cast(
         let b' : Lent = lent slots.new functions.new types.new diagnostics.new messages.new scratch.new no_more in
         NodeVisited texts.now image.now.words library.now n st b b' result }
 {
-    let node = (&*image).node(n);
+    let node = image.node(n);
     let (to, begun) = operands::cast_begin(types, &node, st)?;
     let (a, end) = part(
         slots,
@@ -472,7 +472,7 @@ fn func(
         let b' : Lent = lent slots.new functions.new types.new diagnostics.new messages.new scratch.new no_more in
         NodeVisited texts.now image.now.words library.now n st b b' result }
 {
-    let node = (&*image).node(n);
+    let node = image.node(n);
     let count = node.word(4) as usize;
     let (begun, inner) = bodies::begin(
         slots,
@@ -613,7 +613,7 @@ fn cases(
         let b' : Lent = lent slots.new functions.new types.new diagnostics.new messages.new scratch.new no_more in
         NodeVisited texts.now image.now.words library.now n st b b' result }
 {
-    let node = (&*image).node(n);
+    let node = image.node(n);
     let count = node.word(2) as usize;
     let mut here = st;
     let mut place = node.at + 3;
@@ -691,7 +691,7 @@ fn call(
         let b' : Lent = lent slots.new functions.new types.new diagnostics.new messages.new scratch.new no_more in
         NodeVisited texts.now image.now.words library.now n st b b' result }
 {
-    let node = (&*image).node(n);
+    let node = image.node(n);
     if calls::through_field(&node) {
         return calls::report_field(diagnostics, messages, &node, st);
     }
@@ -752,7 +752,7 @@ fn record_node(
         let b' : Lent = lent slots.new functions.new types.new diagnostics.new messages.new scratch.new no_more in
         NodeVisited texts.now image.now.words library.now n st b b' result }
 {
-    let node = (&*image).node(n);
+    let node = image.node(n);
     let count = (node.length() - 3) / 2;
     let mut here = st;
     for i in 0..count {
@@ -795,7 +795,7 @@ fn array(
         let b' : Lent = lent slots.new functions.new types.new diagnostics.new messages.new scratch.new no_more in
         NodeVisited texts.now image.now.words library.now n st b b' result }
 {
-    let node = (&*image).node(n);
+    let node = image.node(n);
     let count = node.length() - 3;
     if count == 0 {
         return members::empty(diagnostics, messages, &node, st);
