@@ -1,5 +1,5 @@
 // Types built from the type expressions of an image (frontend/lib.rs: type_from_type_expr; ast.rs: Ast::type_token).
-// Recursion by the levels or by the number of the type: "A part's number is smaller than its owner's."
+// Recursion by the levels.
 #![tactic(auto)]
 
 ghost use Rattle.std.specs.Prelude.{◌≡◌, ℕ, ◌+◌, ◌*◌, ◌<◌, ◌≤◌, ◌^◌, length};
@@ -27,7 +27,7 @@ use ptype::TypeKind;
 use std::marker::Model;
 use tok::payload;
 
-// A type expression of an accepted image; its value is the tree.
+// A type expression of an accepted image. Its value is the image's words and its number, of which `tree` is the tree.
 #[derive(Drop)]
 struct TypeAt<'a, 'b> {
     image: &'a Image<'b>,
@@ -45,7 +45,7 @@ impl<'a, 'b> Model for TypeAt<'a, 'b> {
     ghost invariant = { λ x. TypeReady x.image.now.words x.image.now.places x.t };
 }
 
-// The fields of a Record, from the one on whose pair stands at word `at`: `left` of them.
+// The fields of a Record, from the one on whose pair stands at word `at`: `left` of them. Its value is the list of their names and types.
 #[derive(Drop)]
 struct Fields<'a, 'b> {
     image: &'a Image<'b>,
