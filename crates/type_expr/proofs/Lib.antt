@@ -1,3 +1,5 @@
 mod Returns
+mod Reading
 mod FieldReturns
+mod BuildReturns
 mod DeepReturns

@@ -1,178 +1,93 @@
--- Each return of `type_token`, `type_from_type_expr`, `type_size` and `type_word`, over variables for what the calls gave: by the kind of the record. Assumes nothing.
-use Rattle.std.specs.Prelude.{Result as Answered, Ok, Err}
-use mathlib.Core.Path.{◌≡◌, refl, sym, ap, ◌∙◌}
-use mathlib.Core.List.{List}
-use Prim.Native.Nat.{ℕ, ◌+◌, ◌-◌, ◌*◌, ◌/◌, ◌≤◌}
-use native.Mathlib.Omega.{arith}
-use native.Mathlib.Decide.{ℕ_discrete}
-use lib.ListN.{get_or}
-use Rattle.std.specs.Prelude.{◌⊎◌}
-use Rattle.std.proofs.Common.{inl, inr}
-use Rattle.ast.specs.declared.ExprKind.{ExprKind}
-use Rattle.ast.specs.declared.ExprKind.TheVariants as expr
-use Rattle.ast.specs.Kinds.{kind_of_expr}
-use Rattle.ast.specs.KindLaws.{expr-number}
-use Rattle.tok.specs.Word.{kind_of, payload_of, word_of}
-use Rattle.tok.specs.Text.{Texts}
-use Rattle.tok.specs.Step.{Step, Refusal, next}
-use Rattle.ptype.specs.declared.TypeKind.{TypeKind}
-use Rattle.ptype.specs.TypeKind.{kind_of_type, number_of_type}
-use Rattle.ptype.specs.Add.{Buffer, add_wrap}
-use Rattle.add.specs.KindLaws.{kind-numbered}
-use Rattle.add.specs.declared.AddError.{AddError}
-use Rattle.add.specs.declared.Arena.{Arena}
-use Rattle.add.specs.Answer.{buffer_of, answer_of, result_of, Allocates}
-use Rattle.add.specs.AllocLaws.{allocates_none, allocates_stop, allocates_then}
-use Rattle.add.specs.Parts.{measured, record_from}
-use Rattle.add.specs.PartsLaws.{record_steps}
-use Rattle.ast.specs.TypeExpr.{type_of, type_token, type_fields_from}
-use Rattle.ast.specs.TypeFrom.{type_from, fields_from_exprs}
-use Rattle.type_expr.specs.Ready.{TypeReady}
+-- A type expression by what it is: how many words it adds, its word, and its token. Over variables for what the calls gave. Assumes nothing.
+use Rattle.std.specs.Prelude.{ℕ, ◌+◌, ◌-◌, ◌*◌, ◌≡◌, length}
+use Rattle.std.proofs.Common.{◌∙◌}
+use Rattle.tok.specs.Word.{payload_of, word_of}
+use Rattle.ast.specs.TypeExpr.{TypeExpr, TypeFields, AtomType, ForeignType, OptionType, ArrayType, RecordType, type_token}
+use Rattle.places.specs.Levels.{levels_of, most_levels}
+use Rattle.type_expr.specs.Trees.{trees}
 use Rattle.type_expr.specs.Sizes.{size_of, sizes_of, word_before}
-use Rattle.type_expr.specs.SizeLaws.{fields-long}
-use Rattle.type_expr.specs.TypesAt.{type-atom, type-foreign, type-option, type-array, type_record_lem, kind-array}
-use Rattle.type_expr.proofs.FieldReturns.{two-each}
+use Rattle.type_expr.proofs.FieldReturns.{Listed, fields-long}
 
--- the word of a kind with nothing inside, by its number
-pub word-plain : {x y : ℕ} {kind : TypeKind} → kind ≡ kind_of_type y → x ≡ word_of (number_of_type kind) 0 → y ≤ 5 → x ≡ word_of y 0
-word-plain e x l = x ∙ ap (λ k. word_of k 0) (ap number_of_type e ∙ kind-numbered _ (omega arith))
+module _ {x t : TypeExpr} where
+  pub levels-option : OptionType t ≡ x → levels_of x ≡ 1 + levels_of t
+  unfolding levels_of
+  levels-option e = rw (← e)
 
-module _ {image places : List ℕ} {t at : ℕ} (r : TypeReady image places t) (ea : at ≡ get_or places (2048 + t) 0) {h k : ℕ} (eh : h ≡ get_or image at 0) (ek : k ≡ kind_of h) where
-  -- ── The token ──
+  pub levels-array : ArrayType t ≡ x → levels_of x ≡ 1 + levels_of t
+  unfolding levels_of
+  levels-array e = rw (← e)
 
-  module _ {w : ℕ} (ew : w ≡ get_or image (at + 1) 0) where
-    token-option : {x : ℕ} → k ≡ 2 → x ≡ type_token (type_of image w) → x ≡ type_token (type_of image t)
-    unfolding type_token
-    token-option q ex = ex ∙ ap (λ i. type_token (type_of image i)) ew ∙ sym (ap type_token (type-option r ea eh ek q))
+  pub token-option : OptionType t ≡ x → type_token x ≡ type_token t
+  unfolding type_token
+  token-option e = rw (← e)
 
-    token-array : {x : ℕ} → k ≡ 3 → x ≡ type_token (type_of image w) → x ≡ type_token (type_of image t)
-    unfolding type_token
-    token-array q ex = ex ∙ ap (λ i. type_token (type_of image i)) ew ∙ sym (ap type_token (type-array r ea eh ek q))
+  pub token-array : ArrayType t ≡ x → type_token x ≡ type_token t
+  unfolding type_token
+  token-array e = rw (← e)
 
-    pub token-inner : {y : ExprKind} {x : ℕ} → y ≡ kind_of_expr k → (y ≡ expr.Option) ⊎ (y ≡ expr.Array) → x ≡ type_token (type_of image w) → x ≡ type_token (type_of image t)
-    token-inner e (inl p) = token-option (expr-number k (sym p ∙ e))
-    token-inner e (inr p) = token-array (expr-number k (sym p ∙ e))
-
-    pub token-own : (k ≡ 2 → ⊥) → (k ≡ 3 → ⊥) → w ≡ type_token (type_of image t)
-    unfolding type_token
-    token-own o a = elim (ℕ_discrete k 0) [
-      | yes q ↦ ew ∙ sym (ap type_token (type-atom r ea eh ek q))
-      | no d ↦ elim (ℕ_discrete k 1) [
-        | yes q ↦ ew ∙ sym (ap type_token (type-foreign r ea eh ek q))
-        | no f ↦ elim (ℕ_discrete k 4) [
-          | yes q ↦ ew ∙ sym (ap type_token (type_record_lem r ea eh ek refl q))
-          | no c ↦ absurd (a (kind-array r ea eh ek d f c o))
-        ]
-      ]
-    ]
-
-  -- ── The type ──
-
-  -- its steps
-  abbrev from : Texts → (n : ℕ) → Step Buffer Refusal ℕ
-  from T n = type_from T n (type_of image t)
-
-  abbrev fields-steps : (m : ℕ) → Texts → (n : ℕ) → Step Buffer Refusal (List ℕ)
-  fields-steps m T n = fields_from_exprs T n (type_fields_from (type_of image) image (at + 2) m)
-
-  module _ {a : Arena} where
-    pub from-atom : {x y : ℕ} → k ≡ 0 → y ≡ get_or image (at + 2) 0 → x ≡ word_of y 0 → Allocates from a (Ok x) a
-    unfolding type_from
-    from-atom q ey ex = allocates_none (λ T n. rw (type-atom r ea eh ek q, ex, ey))
-
-    pub from-foreign : {x y : ℕ} → k ≡ 1 → y ≡ get_or image (at + 1) 0 → x ≡ word_of 9 (payload_of y) → Allocates from a (Ok x) a
-    unfolding type_from
-    from-foreign q ey ex = allocates_none (λ T n. rw (type-foreign r ea eh ek q, ex, ey))
-
-  module _ {long m : ℕ} (q : k ≡ 4) (el : long ≡ payload_of h) (em : m ≡ (long - 2) / 2) where
-    record_is : (a : Arena) (T : Texts) (n : ℕ) → from T n (buffer_of a) ≡ next (record_from n m 0 (fields-steps m T n) (buffer_of a)) (measured T n)
-    unfolding type_from
-    record_is a T n =
-        rw (type_record_lem r ea eh ek el q, ← em)
-        (record_steps T n m (fields-steps m T n) (buffer_of a) (λ pairs b. two-each (type_of image) image T n m (at + 2) (buffer_of a) pairs b))
-
-    pub record_refused : {a a₁ : Arena} {e : AddError} → Allocates (λ T n. record_from n m 0 (fields-steps m T n)) a (Err e) a₁ → Allocates from a (Err e) a₁
-    record_refused {a} = allocates_stop (λ T n. measured T n) (record_is a)
-
-    pub record_closed : {a a₁ : Arena} {w : ℕ} {y : Answered ℕ AddError} → Allocates (λ T n. record_from n m 0 (fields-steps m T n)) a (Ok w) a₁
-        → ((T : Texts) (n : ℕ) → measured T n w (buffer_of a₁) ≡ result_of n (answer_of y a₁.used) a₁.words.now) → Allocates from a y a₁
-    record_closed {a} g c = allocates_then (λ T n. measured T n) (record_is a) g (record { lent = refl; keeps = refl; result = c })
-
-  module _ {i : ℕ} (ei : i ≡ get_or image (at + 1) 0) where
-    option_is : (a : Arena) → k ≡ 2 → (T : Texts) (n : ℕ) → from T n (buffer_of a) ≡ next (type_from T n (type_of image i) (buffer_of a)) (add_wrap T n 6)
-    unfolding type_from
-    option_is a q T n = rw (type-option r ea eh ek q, ← ei)
-
-    array-is : (a : Arena) → k ≡ 3 → (T : Texts) (n : ℕ) → from T n (buffer_of a) ≡ next (type_from T n (type_of image i) (buffer_of a)) (add_wrap T n 7)
-    unfolding type_from
-    array-is a q T n = rw (type-array r ea eh ek q, ← ei)
-
-    module _ (q : k ≡ 2) where
-      pub option-stop : {a a₁ : Arena} {e : AddError} → Allocates (λ T n. type_from T n (type_of image i)) a (Err e) a₁ → Allocates from a (Err e) a₁
-      option-stop {a} = allocates_stop (λ T n. add_wrap T n 6) (option_is a q)
-
-      pub option-put : {a a₁ : Arena} {w : ℕ} {y : Answered ℕ AddError} {a₂ : Arena} → Allocates (λ T n. type_from T n (type_of image i)) a (Ok w) a₁
-          → Allocates (λ T n. add_wrap T n 6 w) a₁ y a₂ → Allocates from a y a₂
-      option-put {a} = allocates_then (λ T n. add_wrap T n 6) (option_is a q)
-
-    module _ (q : k ≡ 3) where
-      pub array-stop : {a a₁ : Arena} {e : AddError} → Allocates (λ T n. type_from T n (type_of image i)) a (Err e) a₁ → Allocates from a (Err e) a₁
-      array-stop {a} = allocates_stop (λ T n. add_wrap T n 7) (array-is a q)
-
-      pub array-put : {a a₁ : Arena} {w : ℕ} {y : Answered ℕ AddError} {a₂ : Arena} → Allocates (λ T n. type_from T n (type_of image i)) a (Ok w) a₁
-          → Allocates (λ T n. add_wrap T n 7 w) a₁ y a₂ → Allocates from a y a₂
-      array-put {a} = allocates_then (λ T n. add_wrap T n 7) (array-is a q)
-
-  -- ── How many words it adds, and its word ──
-
-  size-atom : k ≡ 0 → size_of (type_of image t) ≡ 0
+  pub size-option : OptionType t ≡ x → size_of x ≡ size_of t + 1
   unfolding size_of
-  size-atom q = rw (type-atom r ea eh ek q)
+  size-option e = rw (← e)
 
-  size-foreign : k ≡ 1 → size_of (type_of image t) ≡ 0
+  pub size-array : ArrayType t ≡ x → size_of x ≡ size_of t + 1
   unfolding size_of
-  size-foreign q = rw (type-foreign r ea eh ek q)
+  size-array e = rw (← e)
 
-  pub size-flat : {x : ExprKind} → x ≡ kind_of_expr k → (x ≡ expr.Atom) ⊎ (x ≡ expr.Foreign) → size_of (type_of image t) ≡ 0
-  size-flat e (inl p) = size-atom (expr-number k (sym p ∙ e))
-  size-flat e (inr p) = size-foreign (expr-number k (sym p ∙ e))
+  module _ (end : ℕ) {w : ℕ} where
+    pub word-option : OptionType t ≡ x → w ≡ word_of 6 (end - 1) → w ≡ word_before end x
+    unfolding word_before
+    word-option e ew = rw (← e) ew
 
-  pub size_record : {long m : ℕ} → k ≡ 4 → long ≡ payload_of h → m ≡ (long - 2) / 2
-      → size_of (type_of image t) ≡ sizes_of (type_fields_from (type_of image) image (at + 2) m) + (1 + 2 * m)
+    pub word-array : ArrayType t ≡ x → w ≡ word_of 7 (end - 1) → w ≡ word_before end x
+    unfolding word_before
+    word-array e ew = rw (← e) ew
+
+module _ {x : TypeExpr} {token : ℕ} where
+  pub levels-atom : {k : ℕ} → AtomType token k ≡ x → levels_of x ≡ 1
+  unfolding levels_of
+  levels-atom e = rw (← e)
+
+  pub levels-foreign : ForeignType token ≡ x → levels_of x ≡ 1
+  unfolding levels_of
+  levels-foreign e = rw (← e)
+
+  pub levels_record : {fs : TypeFields} → RecordType token fs ≡ x → levels_of x ≡ 1 + most_levels fs
+  unfolding levels_of
+  levels_record e = rw (← e)
+
+  pub token-atom : {k : ℕ} → AtomType token k ≡ x → type_token x ≡ token
+  unfolding type_token
+  token-atom e = rw (← e)
+
+  pub token-foreign : ForeignType token ≡ x → type_token x ≡ token
+  unfolding type_token
+  token-foreign e = rw (← e)
+
+  pub token_record : {fs : TypeFields} → RecordType token fs ≡ x → type_token x ≡ token
+  unfolding type_token
+  token_record e = rw (← e)
+
+  pub size-atom : {k : ℕ} → AtomType token k ≡ x → size_of x ≡ 0
   unfolding size_of
-  size_record {long} {m} q el em = rw (type_record_lem r ea eh ek el q, ← em, fields-long (type_of image) image (at + 2) m)
+  size-atom e = rw (← e)
 
-  pub size-option : {i : ℕ} → i ≡ get_or image (at + 1) 0 → k ≡ 2 → size_of (type_of image t) ≡ size_of (type_of image i) + 1
+  pub size-foreign : ForeignType token ≡ x → size_of x ≡ 0
   unfolding size_of
-  size-option ei q = rw (type-option r ea eh ek q, ← ei)
+  size-foreign e = rw (← e)
 
-  pub size_array : {i : ℕ} → i ≡ get_or image (at + 1) 0 → k ≡ 3 → size_of (type_of image t) ≡ size_of (type_of image i) + 1
+  pub size_record : (fs : Listed) → RecordType token (trees fs) ≡ x → size_of x ≡ sizes_of (trees fs) + (1 + 2 * length fs)
   unfolding size_of
-  size_array ei q = rw (type-array r ea eh ek q, ← ei)
+  size_record fs e = rw (← e, ← fields-long fs)
 
-  pub size-inner : {i : ℕ} → i ≡ get_or image (at + 1) 0 → (k ≡ 0 → ⊥) → (k ≡ 1 → ⊥) → (k ≡ 4 → ⊥) → size_of (type_of image t) ≡ size_of (type_of image i) + 1
-  size-inner ei na nf nr = elim (ℕ_discrete k 2) [
-    | yes q ↦ size-option ei q
-    | no d ↦ size_array ei (kind-array r ea eh ek na nf nr d)
-  ]
-
-  module _ (end : ℕ) where
-    pub word-atom : {x y : ℕ} → k ≡ 0 → y ≡ get_or image (at + 2) 0 → x ≡ word_of y 0 → x ≡ word_before end (type_of image t)
+  module _ (end : ℕ) {w : ℕ} where
+    pub word-atom : {k : ℕ} → AtomType token k ≡ x → w ≡ word_of k 0 → w ≡ word_before end x
     unfolding word_before
-    word-atom q ey ex = rw (type-atom r ea eh ek q, ex, ey)
+    word-atom e ew = rw (← e) ew
 
-    pub word-foreign : {x y : ℕ} → k ≡ 1 → y ≡ get_or image (at + 1) 0 → x ≡ word_of 9 (payload_of y) → x ≡ word_before end (type_of image t)
+    pub word-foreign : ForeignType token ≡ x → w ≡ word_of 9 (payload_of token) → w ≡ word_before end x
     unfolding word_before
-    word-foreign q ey ex = rw (type-foreign r ea eh ek q, ex, ey)
+    word-foreign e ew = rw (← e) ew
 
-    pub word_record : {long m x : ℕ} → k ≡ 4 → long ≡ payload_of h → m ≡ (long - 2) / 2 → x ≡ word_of 8 (end - (1 + 2 * m)) → x ≡ word_before end (type_of image t)
+    pub word_record : (fs : Listed) {n : ℕ} → RecordType token (trees fs) ≡ x → n ≡ length fs → w ≡ word_of 8 (end - (1 + 2 * n)) → w ≡ word_before end x
     unfolding word_before
-    word_record {long} {m} q el em ex = rw (type_record_lem r ea eh ek el q, ← em, fields-long (type_of image) image (at + 2) m, ex)
-
-    pub word-option : {x : ℕ} → k ≡ 2 → x ≡ word_of 6 (end - 1) → x ≡ word_before end (type_of image t)
-    unfolding word_before
-    word-option q ex = rw (type-option r ea eh ek q, ex)
-
-    pub word-array : {x : ℕ} → (k ≡ 0 → ⊥) → (k ≡ 1 → ⊥) → (k ≡ 4 → ⊥) → (k ≡ 2 → ⊥) → x ≡ word_of 7 (end - 1) → x ≡ word_before end (type_of image t)
-    unfolding word_before
-    word-array na nf nr nx ex = rw (type-array r ea eh ek (kind-array r ea eh ek na nf nr nx), ex)
+    word_record fs e en ew = rw (← e) (ew ∙ rw (en, fields-long fs))

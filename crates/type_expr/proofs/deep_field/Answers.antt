@@ -1,32 +1,26 @@
 use Rattle.std.proofs.lemmas.Result.{err_from_is_err_and}
-use native.Mathlib.Omega.{arith}
-use Rattle.type_expr.specs.TypesAt.{first-ready}
-use Rattle.type_expr.specs.LevelLaws.{levels-there}
-use Rattle.type_expr.proofs.DeepReturns.{before-all, before-end, before-deep, before-stop, before-next}
+use Rattle.std.proofs.Common.{arith, ◌∙◌}
+use Rattle.type_expr.proofs.FieldReturns.{building_all, before-end, before-deep, before-stop, before-next}
 use Rattle.type_expr.proofs.deep_field.Goals as goal
 
-pub loop-i-init : goal.loop-i-init
-loop-i-init c = before-all _ (omega arith) (omega arith) c.requires.0 c.requires.1
+pub loop-expr-init : goal.loop-expr-init
+loop-expr-init c =
+    let e = c.into_iter-expr-iterator.ensures.into_iter_gives ∙ c.iter-expr-items.ensures in
+    record { building = building_all _ e; deep = rw e c.requires }
 
-pub returns-then-type_levels-gt-MOST_LEVELS : goal.returns-then-type_levels-gt-MOST_LEVELS
-returns-then-type_levels-gt-MOST_LEVELS c =
-    before-deep c.loop-i.invariant (λ z. omega arith) c.word_after-t.ensures c.type_levels.ensures c.if-type_levels-gt-MOST_LEVELS.true
+pub returns-then-levels-gt-MOST_LEVELS : goal.returns-then-levels-gt-MOST_LEVELS
+returns-then-levels-gt-MOST_LEVELS c = before-deep c.loop-expr.invariant c.in-Some.ensures.steps c.levels.ensures c.if-levels-gt-MOST_LEVELS.true
 
 pub build-requires : goal.build-requires
-build-requires c =
-    let p = (first-ready c.loop-i.invariant.ready (λ z. omega arith) c.word_after-t.ensures).ready in
-    (p, omega (arith, levels-there p c.type_levels.ensures))
+build-requires c = omega (arith, c.levels.ensures.0, c.if-levels-gt-MOST_LEVELS.false)
 
 pub returns-in_err-build : goal.returns-in_err-build
 returns-in_err-build c =
     let p = err_from_is_err_and c.from_residual.result c.from_residual.ensures.1 in
-    let stop = before-stop c.loop-i.invariant (λ z. omega arith) c.word_after-t.ensures c.type_levels.ensures c.if-type_levels-gt-MOST_LEVELS.false in
-    rw (p.1, p.2) (stop c.in_err-build.ensures)
+    rw (p.1, p.2) (before-stop c.loop-expr.invariant c.in-Some.ensures.steps c.levels.ensures c.if-levels-gt-MOST_LEVELS.false c.in_err-build.ensures)
 
-pub loop-i-preserved : goal.loop-i-preserved
-loop-i-preserved c =
-    let next = before-next c.loop-i.invariant (λ z. omega arith) c.word_after-t.ensures c.type_levels.ensures c.if-type_levels-gt-MOST_LEVELS.false in
-    next (omega arith) (omega arith) c.in_ok-build.ensures
+pub loop-expr-preserved : goal.loop-expr-preserved
+loop-expr-preserved c = before-next c.loop-expr.invariant c.in-Some.ensures.steps c.levels.ensures c.if-levels-gt-MOST_LEVELS.false c.in_ok-build.ensures
 
 pub returns : goal.returns
-returns c = absurd (before-end c.loop-i.invariant (omega arith))
+returns c = absurd (before-end c.loop-expr.invariant c.in-None.ensures.steps.0)

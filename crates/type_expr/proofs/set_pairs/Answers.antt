@@ -1,28 +1,26 @@
-use native.Mathlib.Omega.{arith}
-use Rattle.type_expr.proofs.FieldReturns.{writing_all, writing_end, writing_part, writing_fits, writing_next}
+use Rattle.std.proofs.Common.{arith, ◌∙◌}
+use Rattle.type_expr.proofs.FieldReturns.{writing_all, writing_end, writing_fits, writing_room, writing_next}
 use Rattle.type_expr.proofs.set_pairs.Goals as goal
 
-pub loop-i-init : goal.loop-i-init
-loop-i-init c = writing_all _ (omega arith) (omega arith) (omega arith) c.requires.0 c.requires.1.0
+pub loop-name-init : goal.loop-name-init
+loop-name-init c = writing_all _ (c.into_iter-name-iterator.ensures.into_iter_gives ∙ c.iter-name-items.ensures) c.requires.0
 
 pub type_size-end-requires : goal.type_size-end-requires
-type_size-end-requires c =
-    let v = c.loop-i.invariant in
-    ((writing_part v (λ z. omega arith) c.word_after-t.ensures).ready, omega (arith, writing_fits v (λ z. omega arith) c.word_after-t.ensures))
+type_size-end-requires c = omega (arith, writing_fits c.loop-name.invariant c.in-Some.ensures.steps)
 
 pub overflow_add-end : goal.overflow_add-end
-overflow_add-end c = omega (arith, writing_fits c.loop-i.invariant (λ z. omega arith) c.word_after-t.ensures, c.type_size-end.ensures)
+overflow_add-end c = omega (arith, writing_fits c.loop-name.invariant c.in-Some.ensures.steps, c.type_size-end.ensures)
 
-pub type_word-new-requires : goal.type_word-new-requires
-type_word-new-requires c =
-    let v = c.loop-i.invariant in
-    let fits = writing_fits v (λ z. omega arith) c.word_after-t.ensures in
-    ((writing_part v (λ z. omega arith) c.word_after-t.ensures).ready, (omega (arith, c.type_size-end.ensures), omega (arith, fits, c.type_size-end.ensures)))
+pub type_word-requires : goal.type_word-requires
+type_word-requires c =
+    let fits = writing_fits c.loop-name.invariant c.in-Some.ensures.steps in
+    (omega (arith, c.type_size-end.ensures), omega (arith, fits, c.type_size-end.ensures))
 
-pub loop-i-preserved : goal.loop-i-preserved
-loop-i-preserved c =
-    let next = writing_next c.loop-i.invariant (λ z. omega arith) c.word_after-t.ensures (omega arith) (omega arith) (omega arith) in
-    next c.type_size-end.ensures c.type_word-new.ensures c.word_at.ensures c.set_pair.ensures
+pub overflow_add-to : goal.overflow_add-to
+overflow_add-to c = omega (arith, writing_room c.loop-name.invariant c.in-Some.ensures.steps, c.requires.1)
+
+pub loop-name-preserved : goal.loop-name-preserved
+loop-name-preserved c = writing_next c.loop-name.invariant c.in-Some.ensures.steps c.type_size-end.ensures c.type_word.ensures c.set_pair.ensures
 
 pub returns : goal.returns
-returns c = writing_end c.loop-i.invariant (omega arith)
+returns c = writing_end c.loop-name.invariant c.in-None.ensures.steps.0

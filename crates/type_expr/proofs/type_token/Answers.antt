@@ -1,23 +1,24 @@
-use mathlib.Core.Path.{refl, sym, ◌∙◌}
-use Rattle.ast.specs.KindLaws.{expr-not}
-use Rattle.type_expr.specs.TypesAt.{wrapped-ready}
-use Rattle.type_expr.proofs.Returns.{token-inner, token-own}
+use Rattle.std.proofs.Common.{arith, sym, ◌∙◌}
+use Rattle.type_expr.proofs.Returns.{levels-option, levels-array, token-option, token-array, token-atom, token-foreign, token_record}
 use Rattle.type_expr.proofs.type_token.Goals as goal
 
-pub loop-here-init : goal.loop-here-init
-loop-here-init c = (c.requires, refl)
+pub returns-in-Atom : goal.returns-in-Atom
+returns-in-Atom c = sym (c.loop-inner.invariant ∙ token-atom c.in-Atom.ensures)
 
-pub loop-here-smaller : goal.loop-here-smaller
-loop-here-smaller c = (wrapped-ready c.loop-here.invariant.0 c.type_place-at.ensures c.word_at.ensures refl c.of.ensures c.in-Option.is c.word_after-w.ensures).under
+pub returns-in-Atom-2 : goal.returns-in-Atom-2
+returns-in-Atom-2 c = sym (c.loop-inner.invariant ∙ token-foreign c.in-Atom.ensures)
 
-pub loop-here-preserved : goal.loop-here-preserved
-loop-here-preserved c =
-    let r = c.loop-here.invariant.0 in (
-      (wrapped-ready r c.type_place-at.ensures c.word_at.ensures refl c.of.ensures c.in-Option.is c.word_after-w.ensures).ready,
-      c.loop-here.invariant.1 ∙ sym (token-inner r c.type_place-at.ensures c.word_at.ensures refl c.word_after-w.ensures c.of.ensures c.in-Option.is refl),
-    )
+pub returns-in-Atom-3 : goal.returns-in-Atom-3
+returns-in-Atom-3 c = sym (c.loop-inner.invariant ∙ token_record c.in-Atom.ensures)
 
-pub returns-in_default : goal.returns-in_default
-returns-in_default c =
-    let none = token-own c.loop-here.invariant.0 c.type_place-at.ensures c.word_at.ensures refl c.word_after-w.ensures in
-    none (expr-not _ c.of.ensures c.in_default.not-Option) (expr-not _ c.of.ensures c.in_default.not-Array) ∙ sym c.loop-here.invariant.1
+pub loop-inner-smaller-in-Option : goal.loop-inner-smaller-in-Option
+loop-inner-smaller-in-Option c = omega (arith, levels-option c.in-Option.ensures)
+
+pub loop-inner-preserved-in-Option : goal.loop-inner-preserved-in-Option
+loop-inner-preserved-in-Option c = c.loop-inner.invariant ∙ token-option c.in-Option.ensures
+
+pub loop-inner-smaller : goal.loop-inner-smaller
+loop-inner-smaller c = omega (arith, levels-array c.in-Option.ensures)
+
+pub loop-inner-preserved : goal.loop-inner-preserved
+loop-inner-preserved c = c.loop-inner.invariant ∙ token-array c.in-Option.ensures
