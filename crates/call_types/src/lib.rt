@@ -13,9 +13,10 @@ pub fn gather_types(provided: &mut [u32], slots: &[u32], image: &Image, call: Ca
     requires { Gatherable image.now.words image.now.places call.args call.count provided.old }
     ensures { take call.count provided.new ≡ words_in slots.now (given_from image.now.words call.args call.count) }
 {
-    for i in 0..call.count {
+    let words = &mut provided[..call.count];
+    for (i, word) in words.iter_mut().enumerate() {
         let number = image.word_at(call.args + i);
         let slot = call_args::slot_of(image, number);
-        provided[i] = tok::word_at(slots, slot as usize);
+        *word = tok::word_at(slots, slot as usize);
     }
 }

@@ -1,5 +1,5 @@
 -- Selection as the code has it, one law for each way out. Assumes nothing.
-use Rattle.std.specs.Prelude.{Ok, Some, None, Option as Found}
+use Rattle.std.specs.Prelude.{Ok, Some, None}
 use Prim.Native.Nat.{ℕ, suc, ◌+◌, ◌≤◌, ◌<◌}
 use mathlib.Core.Path.{◌≡◌, refl, sym, ap, ◌∙◌}
 use mathlib.Core.Bool.{Bool, true, false, ◌&&◌}

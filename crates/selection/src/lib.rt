@@ -20,9 +20,9 @@ pub fn position<'a>(types: &Types, group: &Group<'a>, provided: &[u32]) -> Optio
         if candidate.argument_count() != provided.len() {
             continue 'candidates;
         }
-        for i in 0..provided.len() {
+        for (i, &word) in provided.iter().enumerate() {
             let expected = candidate.argument_type(i);
-            if !ptype::same_type(types, expected, tok::word_at(provided, i)) {
+            if !ptype::same_type(types, expected, word) {
                 continue 'candidates;
             }
         }

@@ -5,4 +5,4 @@ use Rattle.call_types.proofs.Turns.{Gathered}
 use Rattle.call_types.proofs.gather_types.Given as goal
 
 abbrev pub invariant-loop-i : goal.invariant-loop-i
-invariant-loop-i l = Gathered l.slots l.image.words l.call.args l.call.count l.provided l.i × (length l.provided ≡ length l.initial.provided)
+invariant-loop-i l = Gathered l.slots l.image.words l.call.args l.call.count l.words l.i × (length l.words ≡ l.call.count)

@@ -1,4 +1,4 @@
-use Rattle.std.proofs.Common.{◌∙◌}
+use Rattle.std.proofs.Common.{refl, ◌∙◌}
 use Rattle.selection.proofs.Ways.{count-differs, alike-more, alike-not, alike_all, none-fits, passed, taken}
 use Rattle.selection.proofs.position.Goals as goal
 
@@ -9,11 +9,11 @@ candidates-preserved-then-argument_count-provided c =
 pub candidates-preserved : goal.candidates-preserved
 candidates-preserved c =
     passed _ _ _ _ c.candidates.invariant c.in-Some.ensures.steps
-    (alike-not _ _ _ c.loop-i.invariant c.loop-i-test.true c.argument_type-expected.ensures c.word_at.ensures c.same_type.ensures c.if-not-same_type.true)
+    (alike-not _ _ _ c.loop-i.invariant c.loop-i-test.true c.argument_type-expected.ensures refl c.same_type.ensures c.if-not-same_type.true)
 
 pub loop-i-preserved : goal.loop-i-preserved
 loop-i-preserved c =
-    alike-more _ _ _ c.loop-i.invariant c.loop-i-test.true c.argument_type-expected.ensures c.word_at.ensures c.same_type.ensures c.if-not-same_type.false
+    alike-more _ _ _ c.loop-i.invariant c.loop-i-test.true c.argument_type-expected.ensures refl c.same_type.ensures c.if-not-same_type.false
 
 pub returns-in-candidates : goal.returns-in-candidates
 returns-in-candidates c = taken _ _ _ _ c.candidates.invariant c.in-Some.ensures.steps (alike_all _ _ _ c.loop-i.invariant c.loop-i-test.false)
