@@ -7,7 +7,8 @@ fn_begin-requires c = fn-ready c.requires _ c.inner.ensures c.word.ensures c.wor
 
 pub returns-in_err-is_new : goal.returns-in_err-is_new
 returns-in_err-is_new c ls v words o =
-    begins-refused _ c.args.node.now.image.now.words c.args.node.now.at c.args.node.now.n words c.word-name.ensures (c.unless_defined.ensures ls v words _ _ _ o) c.in_err-is_new.was c.from_residual.ensures.1
+    begins-refused _ c.args.node.now.image.now.words c.args.node.now.at c.args.node.now.n words c.word-name.ensures
+    (c.unless_defined.ensures ls v words _ _ _ o) c.in_err-is_new.was c.from_residual.ensures.1
 
 pub returns-then-not-is_new : goal.returns-then-not-is_new
 returns-then-not-is_new c ls v words o =

@@ -23,4 +23,5 @@ returns-in_err-used-2 c =
 
 pub returns : goal.returns
 returns c =
-    counted _ _ _ _ _ c.args.signature.now _ _ _ _ _ _ _ _ c.argument_count-required.ensures c.return_type-ret.ensures c.if-call-required.false c.plain_arguments.ensures c.in_ok-used-2.was c.set_known-2.ensures
+    counted _ _ _ _ _ c.args.signature.now _ _ _ _ _ _ _ _ c.argument_count-required.ensures c.return_type-ret.ensures c.if-call-required.false c.plain_arguments.ensures c.in_ok-used-2.was
+    c.set_known-2.ensures

@@ -21,11 +21,13 @@ slotted_arguments-requires c = record {
 
 pub returns-in_err-used-2 : goal.returns-in_err-used-2
 returns-in_err-used-2 c =
-    call-refused _ _ _ _ _ c.args.signature.now _ _ _ _ _ _ _ _ c.argument_count-required.ensures c.if-call-required.false c.slotted_arguments.ensures c.in_err-used-2.was c.from_residual-in_err-used-2.ensures.1
+    call-refused _ _ _ _ _ c.args.signature.now _ _ _ _ _ _ _ _ c.argument_count-required.ensures c.if-call-required.false c.slotted_arguments.ensures c.in_err-used-2.was
+    c.from_residual-in_err-used-2.ensures.1
 
 pub returned-requires : goal.returned-requires
 returned-requires c =
-    return-meant _ _ c.args.call.slot c.args.callee.token _ c.args.signature.now _ _ _ _ _ _ _ _ c.argument_count-required.ensures c.if-call-required.false c.slotted_arguments.ensures c.in_ok-used-2.was
+    return-meant _ _ c.args.call.slot c.args.callee.token _ c.args.signature.now _ _ _ _ _ _ _ _ c.argument_count-required.ensures c.if-call-required.false c.slotted_arguments.ensures
+    c.in_ok-used-2.was
     c.return_type-ret.ensures c.requires.ret
 
 pub returns : goal.returns

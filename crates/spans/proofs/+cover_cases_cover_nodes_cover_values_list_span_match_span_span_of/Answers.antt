@@ -54,7 +54,8 @@ span_of-span_of-right-requires t c =
 pub span_of-returns-in-Bin : goal.span_of-returns-in-Bin
 span_of-returns-in-Bin t c =
     span-bin c.requires c.node-node.ensures.place refl refl (rw c.node-node.ensures.same at c.word.ensures) c.token_span-first.ensures (rw c.node-node.ensures.same at (node-number _ c.in-Bin.ensures))
-    (rw c.node-node.ensures.same at c.word-in-Bin.ensures) c.span_of-left.ensures (rw c.node-node.ensures.same at c.word-in-Bin-2.ensures) c.span_of-right.ensures c.cover_spans.ensures c.cover_spans-in-Bin.ensures
+    (rw c.node-node.ensures.same at c.word-in-Bin.ensures) c.span_of-left.ensures
+    (rw c.node-node.ensures.same at c.word-in-Bin-2.ensures) c.span_of-right.ensures c.cover_spans.ensures c.cover_spans-in-Bin.ensures
 
 pub span_of-span_of-requires : goal.span_of-span_of-requires
 span_of-span_of-requires t c =
@@ -100,13 +101,15 @@ span_of-type_span-ty-requires t c =
     record {
       readable = c.requires.readable;
       below =
-          rw (rw c.node-node.ensures.same at c.word-in-Cast-2.ensures) (words-cast c.requires c.node-node.ensures.place refl refl (rw c.node-node.ensures.same at (node-number _ c.in-Cast.ensures))).type.under;
+          rw (rw c.node-node.ensures.same at c.word-in-Cast-2.ensures)
+          (words-cast c.requires c.node-node.ensures.place refl refl (rw c.node-node.ensures.same at (node-number _ c.in-Cast.ensures))).type.under;
     }
 
 pub span_of-returns-in-Cast : goal.span_of-returns-in-Cast
 span_of-returns-in-Cast t c =
     span-cast c.requires c.node-node.ensures.place refl refl (rw c.node-node.ensures.same at c.word.ensures) c.token_span-first.ensures
-    (rw c.node-node.ensures.same at (node-number _ c.in-Cast.ensures)) (rw c.node-node.ensures.same at c.word-in-Cast.ensures) c.span_of-left-in-Cast.ensures (rw c.node-node.ensures.same at c.word-in-Cast-2.ensures) c.type_span-ty.ensures
+    (rw c.node-node.ensures.same at (node-number _ c.in-Cast.ensures)) (rw c.node-node.ensures.same at c.word-in-Cast.ensures) c.span_of-left-in-Cast.ensures
+    (rw c.node-node.ensures.same at c.word-in-Cast-2.ensures) c.type_span-ty.ensures
     c.cover_spans-in-Cast.ensures c.cover_spans-in-Cast-2.ensures
 
 pub span_of-list_span-requires : goal.span_of-list_span-requires
@@ -114,7 +117,8 @@ span_of-list_span-requires t c =
     let small = kind-small c.requires c.node-node.ensures.place refl refl in
     let n = c.in_default in
     let listed = listed-left _ (rw c.node-node.ensures.same at c.kind.ensures) small n.not-Atom n.not-Ident n.not-Bin n.not-Unary n.not-Let n.not-Field n.not-Cast in
-    (omega (arith, c.decreases, c.node-node.ensures.number), rw (c.node-node.ensures.same, c.node-node.ensures.number) (record { ready = c.requires; place = c.node-node.ensures.place; listed = listed }))
+    (omega (arith, c.decreases, c.node-node.ensures.number), rw (c.node-node.ensures.same, c.node-node.ensures.number)
+    (record { ready = c.requires; place = c.node-node.ensures.place; listed = listed }))
 
 pub list_span-overflow_mul-words : goal.list_span-overflow_mul-words
 list_span-overflow_mul-words t c =

@@ -57,7 +57,9 @@ node-returns-in-Atom t c = c.leaf.ensures _ no_more
 -- ── Node::Bin ──
 
 pub bin-part-requires : goal.bin-part-requires
-bin-part-requires t c = (omega (arith, c.decreases, Bin.left-under c.requires c.node-node.ensures.place (rw c.node-node.ensures.same at c.word.ensures)), Bin.left-visit c.requires c.node-node.ensures.place (rw c.node-node.ensures.same at c.word.ensures))
+bin-part-requires t c =
+    (omega (arith, c.decreases, Bin.left-under c.requires c.node-node.ensures.place (rw c.node-node.ensures.same at c.word.ensures)), Bin.left-visit c.requires c.node-node.ensures.place
+    (rw c.node-node.ensures.same at c.word.ensures))
 
 pub bin-returns-in_err-l : goal.bin-returns-in_err-l
 bin-returns-in_err-l t c = passed_on c.from_residual.ensures.1 (Bin.left-stops c.requires c.node-node.ensures.place (rw c.node-node.ensures.same at c.word.ensures) c.in_err-l.ensures)
@@ -70,10 +72,13 @@ bin-part-requires-2 t c = (
 
 pub bin-returns-in_err-r : goal.bin-returns-in_err-r
 bin-returns-in_err-r t c =
-    passed_on c.from_residual-in_err-r.ensures.1 (Bin.right-stops c.requires c.node-node.ensures.place (rw c.node-node.ensures.same at c.word.ensures) c.in_ok-l.ensures (rw c.node-node.ensures.same at c.word-2.ensures) c.in_err-r.ensures)
+    passed_on c.from_residual-in_err-r.ensures.1
+    (Bin.right-stops c.requires c.node-node.ensures.place (rw c.node-node.ensures.same at c.word.ensures) c.in_ok-l.ensures (rw c.node-node.ensures.same at c.word-2.ensures) c.in_err-r.ensures)
 
 pub bin-returns : goal.bin-returns
-bin-returns t c = Bin.bin-ends c.requires c.node-node.ensures.place (rw c.node-node.ensures.same at c.word.ensures) c.in_ok-l.ensures (rw c.node-node.ensures.same at c.word-2.ensures) c.in_ok-r.ensures ((rw (c.node-node.ensures.same, c.node-node.ensures.number) at c.bin_end.ensures) _ _ _ _ _ no_more)
+bin-returns t c =
+    Bin.bin-ends c.requires c.node-node.ensures.place (rw c.node-node.ensures.same at c.word.ensures) c.in_ok-l.ensures (rw c.node-node.ensures.same at c.word-2.ensures) c.in_ok-r.ensures
+    ((rw (c.node-node.ensures.same, c.node-node.ensures.number) at c.bin_end.ensures) _ _ _ _ _ no_more)
 
 -- ── Node::Unary, Node::Let, Node::Field ──
 
@@ -90,7 +95,9 @@ pub one-one_end-requires : goal.one-one_end-requires
 one-one_end-requires t c = rw c.node-node.ensures.same (One.end-ready c.requires c.node-node.ensures.place (rw c.node-node.ensures.same at c.operand_of-value.ensures) c.in_ok-a.ensures)
 
 pub one-returns : goal.one-returns
-one-returns t c = One.one-ends c.requires c.node-node.ensures.place (rw c.node-node.ensures.same at c.operand_of-value.ensures) c.in_ok-a.ensures ((rw (c.node-node.ensures.same, c.node-node.ensures.number) at c.one_end.ensures) _ _ _ _ no_more)
+one-returns t c =
+    One.one-ends c.requires c.node-node.ensures.place (rw c.node-node.ensures.same at c.operand_of-value.ensures) c.in_ok-a.ensures
+    ((rw (c.node-node.ensures.same, c.node-node.ensures.number) at c.one_end.ensures) _ _ _ _ no_more)
 
 -- ── Node::Cast ──
 
@@ -98,21 +105,27 @@ pub cast-cast_begin-requires : goal.cast-cast_begin-requires
 cast-cast_begin-requires t c = rw c.node-node.ensures.same (Cast.cast-ready c.requires c.node-node.ensures.place)
 
 pub cast-returns-in_err-to : goal.cast-returns-in_err-to
-cast-returns-in_err-to t c = passed_on c.from_residual.ensures.1 (Cast.type-stops c.requires c.node-node.ensures.place ((rw (c.node-node.ensures.same, c.node-node.ensures.number) at c.in_err-to.ensures) _ _ _ _ _ _ _ _ _ no_more))
+cast-returns-in_err-to t c =
+    passed_on c.from_residual.ensures.1
+    (Cast.type-stops c.requires c.node-node.ensures.place ((rw (c.node-node.ensures.same, c.node-node.ensures.number) at c.in_err-to.ensures) _ _ _ _ _ _ _ _ _ no_more))
 
 pub cast-part-requires : goal.cast-part-requires
 cast-part-requires t c = (
   omega (arith, c.decreases, Cast.operand-under c.requires c.node-node.ensures.place (rw c.node-node.ensures.same at c.word.ensures)),
-  Cast.operand-visit c.requires c.node-node.ensures.place ((rw (c.node-node.ensures.same, c.node-node.ensures.number) at c.in_ok-to.ensures) _ _ _ _ _ _ _ _ _ no_more) (rw c.node-node.ensures.same at c.word.ensures),
+  Cast.operand-visit c.requires c.node-node.ensures.place ((rw (c.node-node.ensures.same, c.node-node.ensures.number) at c.in_ok-to.ensures) _ _ _ _ _ _ _ _ _ no_more)
+      (rw c.node-node.ensures.same at c.word.ensures),
 )
 
 pub cast-returns-in_err-a : goal.cast-returns-in_err-a
 cast-returns-in_err-a t c =
-    passed_on c.from_residual-in_err-a.ensures.1 (Cast.operand-stops c.requires c.node-node.ensures.place ((rw (c.node-node.ensures.same, c.node-node.ensures.number) at c.in_ok-to.ensures) _ _ _ _ _ _ _ _ _ no_more) (rw c.node-node.ensures.same at c.word.ensures) c.in_err-a.ensures)
+    passed_on c.from_residual-in_err-a.ensures.1
+    (Cast.operand-stops c.requires c.node-node.ensures.place ((rw (c.node-node.ensures.same, c.node-node.ensures.number) at c.in_ok-to.ensures) _ _ _ _ _ _ _ _ _ no_more)
+    (rw c.node-node.ensures.same at c.word.ensures) c.in_err-a.ensures)
 
 pub cast-returns : goal.cast-returns
 cast-returns t c =
-    Cast.cast_ends c.requires c.node-node.ensures.place ((rw (c.node-node.ensures.same, c.node-node.ensures.number) at c.in_ok-to.ensures) _ _ _ _ _ _ _ _ _ no_more) (rw c.node-node.ensures.same at c.word.ensures) c.in_ok-a.ensures ((rw (c.node-node.ensures.same, c.node-node.ensures.number) at c.cast_end.ensures) _ _ _ _ _ no_more)
+    Cast.cast_ends c.requires c.node-node.ensures.place ((rw (c.node-node.ensures.same, c.node-node.ensures.number) at c.in_ok-to.ensures) _ _ _ _ _ _ _ _ _ no_more)
+    (rw c.node-node.ensures.same at c.word.ensures) c.in_ok-a.ensures ((rw (c.node-node.ensures.same, c.node-node.ensures.number) at c.cast_end.ensures) _ _ _ _ _ no_more)
 
 -- ── Nodes one after the other ──
 
@@ -140,7 +153,8 @@ pub func-begin-requires : goal.func-begin-requires
 func-begin-requires t c = rw c.node-node.ensures.same (Body.begin-ready c.requires c.node-node.ensures.place)
 
 pub func-returns-in_err-begun : goal.func-returns-in_err-begun
-func-returns-in_err-begun t c = passed_on c.from_residual.ensures.1 (Body.fn-refused c.requires c.node-node.ensures.place ((rw (c.node-node.ensures.same, c.node-node.ensures.number) at c.in_err-begun.ensures) _ _ _ no_more))
+func-returns-in_err-begun t c =
+    passed_on c.from_residual.ensures.1 (Body.fn-refused c.requires c.node-node.ensures.place ((rw (c.node-node.ensures.same, c.node-node.ensures.number) at c.in_err-begun.ensures) _ _ _ no_more))
 
 pub func-returns-in_default : goal.func-returns-in_default
 func-returns-in_default t c = Body.fn-ends c.requires c.node-node.ensures.place ((rw (c.node-node.ensures.same, c.node-node.ensures.number) at c.in_ok-begun.ensures) _ _ _ no_more) c.in_default.is
@@ -151,13 +165,15 @@ func-overflow_sub-long t c = Body.body-inside c.requires c.node-node.ensures.pla
 pub func-block-requires : goal.func-block-requires
 func-block-requires t c = (
   omega (arith, c.decreases),
-  Body.body-visit c.requires c.node-node.ensures.place ((rw (c.node-node.ensures.same, c.node-node.ensures.number) at c.in_ok-begun.ensures) _ _ _ no_more) c.in-Some.is (rw c.node-node.ensures.same at c.word-count.ensures) (rw c.node-node.ensures.same at c.length-long.ensures),
+  Body.body-visit c.requires c.node-node.ensures.place ((rw (c.node-node.ensures.same, c.node-node.ensures.number) at c.in_ok-begun.ensures) _ _ _ no_more) c.in-Some.is
+      (rw c.node-node.ensures.same at c.word-count.ensures) (rw c.node-node.ensures.same at c.length-long.ensures),
 )
 
 pub func-returns-in_err-computed : goal.func-returns-in_err-computed
 func-returns-in_err-computed t c =
     passed_on c.from_residual-in_err-computed.ensures.1
-    (Body.fn-stops c.requires c.node-node.ensures.place ((rw (c.node-node.ensures.same, c.node-node.ensures.number) at c.in_ok-begun.ensures) _ _ _ no_more) c.in-Some.is (rw c.node-node.ensures.same at c.word-count.ensures)
+    (Body.fn-stops c.requires c.node-node.ensures.place ((rw (c.node-node.ensures.same, c.node-node.ensures.number) at c.in_ok-begun.ensures) _ _ _ no_more) c.in-Some.is
+    (rw c.node-node.ensures.same at c.word-count.ensures)
     (rw c.node-node.ensures.same at c.length-long.ensures) c.in_err-computed.ensures)
 
 pub func-end-requires : goal.func-end-requires
@@ -165,7 +181,8 @@ func-end-requires t c = rw c.node-node.ensures.same (Body.end-ready c.requires c
 
 pub func-returns : goal.func-returns
 func-returns t c =
-    Body.fn-done c.requires c.node-node.ensures.place ((rw (c.node-node.ensures.same, c.node-node.ensures.number) at c.in_ok-begun.ensures) _ _ _ no_more) c.in-Some.is (rw c.node-node.ensures.same at c.word-count.ensures) (rw c.node-node.ensures.same at c.length-long.ensures)
+    Body.fn-done c.requires c.node-node.ensures.place ((rw (c.node-node.ensures.same, c.node-node.ensures.number) at c.in_ok-begun.ensures) _ _ _ no_more) c.in-Some.is
+    (rw c.node-node.ensures.same at c.word-count.ensures) (rw c.node-node.ensures.same at c.length-long.ensures)
     c.in_ok-computed.ensures ((rw (c.node-node.ensures.same, c.node-node.ensures.number) at c.end.ensures) _ _ _ _ _ no_more)
 
 -- ── A case of a Match ──
@@ -274,7 +291,9 @@ call-report_field-requires t c =
     rw c.node-node.ensures.same (Call.field-call c.requires c.node-node.ensures.place (rw c.node-node.ensures.same at (sym c.through_field.ensures ∙ c.if-through_field.true)))
 
 pub call-returns-then-through_field : goal.call-returns-then-through_field
-call-returns-then-through_field t c = Call.call-field c.requires c.node-node.ensures.place (λ ctx slot given visits. (rw (c.node-node.ensures.same, c.node-node.ensures.number) at c.report_field.ensures) ctx slot given visits _ _ _ _ _ no_more)
+call-returns-then-through_field t c =
+    Call.call-field c.requires c.node-node.ensures.place
+    (λ ctx slot given visits. (rw (c.node-node.ensures.same, c.node-node.ensures.number) at c.report_field.ensures) ctx slot given visits _ _ _ _ _ no_more)
 
 pub call-overflow_sub-count : goal.call-overflow_sub-count
 call-overflow_sub-count t c = Call.call_length c.requires c.node-node.ensures.place (rw c.node-node.ensures.same at c.length-count.ensures)
@@ -283,7 +302,8 @@ pub call-part-requires : goal.call-part-requires
 call-part-requires t c = (
   omega (arith, c.decreases, Call.argument-under c.requires c.node-node.ensures.place (rw c.node-node.ensures.same at c.length-count.ensures) (omega arith) c.word_after.ensures),
   Call.argument-visit
-      (c.loop-i.invariant.on _ _ (Call.arguing_first c.requires c.node-node.ensures.place (rw c.node-node.ensures.same at c.length-count.ensures) (rw c.node-node.ensures.same at (sym c.through_field.ensures ∙ c.if-through_field.false))))
+      (c.loop-i.invariant.on _ _ (Call.arguing_first c.requires c.node-node.ensures.place (rw c.node-node.ensures.same at c.length-count.ensures)
+      (rw c.node-node.ensures.same at (sym c.through_field.ensures ∙ c.if-through_field.false))))
       (Call.some_left (omega arith)) c.word_after.ensures
       (Call.argument-below c.requires c.node-node.ensures.place (rw c.node-node.ensures.same at c.length-count.ensures) (omega arith) c.word_after.ensures),
 )
@@ -292,7 +312,8 @@ pub call-returns-in_err-a : goal.call-returns-in_err-a
 call-returns-in_err-a t c =
     passed_on c.from_residual.ensures.1
     (Call.argument-stopped
-    (c.loop-i.invariant.on _ _ (Call.arguing_first c.requires c.node-node.ensures.place (rw c.node-node.ensures.same at c.length-count.ensures) (rw c.node-node.ensures.same at (sym c.through_field.ensures ∙ c.if-through_field.false))))
+    (c.loop-i.invariant.on _ _ (Call.arguing_first c.requires c.node-node.ensures.place (rw c.node-node.ensures.same at c.length-count.ensures)
+    (rw c.node-node.ensures.same at (sym c.through_field.ensures ∙ c.if-through_field.false))))
     (Call.some_left (omega arith)) c.word_after.ensures c.in_err-a.ensures)
 
 pub call-loop-i-preserved : goal.call-loop-i-preserved
@@ -303,15 +324,18 @@ call-loop-i-preserved t c =
 pub call-resolve-requires : goal.call-resolve-requires
 call-resolve-requires t c =
     rw (c.node-node.ensures.same, c.node-node.ensures.number)
-    (Call.resolvable c.requires c.node-node.ensures.place (rw c.node-node.ensures.same at c.length-count.ensures) (rw c.node-node.ensures.same at (sym c.through_field.ensures ∙ c.if-through_field.false))
+    (Call.resolvable c.requires c.node-node.ensures.place (rw c.node-node.ensures.same at c.length-count.ensures)
+    (rw c.node-node.ensures.same at (sym c.through_field.ensures ∙ c.if-through_field.false))
     (Call.arguments-ready
-    (c.loop-i.invariant.on _ _ (Call.arguing_first c.requires c.node-node.ensures.place (rw c.node-node.ensures.same at c.length-count.ensures) (rw c.node-node.ensures.same at (sym c.through_field.ensures ∙ c.if-through_field.false))))
+    (c.loop-i.invariant.on _ _ (Call.arguing_first c.requires c.node-node.ensures.place (rw c.node-node.ensures.same at c.length-count.ensures)
+    (rw c.node-node.ensures.same at (sym c.through_field.ensures ∙ c.if-through_field.false))))
     (Call.none_left_lem (omega arith))))
 
 pub call-returns : goal.call-returns
 call-returns t c =
     Call.arguments-done
-    (c.loop-i.invariant.on _ _ (Call.arguing_first c.requires c.node-node.ensures.place (rw c.node-node.ensures.same at c.length-count.ensures) (rw c.node-node.ensures.same at (sym c.through_field.ensures ∙ c.if-through_field.false))))
+    (c.loop-i.invariant.on _ _ (Call.arguing_first c.requires c.node-node.ensures.place (rw c.node-node.ensures.same at c.length-count.ensures)
+    (rw c.node-node.ensures.same at (sym c.through_field.ensures ∙ c.if-through_field.false))))
     (Call.none_left_lem (omega arith)) ((rw (c.node-node.ensures.same, c.node-node.ensures.number) at c.resolve.ensures) _ _)
 
 -- ── Node::Record ──
@@ -338,7 +362,8 @@ pub record_node-make-requires : goal.record_node-make-requires
 record_node-make-requires t c = rw (c.node-node.ensures.same, c.node-node.ensures.number) c.loop-i.invariant.values
 
 pub record_node-returns : goal.record_node-returns
-record_node-returns t c = Record.record_made c.loop-i.invariant (omega arith) ((rw (c.node-node.ensures.same, c.node-node.ensures.number) at c.make.ensures) c.args.sources.now.texts.now _ _ _ _ _ no_more)
+record_node-returns t c =
+    Record.record_made c.loop-i.invariant (omega arith) ((rw (c.node-node.ensures.same, c.node-node.ensures.number) at c.make.ensures) c.args.sources.now.texts.now _ _ _ _ _ no_more)
 
 -- ── Node::Array ──
 
@@ -346,24 +371,29 @@ pub array-overflow_sub-count : goal.array-overflow_sub-count
 array-overflow_sub-count t c = Array.array-length c.requires c.node-node.ensures.place (rw c.node-node.ensures.same at c.length-count.ensures)
 
 pub array-returns-then-count-eq0 : goal.array-returns-then-count-eq0
-array-returns-then-count-eq0 t c = Array.array-empty c.requires c.node-node.ensures.place (rw c.node-node.ensures.same at c.length-count.ensures) c.if-count-eq0.true ((rw (c.node-node.ensures.same, c.node-node.ensures.number) at c.empty.ensures) _ _ _ _ _ no_more)
+array-returns-then-count-eq0 t c =
+    Array.array-empty c.requires c.node-node.ensures.place (rw c.node-node.ensures.same at c.length-count.ensures) c.if-count-eq0.true
+    ((rw (c.node-node.ensures.same, c.node-node.ensures.number) at c.empty.ensures) _ _ _ _ _ no_more)
 
 pub array-part-requires : goal.array-part-requires
 array-part-requires t c = (
-  omega (arith, c.decreases, Array.first_under c.requires c.node-node.ensures.place (rw c.node-node.ensures.same at c.length-count.ensures) c.if-count-eq0.false (rw c.node-node.ensures.same at c.word.ensures)),
+  omega (arith, c.decreases, Array.first_under c.requires c.node-node.ensures.place (rw c.node-node.ensures.same at c.length-count.ensures) c.if-count-eq0.false
+      (rw c.node-node.ensures.same at c.word.ensures)),
   Array.first-visit c.requires c.node-node.ensures.place (rw c.node-node.ensures.same at c.length-count.ensures) c.if-count-eq0.false (rw c.node-node.ensures.same at c.word.ensures),
 )
 
 pub array-returns-in_err-first : goal.array-returns-in_err-first
 array-returns-in_err-first t c =
     passed_on c.from_residual.ensures.1
-    (Array.first-stopped c.requires c.node-node.ensures.place (rw c.node-node.ensures.same at c.length-count.ensures) c.if-count-eq0.false (rw c.node-node.ensures.same at c.word.ensures) c.in_err-first.ensures)
+    (Array.first-stopped c.requires c.node-node.ensures.place (rw c.node-node.ensures.same at c.length-count.ensures) c.if-count-eq0.false
+    (rw c.node-node.ensures.same at c.word.ensures) c.in_err-first.ensures)
 
 pub array-part-requires-in-loop-i : goal.array-part-requires-in-loop-i
 array-part-requires-in-loop-i t c = (
   omega (arith, c.decreases, Array.member-under c.requires c.node-node.ensures.place (rw c.node-node.ensures.same at c.length-count.ensures) (omega arith) c.word_after-member.ensures),
   Array.member-visit
-      (c.loop-i.invariant.on _ _ (Array.first-passed c.requires c.node-node.ensures.place (rw c.node-node.ensures.same at c.length-count.ensures) c.if-count-eq0.false (rw c.node-node.ensures.same at c.word.ensures) c.in_ok-first.ensures))
+      (c.loop-i.invariant.on _ _ (Array.first-passed c.requires c.node-node.ensures.place (rw c.node-node.ensures.same at c.length-count.ensures) c.if-count-eq0.false
+      (rw c.node-node.ensures.same at c.word.ensures) c.in_ok-first.ensures))
       (Array.some_left (omega arith)) c.word_after-member.ensures
       (Array.member_below c.requires c.node-node.ensures.place (rw c.node-node.ensures.same at c.length-count.ensures) (omega arith) c.word_after-member.ensures),
 )
@@ -372,17 +402,20 @@ pub array-returns-in_err-a : goal.array-returns-in_err-a
 array-returns-in_err-a t c =
     passed_on c.from_residual-in_err-a.ensures.1
     (Array.member-stopped
-    (c.loop-i.invariant.on _ _ (Array.first-passed c.requires c.node-node.ensures.place (rw c.node-node.ensures.same at c.length-count.ensures) c.if-count-eq0.false (rw c.node-node.ensures.same at c.word.ensures) c.in_ok-first.ensures))
+    (c.loop-i.invariant.on _ _ (Array.first-passed c.requires c.node-node.ensures.place (rw c.node-node.ensures.same at c.length-count.ensures) c.if-count-eq0.false
+    (rw c.node-node.ensures.same at c.word.ensures) c.in_ok-first.ensures))
     (Array.some_left (omega arith)) c.word_after-member.ensures c.in_err-a.ensures)
 
 pub array-member-requires : goal.array-member-requires
-array-member-requires t c = rw c.node-node.ensures.same (Array.member-there c.requires c.node-node.ensures.place (rw c.node-node.ensures.same at c.length-count.ensures) (omega arith) c.word_after-member.ensures)
+array-member-requires t c =
+    rw c.node-node.ensures.same (Array.member-there c.requires c.node-node.ensures.place (rw c.node-node.ensures.same at c.length-count.ensures) (omega arith) c.word_after-member.ensures)
 
 pub array-returns-in_err-turn : goal.array-returns-in_err-turn
 array-returns-in_err-turn t c =
     passed_on c.from_residual-in_err-turn.ensures.1
     (Array.turn-stopped
-    (c.loop-i.invariant.on _ _ (Array.first-passed c.requires c.node-node.ensures.place (rw c.node-node.ensures.same at c.length-count.ensures) c.if-count-eq0.false (rw c.node-node.ensures.same at c.word.ensures) c.in_ok-first.ensures))
+    (c.loop-i.invariant.on _ _ (Array.first-passed c.requires c.node-node.ensures.place (rw c.node-node.ensures.same at c.length-count.ensures) c.if-count-eq0.false
+    (rw c.node-node.ensures.same at c.word.ensures) c.in_ok-first.ensures))
     (Array.some_left (omega arith)) c.word_after-member.ensures
     (Array.member_below c.requires c.node-node.ensures.place (rw c.node-node.ensures.same at c.length-count.ensures) (omega arith) c.word_after-member.ensures) c.in_ok-a.ensures
     ((rw (c.node-node.ensures.same, c.node-node.ensures.number) at c.in_err-turn.ensures) _ _ _ _ _ no_more))
@@ -390,7 +423,8 @@ array-returns-in_err-turn t c =
 pub array-returns-in_default : goal.array-returns-in_default
 array-returns-in_default t c =
     Array.member-differs
-    (c.loop-i.invariant.on _ _ (Array.first-passed c.requires c.node-node.ensures.place (rw c.node-node.ensures.same at c.length-count.ensures) c.if-count-eq0.false (rw c.node-node.ensures.same at c.word.ensures) c.in_ok-first.ensures))
+    (c.loop-i.invariant.on _ _ (Array.first-passed c.requires c.node-node.ensures.place (rw c.node-node.ensures.same at c.length-count.ensures) c.if-count-eq0.false
+    (rw c.node-node.ensures.same at c.word.ensures) c.in_ok-first.ensures))
     (Array.some_left (omega arith)) c.word_after-member.ensures
     (Array.member_below c.requires c.node-node.ensures.place (rw c.node-node.ensures.same at c.length-count.ensures) (omega arith) c.word_after-member.ensures) c.in_ok-a.ensures
     ((rw (c.node-node.ensures.same, c.node-node.ensures.number) at c.in_ok-turn.ensures) _ _ _ _ _ no_more) c.in_default.is
@@ -404,5 +438,6 @@ array-loop-i-preserved t c =
 pub array-returns : goal.array-returns
 array-returns t c =
     Array.array-ended
-    (c.loop-i.invariant.on _ _ (Array.first-passed c.requires c.node-node.ensures.place (rw c.node-node.ensures.same at c.length-count.ensures) c.if-count-eq0.false (rw c.node-node.ensures.same at c.word.ensures) c.in_ok-first.ensures))
+    (c.loop-i.invariant.on _ _ (Array.first-passed c.requires c.node-node.ensures.place (rw c.node-node.ensures.same at c.length-count.ensures) c.if-count-eq0.false
+    (rw c.node-node.ensures.same at c.word.ensures) c.in_ok-first.ensures))
     (Array.none_left_lem (omega arith)) ((rw (c.node-node.ensures.same, c.node-node.ensures.number) at c.end.ensures) c.args.sources.now.texts.now _ _ _ _ _ _ _ no_more)

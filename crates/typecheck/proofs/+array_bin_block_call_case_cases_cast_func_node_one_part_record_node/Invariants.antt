@@ -65,7 +65,9 @@ invariant-record_node-loop-i l = RecordVisitsTurn l.sources.texts.now l.sources.
 -- `typecheck::array` meets its contract: one law for each return. The loop's invariant: `Turned`, wherever the first member led to, the members so
 -- far lead to here. Assumes nothing.
 abbrev pub invariant-array-loop-i : goal.invariant-array-loop-i
-invariant-array-loop-i l = Turned l.sources.texts.now l.sources.image.now.words l.sources.image.now.places l.sources.library.now l.n (get_or l.sources.image.now.words (l.node.at + 1) 0) (l.node.at + 3) l.count l.first 1 l.initial.poisoned l.initial.here
+invariant-array-loop-i l =
+    Turned l.sources.texts.now l.sources.image.now.words l.sources.image.now.places l.sources.library.now l.n (get_or l.sources.image.now.words (l.node.at + 1) 0)
+    (l.node.at + 3) l.count l.first 1 l.initial.poisoned l.initial.here
     (lent l.initial.slots l.initial.functions l.initial.types l.initial.diagnostics l.initial.messages l.initial.scratch no_more)
     l.i l.poisoned l.here (lent l.slots l.functions l.types l.diagnostics l.messages l.scratch no_more)
 
