@@ -1,6 +1,6 @@
 // Node::Call (typecheck/lib.rs, `node`), around the visits of its arguments: what its target says, and the call once all are visited.
-// The buffers are lent in one order: slots, functions, types, diagnostics, messages, scratch; then the texts, the image, the library's
-// words. Who only reads types takes them with the texts.
+// The buffers are lent in one order: slots, functions, types, diagnostics, messages, scratch; then what the walk reads. Who only reads types
+// takes them with the texts.
 #![tactic(auto)]
 
 ghost use Rattle.std.specs.Prelude.{◌≡◌, Bool, ◌||◌, List, ℕ, ◌+◌, get_or};
@@ -23,7 +23,6 @@ use places::{Image, NodeAt};
 use ptype::Types;
 use rules::Answer;
 use scope::Own;
-use tok::Texts;
 use visit::{Sources, State, Visit};
 
 // What the target of a call is: an own function, a package's function by the names of both, or a Field of what is no Ident.
@@ -138,39 +137,40 @@ pub fn resolve(
     diagnostics: &mut [u32],
     messages: &mut [u8],
     scratch: &mut [u32],
-    texts: &Texts,
-    node: &NodeAt,
-    library: &[u32],
-    count: usize,
+    sources: &Sources,
     st: State,
+    n: u32,
+    count: usize,
     poisoned: bool,
 ) -> Visit<Answer>
     requires { let b : Lent = lent slots.old functions.now types.old diagnostics.old messages.old scratch.old no_more in
-        Resolvable texts.now node.now.image.now.words node.now.image.now.places library.now node.now.n node.now.at count st b }
+        let places : List ℕ = sources.now.image.now.places in
+        Resolvable sources.now.texts.now sources.now.image.now.words places sources.now.library.now n (get_or places n 0) count st b }
     ensures { let b : Lent = lent slots.old functions.now types.old diagnostics.old messages.old scratch.old no_more in
         ((ls : List Package) (v : ℕ) →
         let b' : Lent = lent slots.new functions.now types.new diagnostics.new messages.new scratch.new no_more in
-        let image : List ℕ = node.now.image.now.words in
-        let at : ℕ = node.now.at in
-        Visits (call_end (ctx texts.now ls v) node.now.n (get_or image (at + 1) 0) (callee_at image at) (given_from image (at + 3) count) poisoned) count 0 library.now st b b' result) }
+        let image : List ℕ = sources.now.image.now.words in
+        let at : ℕ = get_or sources.now.image.now.places n 0 in
+        Visits (call_end (ctx sources.now.texts.now ls v) n (get_or image (at + 1) 0) (callee_at image at) (given_from image (at + 3) count) poisoned) count 0 sources.now.library.now st b b' result) }
 {
+    let node = sources.image.node(n);
     let call = Call {
-        n: node.n,
+        n,
         slot: node.word(1),
         args: node.at + 3,
         count,
     };
-    match target_at(node) {
+    match target_at(&node) {
         Target::Own(name) => resolve_own(
             slots,
             functions,
             &Types {
                 words: &types[..],
-                texts: &*texts,
+                texts: sources.texts,
             },
             diagnostics,
             messages,
-            node.image,
+            sources.image,
             st,
             call,
             name,
@@ -188,11 +188,7 @@ pub fn resolve(
                 diagnostics,
                 messages,
                 scratch,
-                &Sources {
-                    texts: &*texts,
-                    image: node.image,
-                    library: &*library,
-                },
+                sources,
                 st,
                 call,
             )

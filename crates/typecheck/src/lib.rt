@@ -653,11 +653,10 @@ fn call(
         diagnostics,
         messages,
         scratch,
-        sources.texts,
-        &node,
-        sources.library,
-        count,
+        sources,
         here,
+        n,
+        count,
         poisoned,
     )
 }

@@ -323,7 +323,7 @@ call-loop-i-preserved t c =
 
 pub call-resolve-requires : goal.call-resolve-requires
 call-resolve-requires t c =
-    rw (c.node-node.ensures.same, c.node-node.ensures.number)
+    rw (← c.node-node.ensures.place)
     (Call.resolvable c.requires c.node-node.ensures.place (rw c.node-node.ensures.same at c.length-count.ensures)
     (rw c.node-node.ensures.same at (sym c.through_field.ensures ∙ c.if-through_field.false))
     (Call.arguments-ready
@@ -336,7 +336,7 @@ call-returns t c =
     Call.arguments-done
     (c.loop-i.invariant.on _ _ (Call.arguing_first c.requires c.node-node.ensures.place (rw c.node-node.ensures.same at c.length-count.ensures)
     (rw c.node-node.ensures.same at (sym c.through_field.ensures ∙ c.if-through_field.false))))
-    (Call.none_left_lem (omega arith)) ((rw (c.node-node.ensures.same, c.node-node.ensures.number) at c.resolve.ensures) _ _)
+    (Call.none_left_lem (omega arith)) ((rw (← c.node-node.ensures.place) at c.resolve.ensures) _ _)
 
 -- ── Node::Record ──
 
