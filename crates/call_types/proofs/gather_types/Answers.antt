@@ -17,9 +17,11 @@ slot_of-slot-requires c = number-ready c.requires.nodes (omega (arith, c.loop-i.
 
 pub loop-i-preserved : goal.loop-i-preserved
 loop-i-preserved c =
-    let e = c.word_at-number.ensures in
-    (more-gathered _ _ _ _ c.loop-i.invariant.0 (omega (arith, c.loop-i.invariant.1))
-    (omega (arith, c.loop-i.invariant.1)) e c.slot_of-slot.ensures refl c.word_at.ensures, simp length-set c.loop-i.invariant.1)
+    let e = c.word_at-number.ensures in (
+      more-gathered _ _ _ _ c.loop-i.invariant.0 (omega (arith, c.loop-i.invariant.1))
+          (omega (arith, c.loop-i.invariant.1)) e c.slot_of-slot.ensures refl c.word_at.ensures,
+      simp length-set c.loop-i.invariant.1,
+    )
 
 pub returns : goal.returns
 returns c =

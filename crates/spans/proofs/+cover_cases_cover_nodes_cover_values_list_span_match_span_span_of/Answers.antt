@@ -116,9 +116,11 @@ pub span_of-list_span-requires : goal.span_of-list_span-requires
 span_of-list_span-requires t c =
     let small = kind-small c.requires c.node-node.ensures.place refl refl in
     let n = c.in_default in
-    let listed = listed-left _ (rw c.node-node.ensures.same at c.kind.ensures) small n.not-Atom n.not-Ident n.not-Bin n.not-Unary n.not-Let n.not-Field n.not-Cast in
-    (omega (arith, c.decreases, c.node-node.ensures.number), rw (c.node-node.ensures.same, c.node-node.ensures.number)
-    (record { ready = c.requires; place = c.node-node.ensures.place; listed = listed }))
+    let listed = listed-left _ (rw c.node-node.ensures.same at c.kind.ensures) small n.not-Atom n.not-Ident n.not-Bin n.not-Unary n.not-Let n.not-Field n.not-Cast in (
+      omega (arith, c.decreases, c.node-node.ensures.number),
+      rw (c.node-node.ensures.same, c.node-node.ensures.number)
+          (record { ready = c.requires; place = c.node-node.ensures.place; listed = listed }),
+    )
 
 pub list_span-overflow_mul-words : goal.list_span-overflow_mul-words
 list_span-overflow_mul-words t c =

@@ -57,9 +57,11 @@ node-returns-in-Atom t c = c.leaf.ensures _ no_more
 -- ── Node::Bin ──
 
 pub bin-part-requires : goal.bin-part-requires
-bin-part-requires t c =
-    (omega (arith, c.decreases, Bin.left-under c.requires c.node-node.ensures.place (rw c.node-node.ensures.same at c.word.ensures)), Bin.left-visit c.requires c.node-node.ensures.place
-    (rw c.node-node.ensures.same at c.word.ensures))
+bin-part-requires t c = (
+  omega (arith, c.decreases, Bin.left-under c.requires c.node-node.ensures.place (rw c.node-node.ensures.same at c.word.ensures)),
+  Bin.left-visit c.requires c.node-node.ensures.place
+      (rw c.node-node.ensures.same at c.word.ensures),
+)
 
 pub bin-returns-in_err-l : goal.bin-returns-in_err-l
 bin-returns-in_err-l t c = passed_on c.from_residual.ensures.1 (Bin.left-stops c.requires c.node-node.ensures.place (rw c.node-node.ensures.same at c.word.ensures) c.in_err-l.ensures)
@@ -377,8 +379,12 @@ array-returns-then-count-eq0 t c =
 
 pub array-part-requires : goal.array-part-requires
 array-part-requires t c = (
-  omega (arith, c.decreases, Array.first_under c.requires c.node-node.ensures.place (rw c.node-node.ensures.same at c.length-count.ensures) c.if-count-eq0.false
-      (rw c.node-node.ensures.same at c.word.ensures)),
+  omega (
+    arith,
+    c.decreases,
+    Array.first_under c.requires c.node-node.ensures.place (rw c.node-node.ensures.same at c.length-count.ensures) c.if-count-eq0.false
+        (rw c.node-node.ensures.same at c.word.ensures),
+  ),
   Array.first-visit c.requires c.node-node.ensures.place (rw c.node-node.ensures.same at c.length-count.ensures) c.if-count-eq0.false (rw c.node-node.ensures.same at c.word.ensures),
 )
 
