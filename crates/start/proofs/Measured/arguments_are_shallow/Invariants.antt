@@ -8,4 +8,4 @@ use Rattle.start.proofs.Measured.arguments_are_shallow.Given as goal
 
 abbrev pub invariant-loop-i : goal.invariant-loop-i
 invariant-loop-i l = let P = l.signature.params in
-    ((t : Texts) → all_shallow t l.initial.self (param_types P) ≡ all_shallow t l.initial.self (param_types (drop l.i P))) × (l.end ≡ length P) × (l.self ≡ l.initial.self)
+    ((t : Texts) → all_shallow t l.initial.self (param_types P) ≡ all_shallow t l.initial.self (param_types (drop l.i P))) × (l.i-end ≡ length P) × (l.self ≡ l.initial.self)
