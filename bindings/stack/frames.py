@@ -20,7 +20,7 @@ RINGS = [(name, most, why) for names, most, why in (
     ("spans::span_of", 1, "a level of a part's span stands in place of a level of the walk, which takes more"),
     ("ptype::same_type_within ptype::stands_in ptype::depth_within ptype::room_after ptype::same_fields ptype::stands_among ptype::deepest_of "
      "ptype::room_after_fields ptype::contains ptype::depth_of display::show_within display::show_fields slots::bind_within", 34, LEVELS),
-    ("apply::apply_within apply::applied_size apply::applied_sizes slots::has_bound_slot_within slots::bound_slot_in slots::any_bound_slot", 34, LEVELS),
+    ("apply::apply_within apply::applied_size apply::applied_sizes slots::has_bound_slot_within", 34, LEVELS),
     ("type_expr::build type_expr::fields_from_exprs", 33, "it is called for type expressions of at most 33 levels"),
     ("type_expr::type_size type_expr::sizes", 34, "asked of types that were made: at most 32 levels"),
     ("display::put_digits", 11, "digits"),
@@ -28,7 +28,7 @@ RINGS = [(name, most, why) for names, most, why in (
 ORDER = [name for name, _, _ in RINGS]
 ACTIVE = {name: (most, why) for name, most, why in RINGS}
 # These hand the levels that are left on to each other: all their turns together are no more than one's.
-SHARED, TURNS = {"apply::apply_within", "apply::applied_size", "slots::has_bound_slot_within", "slots::bound_slot_in", "slots::any_bound_slot"}, 33
+SHARED, TURNS = {"apply::apply_within", "apply::applied_size", "slots::has_bound_slot_within"}, 33
 
 # Functions of the C library, which are not in the archive. Bytes that they may take.
 OUTSIDE = {"memcpy": 64, "memmove": 64, "memset": 64, "memcmp": 64, "bcmp": 64}
