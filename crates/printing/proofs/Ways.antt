@@ -1,17 +1,13 @@
--- A turn of the loop, and the ways out of it. Assumes nothing.
-use Rattle.std.specs.Prelude.{None, Some}
-use Rattle.std.proofs.Common.{◌≡◌, ℕ, ◌+◌, ◌%◌, ◌^◌, ◌<◌, ◌≤◌, Bool, true, false, length, sym, ap, ◌∙◌, zero-add, arith}
+-- The ways out of the loop. Assumes nothing.
+use Rattle.std.specs.Prelude.{Option, None, Some}
+use Rattle.std.proofs.Common.{◌≡◌, ℕ, ◌+◌, ◌%◌, ◌^◌, ◌<◌, ◌≤◌, length, sym, ap, ◌∙◌, zero-add, arith}
 use Rattle.std.proofs.lemmas.Option.{none-some, same_Some}
 use Rattle.rows_part.specs.declared.Row.{Row}
 use Rattle.rows_part.specs.declared.Part.{Part}
-use Rattle.rows_part.specs.Printing.{Answer, row_of, rest_from, part_of, room_at}
+use Rattle.rows_part.specs.Printing.{Answer, rest_from, rest_at, part_of, room_at}
 use Rattle.rows_part.specs.PrintingLaws.{part_bytes, room_whole}
-use Rattle.printing.specs.Loop.{is_done, left, turn_nearer, done-left}
+use Rattle.printing.specs.Loop.{size_of}
 use Rattle.printing.specs.Handed.{Handed}
-
--- a turn of the loop
-pub turn : (a : Answer) (row : Row) (skip : ℕ) {done : Bool} {p : Part} → done ≡ is_done row → done ≡ false → p ≡ part_of 4096 a row skip → left a p.row p.skip < left a row skip
-turn a row skip e h q = turn_nearer a row skip q (sym e ∙ h)
 
 -- a part has no more bytes than the buffer
 pub part_room : (a : Answer) (row : Row) (skip : ℕ) {p : Part} → p ≡ part_of 4096 a row skip → p.bytes ≤ 4096
@@ -23,16 +19,21 @@ whole_part a row skip h q = q ∙ ap (λ (n : ℕ). part_of n a row skip) (room_
 
 -- ---- what was handed over
 -- at first nothing
-pub total_first : (n : ℕ) → (0 + n) % 2 ^ 64 ≡ n % 2 ^ 64
-total_first n = rw (zero-add n)
+pub total_first : (a : Answer) (first : Row) → (0 + length (rest_at a (Some first) 0)) % 2 ^ 64 ≡ length (rest_from a first 0) % 2 ^ 64
+unfolding rest_at
+total_first a first = rw (zero-add (length (rest_from a first 0)))
 
 -- where no row is left
-pub handed-all : (a : Answer) (row first : Row) (skip : ℕ) {done : Bool} {total : ℕ} → done ≡ is_done row → done ≡ true → total % 2 ^ 64 ≡ total
-    → (total + length (rest_from a row skip)) % 2 ^ 64 ≡ length (rest_from a first 0) % 2 ^ 64 → Handed a first (Some total)
-handed-all a row first skip e h l t =
-    let z = done-left a row skip (sym e ∙ h) in
-    record { all = λ n q. let m = same_Some _ _ q in omega (arith, t, z, l, m); cut = λ q. absurd (none-some _ (sym q)) }
+pub handed-all : (a : Answer) (next : Option Row) (first : Row) (skip : ℕ) {total : ℕ} → next ≡ None → total % 2 ^ 64 ≡ total
+    → (total + length (rest_at a next skip)) % 2 ^ 64 ≡ length (rest_from a first 0) % 2 ^ 64 → Handed a first (Some total)
+unfolding rest_at
+handed-all a next first skip {total} e l t =
+    let t' : (total + 0) % 2 ^ 64 ≡ length (rest_from a first 0) % 2 ^ 64 = rw e at t in
+    record { all = λ n q. let m = same_Some _ _ q in omega (arith, t', l, m); cut = λ q. absurd (none-some _ (sym q)) }
 
 -- in a row that is too long
-pub handed-cut : (a : Answer) (row first : Row) (skip : ℕ) → 2 ^ 62 ≤ skip → skip ≤ length (row_of a row) → Handed a first None
-handed-cut a row first skip h l = record { all = λ n q. absurd (none-some _ q); cut = λ _. record { row = row; long = omega arith } }
+pub handed-cut : (a : Answer) (next : Option Row) (row first : Row) (skip : ℕ) → next ≡ Some row → 2 ^ 62 ≤ skip → skip ≤ size_of a next → Handed a first None
+unfolding size_of
+handed-cut a next row first skip e h l =
+    let l' = rw e at l in
+    record { all = λ n q. absurd (none-some _ q); cut = λ _. record { row = row; long = omega (arith, h, l') } }

@@ -4,7 +4,6 @@
 
 ghost use Rattle.std.specs.Prelude.{◌≡◌, ◌^◌, ◌<◌, IfOk};
 ghost use Rattle.rows_part.specs.Printing.{part_of};
-ghost use Rattle.printing.specs.Loop.{is_done};
 ghost use Rattle.printing.specs.Handed.{Handed};
 
 use rows_begin::Begun;
@@ -14,14 +13,6 @@ use tok::word_at;
 
 // How much of a row is printed at the most: more than any machine prints, and so little that no place in a row is too large for a number.
 const MOST: usize = 0x4000_0000_0000_0000;
-
-// Whether no row is left.
-#[tactic(auto, unfolding(crate::specs::Loop::is_done))]
-fn is_done(row: Row) -> bool
-    ensures { result ≡ is_done row }
-{
-    matches!(row, Row::Done)
-}
 
 // Prints the part of a row behind its first bytes.
 fn print_part(rt: &impl Print, answer: &Answer, row: Row, skip: usize) -> io::Result<Part>
@@ -57,18 +48,18 @@ fn print_counts(rt: &impl Print, begun: Begun) -> io::Result<()> {
     )
 }
 
-// What is printed between a row and the next.
+// What is printed between a row and the next, if there is one.
 fn print_between(
     rt: &impl Print,
     answer: &Answer,
     begun: Begun,
     row: Row,
-    next: Row,
+    next: Option<Row>,
 ) -> io::Result<()> {
     if let Row::Diag(k) = row {
         print_primary(rt, answer, k)?;
     }
-    if let Row::End = next {
+    if let Some(Row::End) = next {
         print_counts(rt, begun)?;
     }
     Ok(())
@@ -84,21 +75,20 @@ pub fn print_rows(
 ) -> io::Result<Option<usize>>
     ensures { IfOk result (λ printed. Handed answer.now begun.first printed) }
 {
-    let mut row = begun.first;
+    let mut next = Some(begun.first);
     let mut skip = 0;
     let mut total: usize = 0;
-    while !is_done(row) {
+    'rows: while let Some(row) = next {
         if skip >= MOST {
             return Ok(None);
         }
         let part = print_part(rt, answer, row, skip)?;
-        let next = part.row;
+        next = part.row;
         skip = part.skip;
         total = total.wrapping_add(part.bytes);
         if full && skip == 0 {
             print_between(rt, answer, begun, row, next)?;
         }
-        row = next;
     }
     Ok(Some(total))
 }

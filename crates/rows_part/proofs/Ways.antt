@@ -4,6 +4,7 @@ use mathlib.Core.Path.{◌≡◌, ap, ◌∙◌}
 use mathlib.Core.List.{List}
 use native.Mathlib.Omega.{arith}
 use lib.ListN.{length, drop}
+use Rattle.std.specs.Prelude.{Option, Some}
 use borrow.Author.Tests.{lt-ltb, le-ltb}
 use Rattle.ptype.specs.Add.{write}
 use Rattle.display.specs.WriteLaws.{length-write}
@@ -35,11 +36,11 @@ module _
       part-is = let l = ap length eb in omega (arith, er, en, many-bytes, as_long)
 
       -- the row ends in the buffer
-      pub part-ends : {x : Row} → n < room → x ≡ next_in a r → Prints a r skip o o' (record { bytes = n; row = x; skip = 0 })
+      pub part-ends : {x : Option Row} → n < room → x ≡ next_in a r → Prints a r skip o o' (record { bytes = n; row = x; skip = 0 })
       unfolding part_of
       part-ends h e = record { buffer = bytes_are; answer = rw (← room-is, ← part-is, lt-ltb n room h, e) }
 
       -- it does not
-      pub part-goes : room ≤ n → Prints a r skip o o' (record { bytes = n; row = r; skip = skip + n })
+      pub part-goes : room ≤ n → Prints a r skip o o' (record { bytes = n; row = Some r; skip = skip + n })
       unfolding part_of
       part-goes h = record { buffer = bytes_are; answer = rw (← room-is, ← part-is, le-ltb n room h) }

@@ -1,5 +1,5 @@
 -- The rows of an answer in order, and the parts in which they are printed (document 01, "Bench rows"). Definitions.
-use Rattle.std.specs.Prelude.{ℕ, ◌+◌, ◌-◌, ◌*◌, ◌^◌, min, ◌≡◌, cond, List, [], ◌++◌, length, get_or, take, drop, eqb, ltb}
+use Rattle.std.specs.Prelude.{ℕ, ◌+◌, ◌-◌, ◌*◌, ◌^◌, min, ◌≡◌, cond, List, [], ◌++◌, length, get_or, take, drop, eqb, ltb, Option, None, Some}
 use Rattle.tok.specs.Text.{Texts}
 use Rattle.ptype.specs.Add.{write}
 use Rattle.ast.specs.Image.{slot_count}
@@ -8,7 +8,7 @@ use Rattle.rules.specs.Check.{Ended}
 use Rattle.rules.specs.Rows.{fn_row, slot_rows, fn_rows, diag_rows}
 use Rattle.rows.specs.Lines.{slot_row, diag_row, end_row, refused_row, input_row}
 use Rattle.rows_part.specs.declared.Row.{Row}
-use Rattle.rows_part.specs.declared.Row.TheVariants.{Slot, Fn, Diag, End, Refused, Input, Done}
+use Rattle.rows_part.specs.declared.Row.TheVariants.{Slot, Fn, Diag, End, Refused, Input}
 use Rattle.rows_part.specs.declared.Part.{Part}
 
 -- what rows are printed from: the texts, the buffers, V, and how many function words and diagnostics are used
@@ -62,7 +62,6 @@ row_of a (Diag k) = diag_row a.diagnostics a.messages (6 * k)
 row_of a End = end_row a.count
 row_of a (Refused number place) = refused_row number place
 row_of a Input = input_row
-row_of a Done = []
 
 -- the row of diagnostic k, or the last row where there are no more
 unfoldable pub diag_from : (count k : ℕ) → Row
@@ -72,17 +71,16 @@ diag_from count k = cond (ltb k count) (Diag k) End
 unfoldable pub fn_from : (words count at : ℕ) → Row
 fn_from words count at = cond (ltb at words) (Fn at) (diag_from count 0)
 
--- the row behind a row
-unfoldable pub next_of : (functions : List ℕ) → (last words count : ℕ) → Row → Row
-next_of f last words count (Slot i) = cond (ltb i last) (Slot (i + 1)) (fn_from words count 0)
-next_of f last words count (Fn at) = fn_from words count (at + 3 + 2 * get_or f (at + 1) 0)
-next_of f last words count (Diag k) = diag_from count (k + 1)
-next_of f last words count End = Done
-next_of f last words count (Refused number place) = Done
-next_of f last words count Input = Done
-next_of f last words count Done = Done
+-- the row behind a row, if it is not the last
+unfoldable pub next_of : (functions : List ℕ) → (last words count : ℕ) → Row → Option Row
+next_of f last words count (Slot i) = Some (cond (ltb i last) (Slot (i + 1)) (fn_from words count 0))
+next_of f last words count (Fn at) = Some (fn_from words count (at + 3 + 2 * get_or f (at + 1) 0))
+next_of f last words count (Diag k) = Some (diag_from count (k + 1))
+next_of f last words count End = None
+next_of f last words count (Refused number place) = None
+next_of f last words count Input = None
 
-abbrev pub next_in : Answer → Row → Row
+abbrev pub next_in : Answer → Row → Option Row
 next_in a row = next_of a.functions a.last a.words a.count row
 
 -- the first row: the first slot's, or the refusal's
@@ -113,19 +111,28 @@ rest_of a (Diag k) = row_of a (Diag k) ++ diags_from a (k + 1)
 rest_of a End = end_row a.count
 rest_of a (Refused number place) = refused_row number place
 rest_of a Input = input_row
-rest_of a Done = []
+
+-- the same from the row behind a row on: nothing behind the last
+unfoldable pub rest_behind : Answer → Option Row → List ℕ
+rest_behind a None = []
+rest_behind a (Some row) = rest_of a row
 
 -- ---- parts
 -- what is printed of a row behind its first bytes, and then of all rows behind it
 unfoldable pub rest_from : Answer → Row → (skip : ℕ) → List ℕ
-rest_from a row skip = drop skip (row_of a row) ++ rest_of a (next_in a row)
+rest_from a row skip = drop skip (row_of a row) ++ rest_behind a (next_in a row)
+
+-- the same from where a part ends on: nothing behind the last
+unfoldable pub rest_at : Answer → Option Row → (skip : ℕ) → List ℕ
+rest_at a None skip = []
+rest_at a (Some row) skip = rest_from a row skip
 
 -- a part of a row in a buffer of `room` bytes: how many bytes it has, and where the next part begins: in the same row if the buffer is full,
 -- else at the start of the row behind it
 unfoldable pub part_of : (room : ℕ) → Answer → Row → (skip : ℕ) → Part
 part_of room a row skip =
     let n : ℕ = min (length (row_of a row) - skip) room in
-    record { bytes = n; row = cond (ltb n room) (next_in a row) row; skip = cond (ltb n room) 0 (skip + n) }
+    record { bytes = n; row = cond (ltb n room) (next_in a row) (Some row); skip = cond (ltb n room) 0 (skip + n) }
 
 -- how much of a buffer a part uses: the next one begins at a place that a 64-bit number can say
 unfoldable pub room_at : (skip room : ℕ) → ℕ

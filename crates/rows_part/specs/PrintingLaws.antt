@@ -1,7 +1,7 @@
 -- Laws of the rows in order: what is printed from a row on is the row and what is printed from the next row on, and from the first row on it is
 -- what `rows_of` says; each part of a row is followed by the rest. Assumes nothing.
 use Prim.Native.Nat.{ℕ, zero, suc, ◌+◌, ◌-◌, ◌*◌, ◌^◌, ◌≤◌, ◌<◌, min}
-use Rattle.std.specs.Prelude.{◌≡◌, Bool, true, false, cond, get_or, take, drop, eqb, ltb}
+use Rattle.std.specs.Prelude.{◌≡◌, Bool, true, false, cond, get_or, take, drop, eqb, ltb, Option, None, Some}
 use Rattle.std.proofs.Math.Path.{refl}
 use Rattle.std.proofs.Common.{sym, ap, ◌∙◌, length-take, length-drop, take-append-drop, drop-cons, lt-ltb, le-ltb}
 use mathlib.Core.List.{List, [], ◌∷◌, ◌++◌, append-nil, append_assoc}
@@ -19,10 +19,10 @@ use Rattle.rules.specs.Rows.{fn_row, slot_rows, fn_rows, diag_rows, answer_rows,
 use Rattle.rows_window.specs.ShowingLaws.{take-over}
 use Rattle.rows.specs.Lines.{slot_row, diag_line, diag_row, end_row, refused_row, input_row}
 use Rattle.rows_part.specs.declared.Row.{Row}
-use Rattle.rows_part.specs.declared.Row.TheVariants.{Slot, Fn, Diag, End, Refused, Input, Done}
+use Rattle.rows_part.specs.declared.Row.TheVariants.{Slot, Fn, Diag, End, Refused, Input}
 use Rattle.rows_part.specs.declared.Part.{Part}
 use Rattle.rows_part.specs.RowsEnd.{by_order}
-use Rattle.rows_part.specs.Printing.{Answer, answer_in, row_of, diag_from, fn_from, next_of, next_in, first_row, first_of, diags_from, fns_from, slots_from, rest_of, rest_from}
+use Rattle.rows_part.specs.Printing.{Answer, answer_in, row_of, diag_from, fn_from, next_of, next_in, first_row, first_of, diags_from, fns_from, slots_from, rest_of, rest_behind, rest_from, rest_at}
 use Rattle.rows_part.specs.Printing.{part_of, room_at, Prints}
 
 -- ---- slots
@@ -107,8 +107,8 @@ unfolding rest_of row_of
 rest-slot a i h = rw (slots-more a.texts a.types a.slots a.last i h) (simp append_assoc)
 
 -- What is printed from a row on is the row, and what is printed from the next row on.
-pub rest-next : (a : Answer) (r : Row) → rest_of a r ≡ row_of a r ++ rest_of a (next_in a r)
-unfolding rest_of row_of next_of
+pub rest-next : (a : Answer) (r : Row) → rest_of a r ≡ row_of a r ++ rest_behind a (next_in a r)
+unfolding rest_of row_of next_of rest_behind
 rest-next a (Slot i) =
     by_order i a.last
     (λ h. rw (lt-ltb i a.last h) (ap (λ l. row_of a (Slot i) ++ l) (sym (rest-slot a (i + 1) (omega arith)))))
@@ -120,12 +120,16 @@ rest-next a (Diag k) = ap (λ l. row_of a (Diag k) ++ l) (sym (rest_diag a (k + 
 rest-next a End = sym (append-nil _)
 rest-next a (Refused number place) = sym (append-nil _)
 rest-next a Input = sym (append-nil _)
-rest-next a Done = refl
 
 -- ---- from the first row on
 rest_all : (a : Answer) (r : Row) → rest_from a r 0 ≡ rest_of a r
 unfolding rest_from
 rest_all a r = sym (rest-next a r)
+
+at_start : (a : Answer) (r : Option Row) → rest_at a r 0 ≡ rest_behind a r
+unfolding rest_at rest_behind
+at_start a None = refl
+at_start a (Some r) = rest_all a r
 
 answer-first : (i : Inputs) (e : Ended) → rest_of (answer_in i e) (Slot 0) ≡ answer_rows (texts_in i) (slot_count i.image) e
 unfolding answer_rows end_row
@@ -161,16 +165,16 @@ module _ (o : List ℕ) (a : Answer) (r : Row) (skip room : ℕ) (fits : room �
   -- The bytes of a part, and what is printed from the next part on, are what was to be printed.
   pub part-next :
       let p : Part = part_of room a r skip in
-      rest_from a r skip ≡ take p.bytes (write o 0 (drop skip (row_of a r))) ++ rest_from a p.row p.skip
-  unfolding part_of rest_from
+      rest_from a r skip ≡ take p.bytes (write o 0 (drop skip (row_of a r))) ++ rest_at a p.row p.skip
+  unfolding part_of rest_from rest_at
   part-next =
       by_order many room
       (λ h.
       let e : length shown ≤ many = rw (length-drop skip (row_of a r)) (omega arith) in
-      rw (lt-ltb many room h, front-is, take_all many shown e) (ap (λ l. shown ++ l) (rest-next a (next_in a r))))
+      rw (lt-ltb many room h, front-is, take_all many shown e) (ap (λ l. shown ++ l) (sym (at_start a (next_in a r)))))
       (λ h.
       rw (le-ltb many room h, front-is, ← drop-drop many skip (row_of a r))
-      (ap (λ l. l ++ rest_of a (next_in a r)) (sym (take-append-drop many shown)) ∙ append_assoc (take many shown) (drop many shown) (rest_of a (next_in a r))))
+      (ap (λ l. l ++ rest_behind a (next_in a r)) (sym (take-append-drop many shown)) ∙ append_assoc (take many shown) (drop many shown) (rest_behind a (next_in a r))))
 
 -- the whole buffer is used wherever the next part begins at a place that a number can say
 pub room_whole : (skip room : ℕ) → skip + room < 2 ^ 64 → room_at skip room ≡ room
@@ -182,7 +186,7 @@ unfolding room_at
 room_fits skip room = omega arith
 
 -- so it is of whatever `write_part` wrote and answered
-pub prints_next : (a : Answer) (r : Row) (skip : ℕ) {o o' : List ℕ} {p : Part} → Prints a r skip o o' p → rest_from a r skip ≡ take p.bytes o' ++ rest_from a p.row p.skip
+pub prints_next : (a : Answer) (r : Row) (skip : ℕ) {o o' : List ℕ} {p : Part} → Prints a r skip o o' p → rest_from a r skip ≡ take p.bytes o' ++ rest_at a p.row p.skip
 prints_next a r skip {o} h = rw (h.buffer, h.answer) (part-next o a r skip (room_at skip (length o)) (room_fits skip (length o)))
 
 -- a part is no longer than the buffer, nor is what it adds to the bytes passed over

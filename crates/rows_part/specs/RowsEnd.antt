@@ -1,8 +1,8 @@
--- The rows end: from each row but none the next is nearer to the end, so that a loop over the rows ends. Assumes nothing.
-use Rattle.std.specs.Prelude.{ℕ, ◌+◌, ◌-◌, ◌*◌, ◌≤◌, ◌<◌, ◌≡◌, refl, Bool, true, false, get_or, ltb}
+-- The rows end: from each row the next is nearer to the end, so that a loop over the rows ends. Assumes nothing.
+use Rattle.std.specs.Prelude.{ℕ, ◌+◌, ◌-◌, ◌*◌, ◌≤◌, ◌<◌, ◌≡◌, refl, Bool, true, false, get_or, ltb, Option, None, Some}
 use Rattle.std.proofs.Common.{arith, ltb-true, ltb-false, lt-ltb, le-ltb}
 use Rattle.rows_part.specs.declared.Row.{Row}
-use Rattle.rows_part.specs.declared.Row.TheVariants.{Slot, Fn, Diag, End, Refused, Input, Done}
+use Rattle.rows_part.specs.declared.Row.TheVariants.{Slot, Fn, Diag, End, Refused, Input}
 use Rattle.rows_part.specs.Printing.{Answer, diag_from, fn_from, next_of, next_in}
 
 -- no more rows than this are left, the row itself among them
@@ -13,7 +13,11 @@ left_at a (Diag k) = (a.count - k) + 2
 left_at a End = 1
 left_at a (Refused number place) = 1
 left_at a Input = 1
-left_at a Done = 0
+
+-- and none behind the last
+unfoldable pub left_behind : Answer → Option Row → ℕ
+left_behind a None = 0
+left_behind a (Some r) = left_at a r
 
 -- below a number, or not
 pub by_order : {P : Type 0} (a b : ℕ) → (a < b → P) → (b ≤ a → P) → P
@@ -51,15 +55,14 @@ fn-left a at m =
     (λ h. rw (le-ltb (at + 3 + m) a.words h) (omega (arith, diags_left a 0)))
 
 -- Each row brings the end nearer.
-pub next_nearer : (a : Answer) (r : Row) → (r ≡ Done → ⊥) → left_at a (next_in a r) < left_at a r
-unfolding left_at next_of
-next_nearer a (Slot i) n =
+pub next_nearer : (a : Answer) (r : Row) → left_behind a (next_in a r) < left_at a r
+unfolding left_at left_behind next_of
+next_nearer a (Slot i) =
     by_order i a.last
     (λ h. rw (lt-ltb i a.last h) (omega arith))
     (λ h. rw (le-ltb i a.last h) (omega (arith, fns_left a 0)))
-next_nearer a (Fn at) n = fn-left a at (2 * get_or a.functions (at + 1) 0)
-next_nearer a (Diag k) n = diag_left a k
-next_nearer a End n = omega arith
-next_nearer a (Refused number place) n = omega arith
-next_nearer a Input n = omega arith
-next_nearer a Done n = absurd (n refl)
+next_nearer a (Fn at) = fn-left a at (2 * get_or a.functions (at + 1) 0)
+next_nearer a (Diag k) = diag_left a k
+next_nearer a End = omega arith
+next_nearer a (Refused number place) = omega arith
+next_nearer a Input = omega arith

@@ -11,7 +11,7 @@ use std::marker::Model;
 use tok::word_at;
 
 // A row: a slot's by its number, a function's by the place of its entry, a diagnostic's by its number; the last of an answer; a refusal's with number
-// and place; that of an input that does not fit; and none, behind the last.
+// and place; and that of an input that does not fit.
 #[derive(Clone, Copy)]
 pub enum Row {
     Slot(u32),
@@ -20,14 +20,13 @@ pub enum Row {
     End,
     Refused(u32, usize),
     Input,
-    Done,
 }
 
-// A part that was written: how many bytes, and where the next part begins.
+// A part that was written: how many bytes, and where the next part begins, if not all rows are written.
 #[derive(Clone, Copy)]
 pub struct Part {
     pub bytes: usize,
-    pub row: Row,
+    pub row: Option<Row>,
     pub skip: usize,
 }
 
@@ -78,9 +77,6 @@ impl<'a> Answer<'a> {
             Row::Input => {
                 rows::input_row(w);
             }
-            Row::Done => {
-                w.put(b"");
-            }
         }
     }
 
@@ -108,26 +104,26 @@ impl<'a> Answer<'a> {
         }
     }
 
-    // The row behind a row.
+    // The row behind a row, if it is not the last.
     #[tactic(auto, unfolding(crate::specs::Printing::next_of))]
-    fn next(&self, row: Row) -> Row
+    fn next(&self, row: Row) -> Option<Row>
         ensures { result ≡ next_in self.now row }
     {
         match row {
             Row::Slot(i) => {
                 if i < self.last {
-                    Row::Slot(i + 1)
+                    Some(Row::Slot(i + 1))
                 } else {
-                    self.fn_from(0)
+                    Some(self.fn_from(0))
                 }
             }
             Row::Fn(at) => {
                 let i = at as usize;
                 let n = word_at(self.functions, i + 1) as usize;
-                self.fn_from(i + 3 + 2 * n)
+                Some(self.fn_from(i + 3 + 2 * n))
             }
-            Row::Diag(k) => self.diag_from(k as usize + 1),
-            Row::End | Row::Refused(_, _) | Row::Input | Row::Done => Row::Done,
+            Row::Diag(k) => Some(self.diag_from(k as usize + 1)),
+            Row::End | Row::Refused(_, _) | Row::Input => None,
         }
     }
 
@@ -153,7 +149,7 @@ impl<'a> Answer<'a> {
         }
         Part {
             bytes: n,
-            row,
+            row: Some(row),
             skip: skip + n,
         }
     }
