@@ -13,17 +13,21 @@ pub rows-smaller : goal.rows-smaller
 rows-smaller g c = turn_nearer _ _ _ c.in-Some.is c.in_ok-part.ensures
 
 pub rows-preserved : goal.rows-preserved
-rows-preserved g c =
-    (turn-within _ _ _ c.in-Some.is c.in_ok-part.ensures c.rows.invariant.0,
-    turn-total _ _ _ _ c.in-Some.is c.in_ok-part.ensures refl c.rows.invariant.1, omega arith)
+rows-preserved g c = (
+  turn-within _ _ _ c.in-Some.is c.in_ok-part.ensures c.rows.invariant.0,
+  turn-total _ _ _ _ c.in-Some.is c.in_ok-part.ensures refl c.rows.invariant.1,
+  omega arith,
+)
 
 pub rows-smaller-then-skip-eq0 : goal.rows-smaller-then-skip-eq0
 rows-smaller-then-skip-eq0 g c = turn_nearer _ _ _ c.in-Some.is c.in_ok-part.ensures
 
 pub rows-preserved-then-skip-eq0 : goal.rows-preserved-then-skip-eq0
-rows-preserved-then-skip-eq0 g c =
-    (turn-within _ _ _ c.in-Some.is c.in_ok-part.ensures c.rows.invariant.0,
-    turn-total _ _ _ _ c.in-Some.is c.in_ok-part.ensures refl c.rows.invariant.1, omega arith)
+rows-preserved-then-skip-eq0 g c = (
+  turn-within _ _ _ c.in-Some.is c.in_ok-part.ensures c.rows.invariant.0,
+  turn-total _ _ _ _ c.in-Some.is c.in_ok-part.ensures refl c.rows.invariant.1,
+  omega arith,
+)
 
 pub returns : goal.returns
 returns g c = handed-all _ _ _ _ c.in_default.is c.rows.invariant.2 c.rows.invariant.1
