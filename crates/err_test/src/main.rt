@@ -28,10 +28,10 @@ const DIAGNOSTIC: u32 = 13;
 
 // Reading the input.
 
-// The words of a slice's bytes, as many as there is room for.
-fn fill(out: &mut [u32], s: &[u8]) {
-    for (w, bytes) in out.iter_mut().zip(s.chunks_exact(4)) {
-        *w = little_endian(bytes, 0);
+// The words from a place on, as many as there is room for; bytes past the end count as 0, also those of a word that is cut off.
+fn fill(out: &mut [u32], s: &[u8], at: usize) {
+    for (i, w) in out.iter_mut().enumerate() {
+        *w = little_endian(s, at % 65_536 + 4 * (i % 65_536));
     }
 }
 
@@ -214,15 +214,16 @@ fn print_diagnostic(rt: &impl Print, record: &[u32], messages: &[u8]) -> io::Res
 }
 
 // The cases, one after the other, and then what was told; a case that is refused says so.
-fn run(rt: &impl Print, from: &Sources, cases: &[u32]) -> io::Result<()> {
+fn run(rt: &impl Print, from: &Sources, cases: &[u32], count: usize) -> io::Result<()> {
     let mut diagnostics = [0u32; 1536];
     let mut messages = [0u8; LARGE];
     let mut counts = Counts {
         diagnostics: 0,
         bytes: 0,
     };
-    for case in cases.chunks_exact(8) {
-        match told(&mut diagnostics, &mut messages, counts, from, case_of(case)) {
+    for k in 0..count {
+        let case = case_of(part(cases, 8 * (k % 65_536), 8));
+        match told(&mut diagnostics, &mut messages, counts, from, case) {
             Some(told) => counts = told,
             None => println!(rt; "refused 9")?,
         }
@@ -279,7 +280,7 @@ fn parts(rt: &impl Print, input: &[u8]) -> io::Result<()> {
     let lists = little_endian(input, 16) as usize;
     let cases = little_endian(input, 20) as usize;
     let mut words = [0u32; 2048];
-    fill(&mut words, part(input, 24 + script + library, LARGE));
+    fill(&mut words, input, 24 + script + library);
     let texts = Texts {
         script: part(input, 24, script),
         library: part(input, 24 + script, library),
@@ -292,7 +293,8 @@ fn parts(rt: &impl Print, input: &[u8]) -> io::Result<()> {
         functions: part(&words, types, functions),
         lists: part(&words, types + functions, lists),
     };
-    run(rt, &from, part(&words, types + functions + lists, cases))
+    let list = part(&words, types + functions + lists, cases);
+    run(rt, &from, list, cases / 8)
 }
 
 fn main(rt: HostRuntime) -> io::Result<()> {
