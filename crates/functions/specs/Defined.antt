@@ -125,8 +125,8 @@ module _ (c : Ctx) (n slot name : ℕ) (retExpr : TypeExpr) (e : List Local) whe
     after-arguments (ok params w) = after-type params (type_from_expr c n retExpr w)
     after-arguments (refused x) = refl
 
--- the part before the body sees no names; the body follows; then, with the names of before, the part after it
-fn-parts : (c : Ctx) (n slot name : ℕ) (retExpr : TypeExpr) (args : List Arg) (body : Walk Answer) (w : World)
+-- THE LAW: the part before the body sees no names; the body follows; then, with the names of before, the part after it
+pub fn-parts : (c : Ctx) (n slot name : ℕ) (retExpr : TypeExpr) (args : List Arg) (body : Walk Answer) (w : World)
     → fn c n slot name retExpr args body w
     ≡ next (fn_begin c n (slot + 1) name retExpr args (with_env w [])) (λ ret. λ w₁. next (body w₁) (λ computed. λ w₂. fn_end c n slot name retExpr ret computed (with_env w₂ w.env)))
 unfolding fn apart framed fn_begin scoped

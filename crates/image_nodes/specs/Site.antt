@@ -7,6 +7,7 @@ use Rattle.ast.specs.Outline.{Outline, Counts, Here}
 use Rattle.ast.specs.NodeRecords.{no_node, callable}
 use Rattle.image_words.specs.Leads.{unanswered}
 use Rattle.image_nodes.specs.declared.Counts as code
+use Rattle.image_nodes.specs.declared.Site as declared
 
 -- the script text and the counts
 abbrev pub counts_of : code.Counts → Counts
@@ -22,6 +23,10 @@ pub record Site : Type 0 where
 
 abbrev pub site_of : Counts → (number slot left : ℕ) → Site
 site_of c number slot left = record { counts = c; number = number; slot = slot; left = left }
+
+-- what contracts see of the code's site: a type with a lifetime that is Copy can have no model of its own
+abbrev pub site_at : declared.Site → Site
+site_at s = site_of (counts_of s.counts) s.number s.slot s.left
 
 -- with the node's kind and the nodes before
 abbrev pub here_of : Site → (kind : ℕ) (before : List Outline) → Here

@@ -12,12 +12,11 @@ ghost use Rattle.ast.specs.NodeRecords.{good_arguments, good_extern_count, good_
 ghost use Rattle.ast.specs.Nodes.{node_kind, good_node_head, node};
 ghost use Rattle.image_laws.specs.OutlineAt.{outline_from};
 ghost use Rattle.image_words.specs.Leads.{Leads};
-ghost use Rattle.image_nodes.specs.Site.{Site, counts_of, site_of, here_of, LeadsAt, Kept};
+ghost use Rattle.image_nodes.specs.Site.{counts_of, site_at, here_of, LeadsAt, Kept};
 
 use ast::NodeKind;
 use image_words::{and_pairs, between, names, numbers, pairs, token};
 use reader::{Fault, Reader};
-use std::marker::Model;
 
 // The script text of an image, and its counts, that its records go by.
 #[derive(Clone, Copy)]
@@ -29,7 +28,7 @@ pub struct Counts<'a> {
 }
 
 // Where a node record is read: the script text and the counts of the image, the node's number and slot, and how many words follow the slot.
-#[derive(Drop)]
+#[derive(Clone, Copy)]
 pub struct Site<'a> {
     pub counts: Counts<'a>,
     pub number: usize,
@@ -37,16 +36,10 @@ pub struct Site<'a> {
     pub left: usize,
 }
 
-impl<'a> Model for Site<'a> {
-    ghost Value = { Site };
-
-    ghost view = { λ s. site_of (counts_of s.counts) s.number s.slot s.left };
-}
-
 impl<'a> Site<'a> {
     // A name or token of the script text.
     fn token<'b>(&self, from: Reader<'b>) -> Result<Reader<'b>, Fault>
-        ensures { Comes from.entry (word (good_name in_script self.now.counts.text)) (next_word from.entry) result }
+        ensures { Comes from.entry (word (good_name in_script self.now.counts.text.now)) (next_word from.entry) result }
     {
         token(self.counts.text, from)
     }
@@ -60,7 +53,7 @@ const OPERATORS: usize = 9;
 // 0 Atom: token, type kind 2 to 5.
 #[tactic(auto, unfolding(ast::specs::NodeRecords::atom, reader::specs::Reading::gave, image_words::specs::Leads::unanswered), using(image_words::specs::LeadLaws::leads))]
 fn atom<'a>(from: Reader<'a>, site: &Site) -> Result<Reader<'a>, Fault>
-    ensures { LeadsAt from.entry site.now atom result }
+    ensures { LeadsAt from.entry (site_at site.now) atom result }
 {
     let at = site.token(from)?;
     let kind = at.next_word() as usize;
@@ -70,7 +63,7 @@ fn atom<'a>(from: Reader<'a>, site: &Site) -> Result<Reader<'a>, Fault>
 // 1 Ident: name.
 #[tactic(auto, unfolding(ast::specs::NodeRecords::ident, reader::specs::Reading::gave, image_words::specs::Leads::unanswered), using(image_words::specs::LeadLaws::leads))]
 fn ident<'a>(from: Reader<'a>, site: &Site) -> Result<Reader<'a>, Fault>
-    ensures { LeadsAt from.entry site.now ident result }
+    ensures { LeadsAt from.entry (site_at site.now) ident result }
 {
     site.token(from)
 }
@@ -78,7 +71,7 @@ fn ident<'a>(from: Reader<'a>, site: &Site) -> Result<Reader<'a>, Fault>
 // 2 Bin: token, operator, left, right.
 #[tactic(auto, unfolding(ast::specs::NodeRecords::bin, reader::specs::Reading::gave, image_words::specs::Leads::unanswered), using(image_words::specs::LeadLaws::leads))]
 fn bin<'a>(from: Reader<'a>, site: &Site) -> Result<Reader<'a>, Fault>
-    ensures { LeadsAt from.entry site.now bin result }
+    ensures { LeadsAt from.entry (site_at site.now) bin result }
 {
     site.token(from)?
         .below(OPERATORS)?
@@ -89,7 +82,7 @@ fn bin<'a>(from: Reader<'a>, site: &Site) -> Result<Reader<'a>, Fault>
 // 3 Unary: token, operator, right.
 #[tactic(auto, unfolding(ast::specs::NodeRecords::unary, reader::specs::Reading::gave, image_words::specs::Leads::unanswered), using(image_words::specs::LeadLaws::leads))]
 fn unary<'a>(from: Reader<'a>, site: &Site) -> Result<Reader<'a>, Fault>
-    ensures { LeadsAt from.entry site.now unary result }
+    ensures { LeadsAt from.entry (site_at site.now) unary result }
 {
     site.token(from)?.below(OPERATORS)?.below(site.number)
 }
@@ -97,14 +90,14 @@ fn unary<'a>(from: Reader<'a>, site: &Site) -> Result<Reader<'a>, Fault>
 // 4 Let: name, right.
 #[tactic(auto, unfolding(ast::specs::NodeRecords::binding, reader::specs::Reading::gave, image_words::specs::Leads::unanswered), using(image_words::specs::LeadLaws::leads))]
 fn binding<'a>(from: Reader<'a>, site: &Site) -> Result<Reader<'a>, Fault>
-    ensures { LeadsAt from.entry site.now binding result }
+    ensures { LeadsAt from.entry (site_at site.now) binding result }
 {
     site.token(from)?.below(site.number)
 }
 
 // Whether n arguments of an Fn lie within its record, and their slots below V.
 fn arguments_fit(site: &Site, n: usize) -> bool
-    ensures { (kind : ℕ) (before : List Outline) → result ≡ good_arguments (here_of site.now kind before) n }
+    ensures { (kind : ℕ) (before : List Outline) → result ≡ good_arguments (here_of (site_at site.now) kind before) n }
 {
     n <= site.left.saturating_sub(3) / 2 && n < site.counts.slots.saturating_sub(site.slot)
 }
@@ -112,7 +105,7 @@ fn arguments_fit(site: &Site, n: usize) -> bool
 // 5 Fn: name, return type, argument count, name and type of each, body.
 #[tactic(auto, unfolding(reader::specs::Reading::gave, image_words::specs::Leads::unanswered), using(crate::proofs::Rows::fn_words, image_words::specs::LeadLaws::leads))]
 fn function<'a>(from: Reader<'a>, site: &Site) -> Result<Reader<'a>, Fault>
-    ensures { LeadsAt from.entry site.now fn result }
+    ensures { LeadsAt from.entry (site_at site.now) fn result }
 {
     let at = site.token(from)?.below(site.counts.types)?;
     let n = at.next_word() as usize;
@@ -132,7 +125,7 @@ fn cases_fit(n: usize, others: usize, room: usize) -> bool
 // `count` cases and the default, in `left` words: per case token, condition, body count, body; then default token, body.
 #[tactic(auto, unfolding(reader::specs::Reading::gave, image_words::specs::Leads::unanswered), using(crate::proofs::Loops::cases_ways))]
 fn cases<'a>(from: Reader<'a>, site: &Site, count: usize, left: usize) -> Result<Reader<'a>, Fault>
-    ensures { LeadsAt from.entry site.now (λ h. cases h count left) result }
+    ensures { LeadsAt from.entry (site_at site.now) (λ h. cases h count left) result }
 {
     let mut to = from;
     let mut room = left;
@@ -151,7 +144,7 @@ fn cases<'a>(from: Reader<'a>, site: &Site, count: usize, left: usize) -> Result
 // 6 Match: case count; the cases.
 #[tactic(auto, unfolding(reader::specs::Reading::gave, image_words::specs::Leads::unanswered), using(crate::proofs::Rows::match_words, image_words::specs::LeadLaws::leads))]
 fn matching<'a>(from: Reader<'a>, site: &Site) -> Result<Reader<'a>, Fault>
-    ensures { LeadsAt from.entry site.now match result }
+    ensures { LeadsAt from.entry (site_at site.now) match result }
 {
     let count = from.next_word() as usize;
     let room = site.left.saturating_sub(1);
@@ -169,7 +162,7 @@ fn good_target(callable: &[bool], p: usize, n: usize) -> bool
 // 7 Call: target (Ident or Field), arguments.
 #[tactic(auto, unfolding(ast::specs::NodeRecords::call, reader::specs::Reading::gave, image_words::specs::Leads::unanswered), using(image_words::specs::LeadLaws::leads))]
 fn call<'a>(from: Reader<'a>, site: &Site, callable: &[bool]) -> Result<Reader<'a>, Fault>
-    ensures { (kind : ℕ) (before : List Outline) → Kept callable.now before site.now.number → Leads from.entry (call (here_of site.now kind before)) result }
+    ensures { (kind : ℕ) (before : List Outline) → Kept callable.now before site.now.number → Leads from.entry (call (here_of (site_at site.now) kind before)) result }
 {
     let target = from.next_word() as usize;
     let at = from.word(good_target(callable, target, site.number))?;
@@ -179,7 +172,7 @@ fn call<'a>(from: Reader<'a>, site: &Site, callable: &[bool]) -> Result<Reader<'
 // 8 Field: target, name.
 #[tactic(auto, unfolding(ast::specs::NodeRecords::field, reader::specs::Reading::gave, image_words::specs::Leads::unanswered), using(image_words::specs::LeadLaws::leads))]
 fn field<'a>(from: Reader<'a>, site: &Site) -> Result<Reader<'a>, Fault>
-    ensures { LeadsAt from.entry site.now field result }
+    ensures { LeadsAt from.entry (site_at site.now) field result }
 {
     site.token(from.below(site.number)?)
 }
@@ -187,7 +180,7 @@ fn field<'a>(from: Reader<'a>, site: &Site) -> Result<Reader<'a>, Fault>
 // 9 Cast: token, left, type.
 #[tactic(auto, unfolding(ast::specs::NodeRecords::cast, reader::specs::Reading::gave, image_words::specs::Leads::unanswered), using(image_words::specs::LeadLaws::leads))]
 fn cast<'a>(from: Reader<'a>, site: &Site) -> Result<Reader<'a>, Fault>
-    ensures { LeadsAt from.entry site.now cast result }
+    ensures { LeadsAt from.entry (site_at site.now) cast result }
 {
     site.token(from)?
         .below(site.number)?
@@ -197,7 +190,7 @@ fn cast<'a>(from: Reader<'a>, site: &Site) -> Result<Reader<'a>, Fault>
 // 10 Import: token, paths.
 #[tactic(auto, unfolding(ast::specs::NodeRecords::imports, reader::specs::Reading::gave, image_words::specs::Leads::unanswered), using(image_words::specs::LeadLaws::leads))]
 fn imports<'a>(from: Reader<'a>, site: &Site) -> Result<Reader<'a>, Fault>
-    ensures { LeadsAt from.entry site.now imports result }
+    ensures { LeadsAt from.entry (site_at site.now) imports result }
 {
     let at = site.token(from)?;
     names(site.counts.text, at, site.left.saturating_sub(1))
@@ -226,7 +219,7 @@ fn functions<'a>(
     count: usize,
     left: usize,
 ) -> Result<Reader<'a>, Fault>
-    ensures { LeadsAt from.entry site.now (λ h. extern_functions h count left) result }
+    ensures { LeadsAt from.entry (site_at site.now) (λ h. extern_functions h count left) result }
 {
     let mut to = from;
     let mut room = left;
@@ -255,7 +248,7 @@ fn functions_fit(count: usize, room: usize) -> bool
 // 11 Extern: token, name, function count; the functions.
 #[tactic(auto, unfolding(reader::specs::Reading::gave, image_words::specs::Leads::unanswered), using(crate::proofs::Rows::extern_words, image_words::specs::LeadLaws::leads))]
 fn externs<'a>(from: Reader<'a>, site: &Site) -> Result<Reader<'a>, Fault>
-    ensures { LeadsAt from.entry site.now extern result }
+    ensures { LeadsAt from.entry (site_at site.now) extern result }
 {
     let at = site.token(from)?;
     let at = site.token(at)?;
@@ -268,7 +261,7 @@ fn externs<'a>(from: Reader<'a>, site: &Site) -> Result<Reader<'a>, Fault>
 // 12 Record: token, name and value pairs.
 #[tactic(auto, unfolding(reader::specs::Reading::gave, image_words::specs::Leads::unanswered), using(crate::proofs::Rows::record_words, image_words::specs::LeadLaws::leads))]
 fn record_node<'a>(from: Reader<'a>, site: &Site) -> Result<Reader<'a>, Fault>
-    ensures { LeadsAt from.entry site.now record_node result }
+    ensures { LeadsAt from.entry (site_at site.now) record_node result }
 {
     let at = site.token(from)?;
     pairs(
@@ -282,7 +275,7 @@ fn record_node<'a>(from: Reader<'a>, site: &Site) -> Result<Reader<'a>, Fault>
 // 13 Array: token, members.
 #[tactic(auto, unfolding(ast::specs::NodeRecords::array, reader::specs::Reading::gave, image_words::specs::Leads::unanswered), using(image_words::specs::LeadLaws::leads))]
 fn array<'a>(from: Reader<'a>, site: &Site) -> Result<Reader<'a>, Fault>
-    ensures { LeadsAt from.entry site.now array result }
+    ensures { LeadsAt from.entry (site_at site.now) array result }
 {
     let at = site.token(from)?;
     numbers(at, site.left.saturating_sub(1), site.number)
@@ -324,7 +317,7 @@ fn rest<'a>(
     head: u32,
 ) -> Result<Reader<'a>, Fault>
     ensures { (before : List Outline) → Kept callable.now before site.now.number → Leads from.entry
-        ((node_kind head).rest (here_of site.now (kind_of head) before)) result }
+        ((node_kind head).rest (here_of (site_at site.now) (kind_of head) before)) result }
 {
     match NodeKind::of(head) {
         NodeKind::Atom => atom(from, site),

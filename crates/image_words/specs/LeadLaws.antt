@@ -1,14 +1,14 @@
 -- Laws of where reading comes to: one rule after another. Assumes nothing.
 use Rattle.std.specs.Prelude.{ℕ, ◌≡◌, refl, List, Result, Ok, Err}
-use Rattle.std.proofs.Common.{ap, ◌∙◌}
+use Rattle.std.proofs.Common.{sym, ap, ◌∙◌}
 use Rattle.tok.specs.Step.{ok, refused, next, return}
 use Rattle.tok.specs.Step as step
 use Rattle.tok.specs.Reader.{Cursor, Read, fault_of}
 use Rattle.reader.specs.declared.Fault.{Fault}
-use Rattle.reader.specs.Reading.{Reader, standing, onward, gave, Same, offending}
+use Rattle.reader.specs.Reading.{Reader, reading, standing, onward, gave, Same, offending}
 use Rattle.reader.specs.Laws.{by_rule}
 use Rattle.reader.specs.Reads.{Reads, reads, faults}
-use Rattle.image_words.specs.Leads.{unanswered}
+use Rattle.image_words.specs.Leads.{unanswered, Leads}
 
 -- a word that was read
 pub leads_word : {A : Type 0} (a : A) (to : Result Reader Fault) (r : step.Result Cursor ℕ A) → r ≡ gave a to → unanswered r ≡ gave tt to
@@ -61,6 +61,19 @@ leads_fault (Err fault) (refused place) e = let same : place ≡ fault.0 = cc in
 pub same_on : (from mid : Reader) (to : Result Reader Fault) → mid.words ≡ from.words → Same mid to → Same from to
 same_on from mid (Ok to) p q = q ∙ p
 same_on from mid (Err fault) p q = tt
+
+-- a rule leads to one place
+gave_one : {A : Type 0} (a b : A) (from : Reader) (to other : Result Reader Fault) → gave a to ≡ gave b other → Same from to → Same from other → to ≡ other
+unfolding gave
+gave_one a b from (Ok to) (Ok other) e p q =
+    let same : standing to.words to.at to.least ≡ standing other.words other.at other.least = cc in
+    ap (λ (c : Cursor). Ok (reading to.words c.at c.least)) same ∙ ap (λ words. Ok (reading words other.at other.least)) (p ∙ sym q)
+gave_one a b from (Ok to) (Err fault) e p q = cc
+gave_one a b from (Err fault) (Ok to) e p q = cc
+gave_one a b from (Err fault) (Err other) e p q = let same : fault.0 ≡ other.0 = cc in ap (λ place. Err (record { 0 = place })) same
+
+pub leads_one : {A : Type 0} (from : Reader) (rule : Read A) {to other : Result Reader Fault} → Leads from rule to → Leads from rule other → to ≡ other
+leads_one from rule l m = gave_one _ _ from _ _ (sym l.0 ∙ m.0) l.1 m.1
 
 -- what a reader of words one after the other goes by
 pub ruleset leads = (leads_last, leads_then, leads_stops, by_rule, same_on)

@@ -12,7 +12,8 @@ unfoldable pub unanswered : {A : Type 0} → step.Result Cursor ℕ A → step.R
 unanswered (ok a c) = ok tt c
 unanswered (refused place) = refused place
 
--- Going on from `from` by a rule comes to `to`, in the same words. Where a reading comes to is thereby said in full; only the answer is left open.
+-- Going on from `from` by a rule comes to `to`, in the same words. Where a reading comes to is thereby said in full (`leads_one` of `LeadLaws`);
+-- only the answer is left open.
 abbrev pub Leads : {A : Type 0} → Reader → Read A → Result Reader Fault → Type 0
 Leads from rule to = (unanswered (onward from rule) ≡ gave tt to) × Same from to
 

@@ -1,3 +1,4 @@
--- What the contracts of readers of records cite: how the code goes on by a rule.
+-- How the code goes on by a rule, which the contracts of readers of records cite, and which words are tokens.
 pub mod Leads
 pub mod LeadLaws
+pub mod Token

@@ -30,7 +30,7 @@ pub fn and_pairs(least: usize, long: usize) -> bool
 
 // One word, and lists.
 
-// A name or token of the script text.
+// A name or token of the script text: a word that is `good_token` there, by `good_token-name`.
 pub fn token<'a>(script: &[u8], from: Reader<'a>) -> Result<Reader<'a>, Fault>
     ensures { Comes from.entry (word (good_name in_script script.now)) (next_word from.entry) result }
 {

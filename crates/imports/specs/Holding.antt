@@ -84,6 +84,12 @@ module _ {st : State} {e : List ℕ} (free : Free 1 st e) where
   pub held-near : held_end e st.held st.packages ≤ 16384
   held-near = omega (arith, reach-end e st.packages st.held, free.ends)
 
+  pub some-room : 0 < st.held
+  some-room = omega (arith, free.between)
+
+  pub few-packages : st.packages ≤ 8192
+  few-packages = omega (arith, free.few)
+
   below : st.held - 1 < length e
   below = omega (arith, held_low free, free.long, free.between)
 

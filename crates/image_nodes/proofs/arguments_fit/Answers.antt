@@ -5,7 +5,7 @@ use Rattle.image_nodes.proofs.Tests.{arguments-over, arguments-within}
 use Rattle.image_nodes.proofs.arguments_fit.Goals as goal
 
 pub returns-then-n-saturating_sub : goal.returns-then-n-saturating_sub
-returns-then-n-saturating_sub c = λ kind before. rw (← c.site.view_is) (arguments-within _ _ _ c.saturating_sub.ensures _ c.saturating_sub-then-n-saturating_sub.ensures c.if-n-saturating_sub.true)
+returns-then-n-saturating_sub c = λ kind before. arguments-within _ _ _ c.saturating_sub.ensures _ c.saturating_sub-then-n-saturating_sub.ensures c.if-n-saturating_sub.true
 
 pub returns-else-n-saturating_sub : goal.returns-else-n-saturating_sub
-returns-else-n-saturating_sub c = λ kind before. rw (← c.site.view_is) (lt-leb _ _ c.if-n-saturating_sub.false ∙ arguments-over _ _ _ c.saturating_sub.ensures c.if-n-saturating_sub.false)
+returns-else-n-saturating_sub c = λ kind before. lt-leb _ _ c.if-n-saturating_sub.false ∙ arguments-over _ _ _ c.saturating_sub.ensures c.if-n-saturating_sub.false
