@@ -24,10 +24,11 @@ use Rattle.library.specs.EntryLaws.{entries-library}
 use Rattle.signatures.specs.Groups.{group, as_slotted}
 use Rattle.slotted_call.specs.Bindable.{SlottedReady}
 use Rattle.visit.specs.StoreLaws.{reach-end}
+use Rattle.pkg_group.specs.declared.Candidate.{Candidate}
 use Rattle.pkg_group.specs.declared.Candidates.{Candidates}
 use Rattle.pkg_group.specs.declared.Candidates.TheVariants as C
-use Rattle.pkg_group.specs.GroupSize.{group_size, size_found}
-use Rattle.pkg_group.specs.GroupSizeLaws.{size-one}
+use Rattle.pkg_group.specs.GroupSize.{group_size, signature_of, size_found}
+use Rattle.pkg_group.specs.GroupSizeLaws.{size-one, slotted-of}
 use Rattle.pkg_group.specs.Groups.{GroupReady}
 use Rattle.pkg_call.specs.Found.{candidates_at}
 use Rattle.pkg_call.specs.Ready.{SlotsReady, MayBind, PackageBinds, GatheredReady, LibraryReady, HeldReady}
@@ -93,20 +94,20 @@ plain-entries words zero at = tt
 plain-entries words (suc k) at = (refl, plain-entries words k (entry_end words 0 at))
 
 module _ (texts : Texts) (name words : List ℕ) (at : ℕ) {found : Candidates} (a : group_size (candidates_at texts name words false at) ≡ size_found found) where
-  pub extern-plain : (f : Signature) → found ≡ C.Slotted f → ⊥
-  unfolding Every
-  extern-plain f o =
-      let e : candidates_at texts name words false at ≡ as_slotted f ∷ [] = size-one _ (a ∙ ap size_found o) in
+  pub extern-plain : (c : Candidate) → found ≡ C.Slotted c → ⊥
+  unfolding Every signature_at
+  extern-plain c o =
+      let e : candidates_at texts name words false at ≡ signature_of c true ∷ [] = size-one _ (a ∙ ap size_found o) in
       let plain = group-every _ texts name _ (plain-entries words (get_or words (at + 1) 0) (at + 2)) in
       let all : Every (λ (g : Signature). g.with_slots ≡ false) (candidates_at texts name words false at) = plain in
-      let one : Every (λ (g : Signature). g.with_slots ≡ false) (as_slotted f ∷ []) = rw e at all in
+      let one : Every (λ (g : Signature). g.with_slots ≡ false) (signature_of c true ∷ []) = rw e at all in
       true≢false one.0
 
 -- ── From what is gathered to the group ──
 
 module _ {texts : Texts} {image places scratch : List ℕ} {top n args count : ℕ} {slots types : List ℕ} {used : ℕ}
     (h : GatheredReady texts image places scratch top n args count slots types used) {end : ℕ} (ee : end ≡ top + count) where
-  pub group-ready : {fs : List Signature} {found : Candidates} → group_size fs ≡ size_found found → ((f : Signature) → found ≡ C.Slotted f → ⊥)
+  pub group-ready : {fs : List Signature} {found : Candidates} → group_size fs ≡ size_found found → ((c : Candidate) → found ≡ C.Slotted c → ⊥)
       → GroupReady image places n args count slots (take (end - top) (drop top scratch)) fs found
   group-ready a o =
       let z : end - top ≡ count = omega arith in
@@ -121,11 +122,12 @@ tail_long e = length-take-le (length e - 8192) (drop 8192 e) (rw length-drop (om
 module _ {texts : Texts} {image places words scratch : List ℕ} {top n at args count : ℕ} {slots types : List ℕ} {used : ℕ}
     (h : LibraryReady texts image places words scratch top n at args count slots types used) where
   -- the words from 8,192 on are room for 4,096 pairs
-  pub slotted-ready : (name : List ℕ) {f : Signature} {found : Candidates} → group_size (candidates_at texts name words true at) ≡ size_found found → found ≡ C.Slotted f
-      → SlottedReady texts image places n args count slots types used f (take (length scratch - 8192) (drop 8192 scratch))
+  pub slotted-ready : (name : List ℕ) {c : Candidate} {f : Signature} {found : Candidates} → group_size (candidates_at texts name words true at) ≡ size_found found
+      → found ≡ C.Slotted c → f ≡ signature_of c true → SlottedReady texts image places n args count slots types used f (take (length scratch - 8192) (drop 8192 scratch))
   unfolding Every
-  slotted-ready name {f} a o =
-      let e : candidates_at texts name words true at ≡ as_slotted f ∷ [] = size-one _ (a ∙ ap size_found o) in
+  slotted-ready name {c} {f} a o k =
+      let e : candidates_at texts name words true at ≡ as_slotted f ∷ [] =
+      size-one _ (a ∙ ap size_found o) ∙ ap (λ h. h ∷ []) (sym (ap as_slotted k ∙ slotted-of c)) in
       let m : Every (MayBind texts types used) (as_slotted f ∷ []) =
       subst (Every (MayBind texts types used)) (sym (library-group texts name words at) ∙ e) (group-every _ texts name (package_at words at).functions h.bind) in
       let b : SlotsReady texts types used (as_slotted f) = m.0 refl in

@@ -26,10 +26,11 @@ use Rattle.state.specs.World.{Step, Steps}
 use Rattle.scope.specs.declared.Held as F
 use Rattle.scope.specs.declared.Held.TheVariants as H
 use Rattle.scope.specs.Found.{held_of}
+use Rattle.pkg_group.specs.declared.Candidate.{Candidate}
 use Rattle.pkg_group.specs.declared.Candidates.{Candidates}
 use Rattle.pkg_group.specs.declared.Candidates.TheVariants as C
-use Rattle.pkg_group.specs.GroupSize.{group_size, size_found}
-use Rattle.pkg_group.specs.GroupSizeLaws.{size-one}
+use Rattle.pkg_group.specs.GroupSize.{group_size, signature_of, size_found}
+use Rattle.pkg_group.specs.GroupSizeLaws.{size-one, slotted-of}
 use Rattle.pkg_group.specs.Groups.{InGroup}
 use Rattle.pkg_call.specs.Calls.{Low, LibraryCalls, HeldCalls}
 use Rattle.pkg_call.specs.Found.{candidates_at}
@@ -52,16 +53,17 @@ module _ {texts : Texts} {n slot pkg name : ℕ} {given : List Provided} {poison
       record { call = subst (λ fs. InGroup texts n slot pkg name given poisoned fs s t d m u s' t' d' m' r) g c; low = record { same = refl } }
 
   -- of one function, with slots
-  pub slotted-calls : {found : Candidates} {f : Signature} {e e' : List ℕ}
-      → group_size (candidates_at texts (name_bytes texts name) words true at) ≡ size_found found → found ≡ C.Slotted f
+  pub slotted-calls : {found : Candidates} {c : Candidate} {f : Signature} {e e' : List ℕ}
+      → group_size (candidates_at texts (name_bytes texts name) words true at) ≡ size_found found → found ≡ C.Slotted c → f ≡ signature_of c true
       → ((library : List Package) (void : ℕ)
       → Steps (check_call_args (ctx texts library void) n slot name (call_name texts (OfPackage pkg name)) (as_slotted f) given) s t d m u s' t' d' m' r)
       → Low e e' → LibraryCalls texts n slot pkg name given poisoned (package_at words at) e s t d m u e' s' t' d' m' r
   unfolding in_group call_name
-  slotted-calls {f = f} a o c l =
-      let i : candidates_at texts (name_bytes texts name) words true at ≡ as_slotted f ∷ [] = size-one _ (a ∙ ap size_found o) in
+  slotted-calls {c = c} {f = f} a o k p l =
+      let i : candidates_at texts (name_bytes texts name) words true at ≡ as_slotted f ∷ [] =
+      size-one _ (a ∙ ap size_found o) ∙ ap (λ h. h ∷ []) (sym (ap as_slotted k ∙ slotted-of c)) in
       let g : group_of texts (name_bytes texts name) (package_at words at).functions ≡ as_slotted f ∷ [] = sym (library-group texts (name_bytes texts name) words at) ∙ i in
-      record { call = record { of = λ library void. record { step = λ rest. rw g ((c library void).step rest) } }; low = l }
+      record { call = record { of = λ library void. record { step = λ rest. rw g ((p library void).step rest) } }; low = l }
 
   pub extern-calls : InGroup texts n slot pkg name given poisoned (candidates_at texts (name_bytes texts name) words false at) s t d m u s' t' d' m' r
       → InGroup texts n slot pkg name given poisoned (group_of texts (name_bytes texts name) (extern_at words at).functions) s t d m u s' t' d' m' r

@@ -78,7 +78,7 @@ fn in_library(
 {
     let group = candidates_at(sources.texts, sources.library, true, at, call.name);
     let found = pkg_group::find_candidates(&group);
-    let Candidates::Slotted(signature) = found else {
+    let Candidates::Slotted(candidate) = found else {
         let end = top + call.site.count;
         return in_group(
             slots,
@@ -107,7 +107,7 @@ fn in_library(
         used,
         call.site,
         call.callee(),
-        &signature,
+        &candidate.signature(true),
     )
 }
 

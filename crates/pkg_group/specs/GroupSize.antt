@@ -1,8 +1,9 @@
 -- How many candidates a call's group has: none, the one, or several ("A package group of several takes the first candidate whose every argument
 -- type is equal"). Definitions.
-use Rattle.std.specs.Prelude.{◌≡◌, List, [], ◌∷◌}
+use Rattle.std.specs.Prelude.{◌≡◌, Bool, true, false, List, [], ◌∷◌}
 use Rattle.library.specs.Package.{Signature}
-use Rattle.signatures.specs.Groups.{as_plain, as_slotted}
+use Rattle.library.specs.Signatures.{signature_at}
+use Rattle.pkg_group.specs.declared.Candidate.{Candidate}
 use Rattle.pkg_group.specs.declared.Candidates.{Candidates}
 use Rattle.pkg_group.specs.declared.Candidates.TheVariants.{Nothing, Plain, Slotted, Several}
 
@@ -17,11 +18,15 @@ group_size [] = no_candidate
 group_size (f ∷ []) = one_candidate f
 group_size (f ∷ g ∷ fs) = several_candidates
 
+-- what stands at a candidate's place, with slots or without them
+abbrev pub signature_of : Candidate → (with_slots : Bool) → Signature
+signature_of c f = signature_at c.words.now c.at f
+
 -- of the answer: Plain and Slotted are the two flags of one candidate
 abbrev pub size_found : Candidates → GroupSize
 size_found Nothing = no_candidate
-size_found (Plain f) = one_candidate (as_plain f)
-size_found (Slotted f) = one_candidate (as_slotted f)
+size_found (Plain c) = one_candidate (signature_of c false)
+size_found (Slotted c) = one_candidate (signature_of c true)
 size_found Several = several_candidates
 
 -- a group of two signatures and more

@@ -2,7 +2,10 @@
 use Rattle.std.specs.Prelude.{◌≡◌, refl, Bool, true, false, List, [], ◌∷◌}
 use Rattle.std.proofs.Common.{sym, ap, true≢false}
 use Rattle.library.specs.Package.{Signature}
-use Rattle.pkg_group.specs.GroupSize.{GroupSize, no_candidate, one_candidate, several_candidates, group_size, OfSeveral}
+use Rattle.library.specs.Signatures.{signature_at}
+use Rattle.signatures.specs.Groups.{as_plain, as_slotted}
+use Rattle.pkg_group.specs.declared.Candidate.{Candidate}
+use Rattle.pkg_group.specs.GroupSize.{GroupSize, no_candidate, one_candidate, several_candidates, group_size, signature_of, OfSeveral}
 
 abbrev is_none : GroupSize → Bool
 is_none no_candidate = true
@@ -33,3 +36,12 @@ pub size_several : (fs : List Signature) → group_size fs ≡ several_candidate
 size_several [] e = absurd (true≢false (ap is_none e))
 size_several (f ∷ []) e = absurd (true≢false (ap is_several (sym e)))
 size_several (f ∷ g ∷ fs) e = record { first = f; second = g; others = fs; are = refl }
+
+-- Its flag is the one that is said.
+pub plain-of : (c : Candidate) → as_plain (signature_of c false) ≡ signature_of c false
+unfolding signature_at
+plain-of c = refl
+
+pub slotted-of : (c : Candidate) → as_slotted (signature_of c true) ≡ signature_of c true
+unfolding signature_at
+slotted-of c = refl

@@ -11,6 +11,7 @@ use Rattle.state.specs.World.{Step, Steps}
 use Rattle.spans.specs.Ready.{NodesReady}
 use Rattle.call_args.specs.Given.{given_from}
 use Rattle.call_types.specs.Gather.{words_in}
+use Rattle.pkg_group.specs.declared.Candidate.{Candidate}
 use Rattle.pkg_group.specs.declared.Candidates.{Candidates}
 use Rattle.pkg_group.specs.declared.Candidates.TheVariants.{Slotted}
 use Rattle.pkg_group.specs.GroupSize.{group_size, size_found}
@@ -21,7 +22,7 @@ pub record GroupReady (image places : List ℕ) (n args count : ℕ) (slots prov
   pub nodes : NodesReady image places n args count
   pub gathered : words_in slots (given_from image args count) ≡ provided
   pub among : group_size fs ≡ size_found found
-  pub other : (f : Signature) → found ≡ Slotted f → ⊥
+  pub other : (c : Candidate) → found ≡ Slotted c → ⊥
 
 -- `in_group`, of these candidates
 pub record InGroup (texts : Texts) (n slot pkg name : ℕ) (given : List Provided) (poisoned : Bool) (fs : List Signature)

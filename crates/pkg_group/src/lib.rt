@@ -2,10 +2,11 @@
 // The buffers are lent in one order: slots, types (with the texts), diagnostics, messages; then the image.
 #![tactic(auto)]
 
-ghost use Rattle.std.specs.Prelude.{◌≡◌, List};
+ghost use Rattle.std.specs.Prelude.{◌≡◌, true, false, List};
 ghost use Rattle.rules.specs.Calls.{Provided};
+ghost use Rattle.signatures.specs.Groups.{as_plain, as_slotted};
 ghost use Rattle.call_args.specs.Given.{given_from};
-ghost use Rattle.pkg_group.specs.GroupSize.{group_size, size_found};
+ghost use Rattle.pkg_group.specs.GroupSize.{group_size, signature_of, size_found};
 ghost use Rattle.pkg_group.specs.Groups.{GroupReady, InGroup};
 
 use call_args::PackageCall;
@@ -15,12 +16,44 @@ use rules::Answer;
 use signatures::{Group, Signature};
 use state::{Step, Used};
 
+// The one candidate of a name, by the words in which it stands and the place of its argument count.
+#[derive(Clone, Copy)]
+pub struct Candidate<'a> {
+    pub words: &'a [u32],
+    pub at: usize,
+}
+
+impl<'a> Candidate<'a> {
+    // Where a signature stands, whether it has slots or not.
+    #[tactic(auto, unfolding(library::specs::Signatures::signature_at))]
+    fn of(signature: &Signature<'a>) -> Candidate<'a>
+        ensures plain { signature_of result false ≡ as_plain signature.now }
+        ensures slotted { signature_of result true ≡ as_slotted signature.now }
+    {
+        Candidate {
+            words: signature.words,
+            at: signature.at,
+        }
+    }
+
+    // Its signature, with slots or without them.
+    pub fn signature(&self, slotted: bool) -> Signature<'a>
+        ensures { result ≡ signature_of self.now slotted }
+    {
+        Signature {
+            words: self.words,
+            at: self.at,
+            slotted,
+        }
+    }
+}
+
 // The candidates of a name: none, one without slots or with them, or several.
-#[derive(Drop)]
+#[derive(Clone, Copy)]
 pub enum Candidates<'a> {
     Nothing,
-    Plain(Signature<'a>),
-    Slotted(Signature<'a>),
+    Plain(Candidate<'a>),
+    Slotted(Candidate<'a>),
     Several,
 }
 
@@ -35,10 +68,11 @@ pub fn find_candidates<'a>(group: &Group<'a>) -> Candidates<'a>
     let None = candidates.next() else {
         return Candidates::Several;
     };
+    let candidate = Candidate::of(&first);
     if first.has_slots() {
-        return Candidates::Slotted(first);
+        return Candidates::Slotted(candidate);
     }
-    Candidates::Plain(first)
+    Candidates::Plain(candidate)
 }
 
 // A call of the candidates of a name among the entries of a package, but for one with slots, which wants room for its bindings: none is 16,
@@ -72,7 +106,7 @@ pub fn in_group(
             );
             state::told(call.site.n, used, r, Answer::Poison)
         }
-        Candidates::Plain(signature) => call_args::check_plain(
+        Candidates::Plain(candidate) => call_args::check_plain(
             slots,
             types,
             diagnostics,
@@ -81,7 +115,7 @@ pub fn in_group(
             used,
             call.site,
             call.callee(),
-            &signature,
+            &candidate.signature(false),
         ),
         // it is checked by itself, with its bindings
         Candidates::Slotted(_) => unreachable!(),

@@ -10,12 +10,12 @@ ghost use Rattle.rows.specs.Lines.{slot_row, diag_row, end_row, refused_row, inp
 
 use ptype::Types;
 use rows_types::{show_arguments, show_type};
-use rows_window::Window;
+use rows_window::WindowWriter;
 use slices::part;
 use tok::{name_bytes, word_at};
 
 // A number, and a blank behind it.
-fn put_number(w: &mut Window, n: usize)
+fn put_number(w: &mut WindowWriter, n: usize)
     ensures { Shows w.old w.new (decimal n ++ text " ") }
 {
     w.put_decimal(n);
@@ -23,7 +23,7 @@ fn put_number(w: &mut Window, n: usize)
 }
 
 // "`slot` lines (number, `Display` of the type) for slots that have a type": the slot of that number and word.
-pub fn slot_row(w: &mut Window, types: &Types, slot: usize, word: u32)
+pub fn slot_row(w: &mut WindowWriter, types: &Types, slot: usize, word: u32)
     ensures { Shows w.old w.new (slot_row types.now.texts.now types.now.words.now slot word) }
 {
     if word == 0 {
@@ -37,7 +37,7 @@ pub fn slot_row(w: &mut Window, types: &Types, slot: usize, word: u32)
 }
 
 // "`fn` lines with name and `Display` of the signature": the entry at a place of the functions buffer.
-pub fn fn_row(w: &mut Window, types: &Types, functions: &[u32], at: u32)
+pub fn fn_row(w: &mut WindowWriter, types: &Types, functions: &[u32], at: u32)
     ensures { let F : List ℕ = functions.now in
         Shows w.old w.new (fn_row types.now.texts.now types.now.words.now F at (get_or F (at + 1) 0)) }
 {
@@ -54,7 +54,7 @@ pub fn fn_row(w: &mut Window, types: &Types, functions: &[u32], at: u32)
 }
 
 // "`diag` lines (code, start, length, message)": the diagnostic of that number.
-pub fn diag_row(w: &mut Window, diagnostics: &[u32], messages: &[u8], k: u32)
+pub fn diag_row(w: &mut WindowWriter, diagnostics: &[u32], messages: &[u8], k: u32)
     ensures { Shows w.old w.new (diag_row diagnostics.now messages.now (6 * k)) }
 {
     let at = 6 * k as usize;
@@ -72,7 +72,7 @@ pub fn diag_row(w: &mut Window, diagnostics: &[u32], messages: &[u8], k: u32)
 }
 
 // "and `end` with the diagnostic count".
-pub fn end_row(w: &mut Window, diagnostics: usize)
+pub fn end_row(w: &mut WindowWriter, diagnostics: usize)
     ensures { Shows w.old w.new (end_row diagnostics) }
 {
     w.put(b"end ");
@@ -81,7 +81,7 @@ pub fn end_row(w: &mut Window, diagnostics: usize)
 }
 
 // "A refusal prints the single line `refused` with number and place".
-pub fn refused_row(w: &mut Window, number: usize, place: usize)
+pub fn refused_row(w: &mut WindowWriter, number: usize, place: usize)
     ensures { Shows w.old w.new (refused_row number place) }
 {
     w.put(b"refused ");
@@ -91,7 +91,7 @@ pub fn refused_row(w: &mut Window, number: usize, place: usize)
 }
 
 // "lengths that don't fit the input print `input`".
-pub fn input_row(w: &mut Window)
+pub fn input_row(w: &mut WindowWriter)
     ensures { Shows w.old w.new input_row }
 {
     w.put(b"input\n");

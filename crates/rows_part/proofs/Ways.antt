@@ -8,26 +8,26 @@ use Rattle.std.specs.Prelude.{Option, Some}
 use borrow.Author.Tests.{lt-ltb, le-ltb}
 use Rattle.ptype.specs.Add.{write}
 use Rattle.display.specs.WriteLaws.{length-write}
-use Rattle.rows_window.specs.declared.Window.{Window}
+use Rattle.rows_window.specs.declared.WindowWriter.{WindowWriter}
 use Rattle.rows_window.specs.Showing.{Shows}
 use Rattle.rows_part.specs.declared.Row.{Row}
 use Rattle.rows_part.specs.Printing.{Answer, row_of, next_in, part_of, room_at, Prints}
 
 -- the buffer o became o', lent to the window w, which is w' now
 module _
-    (a : Answer) (r : Row) {skip : ℕ} {o o' : List ℕ} {w w' : Window} (p : Shows w w' (row_of a r))
-    (eo : w.buffer.now ≡ o) (es : w.skip ≡ skip) (ea : w.at ≡ 0) (eb : o' ≡ w'.buffer.now)
+    (a : Answer) (r : Row) {skip : ℕ} {o o' : List ℕ} {w w' : WindowWriter} (p : Shows w w' (row_of a r))
+    (eo : w.buffer.now ≡ o) (es : w.window.skip ≡ skip) (ea : w.window.at ≡ 0) (eb : o' ≡ w'.buffer.now)
   where
     bytes_are : o' ≡ write o 0 (drop skip (row_of a r))
     bytes_are = eb ∙ p.bytes ∙ rw (eo, es, ea)
 
-    many-bytes : w'.at ≡ min (length (row_of a r) - skip) (length o)
+    many-bytes : w'.window.at ≡ min (length (row_of a r) - skip) (length o)
     many-bytes = let l = ap length eo in omega (arith, p.place, es, ea)
 
     as_long : length o' ≡ length o
     as_long = ap length bytes_are ∙ length-write o 0 (drop skip (row_of a r))
 
-    module _ {room n : ℕ} (er : room ≡ min (length w'.buffer.now) (2 ^ 64 - 1 - skip)) (en : n ≡ min w'.at room) where
+    module _ {room n : ℕ} (er : room ≡ min (length w'.buffer.now) (2 ^ 64 - 1 - skip)) (en : n ≡ min w'.window.at room) where
       room-is : room ≡ room_at skip (length o)
       unfolding room_at
       room-is = er ∙ rw (← eb, as_long)

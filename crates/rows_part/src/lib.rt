@@ -6,7 +6,7 @@ ghost use Rattle.rows_window.specs.Showing.{Shows};
 ghost use Rattle.rows_part.specs.Printing.{Answer, answer_of, row_of, diag_from, fn_from, next_in, Prints};
 
 use ptype::Types;
-use rows_window::Window;
+use rows_window::{Window, WindowWriter};
 use std::marker::Model;
 use tok::word_at;
 
@@ -53,7 +53,7 @@ impl<'a> Model for Answer<'a> {
 impl<'a> Answer<'a> {
     // The bytes of a row, through a window.
     #[tactic(auto, unfolding(crate::specs::Printing::row_of), using(rows_window::specs::ShowingLaws::shows_as))]
-    fn put_row(&self, w: &mut Window, row: Row)
+    fn put_row(&self, w: &mut WindowWriter, row: Row)
         ensures { Shows w.old w.new (row_of self.now row) }
     {
         match row {
@@ -132,14 +132,13 @@ impl<'a> Answer<'a> {
     pub fn write_part(&self, out: &mut [u8], row: Row, skip: usize) -> Part
         ensures { Prints self.now row skip out.old out.new result }
     {
-        let mut w = Window {
+        let mut w = WindowWriter {
             buffer: out,
-            skip,
-            at: 0,
+            window: Window { skip, at: 0 },
         };
         self.put_row(&mut w, row);
         let room = w.buffer.len().min(usize::MAX - skip);
-        let n = w.at.min(room);
+        let n = w.window.at.min(room);
         if n < room {
             return Part {
                 bytes: n,

@@ -9,10 +9,10 @@ ghost use Rattle.ptype.specs.Show.{show, show_fields};
 ghost use Rattle.rows_window.specs.Showing.{Shows};
 
 use ptype::Types;
-use rows_window::Window;
+use rows_window::WindowWriter;
 
 // A type as `Display` shows it.
-pub fn show_type(w: &mut Window, types: &Types, word: u32)
+pub fn show_type(w: &mut WindowWriter, types: &Types, word: u32)
     ensures { Shows w.old w.new (show (type_at types.now word)) }
 {
     let _ = display::show_type(w, types, word);
@@ -20,7 +20,7 @@ pub fn show_type(w: &mut Window, types: &Types, word: u32)
 
 // n arguments as `Display` shows them, whose names and types stand in `words` from the index i on, and what comes after them.
 pub fn show_arguments(
-    w: &mut Window,
+    w: &mut WindowWriter,
     types: &Types,
     words: &[u32],
     i: usize,

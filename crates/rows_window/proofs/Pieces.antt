@@ -13,7 +13,7 @@ use Rattle.std.specs.Prelude.{Result, Err, ⊤}
 use Rattle.display.specs.declared.Full.{Full}
 use Rattle.display.specs.Writing.{written}
 use Rattle.display.specs.WritingLaws.{written_buffer, written_place, written_err}
-use Rattle.rows_window.specs.declared.Window.{Window}
+use Rattle.rows_window.specs.declared.WindowWriter.{WindowWriter}
 use Rattle.rows_window.specs.Showing.{Shows, is_full}
 
 -- passing over more than there is leaves nothing, as passing over all of it does
@@ -30,20 +30,20 @@ drop-least (suc k) (x ∷ s) {m} e =
 
 -- `put`
 pub put_shows :
-    {w w' : Window} {o' : List ℕ} {r : Result ⊤ Full} (s : List ℕ) {m : ℕ} → m ≡ min w.skip (length s) →
-    (r, (o', w'.at)) ≡ written w.buffer.now w.at (take (length s - m) (drop m s)) → w'.buffer.now ≡ o' → w'.buffer.ghost_name ≡ w.buffer.ghost_name → w'.skip ≡ w.skip - m →
-    Shows w w' s
+    {w w' : WindowWriter} {o' : List ℕ} {r : Result ⊤ Full} (s : List ℕ) {m : ℕ} → m ≡ min w.window.skip (length s) →
+    (r, (o', w'.window.at)) ≡ written w.buffer.now w.window.at (take (length s - m) (drop m s)) →
+    w'.buffer.now ≡ o' → w'.buffer.ghost_name ≡ w.buffer.ghost_name → w'.window.skip ≡ w.window.skip - m → Shows w w' s
 put_shows {w} {w'} {o'} {r} s {m} e p f g i =
     let o : List ℕ = w.buffer.now in
     let l : length (drop m s) ≡ length s - m = length-drop m s in
     let rest : take (length s - m) (drop m s) ≡ drop m s = take_all (length s - m) (drop m s) (omega arith) in
-    let q : (r, (o', w'.at)) ≡ written o w.at (drop m s) = rw rest at p in
-    let k : length s - m ≡ length s - w.skip = omega arith in
+    let q : (r, (o', w'.window.at)) ≡ written o w.window.at (drop m s) = rw rest at p in
+    let k : length s - m ≡ length s - w.window.skip = omega arith in
     record {
       buffer = g;
-      bytes = f ∙ ap (λ z. z.1.0) q ∙ written_buffer o w.at (drop m s) ∙ rw (drop-least w.skip s e);
+      bytes = f ∙ ap (λ z. z.1.0) q ∙ written_buffer o w.window.at (drop m s) ∙ rw (drop-least w.window.skip s e);
       skips = omega arith;
-      place = ap (λ z. z.1.1) q ∙ written_place o w.at (drop m s) ∙ rw (l, k);
+      place = ap (λ z. z.1.1) q ∙ written_place o w.window.at (drop m s) ∙ rw (l, k);
     }
 
 -- `put_decimal`: ten digits have room for every number
@@ -65,11 +65,11 @@ decimal-room o {i = i} {p = p} n s e h k =
     omega (arith, digits-short 10 n, ap length s.0)
 
 -- `is_full`
-module _ (w : Window) where
-  pub full-by-room : w.skip ≡ 0 → leb (length w.buffer.now) w.at ≡ is_full w
+module _ (w : WindowWriter) where
+  pub full-by-room : w.window.skip ≡ 0 → leb (length w.buffer.now) w.window.at ≡ is_full w
   unfolding is_full
-  full-by-room e = rw (eq-eqb w.skip 0 e)
+  full-by-room e = rw (eq-eqb w.window.skip 0 e)
 
-  pub passing : (w.skip ≡ 0 → ⊥) → eqb w.skip 0 ≡ is_full w
+  pub passing : (w.window.skip ≡ 0 → ⊥) → eqb w.window.skip 0 ≡ is_full w
   unfolding is_full
-  passing n = rw (ne_eqb w.skip 0 n)
+  passing n = rw (ne_eqb w.window.skip 0 n)

@@ -10,7 +10,7 @@ use Rattle.display.specs.Sink.{SinkLaws}
 use Rattle.display.specs.Writing.{written}
 use Rattle.display.specs.WritingLaws.{written_buffer, written_place, written_ok}
 use Rattle.display.specs.WriteLaws.{write-past, length-write, write-append}
-use Rattle.rows_window.specs.declared.Window.{Window}
+use Rattle.rows_window.specs.declared.WindowWriter.{WindowWriter}
 use Rattle.rows_window.specs.Showing.{Shows, is_full, Shown}
 
 -- what is left of two texts behind k bytes
@@ -44,53 +44,53 @@ place-both k a o s t {m} {n} e f =
 
 -- The law of writers: a text written after another is both, one after the other. As `◌++◌` is, it is read from the left.
 infixl 65 ◌and_then◌
-pub ◌and_then◌ : {w w₁ w₂ : Window} {s t : List ℕ} → Shows w w₁ s → Shows w₁ w₂ t → Shows w w₂ (s ++ t)
+pub ◌and_then◌ : {w w₁ w₂ : WindowWriter} {s t : List ℕ} → Shows w w₁ s → Shows w₁ w₂ t → Shows w w₂ (s ++ t)
 ◌and_then◌ {w} {w₁} {w₂} {s} {t} p q =
     let o : List ℕ = w.buffer.now in
-    let l : length w₁.buffer.now ≡ length o = ap length p.bytes ∙ length-write o w.at (drop w.skip s) in
-    let d : length (drop w.skip s) ≡ length s - w.skip = length-drop w.skip s in
+    let l : length w₁.buffer.now ≡ length o = ap length p.bytes ∙ length-write o w.window.at (drop w.window.skip s) in
+    let d : length (drop w.window.skip s) ≡ length s - w.window.skip = length-drop w.window.skip s in
     record {
       buffer = q.buffer ∙ p.buffer;
       bytes =
           q.bytes
-          ∙ rw (p.bytes, p.skips, drop-both w.skip s t)
-          (write-both o w.at w₁.at (drop w.skip s) (drop (w.skip - length s) t) (rw d p.place));
-      skips = q.skips ∙ rw (p.skips, length-append s t) (sym (sub-add-eq w.skip (length s) (length t)));
-      place = rw (length-append s t) (place-both w.skip w.at (length o) (length s) (length t) p.place (rw (p.skips, l) at q.place));
+          ∙ rw (p.bytes, p.skips, drop-both w.window.skip s t)
+          (write-both o w.window.at w₁.window.at (drop w.window.skip s) (drop (w.window.skip - length s) t) (rw d p.place));
+      skips = q.skips ∙ rw (p.skips, length-append s t) (sym (sub-add-eq w.window.skip (length s) (length t)));
+      place = rw (length-append s t) (place-both w.window.skip w.window.at (length o) (length s) (length t) p.place (rw (p.skips, l) at q.place));
     }
 
 -- the same text in other words
-pub shows_as : {w w' : Window} {s t : List ℕ} → s ≡ t → Shows w w' t → Shows w w' s
+pub shows_as : {w w' : WindowWriter} {s t : List ℕ} → s ≡ t → Shows w w' t → Shows w w' s
 shows_as e p = rw e p
 
 -- where the window is full every text leaves all as it is
-pub shows_full : (w : Window) (s : List ℕ) → is_full w ≡ true → Shows w w s
+pub shows_full : (w : WindowWriter) (s : List ℕ) → is_full w ≡ true → Shows w w s
 unfolding is_full
-shows_full w s h = go (eqb w.skip 0) refl
+shows_full w s h = go (eqb w.window.skip 0) refl
   where
-    go : (b : Bool) → eqb w.skip 0 ≡ b → Shows w w s
+    go : (b : Bool) → eqb w.window.skip 0 ≡ b → Shows w w s
     go true e =
-        let z : w.skip ≡ 0 = eqb-true w.skip 0 e in
-        let l : length w.buffer.now ≤ w.at = leb-true (length w.buffer.now) w.at (rw e at h) in
-        record { buffer = refl; bytes = sym (write-past w.buffer.now w.at (drop w.skip s) l); skips = omega arith; place = omega arith }
+        let z : w.window.skip ≡ 0 = eqb-true w.window.skip 0 e in
+        let l : length w.buffer.now ≤ w.window.at = leb-true (length w.buffer.now) w.window.at (rw e at h) in
+        record { buffer = refl; bytes = sym (write-past w.buffer.now w.window.at (drop w.window.skip s) l); skips = omega arith; place = omega arith }
     go false e = absurd (true≢false (sym (rw e at h)))
 
 -- ---- a window is a sink
-full-is : (w : Window) (x : Full) → ◌≡◌ {A = Result ⊤ Full} (Err x) (cond (is_full w) (Err (record {})) (Ok tt)) → is_full w ≡ true
+full-is : (w : WindowWriter) (x : Full) → ◌≡◌ {A = Result ⊤ Full} (Err x) (cond (is_full w) (Err (record {})) (Ok tt)) → is_full w ≡ true
 full-is w x e = go (is_full w) e
   where
     go : (b : Bool) → ◌≡◌ {A = Result ⊤ Full} (Err x) (cond b (Err (record {})) (Ok tt)) → b ≡ true
     go true k = refl
     go false k = let z : ◌≡◌ {A = ℕ} 0 1 = cc in absurd (omega arith)
 
-module _ (a b : Window) (s t : List ℕ) where
-  window_more : (c : Window) (x : ⊤) (r : Result ⊤ Full) → Shown a b (Ok x) s → Shown b c r t → Shown a c r (s ++ t)
+module _ (a b : WindowWriter) (s t : List ℕ) where
+  window_more : (c : WindowWriter) (x : ⊤) (r : Result ⊤ Full) → Shown a b (Ok x) s → Shown b c r t → Shown a c r (s ++ t)
   window_more c x r p q = (p.0 and_then q.0, q.1)
 
   window_stop : (x : Full) → Shown a b (Err x) s → Shown a b (Err x) (s ++ t)
   window_stop x p = (p.0 and_then shows_full b t (full-is b x p.1), p.1)
 
-pub window_laws : SinkLaws Window Shown
+pub window_laws : SinkLaws WindowWriter Shown
 window_laws = record {
   more = λ {a} {b} {c} {x} {r} {s} {t} p q. window_more a b s t c x r p q;
   stop = λ {a} {b} {x} {s} t p. window_stop a b s t x p;
@@ -130,5 +130,5 @@ module _ (o s : List ℕ) {o' : List ℕ} {i n : ℕ} {r : Result ⊤ Full} {x :
   front-length {b} e = let g = front-end e in rw (length-take n b) (omega arith)
 
   -- so it is the piece that is lent from there
-  pub shows_front : {w w' : Window} {b : List ℕ} → b ≡ o' → Shows w w' (take n b) → Shows w w' s
+  pub shows_front : {w w' : WindowWriter} {b : List ℕ} → b ≡ o' → Shows w w' (take n b) → Shows w w' s
   shows_front e h = shows_as (sym front_wrote) (rw e at h)

@@ -8,34 +8,40 @@ ghost use Rattle.rows_window.specs.ShowingLaws.{window_laws};
 
 use display::{Full, MOST_DIGITS, Sink, Writer};
 
-// The buffer that is lent to be written into, how many bytes of the text are still passed over, and where the next byte goes.
-#[derive(Drop)]
-pub struct Window<'a> {
-    pub buffer: &'a mut [u8],
+// How many bytes of the text are still passed over, and where the next byte goes.
+#[derive(Clone, Copy)]
+pub struct Window {
     pub skip: usize,
     pub at: usize,
 }
 
-impl<'a> Window<'a> {
+// The buffer that is lent to be written into, and the window through which it is.
+#[derive(Drop)]
+pub struct WindowWriter<'a> {
+    pub buffer: &'a mut [u8],
+    pub window: Window,
+}
+
+impl<'a> WindowWriter<'a> {
     // Whether nothing more is written, whatever the text.
     pub fn is_full(&self) -> bool
         ensures { result ≡ is_full self.now }
     {
-        self.skip == 0 && self.at >= self.buffer.len()
+        self.window.skip == 0 && self.window.at >= self.buffer.len()
     }
 
     // Writes of the next piece of the text what lies in the window, as far as it has room.
     pub fn put(&mut self, piece: &[u8])
         ensures { Shows self.old self.new piece.now }
     {
-        let passed = self.skip.min(piece.len());
+        let passed = self.window.skip.min(piece.len());
         let mut writer = Writer {
             buffer: self.buffer,
-            at: self.at,
+            at: self.window.at,
         };
         let _ = writer.put(&piece[passed..]);
-        self.at = writer.at;
-        self.skip -= passed;
+        self.window.at = writer.at;
+        self.window.skip -= passed;
     }
 
     // A number in decimal is the next piece.
@@ -53,7 +59,7 @@ impl<'a> Window<'a> {
 }
 
 // A full window tells so, that no more of a text is gone through.
-impl<'a> Sink for Window<'a> {
+impl<'a> Sink for WindowWriter<'a> {
     ghost Wrote = { Shown };
 
     ghost laws = { window_laws };

@@ -16,10 +16,11 @@ returns-in_default c = library-calls _ _ _ (rw c.candidates_at-group.ensures at 
 
 pub check_slotted-requires : goal.check_slotted-requires
 check_slotted-requires c =
-    slotted-ready c.requires _ (sym (ap group_size c.candidates_at-group.ensures) ∙ c.find_candidates-found.ensures) c.in-Slotted.is
+    slotted-ready c.requires _ (sym (ap group_size c.candidates_at-group.ensures) ∙ c.find_candidates-found.ensures) c.in-Slotted.is c.signature.ensures
 
 pub returns : goal.returns
 returns c =
     let l = front-stays _ _ (omega (arith, c.requires.ready.long)) in
     let named = c.callee.ensures in
-    slotted-calls _ _ (sym (ap group_size c.candidates_at-group.ensures) ∙ c.find_candidates-found.ensures) c.in-Slotted.is (rw (named.token, named.name) at c.check_slotted.ensures) l
+    slotted-calls _ _ (sym (ap group_size c.candidates_at-group.ensures) ∙ c.find_candidates-found.ensures) c.in-Slotted.is c.signature.ensures
+    (rw (named.token, named.name) at c.check_slotted.ensures) l

@@ -10,7 +10,7 @@ returns-in-Nothing c =
 pub returns-in-Plain : goal.returns-in-Plain
 returns-in-Plain c =
     let named = c.callee.ensures in
-    group-plain c.requires c.in-Plain.is (rw (named.token, named.name) at c.check_plain.ensures)
+    group-plain c.requires c.in-Plain.is c.signature.ensures (rw (named.token, named.name) at c.check_plain.ensures)
 
 pub unreachable-requires : goal.unreachable-requires
 unreachable-requires c = c.requires.other _ c.in-Slotted.is

@@ -1,9 +1,9 @@
--- `rows_window::Window::put_decimal` meets its contract: the digits have room in a local buffer, and are then put as a piece. Assumes nothing.
+-- `rows_window::WindowWriter::put_decimal` meets its contract: the digits have room in a local buffer, and are then put as a piece. Assumes nothing.
 use native.Mathlib.Omega.{arith}
 use borrow.Author.Rules.{rules}
 use Rattle.rows_window.specs.ShowingLaws.{shows_front, front-end, front-length}
 use Rattle.rows_window.proofs.Pieces.{decimal-room}
-use Rattle.rows_window.proofs.Window.put_decimal.Goals as goal
+use Rattle.rows_window.proofs.WindowWriter.put_decimal.Goals as goal
 
 pub returns-in_default : goal.returns-in_default
 returns-in_default c = absurd (decimal-room _ _ c.new-writer.ensures.from_the_start c.put_decimal.ensures.1 (omega arith) c.in_default.is)
