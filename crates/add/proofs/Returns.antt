@@ -25,15 +25,15 @@ use Rattle.add.specs.WriteLaws.{write-one}
 module _ {step : Texts → ℕ → Step Buffer Refusal ℕ} {a a' : Arena} (g : a'.words.ghost_name ≡ a.words.ghost_name) {l : List ℕ} (e : a'.words.now ≡ l)
     (k : length l ≡ length a.words.now) where
   adds-put : {w u : ℕ} → a'.used ≡ u → ((t : Texts) (n : ℕ) → step t n (buffer_of a) ≡ ok w (buffer l u)) → Adds step a (Ok w) a'
-  adds-put eu h = record { allocates = record { lent = g; keeps = ap length e ∙ k; result = λ t n. rw (e, eu) (h t n) }; words = λ t n. rw (h t n) e }
+  adds-put eu h = record { allocates = record { lent = g; keeps = ap length e ∙ k; result = λ t n. rw (e, eu) (h t n) }; words = λ t n. rw (h t n) e; used = tt }
 
-  adds-err : {x : AddError} → l ≡ a.words.now → ((t : Texts) (n : ℕ) → step t n (buffer_of a) ≡ refused (refusal (number_of x) n)) → Adds step a (Err x) a'
-  adds-err o h = record { allocates = record { lent = g; keeps = ap length e ∙ k; result = h }; words = λ t n. rw (h t n) (e ∙ o) }
+  adds-err : {x : AddError} → l ≡ a.words.now → a'.used ≡ a.used → ((t : Texts) (n : ℕ) → step t n (buffer_of a) ≡ refused (refusal (number_of x) n)) → Adds step a (Err x) a'
+  adds-err o eu h = record { allocates = record { lent = g; keeps = ap length e ∙ k; result = h }; words = λ t n. rw (h t n) (e ∙ o); used = eu }
 
 module _ (a : Arena) (kind inner : ℕ) {room : ℕ} (hr : room ≡ min (length a.words.now) 8192) where
-  pub wrap-full : {a' : Arena} → a'.words.ghost_name ≡ a.words.ghost_name → a'.words.now ≡ a.words.now → room ≤ a.used → Adds (λ t n. add_wrap t n kind inner) a (Err Full) a'
+  pub wrap-full : {a' : Arena} → a'.words.ghost_name ≡ a.words.ghost_name → a'.words.now ≡ a.words.now → a'.used ≡ a.used → room ≤ a.used → Adds (λ t n. add_wrap t n kind inner) a (Err Full) a'
   unfolding add_wrap add_type when
-  wrap-full g e h = adds-err g e refl refl (λ t n. rw (lt-leb (a.used + 1) (min (length a.words.now) 8192) (omega arith)))
+  wrap-full g e eu h = adds-err g e refl refl eu (λ t n. rw (lt-leb (a.used + 1) (min (length a.words.now) 8192) (omega arith)))
 
   module _ {word : ℕ} {q : Bool} (h : a.used < room) (hw : word ≡ word_of kind a.used) (hq : (t : Texts) → q ≡ shallow t (set a.words.now a.used inner) word) where
     wrap-is : (t : Texts) (n : ℕ) → add_wrap t n kind inner (buffer_of a)
@@ -47,15 +47,15 @@ module _ (a : Arena) (kind inner : ℕ) {room : ℕ} (hr : room ≡ min (length 
     wrap-put g p e eu = adds-put g e (length-set _ _ _) eu (λ t n. wrap-is t n ∙ rw p)
 
     pub wrap-deep : {a' : Arena} → a'.words.ghost_name ≡ a.words.ghost_name → q ≡ false → a'.words.now ≡ set (set a.words.now a.used inner) a.used (get_or a.words.now a.used 0)
-        → Adds (λ t n. add_wrap t n kind inner) a (Err TooDeep) a'
+        → a'.used ≡ a.used → Adds (λ t n. add_wrap t n kind inner) a (Err TooDeep) a'
     unfolding when
-    wrap-deep g p e = adds-err g (e ∙ rw (set-set, set-get_or)) refl refl (λ t n. wrap-is t n ∙ rw p)
+    wrap-deep g p e eu = adds-err g (e ∙ rw (set-set, set-get_or)) refl refl eu (λ t n. wrap-is t n ∙ rw p)
 
 module _ (a : Arena) (fields : ℕ) {room : ℕ} {q : Bool} (hr : room ≡ min (length a.words.now) 8192) (hq : q ≡ leb (a.used + (1 + 2 * fields)) room)
     {a' : Arena} (g : a'.words.ghost_name ≡ a.words.ghost_name) where
-  pub open_full : a'.words.now ≡ a.words.now → q ≡ false → Adds (λ t n. opened n fields) a (Err Full) a'
+  pub open_full : a'.words.now ≡ a.words.now → a'.used ≡ a.used → q ≡ false → Adds (λ t n. opened n fields) a (Err Full) a'
   unfolding opened when
-  open_full e p = adds-err g e refl refl (λ t n. rw (← hr, ← hq, p))
+  open_full e eu p = adds-err g e refl refl eu (λ t n. rw (← hr, ← hq, p))
 
   pub open_put : {word : ℕ} → q ≡ true → word ≡ word_of 8 a.used → a'.words.now ≡ set a.words.now a.used fields → a'.used ≡ a.used + (1 + 2 * fields)
       → Adds (λ t n. opened n fields) a (Ok word) a'

@@ -1,5 +1,5 @@
 -- What an answer of adding a type means. Definitions.
-use Rattle.std.specs.Prelude.{◌≡◌, List, ℕ, length, Result as Answered, Ok, Err}
+use Rattle.std.specs.Prelude.{◌≡◌, List, ℕ, length, Result as Answered, Ok, Err, OnErr}
 use Rattle.tok.specs.Text.{Texts}
 use Rattle.tok.specs.Step.{Result, ok, refused, Step, Refusal, refusal}
 use Rattle.ptype.specs.Add.{Buffer, buffer}
@@ -42,7 +42,8 @@ pub record Allocates (steps : Texts → (n : ℕ) → Step Buffer Refusal ℕ) (
   pub keeps : length a'.words.now ≡ length a.words.now
   pub result : (t : Texts) (n : ℕ) → steps t n (buffer_of a) ≡ result_of n (answer_of r a'.used) a'.words.now
 
--- One step: that, and every word after it.
+-- One step: that, every word after it, and how many are used: as the count is lent too, a refused step leaves it as it was.
 pub record Adds (step : Texts → (n : ℕ) → Step Buffer Refusal ℕ) (a : Arena) (r : Answered ℕ AddError) (a' : Arena) : Type 0 where
   pub allocates : Allocates step a r a'
   pub words : (t : Texts) (n : ℕ) → a'.words.now ≡ words_after a.words.now (step t n (buffer_of a))
+  pub used : OnErr r (a'.used ≡ a.used)

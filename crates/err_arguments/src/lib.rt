@@ -7,6 +7,7 @@ ghost use Rattle.ptype.specs.Ty.{Ty};
 ghost use Rattle.ptype.specs.Types.{type_at};
 ghost use Rattle.err.specs.Message.{call_name, arg_mismatch, slot_conflict, slot_void};
 ghost use Rattle.err.specs.Report.{Reports};
+ghost use Rattle.err_text.specs.Rest.{FrontStays};
 
 use err::{CallName, Counts};
 use err_text::Piece;
@@ -26,9 +27,10 @@ pub fn arg_mismatch(
     expected: u32,
     provided: u32,
 ) -> Option<Counts>
-    ensures { let T : Texts = types.now.texts.now in let U : ℕ → Ty = type_at types.now in
+    ensures reports { let T : Texts = types.now.texts.now in let U : ℕ → Ty = type_at types.now in
         Reports (arg_mismatch span (call_name T callee) (name_bytes T name) (U expected) (U provided))
         diagnostics.old messages.old counts diagnostics.new messages.new result }
+    ensures front { FrontStays messages.old counts messages.new }
 {
     let message = [
         Piece::Call(types.texts, callee),
@@ -62,9 +64,10 @@ pub fn slot_conflict(
     existing: u32,
     new: u32,
 ) -> Option<Counts>
-    ensures { let T : Texts = types.now.texts.now in let U : ℕ → Ty = type_at types.now in
+    ensures reports { let T : Texts = types.now.texts.now in let U : ℕ → Ty = type_at types.now in
         Reports (slot_conflict span (call_name T callee) (name_bytes T slot) (U existing) (U new))
         diagnostics.old messages.old counts diagnostics.new messages.new result }
+    ensures front { FrontStays messages.old counts messages.new }
 {
     let provided = Piece::TypeOf(&*types, new);
     let message = [
@@ -96,7 +99,8 @@ pub fn slot_void(
     callee: CallName,
     slot: u32,
 ) -> Option<Counts>
-    ensures { Reports (slot_void span (call_name texts.now callee) (name_bytes texts.now slot)) diagnostics.old messages.old counts diagnostics.new messages.new result }
+    ensures reports { Reports (slot_void span (call_name texts.now callee) (name_bytes texts.now slot)) diagnostics.old messages.old counts diagnostics.new messages.new result }
+    ensures front { FrontStays messages.old counts messages.new }
 {
     let message = [
         Piece::Call(texts, callee),

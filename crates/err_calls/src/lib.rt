@@ -9,6 +9,7 @@ ghost use Rattle.display.specs.Writing.{Writes};
 ghost use Rattle.display.specs.Joined.{joined, sig};
 ghost use Rattle.err.specs.Message.{pkg_name, call_name, no_specialisation, call_through_field, missing_package, undefined_in_package, undefined_own, argument_count};
 ghost use Rattle.err.specs.Report.{Reports};
+ghost use Rattle.err_text.specs.Rest.{FrontStays};
 ghost use Rattle.err_calls.specs.Candidates.{candidate_at, candidates_at, WritesCandidates};
 
 use display::{Full, Sink, Writer};
@@ -25,7 +26,8 @@ pub fn call_through_field(
     counts: Counts,
     name: u32,
 ) -> Option<Counts>
-    ensures { Reports (call_through_field name) diagnostics.old messages.old counts diagnostics.new messages.new result }
+    ensures reports { Reports (call_through_field name) diagnostics.old messages.old counts diagnostics.new messages.new result }
+    ensures front { FrontStays messages.old counts messages.new }
 {
     let message = [Piece::Text(b"only package functions can be called through field syntax")];
     err_text::tell_at(diagnostics, messages, counts, 14, name, &message, &[])
@@ -40,7 +42,8 @@ pub fn missing_package(
     texts: &Texts,
     pkg: u32,
 ) -> Option<Counts>
-    ensures { Reports (missing_package pkg (name_bytes texts.now pkg)) diagnostics.old messages.old counts diagnostics.new messages.new result }
+    ensures reports { Reports (missing_package pkg (name_bytes texts.now pkg)) diagnostics.old messages.old counts diagnostics.new messages.new result }
+    ensures front { FrontStays messages.old counts messages.new }
 {
     let message = [
         Piece::Text(b"Can't find package "),
@@ -59,8 +62,9 @@ pub fn undefined_in_package(
     pkg: u32,
     name: u32,
 ) -> Option<Counts>
-    ensures { Reports (undefined_in_package name (pkg_name (name_bytes texts.now pkg) (name_bytes texts.now name))) diagnostics.old messages.old counts diagnostics.new
+    ensures reports { Reports (undefined_in_package name (pkg_name (name_bytes texts.now pkg) (name_bytes texts.now name))) diagnostics.old messages.old counts diagnostics.new
         messages.new result }
+    ensures front { FrontStays messages.old counts messages.new }
 {
     let message = [
         Piece::Text(b"Call to undefined function "),
@@ -78,7 +82,8 @@ pub fn undefined_own(
     texts: &Texts,
     name: u32,
 ) -> Option<Counts>
-    ensures { Reports (undefined_own name (name_bytes texts.now name)) diagnostics.old messages.old counts diagnostics.new messages.new result }
+    ensures reports { Reports (undefined_own name (name_bytes texts.now name)) diagnostics.old messages.old counts diagnostics.new messages.new result }
+    ensures front { FrontStays messages.old counts messages.new }
 {
     let message = [
         Piece::Text(b"Call to undefined function "),
@@ -125,9 +130,10 @@ pub fn no_specialisation<F: Fn(&mut Writer) -> Result<(), Full>>(
     candidates: F,
 ) -> Option<Counts>
     requires { F.IsAlwaysCallable candidates }
-    ensures { let T : Texts = types.now.texts.now in let U : ℕ → Ty = type_at types.now in
+    ensures reports { let T : Texts = types.now.texts.now in let U : ℕ → Ty = type_at types.now in
         ((cs : List (List Ty)) → WritesCandidates (F.post candidates) cs →
         Reports (no_specialisation token (call_name T callee) (map U provided.now) cs) diagnostics.old messages.old counts diagnostics.new messages.new result) }
+    ensures front { FrontStays messages.old counts messages.new }
 {
     let (_, rest) = err_text::split_at_first_free(messages, counts);
     let mut out = Writer::new(rest);
@@ -160,9 +166,10 @@ pub fn no_specialisation_at(
     words: &[u32],
     starts: &[u32],
 ) -> Option<Counts>
-    ensures { let T : Texts = types.now.texts.now in let U : ℕ → Ty = type_at types.now in
+    ensures reports { let T : Texts = types.now.texts.now in let U : ℕ → Ty = type_at types.now in
         let cs : List (List Ty) = candidates_at T types.now.words.now words.now starts.now in
         Reports (no_specialisation token (call_name T callee) (map U provided.now) cs) diagnostics.old messages.old counts diagnostics.new messages.new result }
+    ensures front { FrontStays messages.old counts messages.new }
 {
     no_specialisation(
         diagnostics,
@@ -188,7 +195,8 @@ pub fn argument_count(
     required: usize,
     given: usize,
 ) -> Option<Counts>
-    ensures { Reports (argument_count token (call_name texts.now callee) required given) diagnostics.old messages.old counts diagnostics.new messages.new result }
+    ensures reports { Reports (argument_count token (call_name texts.now callee) required given) diagnostics.old messages.old counts diagnostics.new messages.new result }
+    ensures front { FrontStays messages.old counts messages.new }
 {
     let message = [
         Piece::Call(texts, callee),

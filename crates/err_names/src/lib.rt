@@ -7,6 +7,7 @@ ghost use Rattle.ptype.specs.Ty.{Ty};
 ghost use Rattle.ptype.specs.Types.{type_at};
 ghost use Rattle.err.specs.Message.{no_binding, let_void, defined_already, bad_return, bad_condition, match_cases, empty_import, no_import};
 ghost use Rattle.err.specs.Report.{Reports};
+ghost use Rattle.err_text.specs.Rest.{FrontStays};
 
 use err::Counts;
 use err_text::Piece;
@@ -22,7 +23,8 @@ pub fn no_binding(
     texts: &Texts,
     name: u32,
 ) -> Option<Counts>
-    ensures { Reports (no_binding name (name_bytes texts.now name)) diagnostics.old messages.old counts diagnostics.new messages.new result }
+    ensures reports { Reports (no_binding name (name_bytes texts.now name)) diagnostics.old messages.old counts diagnostics.new messages.new result }
+    ensures front { FrontStays messages.old counts messages.new }
 {
     let message = [
         Piece::Text(b"binding "),
@@ -40,7 +42,8 @@ pub fn let_void(
     counts: Counts,
     name: u32,
 ) -> Option<Counts>
-    ensures { Reports (let_void name) diagnostics.old messages.old counts diagnostics.new messages.new result }
+    ensures reports { Reports (let_void name) diagnostics.old messages.old counts diagnostics.new messages.new result }
+    ensures front { FrontStays messages.old counts messages.new }
 {
     let message = [Piece::Text(b"RHS of let has to return a value, but it didnt")];
     err_text::tell_at(diagnostics, messages, counts, 7, name, &message, &[])
@@ -55,7 +58,8 @@ pub fn defined_already(
     texts: &Texts,
     name: u32,
 ) -> Option<Counts>
-    ensures { Reports (defined_already name (name_bytes texts.now name)) diagnostics.old messages.old counts diagnostics.new messages.new result }
+    ensures reports { Reports (defined_already name (name_bytes texts.now name)) diagnostics.old messages.old counts diagnostics.new messages.new result }
+    ensures front { FrontStays messages.old counts messages.new }
 {
     let message = [
         Piece::Ticked(texts, name),
@@ -76,8 +80,9 @@ pub fn bad_return(
     ret: u32,
     computed: u32,
 ) -> Option<Counts>
-    ensures { let N : List ℕ = name_bytes types.now.texts.now name in let U : ℕ → Ty = type_at types.now in
+    ensures reports { let N : List ℕ = name_bytes types.now.texts.now name in let U : ℕ → Ty = type_at types.now in
         Reports (bad_return token N (U ret) (U computed)) diagnostics.old messages.old counts diagnostics.new messages.new result }
+    ensures front { FrontStays messages.old counts messages.new }
 {
     let message = [
         Piece::Ticked(types.texts, name),
@@ -99,8 +104,9 @@ pub fn bad_condition(
     token: u32,
     ty: u32,
 ) -> Option<Counts>
-    ensures { let U : ℕ → Ty = type_at types.now in
+    ensures reports { let U : ℕ → Ty = type_at types.now in
         Reports (bad_condition token (U ty)) diagnostics.old messages.old counts diagnostics.new messages.new result }
+    ensures front { FrontStays messages.old counts messages.new }
 {
     let message = [
         Piece::Text(b"Match conditions must be Bool, got "),
@@ -121,8 +127,9 @@ pub fn match_cases(
     default: u32,
     ty: u32,
 ) -> Option<Counts>
-    ensures { let U : ℕ → Ty = type_at types.now in
+    ensures reports { let U : ℕ → Ty = type_at types.now in
         Reports (match_cases token (U default) (U ty)) diagnostics.old messages.old counts diagnostics.new messages.new result }
+    ensures front { FrontStays messages.old counts messages.new }
 {
     let message = [
         Piece::Text(b"Match cases must resolve to the same type, but got "),
@@ -141,7 +148,8 @@ pub fn empty_import(
     counts: Counts,
     token: u32,
 ) -> Option<Counts>
-    ensures { Reports (empty_import token) diagnostics.old messages.old counts diagnostics.new messages.new result }
+    ensures reports { Reports (empty_import token) diagnostics.old messages.old counts diagnostics.new messages.new result }
+    ensures front { FrontStays messages.old counts messages.new }
 {
     let message = [Piece::Text(b"Import without any paths to import is considered invalid")];
     err_text::tell_at(diagnostics, messages, counts, 25, token, &message, &[])
@@ -156,7 +164,8 @@ pub fn no_import(
     texts: &Texts,
     path: u32,
 ) -> Option<Counts>
-    ensures { Reports (no_import path (name_bytes texts.now path)) diagnostics.old messages.old counts diagnostics.new messages.new result }
+    ensures reports { Reports (no_import path (name_bytes texts.now path)) diagnostics.old messages.old counts diagnostics.new messages.new result }
+    ensures front { FrontStays messages.old counts messages.new }
 {
     let message = [
         Piece::Text(b"Wasnt able to find a package named "),

@@ -5,6 +5,7 @@ use Rattle.std.proofs.Math.Path.{ap}
 use Rattle.std.proofs.Common.{◌∙◌, append-nil, zero-add, suc-add, add-zero}
 use native.Mathlib.Omega.{arith}
 use Rattle.std.proofs.Math.ListN.{length, length-append}
+use Rattle.std.proofs.lemmas.List.{take-append-le}
 use Rattle.facts.specs.Tests.{by_order}
 use Rattle.tok.specs.declared.Span.{Span}
 use Rattle.ptype.specs.Add.{overwrite, write}
@@ -15,7 +16,7 @@ use Rattle.err.specs.declared.Counts.{Counts}
 use Rattle.err.specs.Message.{Diagnostic}
 use Rattle.err.specs.Report.{Reports, placed, placed_answer}
 use Rattle.err.proofs.ReportLaws.{no_room, all-written}
-use Rattle.err_text.specs.Rest.{first_free, ReportsIn, told}
+use Rattle.err_text.specs.Rest.{first_free, FrontStays, ReportsIn, told}
 
 -- ---- a text in the rest, in the whole
 write-before : (before rest : List ℕ) (m : ℕ) (s : List ℕ) → before ++ write rest m s ≡ write (before ++ rest) (length before + m) s
@@ -97,6 +98,11 @@ pub told_in_whole :
     (front : List ℕ) {d : Diagnostic} {ds ds' ms rest back : List ℕ} {c : Counts} {r : Option Counts} →
     (ms ≡ front ++ rest) × (length front ≡ first_free ms c) → ReportsIn d ds rest c ds' back r → Reports d ds ms c ds' (front ++ back) r
 told_in_whole front s p = rw s.0 (p.whole front (rw (← s.0) s.1))
+
+-- and the bytes before the rest stayed
+pub front-stays : (front rest back : List ℕ) {ms : List ℕ} (c : Counts) → (ms ≡ front ++ rest) × (length front ≡ first_free ms c) → FrontStays ms c (front ++ back)
+front-stays front rest back c s =
+    rw (← s.1, s.0, take-append-le (length front) front back (omega arith), take-append-le (length front) front rest (omega arith))
 
 -- Both texts were written into the rest, from its start on, the bytes that are counted lie in the buffer, and the record was written.
 pub tells :

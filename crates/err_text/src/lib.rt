@@ -8,7 +8,7 @@ ghost use Rattle.tok.specs.Span.{token_span};
 ghost use Rattle.display.specs.Writing.{Writes};
 ghost use Rattle.err.specs.Message.{Diagnostic, ticked, call_name, quoted, class_of, wanted, wanted_both};
 ghost use Rattle.err.specs.Report.{Reports, most_diagnostics, as_word, fits, placed, placed_answer};
-ghost use Rattle.err_text.specs.Rest.{first_free, told};
+ghost use Rattle.err_text.specs.Rest.{first_free, FrontStays, told};
 ghost use Rattle.err_text.specs.Pieces.{text_of, said};
 
 use display::{Full, Writer};
@@ -242,8 +242,9 @@ pub fn tell(
     message: &[Piece],
     primary: &[Piece],
 ) -> Option<Counts>
-    ensures { let d : Diagnostic = told code span (said message.now) (said primary.now) in
+    ensures reports { let d : Diagnostic = told code span (said message.now) (said primary.now) in
         Reports d diagnostics.old messages.old counts diagnostics.new messages.new result }
+    ensures front { FrontStays messages.old counts messages.new }
 {
     if counts.bytes > messages.len() {
         return None;
@@ -266,8 +267,9 @@ pub fn tell_at(
     message: &[Piece],
     primary: &[Piece],
 ) -> Option<Counts>
-    ensures { let d : Diagnostic = told code (token_span token) (said message.now) (said primary.now) in
+    ensures reports { let d : Diagnostic = told code (token_span token) (said message.now) (said primary.now) in
         Reports d diagnostics.old messages.old counts diagnostics.new messages.new result }
+    ensures front { FrontStays messages.old counts messages.new }
 {
     let span = tok::token_span(token);
     tell(diagnostics, messages, counts, code, span, message, primary)

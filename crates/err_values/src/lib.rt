@@ -7,6 +7,7 @@ ghost use Rattle.ptype.specs.Ty.{Ty};
 ghost use Rattle.ptype.specs.Types.{type_at};
 ghost use Rattle.err.specs.Message.{empty_array, members_differ, unsupported, incompatible, bad_unary, redundant_cast, bad_cast, no_record, no_field_of};
 ghost use Rattle.err.specs.Report.{Reports};
+ghost use Rattle.err_text.specs.Rest.{FrontStays};
 
 use err::Counts;
 use err_text::Piece;
@@ -21,7 +22,8 @@ pub fn empty_array(
     counts: Counts,
     token: u32,
 ) -> Option<Counts>
-    ensures { Reports (empty_array token) diagnostics.old messages.old counts diagnostics.new messages.new result }
+    ensures reports { Reports (empty_array token) diagnostics.old messages.old counts diagnostics.new messages.new result }
+    ensures front { FrontStays messages.old counts messages.new }
 {
     let message = [Piece::Text(b"Can not infer the element type of an empty array")];
     let primary = [Piece::Text(b"empty array")];
@@ -39,8 +41,9 @@ pub fn members_differ(
     first: u32,
     ty: u32,
 ) -> Option<Counts>
-    ensures { let U : ℕ → Ty = type_at types.now in
+    ensures reports { let U : ℕ → Ty = type_at types.now in
         Reports (members_differ span (U first) (U ty)) diagnostics.old messages.old counts diagnostics.new messages.new result }
+    ensures front { FrontStays messages.old counts messages.new }
 {
     let message = [
         Piece::Text(b"Array members must all have the same type, expected "),
@@ -66,8 +69,9 @@ pub fn unsupported(
     op: u32,
     left: u32,
 ) -> Option<Counts>
-    ensures { let U : ℕ → Ty = type_at types.now in
+    ensures reports { let U : ℕ → Ty = type_at types.now in
         Reports (unsupported token op (U left)) diagnostics.old messages.old counts diagnostics.new messages.new result }
+    ensures front { FrontStays messages.old counts messages.new }
 {
     let message = [
         Piece::Text(b"Unsupported type "),
@@ -91,8 +95,9 @@ pub fn incompatible(
     left: u32,
     right: u32,
 ) -> Option<Counts>
-    ensures { let U : ℕ → Ty = type_at types.now in
+    ensures reports { let U : ℕ → Ty = type_at types.now in
         Reports (incompatible token op (U left) (U right)) diagnostics.old messages.old counts diagnostics.new messages.new result }
+    ensures front { FrontStays messages.old counts messages.new }
 {
     let message = [
         Piece::Text(b"Incompatible types "),
@@ -117,8 +122,9 @@ pub fn bad_unary(
     op: u32,
     inner: u32,
 ) -> Option<Counts>
-    ensures { let U : ℕ → Ty = type_at types.now in
+    ensures reports { let U : ℕ → Ty = type_at types.now in
         Reports (bad_unary token op (U inner)) diagnostics.old messages.old counts diagnostics.new messages.new result }
+    ensures front { FrontStays messages.old counts messages.new }
 {
     let message = [
         Piece::Text(b"Unary "),
@@ -139,8 +145,9 @@ pub fn redundant_cast(
     token: u32,
     ty: u32,
 ) -> Option<Counts>
-    ensures { let U : ℕ → Ty = type_at types.now in
+    ensures reports { let U : ℕ → Ty = type_at types.now in
         Reports (redundant_cast token (U ty)) diagnostics.old messages.old counts diagnostics.new messages.new result }
+    ensures front { FrontStays messages.old counts messages.new }
 {
     let message = [
         Piece::Text(b"Can not cast "),
@@ -163,8 +170,9 @@ pub fn bad_cast(
     from: u32,
     to: u32,
 ) -> Option<Counts>
-    ensures { let U : ℕ → Ty = type_at types.now in
+    ensures reports { let U : ℕ → Ty = type_at types.now in
         Reports (bad_cast token (U from) (U to)) diagnostics.old messages.old counts diagnostics.new messages.new result }
+    ensures front { FrontStays messages.old counts messages.new }
 {
     let message = [
         Piece::Text(b"Can not cast "),
@@ -185,8 +193,9 @@ pub fn no_record(
     name: u32,
     ty: u32,
 ) -> Option<Counts>
-    ensures { let U : ℕ → Ty = type_at types.now in
+    ensures reports { let U : ℕ → Ty = type_at types.now in
         Reports (no_record name (U ty)) diagnostics.old messages.old counts diagnostics.new messages.new result }
+    ensures front { FrontStays messages.old counts messages.new }
 {
     let message = [
         Piece::TypeOf(types, ty),
@@ -205,8 +214,9 @@ pub fn no_field(
     name: u32,
     ty: u32,
 ) -> Option<Counts>
-    ensures { let U : ℕ → Ty = type_at types.now in
+    ensures reports { let U : ℕ → Ty = type_at types.now in
         Reports (no_field_of name (U ty) (name_bytes types.now.texts.now name)) diagnostics.old messages.old counts diagnostics.new messages.new result }
+    ensures front { FrontStays messages.old counts messages.new }
 {
     let message = [
         Piece::TypeOf(&*types, ty),

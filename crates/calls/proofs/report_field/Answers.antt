@@ -9,5 +9,5 @@ unreachable-requires c = other_than_field _ (sym (ap is_through_field c.target_a
 
 pub returns : goal.returns
 returns c =
-    let reported = c.call_through_field-r.ensures in
+    let reported = c.call_through_field-r.ensures.reports in
     field_told _ _ c.args.node.now.n c.args.st c.in-Field.ensures reported c.told.ensures c.answered.ensures

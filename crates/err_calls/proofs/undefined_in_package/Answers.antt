@@ -6,4 +6,4 @@ use Rattle.err_calls.proofs.undefined_in_package.Goals as goal
 
 pub returns : goal.returns
 unfolding undefined_in_package call_name text said said_after text_of
-returns c = c.tell_at.ensures
+returns c = record { reports = c.tell_at.ensures.reports; front = c.tell_at.ensures.front }

@@ -7,5 +7,5 @@ returns-in_default c = λ ls v words s t e o. name_new _ c.args.n c.args.name c.
 
 pub returns : goal.returns
 returns c =
-    let told = c.defined_already-met.ensures in
+    let told = c.defined_already-met.ensures.reports in
     name-met _ c.args.n c.args.name c.args.st _ c.find.result c.find.ensures c.in-Some.is told c.told.ensures

@@ -9,14 +9,14 @@ pub returns-in_err-used : goal.returns-in_err-used
 returns-in_err-used c = record {
   of = λ f others q library void.
       on-err (λ _. common_return (ctx c.args.types.now.texts.now library void) c.args.call.slot f others)
-      (reports_step c.args.call.n (c.no_specialisation-r.ensures _ (λ w r w' p. search rules))) (sym c.told.ensures ∙ c.in_err-used.was) c.from_residual.ensures.1;
+      (reports_step c.args.call.n (c.no_specialisation-r.ensures.reports _ (λ w r w' p. search rules))) (sym c.told.ensures ∙ c.in_err-used.was) c.from_residual.ensures.1;
 }
 
 pub returns : goal.returns
 returns c =
     record {
       of = λ f others q library void.
-          on-ok (λ _. common_return (ctx c.args.types.now.texts.now library void) c.args.call.slot f others) (reports_step c.args.call.n (c.no_specialisation-r.ensures _ (λ w r w' p. search rules)))
+          on-ok (λ _. common_return (ctx c.args.types.now.texts.now library void) c.args.call.slot f others) (reports_step c.args.call.n (c.no_specialisation-r.ensures.reports _ (λ w r w' p. search rules)))
           (sym c.told.ensures ∙ c.in_ok-used.was)
           (c.common_return.ensures.of f others q library void _ _);
     }

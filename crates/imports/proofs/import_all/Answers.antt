@@ -5,7 +5,7 @@ use Rattle.imports.proofs.import_all.Goals as goal
 
 pub returns-then-count-eq0 : goal.returns-then-count-eq0
 returns-then-count-eq0 c =
-    let told = c.empty_import-none.ensures in
+    let told = c.empty_import-none.ensures.reports in
     import_empty _ c.args.n c.args.token c.args.at c.args.count c.requires c.if-count-eq0.true told c.told.ensures c.answered.ensures
 
 pub loop-k-init : goal.loop-k-init

@@ -12,7 +12,7 @@ returns-then-is_some c = import_held _ _ c.args.n c.args.path c.requires c.find_
 
 pub returns-in_default : goal.returns-in_default
 returns-in_default c =
-    let told = c.no_import-none.ensures in
+    let told = c.no_import-none.ensures.reports in
     let held = c.find_held-held in
     let found = c.find_package in
     import_none _ _ c.args.n c.args.path c.requires held.result held.ensures (sym c.is_some.ensures ∙ c.if-is_some.false) c.name_bytes-name.ensures found.result found.ensures

@@ -13,5 +13,5 @@ returns-in-Some-Poisoned c = λ ls v words f t o. ident-poisoned _ c.args.n c.ar
 
 pub returns-in-None : goal.returns-in-None
 returns-in-None c =
-    let told = c.no_binding-none.ensures in
+    let told = c.no_binding-none.ensures.reports in
     λ ls v words f t o. ident-none _ c.args.n c.args.slot c.args.name _ c.env_get.ensures c.in-None.is told c.told.ensures c.answered-in-None.ensures ls v words _ f t o

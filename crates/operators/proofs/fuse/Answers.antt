@@ -10,9 +10,9 @@ returns-in-Some c =
 pub returns-then-same_type : goal.returns-then-same_type
 returns-then-same_type c =
     fuse-unsupported _ _ _ _ _ _ _ _ _ _ _ _ c.word_at-l.ensures c.word_at-r.ensures c.of.ensures c.of-2.ensures c.result_kind.ensures c.in_default.is
-    c.same_type.ensures c.told.ensures c.if-same_type.true c.unsupported-told.ensures
+    c.same_type.ensures c.told.ensures c.if-same_type.true c.unsupported-told.ensures.reports
 
 pub returns : goal.returns
 returns c =
     fuse-incompatible _ _ _ _ _ _ _ _ _ _ _ _ c.word_at-l.ensures c.word_at-r.ensures c.of.ensures c.of-2.ensures c.result_kind.ensures c.in_default.is
-    c.same_type.ensures c.told-2.ensures c.if-same_type.false c.incompatible-told.ensures
+    c.same_type.ensures c.told-2.ensures c.if-same_type.false c.incompatible-told.ensures.reports

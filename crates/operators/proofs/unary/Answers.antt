@@ -9,4 +9,4 @@ returns-then-takes c =
 pub returns : goal.returns
 returns c =
     unary_bad _ _ _ _ _ _ _ _ _ _ _ c.word_at-r.ensures c.of-kind.ensures c.takes.ensures c.if-takes.false
-    c.bad_unary-told.ensures c.told.ensures
+    c.bad_unary-told.ensures.reports c.told.ensures

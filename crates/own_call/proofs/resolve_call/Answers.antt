@@ -11,4 +11,4 @@ returns-in-Some c =
     found_at c.find.ensures c.in-Some.is (rw e at c.check_plain.ensures)
 
 pub returns-in-None : goal.returns-in-None
-returns-in-None c = not_found c.find.ensures c.in-None.is c.undefined_own-reported.ensures c.told.ensures
+returns-in-None c = not_found c.find.ensures c.in-None.is c.undefined_own-reported.ensures.reports c.told.ensures

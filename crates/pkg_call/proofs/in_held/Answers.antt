@@ -18,4 +18,4 @@ pub returns-in-Some-Extern : goal.returns-in-Some-Extern
 returns-in-Some-Extern c = extern-held _ c.find_held.ensures (c.in-Some-Extern.is ∙ ap Some c.in-Some-Extern.field-0-is) c.in_extern.ensures
 
 pub returns-in-None : goal.returns-in-None
-returns-in-None c = no_package _ c.find_held.ensures c.in-None.is c.missing_package-r.ensures c.told.ensures
+returns-in-None c = no_package _ c.find_held.ensures c.in-None.is c.missing_package-r.ensures.reports c.told.ensures

@@ -5,7 +5,7 @@ use Rattle.pkg_group.proofs.in_group.Goals as goal
 
 pub returns-in-Nothing : goal.returns-in-Nothing
 returns-in-Nothing c =
-    group-none c.requires c.in-Nothing.is c.undefined_in_package-r.ensures c.told.ensures
+    group-none c.requires c.in-Nothing.is c.undefined_in_package-r.ensures.reports c.told.ensures
 
 pub returns-in-Plain : goal.returns-in-Plain
 returns-in-Plain c =

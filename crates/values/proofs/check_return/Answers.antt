@@ -14,5 +14,5 @@ returns-then-same_type c = search rules
 pub returns : goal.returns
 unfolding check_return if_known ty tree ty_tree when
 returns c ls v e is =
-    told-steps c.args.n c.bad_return-reported.ensures c.told.ensures
+    told-steps c.args.n c.bad_return-reported.ensures.reports c.told.ensures
     (λ rest. rw (c.in-Known.is, is, ← c.word_at-w.ensures, ← c.same_type.ensures, c.if-same_type.false))

@@ -14,5 +14,5 @@ returns-then-same_type c = search rules
 pub returns : goal.returns
 unfolding compare_branch if_known ty tree ty_tree when
 returns c ls v =
-    told-steps c.args.n c.match_cases-reported.ensures c.told.ensures
+    told-steps c.args.n c.match_cases-reported.ensures.reports c.told.ensures
     (λ rest. rw (c.in-Known.is, ← c.word_at-w.ensures, ← c.word_at-d.ensures, ← c.same_type.ensures, c.if-same_type.false))

@@ -14,5 +14,5 @@ returns-then-same_type c ls v = record { step = λ rest. rw (c.in-Known.is, ← 
 pub returns : goal.returns
 unfolding condition if_known ty tree ty_tree when ty_of unfolded ways
 returns c ls v =
-    told-steps c.args.n c.bad_condition-reported.ensures c.told.ensures
+    told-steps c.args.n c.bad_condition-reported.ensures.reports c.told.ensures
     (λ rest. rw (c.in-Known.is, ← c.word_at-w.ensures, ← c.same_type.ensures, c.if-same_type.false))

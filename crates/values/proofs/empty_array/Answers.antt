@@ -3,4 +3,4 @@ use Rattle.state.specs.Reporting.{poisons-step}
 use Rattle.values.proofs.empty_array.Goals as goal
 
 pub returns : goal.returns
-returns c s t = rw c.told.ensures (poisons-step c.args.n c.empty_array-reported.ensures)
+returns c s t = rw c.told.ensures (poisons-step c.args.n c.empty_array-reported.ensures.reports)

@@ -14,14 +14,14 @@ pub returns-in_default : goal.returns-in_default
 unfolding field ty tree when
 returns-in_default c ls v =
     rw c.told.ensures
-    (same-steps (poisons-step c.args.n c.no_record-other.ensures)
+    (same-steps (poisons-step c.args.n c.no_record-other.ensures.reports)
     (λ rest. rw (← c.word_at-w.ensures, ne_eqb (kind_of c.word_at-w.result) 8 (type-not _ c.of.ensures c.in_default.not-Record))))
 
 pub returns-in_default-found : goal.returns-in_default-found
 unfolding field ty tree when on_option found_of
 returns-in_default-found c ls v =
     rw c.told-in_default-found.ensures
-    (same-steps (poisons-step c.args.n c.no_field-none.ensures)
+    (same-steps (poisons-step c.args.n c.no_field-none.ensures.reports)
     (λ rest. rw (← c.word_at-w.ensures, type-number _ c.in-Record.ensures, ← c.find_field-found.ensures, c.in_default-found.is)))
 
 pub returns : goal.returns

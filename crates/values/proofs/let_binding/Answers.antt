@@ -19,5 +19,5 @@ returns-in_default-of c = let k : eqb (kind_of c.word_at-w.result) 1 ≡ false =
 pub returns : goal.returns
 unfolding let_binding ty when
 returns c t =
-    told-means c.args.n c.let_void-reported.ensures (λ b. bound_of b) Poisoned c.told.ensures
+    told-means c.args.n c.let_void-reported.ensures.reports (λ b. bound_of b) Poisoned c.told.ensures
     (λ rest. rw (c.in-Known.is, ← c.word_at-w.ensures, type-number _ c.in-Void.ensures))

@@ -19,7 +19,7 @@ returns-then-same_type c = search rules
 pub returns : goal.returns
 unfolding member_types ty tree ty_tree when
 returns c ls v =
-    told-gives c.args.n c.members_differ-reported.ensures differs c.told.ensures
+    told-gives c.args.n c.members_differ-reported.ensures.reports differs c.told.ensures
     (λ rest.
     rw (← c.word_at-f.ensures, ← c.word_at-t.ensures, ← c.contains_unknown.ensures c.args.types.now.texts.now, c.if-contains_unknown.false)
     (rw (← c.contains_unknown-else-contains_unknown.ensures c.args.types.now.texts.now, c.if-contains_unknown-2.false, ← c.same_type.ensures, c.if-same_type.false)))
