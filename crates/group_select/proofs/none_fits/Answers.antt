@@ -16,7 +16,8 @@ pub returns : goal.returns
 returns c =
     record {
       of = λ f others q library void.
-          on-ok (λ _. common_return (ctx c.args.types.now.texts.now library void) c.args.call.slot f others) (reports_step c.args.call.n (c.no_specialisation-r.ensures.reports _ (λ w r w' p. search rules)))
+          on-ok (λ _. common_return (ctx c.args.types.now.texts.now library void) c.args.call.slot f others)
+          (reports_step c.args.call.n (c.no_specialisation-r.ensures.reports _ (λ w r w' p. search rules)))
           (sym c.told.ensures ∙ c.in_ok-used.was)
           (c.common_return.ensures.of f others q library void _ _);
     }
