@@ -169,7 +169,7 @@ pub fn copy_pool(types: &mut [u32], pool: &[u32]) -> bool
     if n > type_room(types) {
         return false;
     }
-    types[..n].copy_from_slice(pool);
+    slices::copy(&mut types[..n], pool);
     true
 }
 

@@ -53,11 +53,12 @@ impl<'a> Writer<'a> {
             return Err(Full);
         }
         if piece.len() <= end - self.at {
-            self.buffer[self.at..self.at + piece.len()].copy_from_slice(piece);
-            self.at += piece.len();
+            let to = self.at + piece.len();
+            slices::copy(&mut self.buffer[self.at..to], piece);
+            self.at = to;
             Ok(())
         } else {
-            self.buffer[self.at..end].copy_from_slice(&piece[..end - self.at]);
+            slices::copy(&mut self.buffer[self.at..end], &piece[..end - self.at]);
             self.at = end;
             Err(Full)
         }

@@ -225,7 +225,7 @@ fn run(rt: &impl Print, from: &Sources, cases: &[u32], count: usize) -> io::Resu
         let case = case_of(part(cases, 8 * (k % 65_536), 8));
         match told(&mut diagnostics, &mut messages, counts, from, case) {
             Some(told) => counts = told,
-            None => println!(rt; "refused 9")?,
+            None => rt.write_all(b"refused 9\n")?,
         }
     }
     for record in diagnostics.chunks_exact(6).take(counts.diagnostics) {

@@ -6,4 +6,4 @@ pub returns-then-n-type_room : goal.returns-then-n-type_room
 returns-then-n-type_room c = copy_full _ _ c.type_room.ensures c.if-n-type_room.true
 
 pub returns : goal.returns
-returns c = rw c.copy_from_slice.ensures.after (copy_all _ _ c.type_room.ensures c.if-n-type_room.false)
+returns c = rw c.copy.ensures (copy_all _ _ c.type_room.ensures c.if-n-type_room.false)
