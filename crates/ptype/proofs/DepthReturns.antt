@@ -1,14 +1,15 @@
 -- What `depth_of` returns, by the kind of the word.
 -- By the laws of unfolding. Assumes nothing.
-use Prim.Native.Nat.{ℕ, ◌+◌, ◌-◌}
+use Prim.Native.Nat.{ℕ, suc, ◌+◌, ◌-◌, ◌≤◌}
 use mathlib.Core.Path.{◌≡◌, sym, ◌∙◌}
 use mathlib.Core.Bool.{true, false, true≢false}
-use mathlib.Core.List.{List}
+use mathlib.Core.List.{List, []}
 use Rattle.tok.specs.Word.{kind_of}
-use Rattle.tok.specs.Text.{Texts}
+use Rattle.tok.specs.Text.{Texts, texts_of}
 use Rattle.ptype.specs.Ty.{depth_of, deepest}
 use Rattle.ptype.specs.Words.{inner_word, fields_of, unfolded}
 use Rattle.ptype.specs.Kinds.{wraps, shape, is_plain, is_wrap, is_record, is_named}
+use Rattle.ptype.proofs.DepthLaws.{depth-cut, deepest-cut}
 use Rattle.ptype.proofs.UnfoldLaws.{one_less, unfolded-none, unfolded-plain, unfolded-wrap, unfolded_record, unfolded-named}
 
 -- k, i, q, n, r are what the calls gave, each with what its contract says of it
@@ -34,3 +35,11 @@ module _ (t : Texts) (types : List ℕ) (w : ℕ) {deep : ℕ} where
       | is_record h ↦ absurd (b h)
       | is_named h ↦ rw (unfolded-named t types w (one_less p) ek h)
     ]
+
+-- A depth is at most one more than the levels, so it can be counted on.
+module _ (types : List ℕ) (deep : ℕ) {r : ℕ} where
+  pub depth-fits : (w : ℕ) → ((t : Texts) → r ≡ depth_of (unfolded t types deep w)) → r ≤ suc deep
+  depth-fits w e = rw (e (texts_of [] [])) (depth-cut (texts_of [] []) types deep w)
+
+  pub deepest-fits : (w : ℕ) → ((t : Texts) → r ≡ deepest (fields_of (unfolded t types deep) t types w)) → r ≤ suc deep
+  deepest-fits w e = rw (e (texts_of [] [])) (deepest-cut (texts_of [] []) types deep w)

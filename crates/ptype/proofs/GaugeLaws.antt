@@ -1,7 +1,7 @@
 -- What is found by marks: never more than a level past the levels; and where the marks are right, how deep the type is, and right marks.
 -- By induction on the levels. Assumes nothing.
 use Prim.Native.Nat.{ℕ, zero, suc, ◌+◌, ◌-◌, ◌≤◌, min, max}
-use mathlib.Core.Path.{◌≡◌, refl, sym, ap, subst}
+use mathlib.Core.Path.{◌≡◌, refl, sym, ap, subst, ◌∙◌}
 use mathlib.Core.Bool.{Bool, true, false, cond}
 use mathlib.Core.List.{List}
 use native.Mathlib.Omega.{arith}
@@ -139,6 +139,10 @@ module _ (types : List ℕ) where
   list_counts f w known e = omega (arith, list-fits f w known, ap (λ m. m.depth) e)
 
   -- no marks at first
+  pub list-fresh : (f w n : ℕ) {r : ℕ} {known' : List ℕ} → gauge_list (gauge types f) types f w (replicate n 0) ≡ gauged r known'
+      → (t : Texts) → r ≡ deepest (fields_of (unfolded t types f) t types w)
+  list-fresh f w n e t = ap (λ m. m.depth) (sym e) ∙ (list_right f w (replicate n 0)).depth (no-marks types n) t
+
   pub type-right : (w : ℕ) (known : List ℕ) {m : Gauged} → gauge types 33 w known ≡ m → Right types known (λ t. depth_of (ty_of t types w)) m
   unfolding ty_of
   type-right w known e = subst (Right types known (λ t. depth_of (unfolded t types 33 w))) e (gauge-right 33 w known)

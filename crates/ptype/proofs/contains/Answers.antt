@@ -1,6 +1,0 @@
--- `contains` meets its contract: no marks at first. Assumes nothing.
-use Rattle.ptype.proofs.MarkLaws.{none_free}
-use Rattle.ptype.proofs.contains.Goals as goal
-
-pub stands_in-requires-else-is_small : goal.stands_in-requires-else-is_small
-stands_in-requires-else-is_small g c = none_free (g.S.Sought.Is c.args.sought.now) c.args.types.now 8192
