@@ -35,9 +35,11 @@ pub fn find_field(types: &Types, name: u32, word: u32) -> Option<u32>
 {
     let count = ptype::field_count(types.words, word);
     let first = tok::payload(word) + 1;
+    // once, and not for each field: the compiler does not take it out of the loop
+    let wanted = tok::name_bytes(types.texts, name);
     for i in 0..count {
         let at = first + 2 * i;
-        if tok::same_name(types.texts, name, word_at(types.words, at)) {
+        if tok::is_name(types.texts, wanted, word_at(types.words, at)) {
             return Some(ptype::field_type(types.words, at));
         }
     }
