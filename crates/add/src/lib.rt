@@ -4,6 +4,7 @@
 
 ghost use Rattle.std.specs.Prelude.{◌≡◌, List, [], ◌∷◌, ℕ, ◌+◌, ◌*◌, ◌<◌, ◌^◌, min, leb, length, take, replicate};
 ghost use Rattle.tok.specs.Text.{Texts};
+ghost use Rattle.tok.specs.Step.{next};
 ghost use Rattle.ptype.specs.Add.{add_wrap, write};
 ghost use Rattle.ptype.specs.Marks.{Depths};
 ghost use Rattle.add.specs.Answer.{buffer_of, answer_of, result_of, Adds};
@@ -148,6 +149,18 @@ impl<'a> Arena<'a> {
         } else {
             Err(AddError::TooDeep)
         }
+    }
+}
+
+// The same of words that are only read, and of what opening the Record answered: where it was not opened, that answer stays.
+pub fn close_record(types: &[u32], opened: Added) -> Added
+    ensures { (t : Texts) (n : ℕ) → next (result_of n opened types.now) (measured t n) ≡ result_of n result types.now }
+{
+    let (word, used) = opened?;
+    if is_shallow(types, word) {
+        Ok((word, used))
+    } else {
+        Err(AddError::TooDeep)
     }
 }
 

@@ -7,14 +7,14 @@ ghost use Rattle.ptype.specs.Add.{buffer, write};
 ghost use Rattle.ptype.specs.Slots.{Binding, bound_to, bound_or};
 ghost use Rattle.add.specs.Answer.{result_of, Allocates};
 ghost use Rattle.add.specs.Parts.{record_from};
-ghost use Rattle.slots.specs.Bindings.{bindings_of};
+ghost use Rattle.slots.specs.Bindings.{bound_slots};
 ghost use Rattle.apply.specs.Apply.{apply_pairs, apply_within, apply_word, only};
 ghost use Rattle.apply.specs.Sizes.{sizes_of, size_within, word_before, pairs_after};
 ghost use Rattle.apply.specs.Setting.{Setting};
 
 use add::{AddError, Added, Arena, MOST_LEVELS};
 use ptype::{TypeKind, Types, field_count, field_type, inner};
-use slots::Bindings;
+use slots::BoundSlots;
 use tok::{Texts, payload, word_at};
 
 // Puts types for the slots of the type w, as they are bound. Only compound types that contain a bound slot are added anew.
@@ -23,10 +23,10 @@ pub fn apply_slot_binding(
     types: &mut [u32],
     used: usize,
     texts: &Texts,
-    bindings: &Bindings,
+    bindings: &BoundSlots,
     w: u32,
 ) -> Added
-    ensures { ((n : ℕ) → apply_word texts.now n (bindings_of texts.now bindings.now) w (buffer types.old used) ≡ result_of n result types.new) }
+    ensures { ((n : ℕ) → apply_word texts.now n (bound_slots texts.now bindings.now) w (buffer types.old used) ≡ result_of n result types.new) }
 {
     let base = used.min(types.len());
     let mut arena = Arena::new(types, used);
@@ -40,13 +40,13 @@ fn apply_within(
     arena: &mut Arena,
     base: usize,
     texts: &Texts,
-    bindings: &Bindings,
+    bindings: &BoundSlots,
     w: u32,
     depth: usize,
 ) -> Result<u32, AddError>
     requires { (base ≤ arena.old.used) × (base ≤ length arena.old.words.now) }
     ensures { let T : Texts = texts.now in
-        let bs : List Binding = bindings_of T bindings.now in
+        let bs : List Binding = bound_slots T bindings.now in
         let old : List ℕ = take base arena.old.words.now in
         Allocates (λ _ n. apply_within T n bs (only old) depth w) arena.old result arena.new }
 {
@@ -88,14 +88,14 @@ fn apply_fields(
     arena: &mut Arena,
     base: usize,
     texts: &Texts,
-    bindings: &Bindings,
+    bindings: &BoundSlots,
     at: usize,
     fields: usize,
     depth: usize,
 ) -> Result<u32, AddError>
     requires { ((base ≤ arena.old.used) × (base ≤ length arena.old.words.now)) × (at + 2 * fields < 2 ^ 40) }
     ensures { let T : Texts = texts.now in
-        let bs : List Binding = bindings_of T bindings.now in
+        let bs : List Binding = bound_slots T bindings.now in
         let old : List ℕ = take base arena.old.words.now in
         Allocates (λ _ n. record_from n fields 0 (apply_pairs (apply_within T n bs (only old) depth) (only old) at fields)) arena.old result arena.new }
 {
@@ -126,16 +126,16 @@ fn set_pairs(
     base: usize,
     used: usize,
     texts: &Texts,
-    bindings: &Bindings,
+    bindings: &BoundSlots,
     at: usize,
     fields: usize,
     depth: usize,
     place: usize,
 )
-    requires { let bs : List Binding = bindings_of texts.now bindings.now in
+    requires { let bs : List Binding = bound_slots texts.now bindings.now in
         let old : List ℕ = take base types.old in
         Setting texts.now bs old depth used at fields place base (length types.old) }
-    ensures { let bs : List Binding = bindings_of texts.now bindings.now in
+    ensures { let bs : List Binding = bound_slots texts.now bindings.now in
         let old : List ℕ = take base types.old in
         types.new ≡ write types.old place (pairs_after texts.now bs old depth used at fields) }
 {
@@ -158,14 +158,14 @@ fn set_pairs(
 // The word that was put for w, when `end` words were used, of which the last `size` were added for it.
 fn applied_word(
     old: &Types,
-    bindings: &Bindings,
+    bindings: &BoundSlots,
     w: u32,
     depth: usize,
     end: usize,
     size: usize,
 ) -> u32
-    requires { (size ≡ size_within old.now.texts.now (bindings_of old.now.texts.now bindings.now) old.now.words.now depth w) × ((size ≤ end) × (end ≤ 8192)) }
-    ensures { result ≡ word_before old.now.texts.now (bindings_of old.now.texts.now bindings.now) old.now.words.now depth end size w }
+    requires { (size ≡ size_within old.now.texts.now (bound_slots old.now.texts.now bindings.now) old.now.words.now depth w) × ((size ≤ end) × (end ≤ 8192)) }
+    ensures { result ≡ word_before old.now.texts.now (bound_slots old.now.texts.now bindings.now) old.now.words.now depth end size w }
 {
     if depth == 0 {
         return w;
@@ -186,9 +186,9 @@ fn applied_word(
 // How many words putting types for the slots of w added. It is asked only where that was just done: the new types have at most 32 levels
 // and fit the buffer, and each field met is two words of it, so it takes no more steps than there are words, for each level at most once.
 #[cycle(applied_size_applied_sizes)]
-fn applied_size(old: &Types, bindings: &Bindings, w: u32, depth: usize) -> usize
-    requires { size_within old.now.texts.now (bindings_of old.now.texts.now bindings.now) old.now.words.now depth w ≤ 8192 }
-    ensures { result ≡ size_within old.now.texts.now (bindings_of old.now.texts.now bindings.now) old.now.words.now depth w }
+fn applied_size(old: &Types, bindings: &BoundSlots, w: u32, depth: usize) -> usize
+    requires { size_within old.now.texts.now (bound_slots old.now.texts.now bindings.now) old.now.words.now depth w ≤ 8192 }
+    ensures { result ≡ size_within old.now.texts.now (bound_slots old.now.texts.now bindings.now) old.now.words.now depth w }
 {
     if depth == 0 {
         return 0;
@@ -213,9 +213,15 @@ fn applied_size(old: &Types, bindings: &Bindings, w: u32, depth: usize) -> usize
 
 // How many words were added for the fields from index `at` on.
 #[cycle(applied_size_applied_sizes)]
-fn applied_sizes(old: &Types, bindings: &Bindings, at: usize, fields: usize, depth: usize) -> usize
-    requires { (at + 2 * fields < 2 ^ 40) × (sizes_of (size_within old.now.texts.now (bindings_of old.now.texts.now bindings.now) old.now.words.now depth) old.now.words.now at fields ≤ 8192) }
-    ensures { result ≡ sizes_of (size_within old.now.texts.now (bindings_of old.now.texts.now bindings.now) old.now.words.now depth) old.now.words.now at fields }
+fn applied_sizes(
+    old: &Types,
+    bindings: &BoundSlots,
+    at: usize,
+    fields: usize,
+    depth: usize,
+) -> usize
+    requires { (at + 2 * fields < 2 ^ 40) × (sizes_of (size_within old.now.texts.now (bound_slots old.now.texts.now bindings.now) old.now.words.now depth) old.now.words.now at fields ≤ 8192) }
+    ensures { result ≡ sizes_of (size_within old.now.texts.now (bound_slots old.now.texts.now bindings.now) old.now.words.now depth) old.now.words.now at fields }
 {
     let mut sum: usize = 0;
     for i in 0..fields {
@@ -225,8 +231,8 @@ fn applied_sizes(old: &Types, bindings: &Bindings, at: usize, fields: usize, dep
 }
 
 // The type that a slot is bound to, or the slot itself.
-fn slot_type(texts: &Texts, bindings: &Bindings, slot: u32) -> u32
-    ensures { result ≡ bound_or slot (bound_to (name_bytes texts.now slot) (bindings_of texts.now bindings.now)) }
+fn slot_type(texts: &Texts, bindings: &BoundSlots, slot: u32) -> u32
+    ensures { result ≡ bound_or slot (bound_to (name_bytes texts.now slot) (bound_slots texts.now bindings.now)) }
 {
     bindings.bound_to(texts, slot).unwrap_or(slot)
 }

@@ -64,7 +64,7 @@ fn begin(
         Begins bytes.now before after result }
 {
     if !rows_input::fits(bytes) {
-        return rows_begin::row_alone(Row::Input);
+        return rows_begin::row_alone(Some(Row::Input));
     }
     let mut image = [0u32; MOST_WORDS];
     let mut library = [0u32; MOST_WORDS];

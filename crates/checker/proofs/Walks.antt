@@ -33,13 +33,14 @@ use Rattle.ready.specs.Given.{start_state}
 use Rattle.ready.proofs.Given.{ready-start}
 use Rattle.walking.specs.Visited.{ctx_in, nodes_at, ListVisit, ListVisited}
 use Rattle.start.specs.Begin.{beginning, first_state, Starts, walk_begins}
-use Rattle.ending.specs.Ended.{EndsWell, WalkEnds}
+use Rattle.ending.specs.Ended.{within_of, answered_of, EndsWell, WalkEnds}
+use Rattle.ending.proofs.Within.{within-numbered, over-answered}
 
 -- the entries lie in the functions buffer where the visits kept within their part of it
-ends-well : {room rows : ℕ} {st : State} {b b' : Lent} (v : Visit Answer) → FreeRows rows st b.functions → Keeps room rows st b b' v → EndsWell b'.functions v
+ends-well : {room rows : ℕ} {st : State} {b b' : Lent} (v : Visit Answer) → FreeRows rows st b.functions → Keeps room rows st b b' v → EndsWell b'.functions (answered_of v)
 unfolding EndsWell
 ends-well (Ok (a, st)) g (goes w) = omega (arith, g.after, w.written, w.functions)
-ends-well (Err x) g k = tt
+ends-well (Err x) g k = within-numbered x
 
 module _ (i : Inputs) (b : Buffers) where
   -- it begins, and then its roots are visited
@@ -59,16 +60,16 @@ module _ (script image text words s f t d m e : List ℕ) where
         → walk_of inputs before ≡ next (visited words (lent s₁ f t₁ d m e no_more) r) (λ _ w. next (last (ctx_of inputs) (Known (slot_count image)) (roots_of image) w) (λ _. skip))
     begun h = walk_is inputs before ∙ rw (h.step script text f d m e)
 
-    pub walk-refused : {x : Refusal} → Starts image words s t s₁ t₁ (Err x) → WalkEnds inputs before (lent s₁ f t₁ d m e no_more) (Err x)
+    pub walk-refused : {x : Refusal} → Starts image words s t s₁ t₁ (Err x) → WalkEnds inputs before (lent s₁ f t₁ d m e no_more) (Err (within_of x))
     unfolding visited EndsWell
-    walk-refused h = record { step = begun h; well = tt }
+    walk-refused {x} h = record { step = begun h ∙ over-answered words (lent s₁ f t₁ d m e no_more) (Err x); well = within-numbered x }
 
     module _ {st : State} (h : Starts image words s t s₁ t₁ (Ok (tt, st))) where
       walk-visits : {b' : Lent} {v : Visit Answer} {room rows : ℕ} → FreeRows rows st f
           → Visits (last (ctx_in (texts_of script text) image words) (Known (slot_count image)) (nodes_at image 4 (root_count image))) room rows words st (lent s₁ f t₁ d m e no_more) b' v
-          → WalkEnds inputs before b' v
+          → WalkEnds inputs before b' (answered_of v)
       unfolding visited ctx_of roots_of first_roots
-      walk-visits {v = v} g q = record { step = begun h ∙ ap (λ x. next x (λ _. skip)) q.step; well = ends-well v g q.keeps }
+      walk-visits {b' = b'} {v = v} g q = record { step = begun h ∙ ap (λ x. next x (λ _. skip)) q.step ∙ over-answered words b' v; well = ends-well v g q.keeps }
 
       -- what the visits of the roots ask for
       roots-begun : beginning inputs (start_of inputs before) ≡ ok tt (whole words (start_state (first_state (length (pool_of words))).used) (lent s₁ f t₁ d m e no_more))
@@ -81,7 +82,7 @@ module _ (script image text words s f t d m e : List ℕ) where
         roots-start = rw h.state (ready-start inputs before accepted (first_state (length (pool_of words))).used (lent s₁ f t₁ d m e no_more) roots-begun refl refl)
 
         pub walk-roots : {b' : Lent} {v : Visit Answer} {k : ℕ} → k ≡ root_count image → ListVisited (texts_of script text) image words 4 k st (lent s₁ f t₁ d m e no_more) b' v
-            → WalkEnds inputs before b' v
+            → WalkEnds inputs before b' (answered_of v)
         unfolding roots_of first_roots
         walk-roots hk q = walk-visits roots-start.rows (rw hk at q)
 

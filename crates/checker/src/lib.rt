@@ -14,9 +14,9 @@ ghost use Rattle.places.specs.Places.{places_of};
 ghost use Rattle.state.specs.World.{no_more};
 ghost use Rattle.visit.specs.Whole.{Lent, lent};
 ghost use Rattle.walking.specs.Visited.{ListVisit, ListVisited};
-ghost use Rattle.ending.specs.Ended.{ended_of, checked_of, EndsAs, WalkEnds};
+ghost use Rattle.ending.specs.Ended.{ended_of, checked_of, answered_of, EndsAs, WalkEnds};
 
-use ending::Checked;
+use ending::{Checked, Refused};
 use places::Image;
 use refuse::Inputs;
 use rules::Answer;
@@ -91,7 +91,7 @@ fn walk(
     ensures { let i : Inputs = inputs.now in
         let b : Buffers = buffers_of slots.old functions.old types.old diagnostics.old messages.old scratch.old in
         let b' : Lent = lent slots.new functions.new types.new diagnostics.new messages.new scratch.new no_more in
-        WalkEnds i b b' result }
+        WalkEnds i b b' (answered_of result) }
 {
     let (_, st) = start::begin(slots, types, inputs.image, inputs.library)?;
     visit_roots(
@@ -132,7 +132,8 @@ fn check_accepted(
         messages,
         scratch,
         inputs,
-    );
+    )
+    .map_err(Refused::from);
     ending::finish(
         slots,
         functions,

@@ -13,9 +13,8 @@ use Rattle.rules.specs.Steps.{Done}
 use Rattle.rules.specs.Walk.{walk_of}
 use Rattle.rules.specs.Check.{zeros, zeroed, end_of, unless_refused, check_of}
 use Rattle.state.specs.World.{no_more}
-use Rattle.rules.specs.declared.Answer.{Answer}
-use Rattle.visit.specs.Whole.{Visit, lent}
-use Rattle.ending.specs.Ended.{Checked, ended_of, checked_of, EndsAs, before_of, over_of, WalkEnds}
+use Rattle.visit.specs.Whole.{lent}
+use Rattle.ending.specs.Ended.{Checked, RootsAnswered, ended_of, checked_of, EndsAs, before_of, over_of, WalkEnds}
 
 -- ── Before the walk ──
 
@@ -47,7 +46,7 @@ accepted-is : (i : Inputs) (b : Buffers) → refusal_of i b ≡ none → check_o
 unfolding check_of unless_refused
 accepted-is i b h = rw h
 
-module _ {i : Inputs} {s f t d m e s' f' t' d' m' e' : List ℕ} {v : Visit Answer} (w : WalkEnds i (buffers_of s f t d m e) (lent s' f' t' d' m' e' no_more) v) where
+module _ {i : Inputs} {s f t d m e s' f' t' d' m' e' : List ℕ} {v : RootsAnswered} (w : WalkEnds i (buffers_of s f t d m e) (lent s' f' t' d' m' e' no_more) v) where
   pub accepted-ends : {after : Buffers} {r : Checked} → refusal_of i (buffers_of s f t d m e) ≡ none
       → length s' ≡ length s → length f' ≡ length f → length t' ≡ length t → length d' ≡ length d → length m' ≡ length m → length e' ≡ length e
       → EndsAs (end_of (buffers_of s' f' t' d' m' e') (over_of i.library (lent s' f' t' d' m' e' no_more) v)) after r → EndsAs (check_of i (buffers_of s f t d m e)) after r

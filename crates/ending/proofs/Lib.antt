@@ -1,3 +1,4 @@
 -- What is left in the buffers.
 mod Left
+pub mod Within
 pub mod Ends

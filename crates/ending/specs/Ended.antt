@@ -1,7 +1,7 @@
 -- What the check answers, as document 01's number, place and counts ("An answer", "Answers that end the check"), and what its parts hand to
 -- each other. Definitions.
-use Rattle.std.specs.Prelude.{ℕ, ◌≤◌, ◌≡◌, cond, List, eqb, length, Result as Answered, Ok, Err, ⊤}
-use Rattle.tok.specs.Step.{Result, refusal, Refusal, next}
+use Rattle.std.specs.Prelude.{ℕ, ◌≤◌, ◌≡◌, cond, List, eqb, length, Result as Answered, Ok, Err}
+use Rattle.tok.specs.Step.{Result, refused, refusal, Refusal, next}
 use Rattle.refusals.specs.Inputs.{Inputs, Buffers}
 use Rattle.refuse.specs.declared.Cause.{Cause}
 use Rattle.refuse.specs.declared.Cause.TheVariants.{Scratch, Library, Image, Claims, Depth, Room}
@@ -69,16 +69,26 @@ counts_of functions st = record {
   message_bytes = st.used.told.bytes;
 }
 
--- how the walk ends where its roots were visited: what the last of them answered does not matter
-abbrev pub over_of : (library : List ℕ) → Lent → Visit Answer → Result World Refusal Done
-over_of library b r = next (visited library b r) (λ _. skip)
+-- what the roots answered with the state then, or a refusal of any number
+abbrev pub RootsAnswered : Type 0
+RootsAnswered = Answered (Answer × State) Refused
 
--- the entries of the functions buffer lie in it
-unfoldable pub EndsWell : (functions : List ℕ) → Visit Answer → Type 0
+-- what their visits gave as that
+abbrev pub answered_of : Visit Answer → RootsAnswered
+answered_of (Ok r) = Ok r
+answered_of (Err e) = Err (within_of e)
+
+-- how the walk ends where its roots were visited: what the last of them answered does not matter
+abbrev pub over_of : (library : List ℕ) → Lent → RootsAnswered → Result World Refusal Done
+over_of library b (Ok r) = next (visited library b (Ok r)) (λ _. skip)
+over_of library b (Err r) = refused (refusal r.number r.place)
+
+-- the entries of the functions buffer lie in it; a refusal has a number
+unfoldable pub EndsWell : (functions : List ℕ) → RootsAnswered → Type 0
 EndsWell functions (Ok (a, st)) = entries_end functions 0 0 st.functions ≤ length functions
-EndsWell functions (Err e) = ⊤
+EndsWell functions (Err r) = r.number ≡ 0 → ⊥
 
 -- the walk of accepted inputs: b came in, b' are the buffers now, r is what the roots answered
-pub record WalkEnds (i : Inputs) (b : Buffers) (b' : Lent) (r : Visit Answer) : Type 0 where
+pub record WalkEnds (i : Inputs) (b : Buffers) (b' : Lent) (r : RootsAnswered) : Type 0 where
   pub step : walk_of i b ≡ over_of i.library b' r
   pub well : EndsWell b'.functions r

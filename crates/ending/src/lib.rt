@@ -15,7 +15,7 @@ use refuse::Cause;
 use rules::Answer;
 use scope::Own;
 use state::Refusal;
-use visit::Visit;
+use visit::State;
 
 // How much of the buffers an answer uses.
 #[derive(Clone, Copy, Debug, PartialEq, Eq)]
@@ -89,7 +89,8 @@ impl From<Refusal> for Refused {
     }
 }
 
-// What is left in the buffers where the walk has ended: "Scratch is all zero" after an answer, all of them after a refusal.
+// What is left in the buffers where the walk has ended: "Scratch is all zero" after an answer, all of them after a refusal. A refusal is answered
+// as it is, whichever its number.
 pub fn finish(
     slots: &mut [u32],
     functions: &mut [u32],
@@ -97,7 +98,7 @@ pub fn finish(
     diagnostics: &mut [u32],
     messages: &mut [u8],
     scratch: &mut [u32],
-    visit: Visit<Answer>,
+    visit: Result<(Answer, State), Refused>,
 ) -> Checked
     requires { EndsWell functions.old visit }
     ensures { let before : Buffers = buffers_of slots.old functions.old types.old diagnostics.old messages.old scratch.old in
@@ -119,9 +120,9 @@ pub fn finish(
                 message_bytes: st.used.told.bytes,
             })
         }
-        Err(refusal) => {
+        Err(refused) => {
             zero::zero_all(slots, functions, types, diagnostics, messages, scratch);
-            Err(Refused::from(refusal))
+            Err(refused)
         }
     }
 }

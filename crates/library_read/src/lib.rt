@@ -127,7 +127,14 @@ impl<'a> Pool<'a> {
         self.good_signature_type(slotted, w)
             && (!library_slots::has_slot(self.words, self.sums, w)
                 || library_slots::return_stands(
-                    self.texts, self.words, pairs, w, self.order, first, end,
+                    self.texts,
+                    self.words,
+                    pairs,
+                    w,
+                    self.order,
+                    self.order.len(),
+                    first,
+                    end,
                 ))
     }
 

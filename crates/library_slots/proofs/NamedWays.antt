@@ -1,19 +1,18 @@
 -- Slots by the order of their names as the code asks for them, one law for each way out. Assumes nothing.
-use Prim.Native.Nat.{ℕ, ◌+◌, ◌-◌, ◌≤◌, ◌<◌}
+use Prim.Native.Nat.{ℕ, ◌+◌, ◌≤◌, ◌<◌}
 use mathlib.Core.Path.{◌≡◌, refl, sym, ap, ◌∙◌}
 use mathlib.Core.Bool.{Bool, true, false, not, true≢false}
 use mathlib.Core.List.{List, [], ◌∷◌, ◌++◌}
 use native.Mathlib.Omega.{arith}
 use native.Mathlib.Decide.{dec_lt}
-use lib.ListN.{length, get_or, replicate, take, drop, get_or-append}
-use Rattle.std.proofs.Common.{get_or-take, get_or-drop, length-take-le, length-drop}
+use lib.ListN.{length, get_or, replicate, take, get_or-append}
+use Rattle.std.proofs.Common.{get_or-take, length-take-le}
 use Rattle.tok.specs.Word.{kind_of}
 use Rattle.tok.specs.Text.{Texts, name_bytes}
 use Rattle.library.specs.SlotMarks.{unmarked, mark_inside, mark_all, spread, any_marked}
 use Rattle.library.specs.ReturnSlots.{among_marked, missing, reached_from}
 use Rattle.library_slots.proofs.NameWays.{return-slot, return-other}
 use Rattle.name_order.specs.Order.{place_in, Listed, Grouped, Grouping, GroupEnd}
-use Rattle.name_order.specs.Groups.{GroupAt}
 use Rattle.name_order.specs.OrderLaws.{Begins, begins-first, begins-next, group-is}
 use Rattle.library_slots.specs.Named.{argued, wanted, Told, Had, NamesStand, ReturnAsked, SlotsListed, SlotsNamed}
 use Rattle.library_slots.specs.NamedLaws.{listed_same, named-same}
@@ -31,6 +30,9 @@ module _ {order : List ℕ} {n : ℕ} {have want : ℕ → Bool} where
   stands-begin = record { within = omega arith; begins = begins-first order n; had = λ t w g i l. absurd (omega arith) }
 
   module _ {at : ℕ} (h : StandsTo order n have want at) where
+    pub stands-done : n ≤ at → (t : Texts) (words : List ℕ) → Grouped t words order n → NamesStand t words order n have want true
+    stands-done l t words g = record { yes = λ _ i m. h.had t words g i (omega arith); no = λ e. absurd (true≢false e) }
+
     module _ {end : ℕ} where
       -- one of the group is had, and with it all
       pub stands-had : GroupEnd order at n end → {r : Bool} → Told have order at end r → r ≡ true → StandsTo order n have want end
@@ -81,33 +83,6 @@ module _ {order : List ℕ} {n : ℕ} {have want : ℕ → Bool} where
                   haves.no f j o.0 o.1;
             };
           }
-
--- what is told of a group, found in its own ranks
-told_there : {test : ℕ → Bool} {order : List ℕ} {at end : ℕ} {r : Bool} → at ≤ end → end ≤ length order
-    → Told test (take (end - at) (drop at order)) 0 (length (take (end - at) (drop at order))) r → Told test order at end r
-told_there {test} {order} {at} {end} {r} l m h = record {
-  yes = λ y. let f = h.yes y in record {
-    rank = at + f.rank;
-    low = omega arith;
-    high = omega (arith, f.high, long);
-    holds = ap (λ e. test (place_in e)) (sym (there f.rank (omega (arith, f.high, long)))) ∙ f.holds;
-  };
-  no = λ n i o p.
-      let back : at + (i - at) ≡ i = omega arith in
-      ap (λ j. test (place_in (get_or order j 0))) (sym back) ∙ ap (λ e. test (place_in e)) (sym (there (i - at) (omega arith)))
-      ∙ h.no n (i - at) (omega arith) (omega (arith, long));
-}
-  where
-    long : length (take (end - at) (drop at order)) ≡ end - at
-    long = length-take-le (end - at) (drop at order) (omega (arith, length-drop at order))
-
-    there : (i : ℕ) → i < end - at → get_or (take (end - at) (drop at order)) i 0 ≡ get_or order (at + i) 0
-    there i o = get_or-take (end - at) (drop at order) i 0 o ∙ get_or-drop at order i 0
-
-pub told_in : {test : ℕ → Bool} {order group : List ℕ} {at end : ℕ} {r : Bool} → GroupAt order at group end → Told test group 0 (length group) r → Told test order at end r
-told_in {at = at} {end = end} g h =
-    let after = g.ends.after in
-    told_there (omega arith) g.ends.within (rw g.entries at h)
 
 -- ── The return type ──
 

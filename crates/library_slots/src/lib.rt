@@ -12,7 +12,7 @@ ghost use Rattle.library.specs.ReturnSlots.{among_marked, missing};
 ghost use Rattle.name_order.specs.Order.{Grouped};
 ghost use Rattle.library_slots.specs.Named.{of_pairs, in_pool, argued, wanted, Told, NamesStand, ReturnAsked, SlotsListed, SlotsNamed};
 
-use name_order::{Groups, NamedWords};
+use name_order::NamedWords;
 use ptype::TypeKind;
 use reader::MOST_WORDS;
 use tok::{Texts, item_at, set_item};
@@ -224,52 +224,51 @@ impl<'a> Reach<'a> {
         p == self.end || self.in_pool(p)
     }
 
-    // Whether an argument reaches one of a group.
-    fn argues_any(&self, group: &[u16]) -> bool
-        ensures { Told (argued self.now.size self.now.marks.now self.now.first self.now.end) group.now 0 (length group.now) result }
+    // Whether an argument reaches one of a group: the ranks from one up to another.
+    fn argues_any(&self, order: &[u16], at: usize, end: usize) -> bool
+        ensures { Told (argued self.now.size self.now.marks.now self.now.first self.now.end) order.now at end result }
     {
-        group
-            .iter()
-            .any(|entry| self.argued(name_order::place_of(*entry)))
+        (at..end).any(|i| self.argued(name_order::place_at(order, i)))
     }
 
     // Whether the return type does.
-    fn wants_any(&self, group: &[u16]) -> bool
-        ensures { Told (wanted self.now.size self.now.marks.now self.now.end) group.now 0 (length group.now) result }
+    fn wants_any(&self, order: &[u16], at: usize, end: usize) -> bool
+        ensures { Told (wanted self.now.size self.now.marks.now self.now.end) order.now at end result }
     {
-        group
-            .iter()
-            .any(|entry| self.wanted(name_order::place_of(*entry)))
+        (at..end).any(|i| self.wanted(name_order::place_at(order, i)))
     }
 }
 
 // Whether each name that the return type reaches is one that an argument reaches: group by group.
-fn names_stand(order: &[u16], args: &Reach, ret: &Reach) -> bool
-    ensures { let n : ℕ = length order.now in
-        (t : Texts) (words : List ℕ) → Grouped t words order.now n
+fn names_stand(order: &[u16], n: usize, args: &Reach, ret: &Reach) -> bool
+    ensures { (t : Texts) (words : List ℕ) → Grouped t words order.now n
         → NamesStand t words order.now n (argued args.now.size args.now.marks.now args.now.first args.now.end) (wanted ret.now.size ret.now.marks.now ret.now.end) result }
 {
-    for group in Groups::of(order) {
-        if ret.wants_any(group) && !args.argues_any(group) {
+    let mut at = 0;
+    while at < n {
+        let next = name_order::group_end(order, at, n);
+        if ret.wants_any(order, at, next) && !args.argues_any(order, at, next) {
             return false;
         }
+        at = next;
     }
     true
 }
 
 // Whether each slot of the return type stands in an argument, where the arguments' pairs stand from place `first` on and the return type at `end`:
-// by the library's slots in order, or by name where there are none.
+// by the library's n slots in order (those past the list are at place 0), or by name where there are none.
 pub fn return_stands(
     texts: &Texts,
     pool: &[u32],
     pairs: &[u32],
     ret: u32,
     order: &[u16],
+    n: usize,
     first: usize,
     end: usize,
 ) -> bool
     ensures { let P : List ℕ = pool.now in
-        ReturnAsked texts.now P (types_in pairs.now) ret order.now (length order.now) first end result }
+        ReturnAsked texts.now P (types_in pairs.now) ret order.now n first end result }
 {
     let mut args = [false; MOST_WORDS];
     mark_types(pool, pairs, &mut args);
@@ -283,7 +282,7 @@ pub fn return_stands(
         pairs,
         marks: &args,
     };
-    if order.len() > 0 {
+    if n > 0 {
         let args = Reach {
             size: pool.len(),
             marks: &args,
@@ -294,7 +293,7 @@ pub fn return_stands(
             marks: &marks,
             ..args
         };
-        names_stand(order, &args, &ret)
+        names_stand(order, n, &args, &ret)
     } else if slot_kind(ret) {
         arguments.among(ret)
     } else {

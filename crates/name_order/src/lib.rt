@@ -174,12 +174,15 @@ fn before_new(entries: &[u16]) -> usize
         .unwrap_or(entries.len())
 }
 
-// Where the group ends that begins at a rank: at the next new name, or with the last entry.
-pub fn group_end(order: &[u16], at: usize) -> usize
-    requires { at < length order.now }
-    ensures { GroupEnd order.now at (length order.now) result }
+// Where the group ends that begins at a rank: at the next new name, or with the last of n entries. Entries past the list are 0: none is new.
+pub fn group_end(order: &[u16], at: usize, n: usize) -> usize
+    requires { at < n }
+    ensures { GroupEnd order.now at n result }
 {
-    at + 1 + before_new(&order[at + 1..])
+    let end = n.min(order.len());
+    let from = (at + 1).min(end);
+    let next = from + before_new(&order[from..end]);
+    if next < end { next } else { n }
 }
 
 // The groups of entries from a rank on, in order.
@@ -216,7 +219,7 @@ impl<'a> Iterator for Groups<'a> {
             return None;
         }
         let start = self.at;
-        self.at = group_end(self.order, start);
+        self.at = group_end(self.order, start, self.order.len());
         Some(&self.order[start..self.at])
     }
 }

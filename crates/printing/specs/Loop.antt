@@ -8,7 +8,7 @@ use Rattle.ptype.specs.Add.{write}
 use Rattle.display.specs.WriteLaws.{length-write}
 use Rattle.rows_part.specs.declared.Row.{Row}
 use Rattle.rows_part.specs.declared.Part.{Part}
-use Rattle.rows_part.specs.Printing.{Answer, row_of, next_in, rest_from, rest_at, part_of}
+use Rattle.rows_part.specs.Printing.{Answer, row_of, next_in, rest_at, part_of}
 use Rattle.rows_part.specs.PrintingLaws.{part-next, part_bytes}
 use Rattle.rows_part.specs.RowsEnd.{left_at, left_behind, next_nearer, by_order}
 
@@ -26,21 +26,21 @@ module _ (a : Answer) (row : Row) (skip : ℕ) where
   room = replicate 4096 0
 
   abbrev part : Part
-  part = part_of 4096 a row skip
+  part = part_of 4096 a (Some row) skip
 
   -- the bytes of a part are no longer left
-  bytes-less : length (rest_from a row skip) ≡ part.bytes + length (rest_at a part.row part.skip)
+  bytes-less : length (rest_at a (Some row) skip) ≡ part.bytes + length (rest_at a part.row part.skip)
   bytes-less =
       let l : length room ≡ 4096 = length-replicate {A = ℕ} 4096 0 in
       let w : List ℕ = write room 0 (drop skip (row_of a row)) in
       let lw : length w ≡ 4096 = length-write room 0 (drop skip (row_of a row)) ∙ l in
-      let e : rest_from a row skip ≡ take part.bytes w ++ rest_at a part.row part.skip = rw l at (part-next room a row skip 4096 (omega arith)) in
+      let e : rest_at a (Some row) skip ≡ take part.bytes w ++ rest_at a part.row part.skip = rw l at (part-next room a (Some row) skip 4096 (omega arith)) in
       let lt : length (take part.bytes w) ≡ min part.bytes (length w) = length-take part.bytes w in
-      ap length e ∙ length-append (take part.bytes w) (rest_at a part.row part.skip) ∙ omega (arith, part_bytes 4096 a row skip)
+      ap length e ∙ length-append (take part.bytes w) (rest_at a part.row part.skip) ∙ omega (arith, part_bytes 4096 a (Some row) skip)
 
   -- Each part brings the end nearer.
   pub part_nearer : left a part.row part.skip < left a (Some row) skip
-  unfolding part_of rest_at left_behind
+  unfolding part_of left_behind
   part_nearer =
       by_order (min (length (row_of a row) - skip) 4096) 4096
       (λ k.
@@ -59,10 +59,9 @@ module _ (a : Answer) (row : Row) (skip : ℕ) where
   -- the bytes counted and those left are as many as before
   pub turn-total : (total : ℕ) {next : Option Row} {p : Part} {total' z : ℕ} → next ≡ Some row → p ≡ part → total' ≡ (total + p.bytes) % 2 ^ 64
       → (total + length (rest_at a next skip)) % 2 ^ 64 ≡ z → (total' + length (rest_at a p.row p.skip)) % 2 ^ 64 ≡ z
-  unfolding rest_at
   turn-total total {z = z} n e t h =
-      let k : total + length (rest_from a row skip) ≡ total + (part.bytes + length (rest_at a part.row part.skip)) = ap (λ (n : ℕ). total + n) bytes-less in
-      let h' : (total + length (rest_from a row skip)) % 2 ^ 64 ≡ z = rw n at h in
+      let k : total + length (rest_at a (Some row) skip) ≡ total + (part.bytes + length (rest_at a part.row part.skip)) = ap (λ (n : ℕ). total + n) bytes-less in
+      let h' : (total + length (rest_at a (Some row) skip)) % 2 ^ 64 ≡ z = rw n at h in
       rw (e, rw e at t) (omega (arith, h', k))
 
   -- no more is passed over than there is

@@ -2,7 +2,7 @@
 // `rows_part`'s contract; no contract can say what the system writes.
 #![tactic(auto)]
 
-ghost use Rattle.std.specs.Prelude.{◌≡◌, ◌^◌, ◌<◌, IfOk};
+ghost use Rattle.std.specs.Prelude.{◌≡◌, ◌^◌, ◌<◌, IfOk, Some};
 ghost use Rattle.rows_part.specs.Printing.{part_of};
 ghost use Rattle.printing.specs.Handed.{Handed};
 
@@ -17,10 +17,10 @@ const MOST: usize = 0x4000_0000_0000_0000;
 // Prints the part of a row behind its first bytes.
 fn print_part(rt: &impl Print, answer: &Answer, row: Row, skip: usize) -> io::Result<Part>
     requires { skip < 2 ^ 63 }
-    ensures { IfOk result (λ part. part ≡ part_of 4096 answer.now row skip) }
+    ensures { IfOk result (λ part. part ≡ part_of 4096 answer.now (Some row) skip) }
 {
     let mut out = [0u8; 4_096];
-    let part = answer.write_part(&mut out, row, skip);
+    let part = answer.write_part(&mut out, Some(row), skip);
     let n = part.bytes;
     rt.write_all(&out[0..n])?;
     Ok(part)
@@ -65,8 +65,8 @@ fn print_between(
     Ok(())
 }
 
-// Prints all rows; if `full`, with primary messages and counts between them, which are not counted. How many bytes of rows were handed to the
-// system, as far as 64 bits count them; none where a row of 2^62 bytes or more was left off.
+// Prints all rows from the first on, if there is one; if `full`, with primary messages and counts between them, which are not counted. How many
+// bytes of rows were handed to the system, as far as 64 bits count them; none where a row of 2^62 bytes or more was left off.
 pub fn print_rows(
     rt: &impl Print,
     answer: &Answer,
@@ -75,7 +75,7 @@ pub fn print_rows(
 ) -> io::Result<Option<usize>>
     ensures { IfOk result (λ printed. Handed answer.now begun.first printed) }
 {
-    let mut next = Some(begun.first);
+    let mut next = begun.first;
     let mut skip = 0;
     let mut total: usize = 0;
     'rows: while let Some(row) = next {

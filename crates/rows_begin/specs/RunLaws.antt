@@ -1,5 +1,5 @@
 -- The check of an input's four parts, and its rows: a law for each way to them. Assumes nothing.
-use Rattle.std.specs.Prelude.{ℕ, ◌≤◌, ◌≡◌, Bool, true, false, cond, List, length, take, replicate, eqb, Ok, Err}
+use Rattle.std.specs.Prelude.{ℕ, ◌≤◌, ◌≡◌, Bool, true, false, cond, List, length, take, replicate, eqb, Some, Ok, Err}
 use Rattle.std.proofs.Math.Path.{refl}
 use Rattle.std.proofs.Common.{sym, ap, ◌∙◌, arith}
 use Rattle.std.proofs.lemmas.List.{length-replicate}
@@ -55,7 +55,7 @@ module _ (i : Inputs) (b b' : Buffers) where
 -- ── From the input ──
 
 module _ (bytes : List ℕ) (b b' : Buffers) where
-  pub begins_input : {r : Begun} → fits bytes ≡ false → r ≡ alone Input → b' ≡ b → Begins bytes b b' r
+  pub begins_input : {r : Begun} → fits bytes ≡ false → r ≡ alone (Some Input) → b' ≡ b → Begins bytes b b' r
   begins_input h e q = record { begun = rw h e; after = rw h q }
 
   -- the words read are the input's

@@ -7,11 +7,11 @@ ghost use Rattle.rows_begin.specs.Beginning.{alone, narrowed, begun_of};
 use ending::Checked;
 use rows_part::Row;
 
-// What the rows are printed from beside the buffers: the first of them, V, and how many function words, type words, diagnostics and message
-// bytes are used.
+// What the rows are printed from beside the buffers: the first of them, if there is one, V, and how many function words, type words, diagnostics
+// and message bytes are used.
 #[derive(Clone, Copy)]
 pub struct Begun {
-    pub first: Row,
+    pub first: Option<Row>,
     pub last: u32,
     pub words: u32,
     pub types: usize,
@@ -19,8 +19,8 @@ pub struct Begun {
     pub bytes: usize,
 }
 
-// A row alone, of no answer.
-pub fn row_alone(first: Row) -> Begun
+// A row alone, of no answer; or none.
+pub fn row_alone(first: Option<Row>) -> Begun
     ensures { result ≡ alone first }
 {
     Begun {
@@ -47,7 +47,7 @@ pub fn rows_of(checked: Checked, slots: u32) -> Begun
 {
     match checked {
         Ok(counts) => Begun {
-            first: Row::Slot(0),
+            first: Some(Row::Slot(0)),
             last: slots,
             words: narrow(counts.function_words),
             types: counts.type_words,
@@ -56,7 +56,7 @@ pub fn rows_of(checked: Checked, slots: u32) -> Begun
         },
         Err(refused) => Begun {
             last: slots,
-            ..row_alone(Row::Refused(refused.number, refused.place))
+            ..row_alone(Some(Row::Refused(refused.number, refused.place)))
         },
     }
 }

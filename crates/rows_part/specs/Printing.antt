@@ -63,6 +63,11 @@ row_of a End = end_row a.count
 row_of a (Refused number place) = refused_row number place
 row_of a Input = input_row
 
+-- the bytes of a row, if there is one
+abbrev pub bytes_of : Answer → Option Row → List ℕ
+bytes_of a None = []
+bytes_of a (Some row) = row_of a row
+
 -- the row of diagnostic k, or the last row where there are no more
 unfoldable pub diag_from : (count k : ℕ) → Row
 diag_from count k = cond (ltb k count) (Diag k) End
@@ -82,6 +87,11 @@ next_of f last words count Input = None
 
 abbrev pub next_in : Answer → Row → Option Row
 next_in a row = next_of a.functions a.last a.words a.count row
+
+-- the same of a row, if there is one
+abbrev pub next_at : Answer → Option Row → Option Row
+next_at a None = None
+next_at a (Some row) = next_in a row
 
 -- the first row: the first slot's, or the refusal's
 unfoldable pub first_row : (number place : ℕ) → Row
@@ -122,23 +132,23 @@ rest_behind a (Some row) = rest_of a row
 unfoldable pub rest_from : Answer → Row → (skip : ℕ) → List ℕ
 rest_from a row skip = drop skip (row_of a row) ++ rest_behind a (next_in a row)
 
--- the same from where a part ends on: nothing behind the last
+-- the same from where a part begins on: nothing behind the last
 unfoldable pub rest_at : Answer → Option Row → (skip : ℕ) → List ℕ
 rest_at a None skip = []
 rest_at a (Some row) skip = rest_from a row skip
 
 -- a part of a row in a buffer of `room` bytes: how many bytes it has, and where the next part begins: in the same row if the buffer is full,
--- else at the start of the row behind it
-unfoldable pub part_of : (room : ℕ) → Answer → Row → (skip : ℕ) → Part
+-- else at the start of the row behind it. Where there is no row it has no bytes, and no row is next.
+unfoldable pub part_of : (room : ℕ) → Answer → Option Row → (skip : ℕ) → Part
 part_of room a row skip =
-    let n : ℕ = min (length (row_of a row) - skip) room in
-    record { bytes = n; row = cond (ltb n room) (next_in a row) (Some row); skip = cond (ltb n room) 0 (skip + n) }
+    let n : ℕ = min (length (bytes_of a row) - skip) room in
+    record { bytes = n; row = cond (ltb n room) (next_at a row) row; skip = cond (ltb n room) 0 (skip + n) }
 
 -- how much of a buffer a part uses: the next one begins at a place that a 64-bit number can say
 unfoldable pub room_at : (skip room : ℕ) → ℕ
 room_at skip room = min room (2 ^ 64 - 1 - skip)
 
 -- the buffer o became o'
-pub record Prints (a : Answer) (row : Row) (skip : ℕ) (o o' : List ℕ) (r : Part) : Type 0 where
-  pub buffer : o' ≡ write o 0 (drop skip (row_of a row))
+pub record Prints (a : Answer) (row : Option Row) (skip : ℕ) (o o' : List ℕ) (r : Part) : Type 0 where
+  pub buffer : o' ≡ write o 0 (drop skip (bytes_of a row))
   pub answer : r ≡ part_of (room_at skip (length o)) a row skip

@@ -1,15 +1,15 @@
 -- Laws of the rows in order: what is printed from a row on is the row and what is printed from the next row on, and from the first row on it is
 -- what `rows_of` says; each part of a row is followed by the rest. Assumes nothing.
 use Prim.Native.Nat.{ℕ, zero, suc, ◌+◌, ◌-◌, ◌*◌, ◌^◌, ◌≤◌, ◌<◌, min}
-use Rattle.std.specs.Prelude.{◌≡◌, Bool, true, false, cond, get_or, take, drop, eqb, ltb, Option, None, Some}
+use Rattle.std.specs.Prelude.{◌≡◌, Bool, true, false, get_or, take, drop, eqb, ltb, Option, None, Some}
 use Rattle.std.proofs.Math.Path.{refl}
 use Rattle.std.proofs.Common.{sym, ap, ◌∙◌, length-take, length-drop, take-append-drop, drop-cons, lt-ltb, le-ltb}
-use mathlib.Core.List.{List, [], ◌∷◌, ◌++◌, append-nil, append_assoc}
+use mathlib.Core.List.{List, [], ◌++◌, append-nil, append_assoc}
 use Rattle.std.proofs.Math.Numerals.{add-one}
 use Rattle.std.proofs.Math.Nat.{sub-zero}
 use native.Mathlib.Omega.{arith}
 use Rattle.std.proofs.Math.ListN.{length, drop_of_length-le, get_or-eq_default}
-use Rattle.std.proofs.Math.Seq.{get_or-take, drop-drop, take_all}
+use Rattle.std.proofs.Math.Seq.{get_or-take, drop-nil, drop-drop, take_all}
 use Rattle.tok.specs.Text.{Texts}
 use Rattle.ptype.specs.Add.{write}
 use Rattle.ast.specs.Image.{slot_count}
@@ -22,7 +22,7 @@ use Rattle.rows_part.specs.declared.Row.{Row}
 use Rattle.rows_part.specs.declared.Row.TheVariants.{Slot, Fn, Diag, End, Refused, Input}
 use Rattle.rows_part.specs.declared.Part.{Part}
 use Rattle.rows_part.specs.RowsEnd.{by_order}
-use Rattle.rows_part.specs.Printing.{Answer, answer_in, row_of, diag_from, fn_from, next_of, next_in, first_row, first_of, diags_from, fns_from, slots_from, rest_of, rest_behind, rest_from, rest_at}
+use Rattle.rows_part.specs.Printing.{Answer, answer_in, row_of, bytes_of, diag_from, fn_from, next_of, next_in, next_at, first_row, first_of, diags_from, fns_from, slots_from, rest_of, rest_behind, rest_from, rest_at}
 use Rattle.rows_part.specs.Printing.{part_of, room_at, Prints}
 
 -- ---- slots
@@ -150,31 +150,37 @@ unfolding rest_of
 input_first a = rest_all a Input
 
 -- ---- parts
+-- what is printed from where a part begins on
+rest_is : (a : Answer) (r : Option Row) (skip : ℕ) → rest_at a r skip ≡ drop skip (bytes_of a r) ++ rest_behind a (next_at a r)
+unfolding rest_at rest_from rest_behind
+rest_is a None skip = rw (drop-nil {A = ℕ} skip) refl
+rest_is a (Some r) skip = refl
+
 -- of a part that uses `room` bytes of the buffer
-module _ (o : List ℕ) (a : Answer) (r : Row) (skip room : ℕ) (fits : room ≤ length o) where
+module _ (o : List ℕ) (a : Answer) (r : Option Row) (skip room : ℕ) (fits : room ≤ length o) where
   abbrev shown : List ℕ
-  shown = drop skip (row_of a r)
+  shown = drop skip (bytes_of a r)
 
   abbrev many : ℕ
-  many = min (length (row_of a r) - skip) room
+  many = min (length (bytes_of a r) - skip) room
 
   front-is : take many (write o 0 shown) ≡ take many shown
   unfolding write
-  front-is = take-over many o shown (rw (length-drop skip (row_of a r)) (omega arith)) (omega arith)
+  front-is = take-over many o shown (rw (length-drop skip (bytes_of a r)) (omega arith)) (omega arith)
 
   -- The bytes of a part, and what is printed from the next part on, are what was to be printed.
   pub part-next :
       let p : Part = part_of room a r skip in
-      rest_from a r skip ≡ take p.bytes (write o 0 (drop skip (row_of a r))) ++ rest_at a p.row p.skip
-  unfolding part_of rest_from rest_at
+      rest_at a r skip ≡ take p.bytes (write o 0 (drop skip (bytes_of a r))) ++ rest_at a p.row p.skip
+  unfolding part_of
   part-next =
       by_order many room
       (λ h.
-      let e : length shown ≤ many = rw (length-drop skip (row_of a r)) (omega arith) in
-      rw (lt-ltb many room h, front-is, take_all many shown e) (ap (λ l. shown ++ l) (sym (at_start a (next_in a r)))))
+      let e : length shown ≤ many = rw (length-drop skip (bytes_of a r)) (omega arith) in
+      rw (lt-ltb many room h, front-is, take_all many shown e, at_start a (next_at a r)) (rest_is a r skip))
       (λ h.
-      rw (le-ltb many room h, front-is, ← drop-drop many skip (row_of a r))
-      (ap (λ l. l ++ rest_behind a (next_in a r)) (sym (take-append-drop many shown)) ∙ append_assoc (take many shown) (drop many shown) (rest_behind a (next_in a r))))
+      rw (le-ltb many room h, front-is, rest_is a r skip, rest_is a r (skip + many), ← drop-drop many skip (bytes_of a r))
+      (ap (λ l. l ++ rest_behind a (next_at a r)) (sym (take-append-drop many shown)) ∙ append_assoc (take many shown) (drop many shown) (rest_behind a (next_at a r))))
 
 -- the whole buffer is used wherever the next part begins at a place that a number can say
 pub room_whole : (skip room : ℕ) → skip + room < 2 ^ 64 → room_at skip room ≡ room
@@ -186,18 +192,18 @@ unfolding room_at
 room_fits skip room = omega arith
 
 -- so it is of whatever `write_part` wrote and answered
-pub prints_next : (a : Answer) (r : Row) (skip : ℕ) {o o' : List ℕ} {p : Part} → Prints a r skip o o' p → rest_from a r skip ≡ take p.bytes o' ++ rest_at a p.row p.skip
+pub prints_next : (a : Answer) (r : Option Row) (skip : ℕ) {o o' : List ℕ} {p : Part} → Prints a r skip o o' p → rest_at a r skip ≡ take p.bytes o' ++ rest_at a p.row p.skip
 prints_next a r skip {o} h = rw (h.buffer, h.answer) (part-next o a r skip (room_at skip (length o)) (room_fits skip (length o)))
 
 -- a part is no longer than the buffer, nor is what it adds to the bytes passed over
-pub part_bytes : (room : ℕ) (a : Answer) (r : Row) (skip : ℕ) → (part_of room a r skip).bytes ≤ room
+pub part_bytes : (room : ℕ) (a : Answer) (r : Option Row) (skip : ℕ) → (part_of room a r skip).bytes ≤ room
 unfolding part_of
 part_bytes room a r skip = omega arith
 
-pub part-skip : (room : ℕ) (a : Answer) (r : Row) (skip : ℕ) → (part_of room a r skip).skip ≤ skip + room
+pub part-skip : (room : ℕ) (a : Answer) (r : Option Row) (skip : ℕ) → (part_of room a r skip).skip ≤ skip + room
 unfolding part_of
-part-skip room a r skip = go (ltb (min (length (row_of a r) - skip) room) room) refl
+part-skip room a r skip = go (ltb (min (length (bytes_of a r) - skip) room) room) refl
   where
-    go : (b : Bool) → ltb (min (length (row_of a r) - skip) room) room ≡ b → (part_of room a r skip).skip ≤ skip + room
+    go : (b : Bool) → ltb (min (length (bytes_of a r) - skip) room) room ≡ b → (part_of room a r skip).skip ≤ skip + room
     go true h = rw h (omega arith)
     go false h = rw h (omega arith)

@@ -3,7 +3,7 @@
 
 ghost use Rattle.std.specs.Prelude.{◌≡◌};
 ghost use Rattle.rows_window.specs.Showing.{Shows};
-ghost use Rattle.rows_part.specs.Printing.{Answer, answer_of, row_of, diag_from, fn_from, next_in, Prints};
+ghost use Rattle.rows_part.specs.Printing.{Answer, answer_of, bytes_of, diag_from, fn_from, next_at, Prints};
 
 use ptype::Types;
 use rows_window::{Window, WindowWriter};
@@ -51,11 +51,14 @@ impl<'a> Model for Answer<'a> {
 }
 
 impl<'a> Answer<'a> {
-    // The bytes of a row, through a window.
+    // The bytes of a row, if there is one, through a window.
     #[tactic(auto, unfolding(crate::specs::Printing::row_of), using(rows_window::specs::ShowingLaws::shows_as))]
-    fn put_row(&self, w: &mut WindowWriter, row: Row)
-        ensures { Shows w.old w.new (row_of self.now row) }
+    fn put_row(&self, w: &mut WindowWriter, row: Option<Row>)
+        ensures { Shows w.old w.new (bytes_of self.now row) }
     {
+        let Some(row) = row else {
+            return;
+        };
         match row {
             Row::Slot(i) => {
                 let slot = i as usize;
@@ -104,12 +107,12 @@ impl<'a> Answer<'a> {
         }
     }
 
-    // The row behind a row, if it is not the last.
+    // The row behind a row, if there is one: none behind the last, and none behind none.
     #[tactic(auto, unfolding(crate::specs::Printing::next_of))]
-    fn next(&self, row: Row) -> Option<Row>
-        ensures { result ≡ next_in self.now row }
+    fn next(&self, row: Option<Row>) -> Option<Row>
+        ensures { result ≡ next_at self.now row }
     {
-        match row {
+        match row? {
             Row::Slot(i) => {
                 if i < self.last {
                     Some(Row::Slot(i + 1))
@@ -128,8 +131,8 @@ impl<'a> Answer<'a> {
     }
 
     // Writes the part of a row behind its first bytes into a buffer, as much as has room. A part goes no further than to the last place of a row
-    // that a number can say: where the bytes passed over are as many as that, it is empty.
-    pub fn write_part(&self, out: &mut [u8], row: Row, skip: usize) -> Part
+    // that a number can say: where the bytes passed over are as many as that, it is empty. So it is where there is no row.
+    pub fn write_part(&self, out: &mut [u8], row: Option<Row>, skip: usize) -> Part
         ensures { Prints self.now row skip out.old out.new result }
     {
         let mut w = WindowWriter {
@@ -148,7 +151,7 @@ impl<'a> Answer<'a> {
         }
         Part {
             bytes: n,
-            row: Some(row),
+            row,
             skip: skip + n,
         }
     }

@@ -6,6 +6,7 @@ use Rattle.tok.specs.Text.{Texts, name_bytes}
 use Rattle.ptype.specs.Slots.{Binding, binding, bound_to, is_some, Bound, all_bound, conflict, void_slot}
 use Rattle.slots.specs.declared.BindError.{BindError}
 use Rattle.slots.specs.declared.Bindings.{Bindings}
+use Rattle.slots.specs.declared.BoundSlots.{BoundSlots}
 use Rattle.slots.specs.declared.BindError.TheVariants.{Conflict, Void, NoRoom}
 
 -- Pairs of words, a slot's and its type's: the first k of them as bindings, the newest first.
@@ -24,6 +25,10 @@ bindings_in texts pairs count = first_pairs texts pairs (min count (pair_room pa
 -- the bindings in a struct
 abbrev pub bindings_of : Texts → Bindings → List Binding
 bindings_of texts b = bindings_in texts b.pairs.now b.count
+
+-- and in a struct that only reads them
+abbrev pub bound_slots : Texts → BoundSlots → List Binding
+bound_slots texts b = bindings_in texts b.pairs.now b.count
 
 -- that all is bound, or why a slot was not
 abbrev pub Bind : Type 0

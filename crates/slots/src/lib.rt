@@ -6,16 +6,47 @@ ghost use Rattle.tok.specs.Text.{Texts, name_bytes};
 ghost use Rattle.ptype.specs.Words.{fields_from};
 ghost use Rattle.ptype.specs.Types.{type_at, type_within};
 ghost use Rattle.ptype.specs.Slots.{binding, bound_to, is_some, all_bound, bind_one, bind_slots, bind_fields, has_bound_slot};
-ghost use Rattle.slots.specs.Bindings.{bindings_of, found_of, is_bound_slot, Binds};
+ghost use Rattle.slots.specs.Bindings.{bindings_of, bound_slots, found_of, is_bound_slot, Binds};
 
 use ptype::{LEVELS, Sought, TypeKind, Types, field_count, field_type, inner, same_type};
-use tok::{Texts, kind, payload, same_name, word_at};
+use tok::{Texts, kind, payload, word_at};
 
 // The bindings of slots: pairs of words, a slot's and its type's, in a lent part of scratch, and how many of them there are. The newest is the last.
 #[derive(Drop)]
 pub struct Bindings<'a> {
     pub pairs: &'a mut [u32],
     pub count: usize,
+}
+
+// The bindings of slots as they are read, of words that may be lent to others too.
+#[derive(Clone, Copy)]
+pub struct BoundSlots<'a> {
+    pub pairs: &'a [u32],
+    pub count: usize,
+}
+
+impl<'a> BoundSlots<'a> {
+    // What the slot's name is bound to: the newest pair of that name.
+    pub fn bound_to(&self, texts: &Texts, slot: u32) -> Option<u32>
+        ensures { found_of result ≡ bound_to (name_bytes texts.now slot) (bound_slots texts.now self.now) }
+    {
+        // once, and not for each pair: the compiler does not take it out of the loop
+        let wanted = tok::name_bytes(texts, slot);
+        for k in (0..self.count.min(self.pairs.len() / 2)).rev() {
+            let bound = word_at(self.pairs, 2 * k);
+            if bound == slot || tok::is_name(texts, wanted, bound) {
+                return Some(word_at(self.pairs, 2 * k + 1));
+            }
+        }
+        None
+    }
+
+    // Whether a slot is bound.
+    fn is_bound(&self, texts: &Texts, slot: u32) -> bool
+        ensures { result ≡ is_some (bound_to (name_bytes texts.now slot) (bound_slots texts.now self.now)) }
+    {
+        self.bound_to(texts, slot).is_some()
+    }
 }
 
 // Why a slot is not bound: it is bound to another type (21), or the type is Void (22); or the lent part is too short for the bindings. What was
@@ -39,23 +70,21 @@ impl<'a> Bindings<'a> {
         Bindings { pairs, count: 0 }
     }
 
+    // The bindings as they are read.
+    pub fn bound(&self) -> BoundSlots<'_>
+        ensures { (result.pairs.now ≡ self.now.pairs.now) × (result.count ≡ self.now.count) }
+    {
+        BoundSlots {
+            pairs: self.pairs,
+            count: self.count,
+        }
+    }
+
     // What the slot's name is bound to: the newest pair of that name.
     pub fn bound_to(&self, texts: &Texts, slot: u32) -> Option<u32>
         ensures { found_of result ≡ bound_to (name_bytes texts.now slot) (bindings_of texts.now self.now) }
     {
-        for k in (0..self.count.min(self.pairs.len() / 2)).rev() {
-            if same_name(texts, slot, word_at(self.pairs, 2 * k)) {
-                return Some(word_at(self.pairs, 2 * k + 1));
-            }
-        }
-        None
-    }
-
-    // Whether a slot is bound.
-    fn is_bound(&self, texts: &Texts, slot: u32) -> bool
-        ensures { result ≡ is_some (bound_to (name_bytes texts.now slot) (bindings_of texts.now self.now)) }
-    {
-        self.bound_to(texts, slot).is_some()
+        self.bound().bound_to(texts, slot)
     }
 
     // One pair more, where there is room.
@@ -176,12 +205,12 @@ fn bind_fields(
 // What is sought in a type: a slot that is bound.
 #[derive(Drop)]
 struct BoundSlot<'a, 'b, 'c> {
-    bindings: &'a Bindings<'b>,
+    bindings: &'a BoundSlots<'b>,
     texts: &'a Texts<'c>,
 }
 
 impl<'a, 'b, 'c> Sought for BoundSlot<'a, 'b, 'c> {
-    ghost Is = { λ s. is_bound_slot (bindings_of s.texts.now s.bindings.now) s.texts.now };
+    ghost Is = { λ s. is_bound_slot (bound_slots s.texts.now s.bindings.now) s.texts.now };
 
     fn is(&self, w: u32) -> bool {
         match TypeKind::of(w) {
@@ -192,8 +221,8 @@ impl<'a, 'b, 'c> Sought for BoundSlot<'a, 'b, 'c> {
 }
 
 // Whether a slot that is bound stands in a type, as deep as `depth` says.
-pub fn has_bound_slot_within(bindings: &Bindings, types: &Types, w: u32, depth: usize) -> bool
-    ensures { result ≡ has_bound_slot (bindings_of types.now.texts.now bindings.now) (type_within types.now depth w) }
+pub fn has_bound_slot_within(bindings: &BoundSlots, types: &Types, w: u32, depth: usize) -> bool
+    ensures { result ≡ has_bound_slot (bound_slots types.now.texts.now bindings.now) (type_within types.now depth w) }
 {
     let bound = BoundSlot {
         bindings,

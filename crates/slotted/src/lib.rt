@@ -7,14 +7,14 @@ ghost use Rattle.err.specs.Message.{call_name};
 ghost use Rattle.library.specs.Package.{param};
 ghost use Rattle.rules.specs.Calls.{argument};
 ghost use Rattle.arguments.specs.Argument.{given};
-ghost use Rattle.slots.specs.Bindings.{bindings_of};
+ghost use Rattle.slots.specs.Bindings.{bound_slots};
 ghost use Rattle.slotted.specs.Argues.{AfterBinding, Argues};
 ghost use Rattle.slotted.specs.Meant.{Meant, ArgumentMeant};
 
 use arguments::Argument;
 use err::CallName;
 use ptype::Types;
-use slots::{Bind, BindError, Bindings};
+use slots::{Bind, BindError, Bindings, BoundSlots};
 use state::{Refusal, Step, Used};
 use tok::Texts;
 
@@ -23,7 +23,7 @@ fn applied(
     types: &mut [u32],
     diagnostics: &mut [u32],
     messages: &mut [u8],
-    bindings: &Bindings,
+    bindings: &BoundSlots,
     texts: &Texts,
     used: Used,
     n: u32,
@@ -33,7 +33,7 @@ fn applied(
 ) -> Step<()>
     requires { Meant texts.now types.old used.types arg.expected × Meant texts.now types.old used.types provided }
     ensures { AfterBinding texts.now n (call_name texts.now callee) arg.name arg.expected arg.span provided types.old diagnostics.old messages.old used
-        (bindings_of texts.now bindings.now) (Ok tt) types.new diagnostics.new messages.new result }
+        (bound_slots texts.now bindings.now) (Ok tt) types.new diagnostics.new messages.new result }
 {
     let added = apply::apply_slot_binding(types, used.types, texts, bindings, arg.expected);
     let (word, used) = state::added(n, used, added)?;
@@ -61,7 +61,7 @@ fn after_binding(
     types: &mut [u32],
     diagnostics: &mut [u32],
     messages: &mut [u8],
-    bindings: &Bindings,
+    bindings: &BoundSlots,
     texts: &Texts,
     used: Used,
     bound: Bind,
@@ -72,7 +72,7 @@ fn after_binding(
 ) -> Step<()>
     requires { Meant texts.now types.old used.types arg.expected × Meant texts.now types.old used.types provided }
     ensures { AfterBinding texts.now n (call_name texts.now callee) arg.name arg.expected arg.span provided types.old diagnostics.old messages.old used
-        (bindings_of texts.now bindings.now) bound types.new diagnostics.new messages.new result }
+        (bound_slots texts.now bindings.now) bound types.new diagnostics.new messages.new result }
 {
     match bound {
         Ok(()) => applied(
@@ -157,11 +157,12 @@ pub fn slotted_argument(
         texts: &*texts,
     };
     let bound = slots::bind_slots(bindings, &read, arg.expected, w);
+    let held = bindings.bound();
     after_binding(
         types,
         diagnostics,
         messages,
-        bindings,
+        &held,
         texts,
         used,
         bound,

@@ -10,7 +10,7 @@ ghost use Rattle.rules.specs.Calls.{Provided, check_call_args};
 ghost use Rattle.signatures.specs.Groups.{as_slotted};
 ghost use Rattle.state.specs.Context.{ctx};
 ghost use Rattle.state.specs.World.{Steps};
-ghost use Rattle.slots.specs.Bindings.{bindings_of};
+ghost use Rattle.slots.specs.Bindings.{bound_slots};
 ghost use Rattle.slotted.specs.Meant.{Meant};
 ghost use Rattle.call_args.specs.Given.{given_from};
 ghost use Rattle.slotted_call.specs.Bindable.{SlottedReady, Counted, Arguments, known_return};
@@ -20,7 +20,7 @@ use err::CallName;
 use places::Image;
 use rules::Answer;
 use signatures::Signature;
-use slots::Bindings;
+use slots::{Bindings, BoundSlots};
 use state::{Step, Used};
 use tok::Texts;
 
@@ -66,14 +66,14 @@ fn slotted_arguments(
 fn returned(
     slots: &mut [u32],
     types: &mut [u32],
-    bindings: &Bindings,
+    bindings: &BoundSlots,
     texts: &Texts,
     used: Used,
     call: Call,
     ret: u32,
 ) -> Step<Answer>
     requires { Meant texts.now types.old used.types ret }
-    ensures { (d m : List ℕ) → Steps (known_return texts.now call.n call.slot ret (bindings_of texts.now bindings.now) types.old) slots.old types.old d m used slots.new
+    ensures { (d m : List ℕ) → Steps (known_return texts.now call.n call.slot ret (bound_slots texts.now bindings.now) types.old) slots.old types.old d m used slots.new
         types.new d m result }
 {
     let added = apply::apply_slot_binding(types, used.types, texts, bindings, ret);
@@ -131,5 +131,6 @@ pub fn check_slotted(
         signature,
     )?;
     let ret = signature.return_type();
-    returned(slots, types, &bindings, texts, used, call, ret)
+    let held = bindings.bound();
+    returned(slots, types, &held, texts, used, call, ret)
 }

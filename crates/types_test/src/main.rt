@@ -362,7 +362,10 @@ fn grow(
         Operation::Array => arena.add_array(w),
         Operation::Open => arena.open_record(w as usize),
         Operation::Close => arena.close_record(w),
-        _ => return apply::apply_slot_binding(arena.words, used, texts, bindings, w),
+        _ => {
+            let bound = bindings.bound();
+            return apply::apply_slot_binding(arena.words, used, texts, &bound, w);
+        }
     };
     arena.answer(added)
 }

@@ -2,7 +2,7 @@ use mathlib.Core.Path.{refl, sym}
 use native.Mathlib.Omega.{arith}
 use Prim.Native.Nat.{◌+◌, ◌-◌, ◌*◌}
 use Rattle.ptype.specs.TypeKindLaws.{type-number, type-not, type-wraps, type-flat}
-use Rattle.slots.specs.Bindings.{bindings_of}
+use Rattle.slots.specs.Bindings.{bound_slots}
 use Rattle.apply.specs.Sizes.{size_within}
 use Rattle.apply.proofs.SizeReturns.{none-adds, rest-adds, free-adds, wrap_adds, record_adds}
 use Rattle.apply.proofs.FieldReturns.{sizes_all, sizes_none, sizes_first, sizes_next}
@@ -17,7 +17,7 @@ applied_size-returns-then-not-has_bound_slot_within t c =
 
 pub applied_size-applied_size-requires : goal.applied_size-applied_size-requires
 applied_size-applied_size-requires t c =
-    let bound = bindings_of c.args.old.now.texts.now c.args.bindings.now in
+    let bound = bound_slots c.args.old.now.texts.now c.args.bindings.now in
     let has = c.has_bound_slot_within.ensures in
     let is_wrap = type-wraps _ c.of.ensures c.in-Option.is in
     let adds = wrap_adds c.args.old.now.texts.now bound c.args.old.now.words.now c.args.w c.args.depth c.if-depth-eq0.false refl has c.if-not-has_bound_slot_within.false is_wrap c.inner.ensures in
@@ -25,7 +25,7 @@ applied_size-applied_size-requires t c =
 
 pub applied_size-overflow_add-result : goal.applied_size-overflow_add-result
 applied_size-overflow_add-result t c =
-    let bound = bindings_of c.args.old.now.texts.now c.args.bindings.now in
+    let bound = bound_slots c.args.old.now.texts.now c.args.bindings.now in
     let has = c.has_bound_slot_within.ensures in
     let is_wrap = type-wraps _ c.of.ensures c.in-Option.is in
     let adds = wrap_adds c.args.old.now.texts.now bound c.args.old.now.words.now c.args.w c.args.depth c.if-depth-eq0.false refl has c.if-not-has_bound_slot_within.false is_wrap c.inner.ensures in
@@ -33,7 +33,7 @@ applied_size-overflow_add-result t c =
 
 pub applied_size-returns-else-not-has_bound_slot_within : goal.applied_size-returns-else-not-has_bound_slot_within
 applied_size-returns-else-not-has_bound_slot_within t c =
-    let bound = bindings_of c.args.old.now.texts.now c.args.bindings.now in
+    let bound = bound_slots c.args.old.now.texts.now c.args.bindings.now in
     let has = c.has_bound_slot_within.ensures in
     let is_wrap = type-wraps _ c.of.ensures c.in-Option.is in
     let adds = wrap_adds c.args.old.now.texts.now bound c.args.old.now.words.now c.args.w c.args.depth c.if-depth-eq0.false refl has c.if-not-has_bound_slot_within.false is_wrap c.inner.ensures in
@@ -45,7 +45,7 @@ applied_size-returns-then-not-has_bound_slot_within-2 t c =
 
 pub applied_size-applied_sizes-requires : goal.applied_size-applied_sizes-requires
 applied_size-applied_sizes-requires t c =
-    let bound = bindings_of c.args.old.now.texts.now c.args.bindings.now in
+    let bound = bound_slots c.args.old.now.texts.now c.args.bindings.now in
     let has = c.has_bound_slot_within-in-Record.ensures in
     let is_record = type-number _ c.in-Record.ensures in
     let with_bound = record_adds c.args.old.now.texts.now bound c.args.old.now.words.now c.args.w c.args.depth c.if-depth-eq0.false refl has c.if-not-has_bound_slot_within-2.false in
@@ -54,7 +54,7 @@ applied_size-applied_sizes-requires t c =
 
 pub applied_size-overflow_add-result-in-Record-2 : goal.applied_size-overflow_add-result-in-Record-2
 applied_size-overflow_add-result-in-Record-2 t c =
-    let bound = bindings_of c.args.old.now.texts.now c.args.bindings.now in
+    let bound = bound_slots c.args.old.now.texts.now c.args.bindings.now in
     let has = c.has_bound_slot_within-in-Record.ensures in
     let is_record = type-number _ c.in-Record.ensures in
     let with_bound = record_adds c.args.old.now.texts.now bound c.args.old.now.words.now c.args.w c.args.depth c.if-depth-eq0.false refl has c.if-not-has_bound_slot_within-2.false in
@@ -63,7 +63,7 @@ applied_size-overflow_add-result-in-Record-2 t c =
 
 pub applied_size-returns-else-not-has_bound_slot_within-2 : goal.applied_size-returns-else-not-has_bound_slot_within-2
 applied_size-returns-else-not-has_bound_slot_within-2 t c =
-    let bound = bindings_of c.args.old.now.texts.now c.args.bindings.now in
+    let bound = bound_slots c.args.old.now.texts.now c.args.bindings.now in
     let has = c.has_bound_slot_within-in-Record.ensures in
     let is_record = type-number _ c.in-Record.ensures in
     let with_bound = record_adds c.args.old.now.texts.now bound c.args.old.now.words.now c.args.w c.args.depth c.if-depth-eq0.false refl has c.if-not-has_bound_slot_within-2.false in
@@ -81,7 +81,7 @@ applied_sizes-loop-i-init t c = sizes_all _ _ _ _ _ _ (omega arith) (omega arith
 
 pub applied_sizes-applied_size-sum-requires : goal.applied_sizes-applied_size-sum-requires
 applied_sizes-applied_size-sum-requires t c =
-    let bound = bindings_of c.args.old.now.texts.now c.args.bindings.now in
+    let bound = bound_slots c.args.old.now.texts.now c.args.bindings.now in
     let size = size_within c.args.old.now.texts.now bound c.args.old.now.words.now c.args.depth in
     let here = c.args.at + 2 * c.loop-i.i in
     let left = c.args.fields - c.loop-i.i in
@@ -89,7 +89,7 @@ applied_sizes-applied_size-sum-requires t c =
 
 pub applied_sizes-overflow_add-sum : goal.applied_sizes-overflow_add-sum
 applied_sizes-overflow_add-sum t c =
-    let bound = bindings_of c.args.old.now.texts.now c.args.bindings.now in
+    let bound = bound_slots c.args.old.now.texts.now c.args.bindings.now in
     let size = size_within c.args.old.now.texts.now bound c.args.old.now.words.now c.args.depth in
     let here = c.args.at + 2 * c.loop-i.i in
     let left = c.args.fields - c.loop-i.i in
@@ -97,7 +97,7 @@ applied_sizes-overflow_add-sum t c =
 
 pub applied_sizes-loop-i-preserved : goal.applied_sizes-loop-i-preserved
 applied_sizes-loop-i-preserved t c =
-    let bound = bindings_of c.args.old.now.texts.now c.args.bindings.now in
+    let bound = bound_slots c.args.old.now.texts.now c.args.bindings.now in
     let size = size_within c.args.old.now.texts.now bound c.args.old.now.words.now c.args.depth in
     let here = c.args.at + 2 * c.loop-i.i in
     let left = c.args.fields - c.loop-i.i in
@@ -108,7 +108,7 @@ applied_sizes-loop-i-preserved t c =
 
 pub applied_sizes-returns : goal.applied_sizes-returns
 applied_sizes-returns t c =
-    let bound = bindings_of c.args.old.now.texts.now c.args.bindings.now in
+    let bound = bound_slots c.args.old.now.texts.now c.args.bindings.now in
     let size = size_within c.args.old.now.texts.now bound c.args.old.now.words.now c.args.depth in
     let here = c.args.at + 2 * c.loop-i.i in
     let left = c.args.fields - c.loop-i.i in

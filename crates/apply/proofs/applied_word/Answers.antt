@@ -2,7 +2,7 @@
 use mathlib.Core.Path.{refl, ◌∙◌}
 use native.Mathlib.Omega.{arith}
 use Rattle.ptype.specs.TypeKindLaws.{type-number, type-not, type-wraps, type-flat}
-use Rattle.slots.specs.Bindings.{bindings_of}
+use Rattle.slots.specs.Bindings.{bound_slots}
 use Rattle.apply.proofs.Returns.{wrap-number}
 use Rattle.apply.proofs.SizeReturns.{record_least, none-word, slot-word, same_word, wrap-word, record_word}
 use Rattle.apply.proofs.applied_word.Goals as goal
@@ -30,7 +30,7 @@ returns-in_default-kind c =
 
 pub overflow_sub-end-in_default-kind : goal.overflow_sub-end-in_default-kind
 overflow_sub-end-in_default-kind c =
-    let bound = bindings_of c.args.old.now.texts.now c.args.bindings.now in
+    let bound = bound_slots c.args.old.now.texts.now c.args.bindings.now in
     let flat = type-flat _ c.of-kind.ensures c.in_default-kind.not-Option c.in_default-kind.not-Array in
     let least = record_least c.args.old.now.texts.now bound c.args.old.now.words.now c.args.w c.args.depth c.if-depth-eq0.false refl (λ z. c.if-size-eq0.false (c.requires.0 ∙ z)) flat in
     omega (arith, c.requires.0, c.requires.1.0, c.field_count.ensures, least)

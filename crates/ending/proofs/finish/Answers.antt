@@ -14,4 +14,4 @@ returns-in-Ok c =
 pub returns-in-Err : goal.returns-in-Err
 returns-in-Err c =
     λ words. finish-refused words c.args.slots.now c.args.functions.now c.args.types.now c.args.diagnostics.now c.args.messages.now c.args.scratch.now
-    c.in-Err.is c.zero_all.ensures c.from.ensures
+    c.requires c.in-Err.is c.zero_all.ensures

@@ -6,17 +6,17 @@ use Rattle.std.proofs.Common.{eq-eqb, eqb-true}
 use Rattle.library_slots.proofs.NamedWays.{unmarked-are, asked-named, asked-slot, asked-other}
 use Rattle.library_slots.proofs.return_stands.Goals as goal
 
-pub returns-then-order-gt0 : goal.returns-then-order-gt0
-returns-then-order-gt0 c =
+pub returns-then-n-gt0 : goal.returns-then-n-gt0
+returns-then-n-gt0 c =
     asked-named _ _ _ _ _ _ _ _ _ _ _ _ _ _ _ unmarked-are c.mark_types.ensures c.spread.ensures unmarked-are c.mark_inside.ensures c.spread-2.ensures
-    c.if-order-gt0.true (c.names_stand.ensures _)
+    c.if-n-gt0.true (c.names_stand.ensures _)
 
 pub returns-then-slot_kind : goal.returns-then-slot_kind
 returns-then-slot_kind c =
     asked-slot _ _ _ _ _ _ _ _ _ _ _ _ _ _ _ unmarked-are c.mark_types.ensures c.spread.ensures unmarked-are c.mark_inside.ensures c.spread-2.ensures
-    c.if-order-gt0.false refl (eqb-true _ _ (sym c.slot_kind.ensures ∙ c.if-slot_kind.true)) c.among.ensures
+    c.if-n-gt0.false refl (eqb-true _ _ (sym c.slot_kind.ensures ∙ c.if-slot_kind.true)) c.among.ensures
 
 pub returns-else-slot_kind : goal.returns-else-slot_kind
 returns-else-slot_kind c =
     asked-other _ _ _ _ _ _ _ _ _ _ _ _ _ _ _ unmarked-are c.mark_types.ensures c.spread.ensures unmarked-are c.mark_inside.ensures c.spread-2.ensures
-    c.if-order-gt0.false refl (λ z. true≢false (sym (eq-eqb _ _ z) ∙ sym c.slot_kind.ensures ∙ c.if-slot_kind.false)) c.any_missing.ensures refl
+    c.if-n-gt0.false refl (λ z. true≢false (sym (eq-eqb _ _ z) ∙ sym c.slot_kind.ensures ∙ c.if-slot_kind.false)) c.any_missing.ensures refl

@@ -12,4 +12,4 @@ returns-then-contains_slot c = slotted-slot _ _ _ _ _ _ _ _ _ _ _ _ _ c.word_at-
 pub returns : goal.returns
 returns c =
     slotted-bound _ _ _ _ _ _ _ _ _ _ _ _ _ c.word_at-w.ensures c.is_unchecked.ensures c.if-is_unchecked.false c.contains_slot.ensures c.requires c.bind_slots-bound.ensures c.if-contains_slot.false
-    c.after_binding.ensures
+    (rw (← c.bound-held.ensures.0, ← c.bound-held.ensures.1) c.after_binding.ensures)

@@ -33,4 +33,4 @@ returned-requires c =
 pub returns : goal.returns
 returns c =
     call-returned _ _ _ _ _ c.args.signature.now _ _ _ _ _ _ _ _ c.argument_count-required.ensures c.if-call-required.false c.slotted_arguments.ensures c.in_ok-used-2.was
-    c.return_type-ret.ensures c.returned.ensures
+    c.return_type-ret.ensures (rw (← c.bound-held.ensures.0, ← c.bound-held.ensures.1) c.returned.ensures)
